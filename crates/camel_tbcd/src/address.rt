@@ -1,0 +1,106 @@
+ghost use Rattle.std.specs.Prelude.{◌≡◌, ◌≤◌, ◌<◌, ◌↔◌, length, IfOk, IsErrOf};
+ghost use Rattle.camel_tbcd.specs.Nature.{nature_of, plan_of};
+ghost use Rattle.camel_tbcd.specs.AddressFault.{address_fault_code};
+ghost use Rattle.camel_tbcd.specs.declared.address.TheConstants.{MAX_ADDRESS_LENGTH};
+
+use std::error::Error;
+use std::fmt;
+
+/// The greatest number of octets of an AddressString: maxAddressLength of TS 29.002.
+pub const MAX_ADDRESS_LENGTH: usize = 20;
+
+/// Why octets are no address. Nothing was made.
+#[derive(Clone, Copy, Debug, PartialEq, Eq)]
+pub enum AddressFault {
+    /// 1: there are no octets.
+    Empty,
+    /// 2: there are more octets than the type of address has.
+    TooLong,
+}
+
+impl AddressFault {
+    /// The fault's number, 1 or 2.
+    pub fn code(&self) -> u16
+        ensures { result ≡ address_fault_code self.now }
+    {
+        match self {
+            AddressFault::Empty => 1,
+            AddressFault::TooLong => 2,
+        }
+    }
+}
+
+impl fmt::Display for AddressFault {
+    fn fmt<W: fmt::Write>(&self, f: &mut fmt::Formatter<W>) -> fmt::Result {
+        f.write_str(match self {
+            AddressFault::Empty => "the address has no octets",
+            AddressFault::TooLong => "the address has too many octets",
+        })
+    }
+}
+
+impl Error for AddressFault {}
+
+/// An AddressString of TS 29.002, borrowed as its octets: 1 to 20 of them.
+///
+/// Octet 1 has the extension in bit 8, the nature of address in bits 765 and the numbering plan in bits
+/// 4321, and TBCD digits follow. No value of an octet is refused.
+#[derive(Clone, Copy, Debug)]
+pub struct Address<'a> {
+    bytes: &'a [u8],
+    ghost some: { 1 ≤ length bytes.now },
+    ghost few: { length bytes.now ≤ MAX_ADDRESS_LENGTH },
+}
+
+impl<'a> Address<'a> {
+    ghost use Rattle.camel_tbcd.specs.Address.{octets};
+
+    /// Borrows octets as an address.
+    ///
+    /// `Empty` is answered for no octets, and `TooLong` for more than 20.
+    pub fn new(bytes: &'a [u8]) -> Result<Address<'a>, AddressFault>
+        ensures address { IfOk result (λ address. octets address ≡ bytes.now) }
+        ensures empty { IsErrOf result AddressFault.Empty ↔ (length bytes.now ≡ 0) }
+        ensures too_long { IsErrOf result AddressFault.TooLong ↔ (MAX_ADDRESS_LENGTH < length bytes.now) }
+    {
+        if bytes.is_empty() {
+            return Err(AddressFault::Empty);
+        }
+        if bytes.len() > MAX_ADDRESS_LENGTH {
+            return Err(AddressFault::TooLong);
+        }
+        Ok(Address { bytes })
+    }
+
+    // The address whose octets an owned address keeps.
+    pub(crate) fn of_kept(bytes: &'a [u8]) -> Address<'a>
+        requires some { 1 ≤ length bytes.now }
+        requires few { length bytes.now ≤ MAX_ADDRESS_LENGTH }
+        ensures { octets result ≡ bytes.now }
+    {
+        Address { bytes }
+    }
+
+    /// The nature of address, 0 to 7: bits 765 of octet 1.
+    pub fn nature(&self) -> u8
+        ensures nature { result ≡ nature_of (octets self.now) }
+        ensures range { result ≤ 7 }
+    {
+        self.bytes[0] / 16 % 8
+    }
+
+    /// The numbering plan, 0 to 15: bits 4321 of octet 1.
+    pub fn plan(&self) -> u8
+        ensures plan { result ≡ plan_of (octets self.now) }
+        ensures range { result ≤ 15 }
+    {
+        self.bytes[0] % 16
+    }
+
+    /// The octets that it was made of.
+    pub fn bytes(&self) -> &'a [u8]
+        ensures { result.now ≡ octets self.now }
+    {
+        self.bytes
+    }
+}

@@ -1,0 +1,56 @@
+ghost use Rattle.std.specs.Prelude.{◌≡◌, ◌<◌, ◌↔◌, length, IfOk, IsErrOf};
+ghost use Rattle.camel_tbcd.specs.Address.{octets};
+ghost use Rattle.camel_tbcd.specs.declared.address.TheConstants.{MAX_ADDRESS_LENGTH};
+
+use crate::address::{Address, AddressFault, MAX_ADDRESS_LENGTH};
+use crate::short_list::ShortList;
+use std::marker::Model;
+
+/// An AddressString of TS 29.002 of its own, as the destination of a call: 1 to 20 octets.
+///
+/// Contracts see it as the list of its octets.
+#[derive(Clone, Copy, Debug)]
+pub struct CallAddress {
+    octets: ShortList<MAX_ADDRESS_LENGTH>,
+}
+
+impl Model for CallAddress {
+    ghost use Rattle.std.specs.Prelude.{ℕ, List, ◌≤◌, length};
+    ghost use Rattle.camel_tbcd.specs.declared.address.TheConstants.{MAX_ADDRESS_LENGTH};
+
+    ghost Value = { List ℕ };
+
+    ghost view = { λ a. a.octets };
+
+    ghost invariant = { λ a. (1 ≤ length a.octets) × (length a.octets ≤ MAX_ADDRESS_LENGTH) };
+
+    ghost inverse = { λ octets. record { octets = octets } };
+}
+
+impl CallAddress {
+    /// Keeps octets as an address.
+    ///
+    /// `Empty` is answered for no octets, and `TooLong` for more than 20.
+    pub fn from_bytes(bytes: &[u8]) -> Result<CallAddress, AddressFault>
+        ensures address { IfOk result (λ address. address ≡ bytes.now) }
+        ensures empty { IsErrOf result AddressFault.Empty ↔ (length bytes.now ≡ 0) }
+        ensures too_long { IsErrOf result AddressFault.TooLong ↔ (MAX_ADDRESS_LENGTH < length bytes.now) }
+    {
+        if bytes.is_empty() {
+            return Err(AddressFault::Empty);
+        }
+        if bytes.len() > MAX_ADDRESS_LENGTH {
+            return Err(AddressFault::TooLong);
+        }
+        Ok(CallAddress {
+            octets: ShortList::from_slice(bytes),
+        })
+    }
+
+    /// The same octets, borrowed.
+    pub fn lend(&self) -> Address<'_>
+        ensures { octets result ≡ self.now }
+    {
+        Address::of_kept(self.octets.as_slice())
+    }
+}

@@ -1,0 +1,149 @@
+ghost use Rattle.std.specs.Prelude.{◌≡◌, ◌≤◌, ◌<◌, ◌↔◌, length, position, nat_eq, nat_lt, All, IsNone, IfOk, IsOk};
+ghost use Rattle.std.specs.Ordering.{nat_cmp, as_partial_cmp};
+ghost use Rattle.std.specs.Cmp.{partial_equiv_from_equiv, partial_order_from_agreeing_total};
+ghost use Rattle.std.specs.Cmp.Lexicographic.{slice_cmp, pointwise, nat_list_cmp_total, nat_list_eq_equiv, texts_ties};
+ghost use Rattle.std.proofs.Common.{refl};
+ghost use Rattle.camel_tbcd.specs.Imsi.{IsImsi, imsi_of};
+ghost use Rattle.camel_tbcd.specs.ImsiFault.{imsi_fault_code};
+ghost use Rattle.camel_tbcd.specs.declared.imsi.TheConstants.{MIN_IMSI_DIGITS, MAX_IMSI_DIGITS};
+
+use crate::short_list::ShortList;
+use std::cmp::Ordering;
+use std::error::Error;
+use std::fmt;
+use std::marker::Model;
+
+/// The least number of digits of an IMSI.
+pub const MIN_IMSI_DIGITS: usize = 5;
+
+/// The greatest number of digits of an IMSI, by TS 23.003.
+pub const MAX_IMSI_DIGITS: usize = 15;
+
+/// Why digits are no IMSI. Nothing was made.
+#[derive(Clone, Copy, Debug, PartialEq, Eq)]
+pub enum ImsiFault {
+    /// 1: there are fewer than 5 digits or more than 15.
+    Length,
+    /// 2: the value at the place `at`, from 0, is over 9, and none before it is.
+    NotDigit { at: usize },
+}
+
+impl ImsiFault {
+    /// The fault's number, 1 or 2.
+    pub fn code(&self) -> u16
+        ensures { result ≡ imsi_fault_code self.now }
+    {
+        match self {
+            ImsiFault::Length => 1,
+            ImsiFault::NotDigit { .. } => 2,
+        }
+    }
+}
+
+impl fmt::Display for ImsiFault {
+    fn fmt<W: fmt::Write>(&self, f: &mut fmt::Formatter<W>) -> fmt::Result {
+        match self {
+            ImsiFault::Length => f.write_str("an IMSI has 5 to 15 digits"),
+            ImsiFault::NotDigit { at } => write!(f, "no decimal digit at {at}"),
+        }
+    }
+}
+
+impl Error for ImsiFault {}
+
+/// An international mobile subscriber identity of TS 23.003: 5 to 15 digits, each 0 to 9.
+///
+/// Contracts see it as the list of its digits. Equality and order are those of the lists, and the order
+/// is lexicographic.
+#[derive(Clone, Copy, Debug)]
+pub struct Imsi {
+    digits: ShortList<MAX_IMSI_DIGITS>,
+}
+
+impl Model for Imsi {
+    ghost use Rattle.std.specs.Prelude.{ℕ, List};
+    ghost use Rattle.camel_tbcd.specs.Imsi.{IsImsi};
+
+    ghost Value = { List ℕ };
+
+    ghost view = { λ a. a.digits };
+
+    ghost invariant = { λ a. IsImsi a.digits };
+
+    ghost inverse = { λ digits. record { digits = digits } };
+}
+
+impl Imsi {
+    /// Keeps digits, each as its value, as an IMSI.
+    ///
+    /// `Length` is answered for fewer than 5 digits or more than 15, and else `NotDigit` with the place,
+    /// from 0, of the first value over 9.
+    pub fn from_digits(digits: &[u8]) -> Result<Imsi, ImsiFault>
+        ensures answer { result ≡ imsi_of digits.now }
+        ensures imsi { IsOk result ↔ IsImsi digits.now }
+    {
+        if digits.len() < MIN_IMSI_DIGITS || digits.len() > MAX_IMSI_DIGITS {
+            return Err(ImsiFault::Length);
+        }
+        match first_over_nine(digits) {
+            Some(at) => Err(ImsiFault::NotDigit { at }),
+            None => Ok(Imsi {
+                digits: ShortList::from_slice(digits),
+            }),
+        }
+    }
+
+    /// Its digits, each as its value, the first one first.
+    pub fn digits(&self) -> &[u8]
+        ensures same { result.now ≡ self.now }
+        ensures imsi { IsImsi self.now }
+    {
+        self.digits.as_slice()
+    }
+}
+
+// The place of the first value that is no decimal digit.
+fn first_over_nine(values: &[u8]) -> Option<usize>
+    ensures first { result ≡ position (λ value. nat_lt 9 value) values.now }
+    ensures none { IsNone result ↔ All (λ value. value ≤ 9) values.now }
+{
+    values.iter().position(|value| *value > 9)
+}
+
+impl PartialEq for Imsi {
+    ghost eq = { pointwise nat_eq };
+
+    ghost laws = { partial_equiv_from_equiv nat_list_eq_equiv };
+
+    fn eq(&self, other: &Imsi) -> bool {
+        self.digits() == other.digits()
+    }
+}
+
+impl Eq for Imsi {
+    ghost laws = { nat_list_eq_equiv };
+}
+
+impl PartialOrd for Imsi {
+    ghost partial_cmp = { as_partial_cmp (slice_cmp nat_cmp) };
+
+    ghost laws = { partial_order_from_agreeing_total (slice_cmp nat_cmp) nat_list_cmp_total (λ x y. refl) texts_ties };
+
+    fn partial_cmp(&self, other: &Imsi) -> Option<Ordering> {
+        Some(self.cmp(other))
+    }
+}
+
+impl Ord for Imsi {
+    ghost cmp = { slice_cmp nat_cmp };
+
+    ghost total = { nat_list_cmp_total };
+
+    ghost matches_partial_cmp = { λ x y. refl };
+
+    ghost matches_eq = { texts_ties };
+
+    fn cmp(&self, other: &Imsi) -> Ordering {
+        self.digits().cmp(&other.digits())
+    }
+}

@@ -1,0 +1,16 @@
+//! Addresses and IMSIs in the encodings of 3GPP TS 29.002.
+//!
+//! An address is borrowed as an [`Address`] or kept as an [`IsdnAddress`] or a [`CallAddress`], and an
+//! [`Imsi`] is kept as its digits. No call of this crate takes memory.
+#![tactic(auto)]
+
+mod address;
+mod call_address;
+mod imsi;
+mod isdn_address;
+mod short_list;
+
+pub use address::{Address, AddressFault, MAX_ADDRESS_LENGTH};
+pub use call_address::CallAddress;
+pub use imsi::{Imsi, ImsiFault, MAX_IMSI_DIGITS, MIN_IMSI_DIGITS};
+pub use isdn_address::{IsdnAddress, MAX_ISDN_ADDRESS_LENGTH};

@@ -1,0 +1,51 @@
+ghost use Rattle.std.specs.Prelude.{◌≡◌, ◌≤◌, length};
+
+use std::marker::Model;
+
+/// At most `MOST` octets or digits, which contracts see as a list.
+///
+/// They are kept in place, so that a list of them is `Copy` and takes no memory.
+#[derive(Clone, Copy, Debug)]
+pub struct ShortList<const MOST: usize> {
+    // The items, and 0 from `len` on, so that equal lists have equal fields.
+    room: [u8; MOST],
+    len: usize,
+}
+
+impl<const MOST: usize> Model for ShortList<MOST> {
+    ghost use Rattle.std.specs.Prelude.{ℕ, List, length, take};
+    ghost use Rattle.std.proofs.Common.{sym};
+    ghost use Rattle.camel_tbcd.specs.ShortList.{IsKept, padded, length-kept};
+
+    ghost Value = { List ℕ };
+
+    ghost view = { λ a. take a.len a.room };
+
+    ghost invariant = { λ a. IsKept MOST a.room a.len };
+
+    ghost inverse = { λ items. record { room = padded MOST items; len = length items } };
+
+    ghost inverse_ok = { λ a h i. record { room = sym h.zeros i; len = length-kept MOST a.room a.len h.full h.fits i } };
+}
+
+impl<const MOST: usize> ShortList<MOST> {
+    /// Keeps the items.
+    pub fn from_slice(items: &[u8]) -> Self
+        requires { length items.now ≤ MOST }
+        ensures { result ≡ items.now }
+    {
+        let mut room = [0; MOST];
+        room[..items.len()].copy_from_slice(items);
+        ShortList {
+            room,
+            len: items.len(),
+        }
+    }
+
+    /// The items, in their order.
+    pub fn as_slice(&self) -> &[u8]
+        ensures { result.now ≡ self.now }
+    {
+        &self.room[..self.len]
+    }
+}
