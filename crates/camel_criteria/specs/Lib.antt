@@ -1,0 +1,3 @@
+pub mod BasicService
+pub mod Criteria
+pub mod Refusal

@@ -1,0 +1,13 @@
+-- The numbers of the refusals: those of TS 29.002's user errors, and from 101 on the product's own.
+use Rattle.std.specs.Prelude.{ℕ}
+use Rattle.camel_criteria.specs.declared.refusal.Refusal.{Refusal}
+use Rattle.camel_criteria.specs.declared.refusal.Refusal.TheVariants.{UnidentifiedSubscriber, DataMissing, UnexpectedDataValue, HistoryFull, OutOfMemory, NoPlace, NoGuard}
+
+abbrev pub refusal_code : Refusal → ℕ
+refusal_code UnidentifiedSubscriber = 5
+refusal_code DataMissing = 35
+refusal_code UnexpectedDataValue = 36
+refusal_code HistoryFull = 101
+refusal_code OutOfMemory = 102
+refusal_code NoPlace = 103
+refusal_code NoGuard = 104
