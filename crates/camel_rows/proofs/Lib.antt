@@ -1,0 +1,2 @@
+pub mod OCsiLemmas
+pub mod RecordsTable

@@ -1,0 +1,30 @@
+-- The finite map that the entries of a table make, whose keys are lists of numbers.
+use Rattle.std.proofs.Common.{◌≡◌, ◌∙◌, ℕ, List, [], ◌∷◌, Option, Some, None, cond, refl, sym, ap}
+use Rattle.std.specs.BTreeMap.{is_at}
+use Rattle.std.specs.Cmp.{eq_by_cmp_equiv}
+use Rattle.std.specs.Cmp.Lexicographic.{slice_cmp, nat_list_cmp_total}
+use Rattle.std.specs.FinMap.{find, from_entries, get, insert, get-from_entries, get-insert, same_map}
+use Rattle.std.specs.Map.{lookup}
+use Rattle.std.specs.Ordering.{nat_cmp}
+use Rattle.std.proofs.lemmas.Map.Lookups.{exact_bytes}
+
+module _ {X : Type 0} where
+  -- what the entries hold at a key
+  abbrev pub entry_at : List (List ℕ × X) → List ℕ → Option X
+  entry_at entries key = lookup (is_at (slice_cmp nat_cmp key)) entries
+
+  find-entries : (entries : List (List ℕ × X)) (key : List ℕ) → find (slice_cmp nat_cmp) key entries ≡ entry_at entries key
+  find-entries [] key = refl
+  find-entries (entry ∷ entries) key = ap (cond (is_at (slice_cmp nat_cmp key) entry.0) (Some entry.1)) (find-entries entries key)
+
+  -- the map holds what the entries hold
+  pub get-entries : (entries : List (List ℕ × X)) (key : List ℕ) → get (from_entries {R = slice_cmp nat_cmp} entries) key ≡ entry_at entries key
+  get-entries entries key = get-from_entries nat_list_cmp_total entries key ∙ find-entries entries key
+
+  -- entries that differ at one key make maps that differ there
+  pub insert-entries : (old new : List (List ℕ × X)) (key : List ℕ) (value : X)
+      → ((other : List ℕ) → entry_at new other ≡ cond (is_at (slice_cmp nat_cmp key) other) (Some value) (entry_at old other))
+      → from_entries {R = slice_cmp nat_cmp} new ≡ insert (from_entries old) key value
+  insert-entries old new key value differ = same_map nat_list_cmp_total exact_bytes _ _ (λ other.
+      get-entries new other ∙ differ other ∙ ap (λ b. cond b (Some value) (entry_at old other)) ((eq_by_cmp_equiv nat_list_cmp_total).symm key other)
+      ∙ sym (get-insert nat_list_cmp_total (from_entries old) key value other ∙ ap (cond (is_at (slice_cmp nat_cmp other) key) (Some value)) (get-entries old other)))

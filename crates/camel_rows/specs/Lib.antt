@@ -1,0 +1,11 @@
+pub mod Decision
+pub mod DetectionPoint
+pub mod Event
+pub mod Front
+pub mod OCsi
+pub mod Outcome
+pub mod Rows
+pub mod Subscriber
+pub mod SubscriberData
+pub mod TdpRow
+pub mod Update

@@ -1,0 +1,41 @@
+-- The record of a subscriber: CAMEL subscription information of TS 23.078.
+use Rattle.std.specs.Prelude.{ℕ, ◌==◌, List, [], Option, Some, None, find, if◌then◌else◌}
+use Rattle.std.specs.Option.{option_and_then, option_map}
+use Rattle.camel_criteria.specs.Criteria.{OCriteriaData, TCriteriaData}
+use Rattle.camel_rows.specs.DetectionPoint.{is_o_detection_point}
+use Rattle.camel_rows.specs.TdpRow.{TdpRowData}
+
+-- one half: the TDP rows of a CSI with the entries of its criteria, both in the order received and
+-- without the ignored items
+pub record Half (Entry : Type 0) : Type 0 where
+  pub rows : List TdpRowData
+  pub entries : List Entry
+
+-- the two halves. A half that is not stored is none; one whose lists are empty is stored
+pub record SubscriberData : Type 0 where
+  pub o : Option (Half OCriteriaData)
+  pub vt : Option (Half TCriteriaData)
+
+-- the record of a subscriber who has just registered
+abbrev pub empty_record : SubscriberData
+empty_record = record { o = None; vt = None }
+
+-- a half of rows alone
+abbrev pub without_criteria : {Entry : Type 0} → List TdpRowData → Half Entry
+without_criteria rows = record { rows = rows; entries = [] }
+
+abbrev pub rows_of : {Entry : Type 0} → Half Entry → List TdpRowData
+rows_of half = half.rows
+
+-- the rows of the half that a detection point is tested against, where it is stored
+abbrev pub rows_tested_at : ℕ → SubscriberData → Option (List TdpRowData)
+rows_tested_at dp subscriber =
+    if is_o_detection_point dp then option_map rows_of subscriber.o else option_map rows_of subscriber.vt
+
+-- the row of a detection point among rows
+abbrev pub row_among : ℕ → List TdpRowData → Option TdpRowData
+row_among dp rows = find (λ row. row.dp == dp) rows
+
+-- the row of a detection point, where it is armed
+abbrev pub row_at : ℕ → SubscriberData → Option TdpRowData
+row_at dp subscriber = option_and_then (row_among dp) (rows_tested_at dp subscriber)

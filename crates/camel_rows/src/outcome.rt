@@ -1,0 +1,67 @@
+ghost use Rattle.std.specs.Prelude.{◌≡◌};
+ghost use Rattle.camel_rows.specs.Decision.{shown};
+ghost use Rattle.camel_rows.specs.Outcome.{action_of, outcome_of};
+
+use crate::decision::{Decision, Reason};
+use camel_criteria::Handling;
+use camel_tbcd::IsdnAddress;
+
+/// A decision with the row's four values, or the reason why no service is asked.
+#[derive(Clone, Copy, Debug)]
+pub enum Outcome {
+    /// The service with this key is asked at this gsmSCF address.
+    Trigger {
+        dp: u8,
+        key: u32,
+        scf: IsdnAddress,
+        handling: Handling,
+    },
+    /// No service is asked.
+    NoTrigger(Reason),
+}
+
+impl Outcome {
+    /// What a decision says, without borrowing from the records.
+    pub fn of(decision: &Decision) -> Outcome
+        ensures { result ≡ outcome_of (shown decision.now) }
+    {
+        match decision {
+            Decision::Trigger { row } => Outcome::Trigger {
+                dp: row.dp(),
+                key: row.key(),
+                scf: row.kept_scf(),
+                handling: row.handling(),
+            },
+            Decision::NoTrigger(reason) => Outcome::NoTrigger(*reason),
+        }
+    }
+}
+
+/// The outcome of an event, with the number of updates whose data it was decided over.
+#[derive(Clone, Copy, Debug)]
+pub struct Answer {
+    /// The number of updates of the front.
+    pub front: u64,
+    /// What was decided.
+    pub outcome: Outcome,
+}
+
+/// What is done with a call.
+#[derive(Clone, Copy, Debug, PartialEq, Eq)]
+pub enum CallAction {
+    /// The call goes on without the service.
+    Continue,
+    /// The call is released.
+    Release,
+}
+
+/// What is done with a call of this default call handling, where the dialogue between gsmSSF and gsmSCF
+/// fails (TS 23.078).
+pub fn on_failure(handling: Handling) -> CallAction
+    ensures { result ≡ action_of handling }
+{
+    match handling {
+        Handling::Continue => CallAction::Continue,
+        Handling::Release => CallAction::Release,
+    }
+}

@@ -1,0 +1,87 @@
+ghost use Rattle.std.specs.Prelude.{◌≡◌, ◌⊎◌, Some, None, IfErr, IfSome, OnErr, OnOk};
+ghost use Rattle.std.specs.FinMap as map;
+ghost use Rattle.std.specs.Option.{option_copied};
+ghost use Rattle.camel_rows.specs.SubscriberData.{no_records};
+ghost use Rattle.camel_rows.specs.Update.{after, inserted, refusal};
+
+use crate::o_csi::OCsi;
+use crate::subscriber::Subscriber;
+use crate::update::Update;
+use camel_criteria::Refusal;
+use camel_tbcd::Imsi;
+use std::alloc::{AllocError, Global};
+use std::collections::BTreeMap;
+use std::marker::Model;
+
+/// The records of all subscribers, by IMSI.
+///
+/// Contracts see them as a finite map from IMSIs to records.
+#[derive(Debug, Drop)]
+pub struct Records {
+    table: BTreeMap<Imsi, Subscriber>,
+}
+
+impl Model for Records {
+    ghost use Rattle.std.specs.FinMap as map;
+    ghost use Rattle.std.specs.Cmp.Lexicographic.{slice_cmp};
+    ghost use Rattle.std.specs.Coded.{coded_ℕ, coded_list};
+    ghost use Rattle.std.specs.Ordering.{nat_cmp};
+    ghost use Rattle.camel_rows.specs.SubscriberData.{Data};
+    ghost use Rattle.camel_rows.specs.contracts.subscriber.Subscriber as subscriber;
+
+    ghost Value = { Data };
+
+    ghost coded = { map.code (coded_list coded_ℕ) subscriber.the_row.coded };
+
+    ghost view = { λ a. map.from_entries a.table.entries };
+}
+
+impl Records {
+    /// No records. It takes no memory yet.
+    pub fn new(alloc: Global) -> Records
+        ensures { result ≡ no_records }
+    {
+        Records {
+            table: BTreeMap::new(alloc),
+        }
+    }
+
+    /// The record of an IMSI, where there is one.
+    pub fn get(&self, imsi: &Imsi) -> Option<&Subscriber>
+        ensures { option_copied result ≡ map.get self.now imsi.now }
+    {
+        self.table.get(imsi)
+    }
+
+    /// Applies an update.
+    ///
+    /// `UnidentifiedSubscriber` is answered for an Insert where the IMSI has no record, and `OutOfMemory`
+    /// where memory was refused. After a refusal the records are as before.
+    pub fn apply(&mut self, update: &Update) -> Result<(), Refusal>
+        ensures refused { IfSome (refusal self.old update.now) (λ why. result ≡ Err why) }
+        ensures applied { OnOk result (self.new ≡ after self.old update.now) }
+        ensures unchanged { OnErr result (self.new ≡ self.old) }
+        ensures only { IfErr result (λ why. (why ≡ Refusal.OutOfMemory) ⊎ (refusal self.old update.now ≡ Some why)) }
+    {
+        match update {
+            Update::Register { imsi } => self.put(*imsi, Subscriber::registered())?,
+            Update::Insert { imsi, o } => {
+                let Some(subscriber) = self.get(imsi) else {
+                    return Err(Refusal::UnidentifiedSubscriber);
+                };
+                let inserted = subscriber.with_inserted(o);
+                self.put(*imsi, inserted)?;
+            }
+        }
+        Ok(())
+    }
+
+    // Puts a record in the place of the one that is there.
+    fn put(&mut self, imsi: Imsi, subscriber: Subscriber) -> Result<(), AllocError>
+        ensures put { OnOk result (self.new ≡ map.insert self.old imsi subscriber) }
+        ensures unchanged { OnErr result (self.new ≡ self.old) }
+    {
+        self.table.insert(imsi, subscriber)?;
+        Ok(())
+    }
+}
