@@ -14,3 +14,6 @@ pub use address::{Address, AddressFault, MAX_ADDRESS_LENGTH};
 pub use call_address::CallAddress;
 pub use imsi::{Imsi, ImsiFault, MAX_IMSI_DIGITS, MIN_IMSI_DIGITS};
 pub use isdn_address::{IsdnAddress, MAX_ISDN_ADDRESS_LENGTH};
+
+#[cfg(test)]
+mod tests;
