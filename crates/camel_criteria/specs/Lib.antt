@@ -1,3 +1,4 @@
 pub mod BasicService
 pub mod Criteria
+pub mod Handling
 pub mod Refusal

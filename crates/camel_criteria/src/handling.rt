@@ -1,4 +1,5 @@
 ghost use Rattle.std.specs.Prelude.{◌≡◌, ◌<◌, ◌↔◌, ◌⊎◌};
+ghost use Rattle.camel_criteria.specs.Handling.{handling_of};
 
 /// What is done with a call where the dialogue between gsmSSF and gsmSCF fails: DefaultCallHandling of
 /// TS 29.002.
@@ -14,7 +15,8 @@ impl Handling {
     /// The handling that a received number stands for: 0 is continue and 1 release; TS 29.002 has values 2
     /// to 31 treated as continue, and values above 31 as release.
     pub fn of_received(received: u32) -> Handling
-        ensures { (result ≡ Handling.Release) ↔ ((received ≡ 1) ⊎ (31 < received)) }
+        ensures handling { result ≡ handling_of received }
+        ensures release { (result ≡ Handling.Release) ↔ ((received ≡ 1) ⊎ (31 < received)) }
     {
         match received {
             0 | 2..=31 => Handling::Continue,

@@ -80,6 +80,7 @@ impl Imsi {
     /// from 0, of the first value over 9.
     pub fn from_digits(digits: &[u8]) -> Result<Imsi, ImsiFault>
         ensures answer { result ≡ imsi_of digits.now }
+        ensures kept { IfOk result (λ imsi. imsi ≡ digits.now) }
         ensures imsi { IsOk result ↔ IsImsi digits.now }
     {
         if digits.len() < MIN_IMSI_DIGITS || digits.len() > MAX_IMSI_DIGITS {

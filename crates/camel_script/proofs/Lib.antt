@@ -1,0 +1,4 @@
+pub mod CsvRecords
+pub mod LineLemmas
+pub mod ReadRecord
+pub mod TextsLemmas

@@ -1,0 +1,36 @@
+-- The texts of the lines of output (profile 1's own format). Numbers are decimal, octets lower-case
+-- hexadecimal, and each line ends with a line feed.
+use Rattle.std.specs.Prelude.{ℕ, List, ◌++◌, codes}
+use Rattle.std.specs.Fmt.{decimal}
+use Rattle.hex.specs.Hex.{encode_lower}
+use Rattle.camel_rows.specs.Outcome.{action_of}
+use Rattle.camel_rows.specs.declared.decision.Reason.{Reason}
+use Rattle.camel_rows.specs.declared.decision.Reason.TheVariants.{Unknown, NoCsi, NotArmed, Emergency}
+use Rattle.camel_rows.specs.declared.outcome.CallAction.{CallAction}
+use Rattle.camel_rows.specs.declared.outcome.CallAction.TheVariants.{Continue, Release}
+use Rattle.camel_rows.specs.declared.outcome.Outcome.{Outcome}
+use Rattle.camel_rows.specs.declared.outcome.Outcome.TheVariants.{Trigger, NoTrigger}
+use Rattle.camel_script.specs.declared.line.Line.{Line}
+use Rattle.camel_script.specs.declared.line.Line.TheVariants.{Accepted, Refused, Published, Decided}
+
+abbrev pub action_text : CallAction → List ℕ
+action_text Continue = codes "continue"
+action_text Release = codes "release"
+
+abbrev pub reason_text : Reason → List ℕ
+reason_text Unknown = codes "unknown"
+reason_text NoCsi = codes "no-csi"
+reason_text NotArmed = codes "not-armed"
+reason_text Emergency = codes "emergency"
+
+-- the front, and the row's four values, the last as what is done with the call, or the reason
+abbrev pub decided_text : ℕ → Outcome → List ℕ
+decided_text front (Trigger dp key scf handling) =
+    codes "front " ++ decimal front ++ codes " trigger " ++ decimal dp ++ codes " " ++ decimal key ++ codes " " ++ encode_lower scf ++ codes " " ++ action_text (action_of handling) ++ codes "\n"
+decided_text front (NoTrigger reason) = codes "front " ++ decimal front ++ codes " none " ++ reason_text reason ++ codes "\n"
+
+abbrev pub line_text : Line → List ℕ
+line_text (Accepted number) = codes "accepted " ++ decimal number ++ codes "\n"
+line_text (Refused code) = codes "refused " ++ decimal code ++ codes "\n"
+line_text (Published front) = codes "published " ++ decimal front ++ codes "\n"
+line_text (Decided answer) = decided_text answer.front answer.outcome

@@ -1,0 +1,37 @@
+ghost use Rattle.csv.specs.Records.{fields_of};
+ghost use Rattle.camel_script.specs.Reading.{Tells};
+ghost use Rattle.camel_script.specs.Record.{call_of};
+
+use crate::record::{Record, field};
+use crate::stop::Stop;
+use crate::texts::{basic_service, call_address, imsi, is_forwarded, octets_from};
+use camel_rows::CallEvent;
+use csv::ByteRecord;
+use std::alloc::Global;
+
+// A call at detection point 2. The texts of all fields come before the data.
+#[tactic(auto, unfolding(crate::specs::Record::call_of))]
+pub fn call(alloc: Global, row: &ByteRecord) -> Result<Record, Stop>
+    ensures { Tells result (call_of (fields_of row.now)) }
+{
+    if row.len() < 2 {
+        return Err(Stop::FieldCount);
+    }
+    if field(row, 1) != b"2".as_slice() {
+        return Err(Stop::Word);
+    }
+    if row.len() != 6 {
+        return Err(Stop::FieldCount);
+    }
+    let imsi = imsi(field(row, 2))?;
+    let basic = basic_service(field(row, 3))?;
+    let octets = octets_from(alloc, field(row, 4))?;
+    let forwarded = is_forwarded(field(row, 5))?;
+    let destination = call_address(&octets)?;
+    Ok(Record::Call(CallEvent::CollectedInfo {
+        imsi,
+        destination,
+        basic,
+        forwarded,
+    }))
+}

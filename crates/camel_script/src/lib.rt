@@ -1,0 +1,16 @@
+//! Scripts of subscriber data updates and calls, read record by record, and the lines that answer them.
+#![tactic(auto)]
+
+mod call;
+mod insert;
+mod line;
+mod record;
+mod script;
+mod script_fault;
+mod stop;
+mod texts;
+
+pub use line::{Line, push_line};
+pub use record::Record;
+pub use script::Script;
+pub use script_fault::ScriptFault;

@@ -1,0 +1,131 @@
+ghost use Rattle.std.specs.Prelude.{◌≡◌, ◌+◌, Ok, Err, None, IfErr, IfOk, IfSome, IsOk, IsTrue, OnErr, option_map};
+ghost use Rattle.csv.specs.Reading.{error_kind, is_io};
+ghost use Rattle.camel_script.specs.Csv.{IsOutside};
+ghost use Rattle.camel_script.specs.Script.{Ended, Failed, FaultsAs, Gives, IsOutsideFault, Unread, records_left, script, still_gives};
+
+use crate::record::{Record, record_from};
+use crate::script_fault::ScriptFault;
+use camel_criteria::Refusal;
+use csv::{ByteRecord, ErrorKind, Reader, ReaderBuilder};
+use std::alloc::Global;
+use std::io::Read;
+use std::marker::Model;
+
+// What the reads so far have come to.
+#[derive(Clone, Copy, PartialEq, Eq)]
+enum Phase {
+    Reading,
+    Failed,
+    Ended,
+}
+
+/// A script that is read record by record, in the form that docs/SCRIPT.md states.
+///
+/// Contracts see what it still gives: records and then a fault or the end, where the bytes of the reader
+/// are known.
+#[derive(Drop)]
+pub struct Script<R: Read> {
+    alloc: Global,
+    reader: Reader<R>,
+    row: ByteRecord,
+    records_left: u64,
+    phase: Phase,
+}
+
+impl<R: Read> Model for Script<R> {
+    ghost use Rattle.csv.specs.Reading.{source_of, reader_state};
+    ghost use Rattle.camel_script.specs.Csv.{IsSetUp, script_state_of};
+    ghost use Rattle.camel_script.specs.Script.{ScriptState};
+
+    ghost Value = { ScriptState };
+
+    ghost view = { λ a. script_state_of a.phase (source_of R.remaining a.reader) (reader_state a.reader) a.records_left };
+
+    ghost invariant = { λ a. IsSetUp a.phase a.reader };
+}
+
+impl<R: Read> Script<R> {
+    /// A script of which nothing is read yet, and of which at most `max_records` records are read. It takes
+    /// no memory.
+    pub fn new(alloc: Global, reader: R, max_records: u64) -> Result<Script<R>, Refusal>
+        ensures made { IsOk result }
+        ensures unread { IfOk result (λ made. made ≡
+            Unread max_records (option_map (λ bytes. script bytes max_records) (R.remaining reader))) }
+    {
+        let reader = ReaderBuilder::new()
+            .has_headers(false)
+            .flexible(true)
+            .from_reader(alloc, reader);
+        Ok(Script {
+            alloc,
+            reader,
+            row: ByteRecord::new(alloc),
+            records_left: max_records,
+            phase: Phase::Reading,
+        })
+    }
+
+    /// The next record, or None at the end of the script.
+    ///
+    /// A fault of a record's text is one of 202 to 205, in the order of docs/SCRIPT.md. `TooManyRecords` is
+    /// answered for one record more than `max_records`, before any other fault of it, `Read` where the
+    /// reader failed, and `OutOfMemory` where memory was refused. After any fault each later call answers
+    /// `Failed`, and after None each answers None.
+    pub fn read_record(&mut self) -> Result<Option<Record>, ScriptFault>
+        ensures gives { IfOk result (λ read. Gives (still_gives self.old) (still_gives self.new) read) }
+        ensures faults { IfErr result (λ fault. FaultsAs fault (still_gives self.old)) }
+        ensures counts { IfOk result (λ read. IfSome read (λ _. records_left self.old ≡ records_left self.new + 1)) }
+
+        // After a fault comes `Failed` for good, and never else; after the end comes None for good.
+        ensures fails { OnErr result (self.new ≡ Failed) }
+        ensures failed { self.old ≡ Failed → result ≡ Err ScriptFault.Failed }
+        ensures failed_only { result ≡ Err ScriptFault.Failed → self.old ≡ Failed }
+        ensures ends { result ≡ Ok None → self.new ≡ Ended }
+        ensures ended { self.old ≡ Ended → result ≡ Ok None }
+    {
+        match self.phase {
+            Phase::Failed => return Err(ScriptFault::Failed),
+            Phase::Ended => return Ok(None),
+            Phase::Reading => {}
+        }
+        let found = match self.reader.read_byte_record(&mut self.row) {
+            Ok(found) => found,
+            Err(error) => {
+                self.phase = Phase::Failed;
+                return Err(read_fault(&error));
+            }
+        };
+        if !found {
+            self.phase = Phase::Ended;
+            return Ok(None);
+        }
+        if self.records_left == 0 {
+            self.phase = Phase::Failed;
+            return Err(ScriptFault::TooManyRecords);
+        }
+        match record_from(self.alloc, &self.row) {
+            Ok(read) => {
+                self.records_left -= 1;
+                Ok(Some(read))
+            }
+            Err(fault) => {
+                self.phase = Phase::Failed;
+                Err(fault)
+            }
+        }
+    }
+}
+
+// Want of memory, or a failure of the reader underneath: a flexible reader of byte records has no other.
+fn read_fault(error: &csv::Error) -> ScriptFault
+    requires { IsOutside (error_kind error.now) }
+    ensures memory { error_kind error.now ≡ ErrorKind.OutOfMemory → result ≡ ScriptFault.OutOfMemory }
+    ensures read { IsTrue (is_io (error_kind error.now)) → result ≡ ScriptFault.Read }
+    ensures outside { IsOutsideFault result }
+{
+    match error.kind() {
+        ErrorKind::OutOfMemory => ScriptFault::OutOfMemory,
+        ErrorKind::Io(_) => ScriptFault::Read,
+        _ => unreachable!(),
+    }
+}
