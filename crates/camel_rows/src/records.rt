@@ -1,4 +1,4 @@
-ghost use Rattle.std.specs.Prelude.{◌≡◌, ◌⊎◌, Some, None, IfErr, IfSome, OnErr, OnOk};
+ghost use Rattle.std.specs.Prelude.{◌≡◌, ◌⊎◌, Some, IfErr, IfNone, IfSome, IsOk, OnErr, OnOk};
 ghost use Rattle.std.specs.FinMap as map;
 ghost use Rattle.std.specs.Option.{option_copied};
 ghost use Rattle.camel_rows.specs.SubscriberData.{no_records};
@@ -51,6 +51,22 @@ impl Records {
         ensures { option_copied result ≡ map.get self.now imsi.now }
     {
         self.table.get(imsi)
+    }
+
+    /// Whether an update may be applied.
+    ///
+    /// `UnidentifiedSubscriber` is answered for an Insert where the IMSI has no record.
+    pub fn check(&self, update: &Update) -> Result<(), Refusal>
+        ensures refused { IfSome (refusal self.now update.now) (λ why. result ≡ Err why) }
+        ensures accepted { IfNone (refusal self.now update.now) (IsOk result) }
+    {
+        match update {
+            Update::Register { .. } => Ok(()),
+            Update::Insert { imsi, .. } => match self.get(imsi) {
+                Some(_) => Ok(()),
+                None => Err(Refusal::UnidentifiedSubscriber),
+            },
+        }
     }
 
     /// Applies an update.
