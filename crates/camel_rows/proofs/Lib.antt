@@ -1,2 +1,3 @@
 pub mod OCsiLemmas
 pub mod RecordsTable
+pub mod UpdateLemmas

@@ -1,0 +1,5 @@
+pub mod Output
+pub mod ReplayFault
+pub mod Store
+pub mod StoreCode
+pub mod Written

@@ -1,0 +1,172 @@
+ghost use Rattle.std.specs.Prelude.{◌≡◌, ◌+◌, ◌⊎◌, [], ◌∷◌, ◌++◌, Some, None, IfErr, IfOk, OnErr, OnOk, length};
+ghost use Rattle.camel_rows.specs.Decision.{decision};
+ghost use Rattle.camel_rows.specs.Outcome.{outcome_of};
+ghost use Rattle.camel_rows.specs.Update.{after, refusal};
+ghost use Rattle.camel_replay.specs.Store.{StoreData, empty_store, store_after, store_answer, store_line, store_refusal, update_count};
+
+use camel_criteria::Refusal;
+use camel_rows::{Answer, CallEvent, Event, Outcome, Records, Update, decide_in};
+use camel_script::{Line, Record};
+use std::alloc::Global;
+use std::collections::VecDeque;
+use std::marker::Model;
+
+/// The subscriber data of one thread: what is published, and the accepted updates that are pending.
+///
+/// Contracts see the limit, how many updates are published, the data that they leave, and the pending
+/// updates.
+#[derive(Drop)]
+pub struct Store {
+    limit: u64,
+    front: u64,
+    published: Records,
+    // The data with the pending updates too, by which updates are refused.
+    current: Records,
+    pending: VecDeque<Update>,
+}
+
+impl Model for Store {
+    ghost use Rattle.camel_replay.specs.Store.{IsSound, StoreData};
+    ghost use Rattle.camel_replay.specs.StoreCode.{store_code};
+
+    ghost Value = { StoreData };
+
+    ghost coded = { store_code };
+
+    ghost view = { λ a. record { limit = a.limit; front = a.front; published = a.published; pending = a.pending.items } };
+
+    ghost invariant = { λ a. IsSound a.limit a.front a.published a.current a.pending.items };
+}
+
+impl Store {
+    /// A store that takes at most `limit` updates, with no records.
+    pub fn new(alloc: Global, limit: u64) -> Store
+        ensures { result ≡ empty_store limit }
+    {
+        Store {
+            limit,
+            front: 0,
+            published: Records::new(alloc),
+            current: Records::new(alloc),
+            pending: VecDeque::new(alloc),
+        }
+    }
+
+    /// Answers a record of a script by its line.
+    ///
+    /// `OutOfMemory` is answered where memory was refused; the store is then not to be used again.
+    pub fn answer(&mut self, request: Record) -> Result<Line, Refusal>
+        ensures line { IfOk result (λ line. line ≡ store_line self.old request) }
+        ensures after { OnOk result (self.new ≡ store_after self.old request) }
+        ensures only { IfErr result (λ why. why ≡ Refusal.OutOfMemory) }
+    {
+        match request {
+            Record::Update(update) => self.line_of_update(update),
+            Record::Publish => Ok(Line::Published(self.publish()?)),
+            Record::Call(event) => Ok(Line::Decided(self.decide(&event))),
+            Record::Refused(refusal) => Ok(Line::Refused(refusal.code())),
+        }
+    }
+
+    fn line_of_update(&mut self, update: Update) -> Result<Line, Refusal>
+        ensures line { IfOk result (λ line. line ≡ store_line self.old (Record.Update update)) }
+        ensures after { OnOk result (self.new ≡ store_after self.old (Record.Update update)) }
+        ensures only { IfErr result (λ why. why ≡ Refusal.OutOfMemory) }
+    {
+        match self.submit(update) {
+            Ok(number) => Ok(Line::Accepted(number)),
+            Err(Refusal::OutOfMemory) => Err(Refusal::OutOfMemory),
+            Err(refusal) => Ok(Line::Refused(refusal.code())),
+        }
+    }
+
+    // Takes an update as pending, and answers its number.
+    fn submit(&mut self, update: Update) -> Result<u64, Refusal>
+        ensures number { IfOk result (λ number. number ≡ update_count self.old + 1) }
+        ensures accepted { OnOk result (store_refusal self.old update ≡ None) }
+        ensures taken { OnOk result (self.new ≡ record self.old { pending = self.old.pending ++ update ∷ [] }) }
+        ensures unchanged { OnErr result (self.new ≡ self.old) }
+        ensures refused { IfErr result (λ why. (why ≡ Refusal.OutOfMemory) ⊎ (store_refusal self.old update ≡ Some why)) }
+    {
+        self.current.check(&update)?;
+        let count = self.front + self.pending.len() as u64;
+        if count == self.limit {
+            return Err(Refusal::HistoryFull);
+        }
+        take(&mut self.current, &mut self.pending, update)?;
+        Ok(count + 1)
+    }
+
+    // Publishes the pending updates, and answers how many updates are published. They are published one by
+    // one, so that want of memory leaves a store whose fields agree.
+    fn publish(&mut self) -> Result<u64, Refusal>
+        ensures front { IfOk result (λ front. front ≡ update_count self.old) }
+        ensures published { OnOk result (self.new ≡ store_after self.old Record.Publish) }
+        ensures only { IfErr result (λ why. why ≡ Refusal.OutOfMemory) }
+    {
+        'updates: while let Some(update) = self.pending.front() {
+            self.published.apply(update)?;
+            self.pending.pop_front();
+            self.front += 1;
+        }
+        Ok(self.front)
+    }
+
+    // Decides a call over the published data.
+    fn decide(&self, event: &CallEvent) -> Answer
+        ensures { result ≡ store_answer self.now event.now }
+    {
+        Answer {
+            front: self.front,
+            outcome: outcome_over(&self.published, event),
+        }
+    }
+}
+
+// The event is written out in place of `CallEvent::lend`: docs/DECISIONS.md says why.
+fn outcome_over(records: &Records, event: &CallEvent) -> Outcome
+    ensures { result ≡ outcome_of (decision records.now event.now) }
+{
+    match event {
+        CallEvent::CollectedInfo {
+            imsi,
+            destination,
+            basic,
+            forwarded,
+        } => {
+            let event = Event::CollectedInfo {
+                imsi: *imsi,
+                destination: destination.lend(),
+                basic: *basic,
+                forwarded: *forwarded,
+            };
+            Outcome::of(&decide_in(records, &event))
+        }
+    }
+}
+
+// Applies an update that is not refused, and puts it at the end of the pending ones. An error leaves both
+// as they are.
+fn take(
+    current: &mut Records,
+    pending: &mut VecDeque<Update>,
+    update: Update,
+) -> Result<(), Refusal>
+    requires { refusal current.old update ≡ None }
+    ensures applied { OnOk result (current.new ≡ after current.old update) }
+    ensures pushed { OnOk result (pending.new.items ≡ pending.old.items ++ update ∷ []) }
+    ensures unchanged { OnErr result ((current.new ≡ current.old) × (pending.new.items ≡ pending.old.items)) }
+    ensures only { IfErr result (λ why. why ≡ Refusal.OutOfMemory) }
+{
+    pending.push_back(update)?;
+    if let Some(last) = pending.back() {
+        match current.apply(last) {
+            Ok(()) => {}
+            Err(refusal) => {
+                pending.pop_back();
+                return Err(refusal);
+            }
+        }
+    }
+    Ok(())
+}
