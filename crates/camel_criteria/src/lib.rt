@@ -11,3 +11,6 @@ pub use basic_service::{BasicService, EMERGENCY_CALLS};
 pub use criteria::{CallType, MatchType};
 pub use handling::Handling;
 pub use refusal::Refusal;
+
+#[cfg(test)]
+mod tests;

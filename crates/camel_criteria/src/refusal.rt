@@ -15,7 +15,7 @@ pub enum Refusal {
     UnidentifiedSubscriber,
     /// 35: data that are needed are missing.
     DataMissing,
-    /// 36: a value is outside its range.
+    /// 36: the data have the right form, but a value, a count of items or a repeated item is not allowed.
     UnexpectedDataValue,
     /// 101: the store has taken as many updates as it may.
     HistoryFull,
@@ -49,7 +49,7 @@ impl fmt::Display for Refusal {
         f.write_str(match self {
             Refusal::UnidentifiedSubscriber => "there is no record of the subscriber",
             Refusal::DataMissing => "data that are needed are missing",
-            Refusal::UnexpectedDataValue => "a value is outside its range",
+            Refusal::UnexpectedDataValue => "a value, a count or a repeated item is not allowed",
             Refusal::HistoryFull => "the store has taken as many updates as it may",
             Refusal::OutOfMemory => "out of memory",
             Refusal::NoPlace => "there is no place for a further reader",

@@ -3,7 +3,7 @@ use Rattle.std.proofs.Common.{◌≡◌, ◌∙◌, ℕ, ◌+◌, ◌<◌, ◌==
 use Rattle.std.proofs.lemmas.List.{length-append}
 use Rattle.camel_criteria.specs.declared.refusal.Refusal.{Refusal}
 use Rattle.camel_rows.proofs.UpdateLemmas.{AcceptedFrom-push, state_from-append}
-use Rattle.camel_rows.specs.SubscriberData.{Data, no_records}
+use Rattle.camel_rows.specs.Records.{RecordsData, no_records}
 use Rattle.camel_rows.specs.Update.{after, refusal, state, state_from}
 use Rattle.camel_rows.specs.declared.update.Update.{Update}
 use Rattle.camel_script.specs.Line.{line_text}
@@ -24,7 +24,7 @@ state-accepted_updates history = state_from-append no_records history.published 
 
 store_refusal-store_of : (limit : ℕ) (history : History) (update : Update) → store_refusal (store_of limit history) update ≡ why_refused limit history update
 store_refusal-store_of limit history update =
-    ap (λ (m : Data). or_full (refusal m update) (length history.published + length history.pending == limit)) (sym (state-accepted_updates history))
+    ap (λ (m : RecordsData). or_full (refusal m update) (length history.published + length history.pending == limit)) (sym (state-accepted_updates history))
 
 store_line-store_of : (limit : ℕ) (history : History) (asked : Record) → store_line (store_of limit history) asked ≡ line_of limit history asked
 store_line-store_of limit history (request.Update update) =
@@ -57,7 +57,7 @@ store_output-store_of limit history (asked ∷ requests) =
     (ap (λ (rest : List ℕ). line_text (line_of limit history asked) ++ rest) (store_output-store_of limit next requests))
 
 -- a store that takes one more update keeps fields that agree
-pub IsSound-take : (limit front : ℕ) (published current next : Data) (pending more : List Update) (update : Update)
+pub IsSound-take : (limit front : ℕ) (published current next : RecordsData) (pending more : List Update) (update : Update)
     → IsSound limit front published current pending → refusal current update ≡ None → next ≡ after current update → more ≡ pending ++ update ∷ []
     → front + length pending < limit → IsSound limit front published next more
 IsSound-take limit front published current next pending more update sound accepted next_is more_is room =

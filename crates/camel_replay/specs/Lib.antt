@@ -1,3 +1,4 @@
+pub mod FaultLine
 pub mod Output
 pub mod ReplayFault
 pub mod Store

@@ -5,7 +5,7 @@ use Rattle.camel_criteria.specs.Refusal.{refusal_code}
 use Rattle.camel_criteria.specs.declared.refusal.Refusal.{Refusal}
 use Rattle.camel_rows.specs.Decision.{decision}
 use Rattle.camel_rows.specs.Outcome.{outcome_of}
-use Rattle.camel_rows.specs.SubscriberData.{Data, no_records}
+use Rattle.camel_rows.specs.Records.{RecordsData, no_records}
 use Rattle.camel_rows.specs.Update.{AcceptedFrom, refusal, state, state_from}
 use Rattle.camel_rows.specs.declared.event.CallEvent.{CallEvent}
 use Rattle.camel_rows.specs.declared.outcome.Answer.{Answer}
@@ -19,7 +19,7 @@ use Rattle.camel_replay.specs.Output.{History, or_full, update_line}
 pub record StoreData : Type 0 where
   pub limit : ℕ
   pub front : ℕ
-  pub published : Data
+  pub published : RecordsData
   pub pending : List Update
 
 abbrev pub empty_store : ℕ → StoreData
@@ -30,7 +30,7 @@ abbrev pub store_of : ℕ → History → StoreData
 store_of limit history = record { limit = limit; front = length history.published; published = state history.published; pending = history.pending }
 
 -- the fields of a store agree: the current data are those with the pending updates, which were accepted
-pub record IsSound (limit front : ℕ) (published current : Data) (pending : List Update) : Type 0 where
+pub record IsSound (limit front : ℕ) (published current : RecordsData) (pending : List Update) : Type 0 where
   pub few : front + length pending ≤ limit
   pub accepted : AcceptedFrom published pending
   pub current_is : current ≡ state_from published pending

@@ -4,6 +4,8 @@
 mod replay;
 mod run;
 mod store;
+#[cfg(test)]
+mod tests;
 mod write;
 
 use crate::run::run;

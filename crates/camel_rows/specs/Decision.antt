@@ -4,7 +4,7 @@ use Rattle.std.specs.FinMap as map
 use Rattle.camel_criteria.specs.BasicService.{is_emergency}
 use Rattle.camel_rows.specs.Event.{event_basic, event_dp, event_imsi}
 use Rattle.camel_rows.specs.Subscriber.{SubscriberData, row_at, rows_tested_at}
-use Rattle.camel_rows.specs.SubscriberData.{Data}
+use Rattle.camel_rows.specs.Records.{RecordsData}
 use Rattle.camel_rows.specs.TdpRow.{TdpRowData}
 use Rattle.camel_rows.specs.declared.decision.Decision.{Decision}
 use Rattle.camel_rows.specs.declared.decision.Decision.TheVariants as lent
@@ -12,15 +12,15 @@ use Rattle.camel_rows.specs.declared.decision.Reason.{Reason}
 use Rattle.camel_rows.specs.declared.decision.Reason.TheVariants.{Unknown, NoCsi, NotArmed, Emergency}
 use Rattle.camel_rows.specs.declared.event.CallEvent.{CallEvent}
 
--- a decision as plain data: the row whose service is asked, or why none is
+-- a decision as plain data: the row whose service is invoked, or why none is
 pub data DecisionData : Type 0 where
   Triggers : TdpRowData → DecisionData
   TriggersNothing : Reason → DecisionData
 
 -- what a decision with a borrowed row shows
-abbrev pub shown : Decision → DecisionData
-shown (lent.Trigger row) = Triggers row.now
-shown (lent.NoTrigger reason) = TriggersNothing reason
+abbrev pub decision_data : Decision → DecisionData
+decision_data (lent.Trigger row) = Triggers row.now
+decision_data (lent.NoTrigger reason) = TriggersNothing reason
 
 -- The reasons, in their order: no record, no CSI for the detection point, no row of it, an emergency call.
 abbrev pub by_row : CallEvent → Option TdpRowData → DecisionData
@@ -34,5 +34,5 @@ by_record event (Some subscriber) =
     else TriggersNothing NoCsi
 
 -- what an event triggers over the data
-abbrev pub decision : Data → CallEvent → DecisionData
+abbrev pub decision : RecordsData → CallEvent → DecisionData
 decision m event = by_record event (map.get m (event_imsi event))

@@ -1,8 +1,8 @@
--- What a call shows at a trigger detection point (TS 23.078).
+-- A call event at a trigger detection point (TS 23.078).
 use Rattle.std.specs.Prelude.{ℕ, List}
 use Rattle.camel_criteria.specs.declared.basic_service.BasicService.{BasicService}
 use Rattle.camel_tbcd.specs.Address.{octets}
-use Rattle.camel_rows.specs.declared.detection_point.TheConstants.{COLLECTED_INFO}
+use Rattle.camel_rows.specs.DetectionPoint.{collected_info}
 use Rattle.camel_rows.specs.declared.event.CallEvent.{CallEvent}
 use Rattle.camel_rows.specs.declared.event.CallEvent.TheVariants as call
 use Rattle.camel_rows.specs.declared.event.Event.{Event}
@@ -14,7 +14,7 @@ event_data (event.CollectedInfo imsi destination basic forwarded) = call.Collect
 
 -- the detection point
 abbrev pub event_dp : CallEvent → ℕ
-event_dp (call.CollectedInfo imsi destination basic forwarded) = COLLECTED_INFO
+event_dp (call.CollectedInfo imsi destination basic forwarded) = collected_info
 
 -- the subscriber
 abbrev pub event_imsi : CallEvent → List ℕ

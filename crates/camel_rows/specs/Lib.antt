@@ -4,8 +4,8 @@ pub mod Event
 pub mod Front
 pub mod OCsi
 pub mod Outcome
+pub mod Records
 pub mod Rows
 pub mod Subscriber
-pub mod SubscriberData
 pub mod TdpRow
 pub mod Update

@@ -1,8 +1,8 @@
 -- The record of a subscriber: CAMEL subscription information of TS 23.078.
-use Rattle.std.specs.Prelude.{ℕ, ◌==◌, List, [], Option, Some, None, find, if◌then◌else◌}
+use Rattle.std.specs.Prelude.{ℕ, ◌==◌, List, [], Option, None, find, if◌then◌else◌}
 use Rattle.std.specs.Option.{option_and_then, option_map}
 use Rattle.camel_criteria.specs.Criteria.{OCriteriaData, TCriteriaData}
-use Rattle.camel_rows.specs.DetectionPoint.{is_o_detection_point}
+use Rattle.camel_rows.specs.DetectionPoint.{is_o_detection_point, is_vt_detection_point}
 use Rattle.camel_rows.specs.TdpRow.{TdpRowData}
 
 -- one half: the TDP rows of a CSI with the entries of its criteria, both in the order received and
@@ -30,7 +30,9 @@ rows_of half = half.rows
 -- the rows of the half that a detection point is tested against, where it is stored
 abbrev pub rows_tested_at : ℕ → SubscriberData → Option (List TdpRowData)
 rows_tested_at dp subscriber =
-    if is_o_detection_point dp then option_map rows_of subscriber.o else option_map rows_of subscriber.vt
+    if is_o_detection_point dp then option_map rows_of subscriber.o
+    else if is_vt_detection_point dp then option_map rows_of subscriber.vt
+    else None
 
 -- the row of a detection point among rows
 abbrev pub row_among : ℕ → List TdpRowData → Option TdpRowData

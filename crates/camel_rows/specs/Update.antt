@@ -1,11 +1,11 @@
--- What the updates of the home register make of the subscriber data (InsertSubscriberData and the like of
--- TS 29.002; what they leave of criteria and of what is omitted as profile 1 has it).
-use Rattle.std.specs.Prelude.{◌≡◌, ℕ, Bool, true, false, ◌||◌, List, [], ◌∷◌, Option, Some, None, unwrap_or, if◌then◌else◌}
+-- What updates make of the subscriber data. Insert is InsertSubscriberData of TS 29.002; Register is profile
+-- 1's own, and so is what an Insert leaves of a half that it does not name whole.
+use Rattle.std.specs.Prelude.{◌≡◌, ℕ, Bool, true, false, ◌||◌, List, [], ◌∷◌, Option, Some, None, is_some, unwrap_or, if◌then◌else◌}
 use Rattle.std.specs.FinMap as map
 use Rattle.camel_criteria.specs.declared.refusal.Refusal.{Refusal}
 use Rattle.camel_criteria.specs.declared.refusal.Refusal.TheVariants.{UnidentifiedSubscriber, DataMissing}
 use Rattle.camel_rows.specs.Subscriber.{Half, SubscriberData, empty_record}
-use Rattle.camel_rows.specs.SubscriberData.{Data, no_records}
+use Rattle.camel_rows.specs.Records.{RecordsData, no_records}
 use Rattle.camel_rows.specs.TdpRow.{TdpRowData}
 use Rattle.camel_rows.specs.declared.update.Update.{Update}
 use Rattle.camel_rows.specs.declared.update.Update.TheVariants.{Register, Insert}
@@ -28,8 +28,8 @@ lacks_csi None None (Some entries) = true
 lacks_csi half rows entries = false
 
 -- what an Insert leaves of a record. No update brings entries or a VT-CSI yet.
-abbrev pub inserted : SubscriberData → Option (List TdpRowData) → SubscriberData
-inserted subscriber o = record { o = half_after subscriber.o o None; vt = half_after subscriber.vt None None }
+abbrev pub record_with_insert : SubscriberData → Option (List TdpRowData) → SubscriberData
+record_with_insert subscriber o = record { o = half_after subscriber.o o None; vt = half_after subscriber.vt None None }
 
 -- why an Insert is refused: 5 with no record, 35 with criteria that lack their CSI
 abbrev pub insert_refusal : Option SubscriberData → Option (List TdpRowData) → Option Refusal
@@ -38,34 +38,32 @@ insert_refusal (Some subscriber) o =
     if lacks_csi subscriber.o o None || lacks_csi subscriber.vt None None then Some DataMissing else None
 
 -- why the data refuse an update, if they do
-abbrev pub refusal : Data → Update → Option Refusal
+abbrev pub refusal : RecordsData → Update → Option Refusal
 refusal m (Register imsi) = None
 refusal m (Insert imsi o) = insert_refusal (map.get m imsi) o
 
--- the data with the change that an update asks for, which is at the place of its IMSI alone
-abbrev pub changed : Data → Update → Data
-changed m (Register imsi) = map.insert m imsi empty_record
-changed m (Insert imsi o) = map.insert m imsi (inserted (unwrap_or (map.get m imsi) empty_record) o)
+-- the record that an update puts at its IMSI, over the one that is there
+abbrev pub record_after : Option SubscriberData → Update → SubscriberData
+record_after old (Register imsi) = empty_record
+record_after old (Insert imsi o) = record_with_insert (unwrap_or old empty_record) o
 
-abbrev pub unless : Option Refusal → Data → Data → Data
-unless None new old = new
-unless (Some refused) new old = old
-
--- the data after an update: those before it, where it is refused
-abbrev pub after : Data → Update → Data
-after m update = unless (refusal m update) (changed m update) m
+-- the data after an update: those before it, where it is refused; else only the place of its IMSI changes
+abbrev pub after : RecordsData → Update → RecordsData
+after m update =
+    if is_some (refusal m update) then m
+    else map.insert m (update_imsi update) (record_after (map.get m (update_imsi update)) update)
 
 -- the data after a list of updates
-abbrev pub state_from : Data → List Update → Data
+abbrev pub state_from : RecordsData → List Update → RecordsData
 state_from m [] = m
 state_from m (update ∷ updates) = state_from (after m update) updates
 
 -- the data that a list of updates leaves, from no records on
-abbrev pub state : List Update → Data
+abbrev pub state : List Update → RecordsData
 state updates = state_from no_records updates
 
 -- each update is refused by nothing over the data left by those before it
-abbrev pub AcceptedFrom : Data → List Update → Type 0
+abbrev pub AcceptedFrom : RecordsData → List Update → Type 0
 AcceptedFrom m [] = Unit {0}
 AcceptedFrom m (update ∷ updates) = (refusal m update ≡ None) × AcceptedFrom (after m update) updates
 

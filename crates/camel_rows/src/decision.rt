@@ -1,5 +1,5 @@
 ghost use Rattle.std.specs.Prelude.{◌≡◌};
-ghost use Rattle.camel_rows.specs.Decision.{decision, shown};
+ghost use Rattle.camel_rows.specs.Decision.{decision, decision_data};
 ghost use Rattle.camel_rows.specs.Event.{event_data};
 
 use crate::event::Event;
@@ -22,15 +22,15 @@ pub enum Reason {
 /// Whether an event triggers a service, with the stored row borrowed.
 #[derive(Clone, Copy, Debug)]
 pub enum Decision<'r> {
-    /// The service of this row is asked.
+    /// The service of this row is invoked at its gsmSCF.
     Trigger { row: &'r TdpRow },
-    /// No service is asked.
+    /// No service is invoked.
     NoTrigger(Reason),
 }
 
 /// Decides an event over the records by the trigger rules of TS 23.078.
 pub fn decide_in<'r>(records: &'r Records, event: &Event) -> Decision<'r>
-    ensures { shown result ≡ decision records.now (event_data event.now) }
+    ensures { decision_data result ≡ decision records.now (event_data event.now) }
 {
     let Some(subscriber) = records.get(&event.imsi()) else {
         return Decision::NoTrigger(Reason::Unknown);

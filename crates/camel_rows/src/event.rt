@@ -5,7 +5,8 @@ use crate::detection_point::COLLECTED_INFO;
 use camel_criteria::BasicService;
 use camel_tbcd::{Address, CallAddress, Imsi};
 
-/// What a call shows at a trigger detection point, with a borrowed destination.
+/// A call event at a trigger detection point (TS 23.078), with a borrowed destination: the served
+/// subscriber, the destination, the basic service, and whether the call is forwarded.
 #[derive(Clone, Copy, Debug)]
 pub enum Event<'a> {
     /// DP 2, collectedInfo.
@@ -27,7 +28,7 @@ impl Event<'_> {
         }
     }
 
-    /// The subscriber.
+    /// The served subscriber.
     pub fn imsi(&self) -> Imsi
         ensures { result ≡ event_imsi (event_data self.now) }
     {
@@ -46,7 +47,7 @@ impl Event<'_> {
     }
 }
 
-/// What a call shows at a trigger detection point, with a destination of its own.
+/// A call event at a trigger detection point, as [`Event`], with an owned destination.
 #[derive(Clone, Copy, Debug)]
 pub enum CallEvent {
     /// DP 2, collectedInfo.

@@ -1,5 +1,5 @@
 //! The CAMEL subscription information of subscribers in a visitor location register, the updates that the
-//! home register sends, and the trigger rules (3GPP TS 23.078 and TS 29.002, CAMEL phase 3).
+//! home location register sends, and the trigger rules (3GPP TS 23.078 and TS 29.002, CAMEL phase 3).
 #![tactic(auto)]
 
 mod decision;
@@ -21,3 +21,6 @@ pub use records::Records;
 pub use subscriber::Subscriber;
 pub use tdp_row::{MAX_SERVICE_KEY, TdpRow};
 pub use update::Update;
+
+#[cfg(test)]
+mod tests;

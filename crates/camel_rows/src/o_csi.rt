@@ -1,4 +1,4 @@
-ghost use Rattle.std.specs.Prelude.{◌≡◌, ◌==◌, ◌≤◌, ◌+◌, find, length, slice_get};
+ghost use Rattle.std.specs.Prelude.{◌≡◌, ◌==◌, ◌≤◌, ◌+◌, ◌↔◌, [], IsTrue, find, length, slice_get};
 ghost use Rattle.std.specs.Option.{option_copied};
 ghost use Rattle.camel_rows.specs.OCsi.{count_at, kept_o_rows, o_csi_of};
 
@@ -41,8 +41,8 @@ impl OCsi {
     /// Takes the received rows, and keeps those of detection points 2 and 4 in their order. The others are
     /// ignored; a list of which all rows are ignored leaves a CSI without rows.
     ///
-    /// `DataMissing` is answered for no rows, and `UnexpectedDataValue` for more than 10 or for two of
-    /// detection point 2 or two of 4.
+    /// `DataMissing` (35) is answered for no rows, and `UnexpectedDataValue` (36) for more than 10, or for
+    /// two of detection point 2 or two of 4.
     pub fn new(received: &[TdpRow]) -> Result<OCsi, Refusal>
         ensures { result ≡ o_csi_of received.now }
     {
@@ -61,9 +61,17 @@ impl OCsi {
         })
     }
 
+    /// Whether it holds no row.
+    pub fn is_empty(&self) -> bool
+        ensures { IsTrue result ↔ (self.now ≡ []) }
+    {
+        self.first.is_none()
+    }
+
     /// How many rows it holds, 0 to 2.
     pub fn len(&self) -> usize
-        ensures { result ≡ length self.now }
+        ensures len { result ≡ length self.now }
+        ensures range { result ≤ 2 }
     {
         usize::from(self.first.is_some()) + usize::from(self.second.is_some())
     }

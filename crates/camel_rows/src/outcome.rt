@@ -1,29 +1,30 @@
 ghost use Rattle.std.specs.Prelude.{◌≡◌};
-ghost use Rattle.camel_rows.specs.Decision.{shown};
+ghost use Rattle.camel_rows.specs.Decision.{decision_data};
 ghost use Rattle.camel_rows.specs.Outcome.{action_of, outcome_of};
 
 use crate::decision::{Decision, Reason};
 use camel_criteria::Handling;
 use camel_tbcd::IsdnAddress;
 
-/// A decision with the row's four values, or the reason why no service is asked.
+/// A decision with the row's four values, or the reason why no service is invoked.
 #[derive(Clone, Copy, Debug)]
 pub enum Outcome {
-    /// The service with this key is asked at this gsmSCF address.
+    /// The service with this service key is invoked at this gsmSCF address; `handling` is the default call
+    /// handling.
     Trigger {
         dp: u8,
         key: u32,
         scf: IsdnAddress,
         handling: Handling,
     },
-    /// No service is asked.
+    /// No service is invoked.
     NoTrigger(Reason),
 }
 
 impl Outcome {
     /// What a decision says, without borrowing from the records.
     pub fn of(decision: &Decision) -> Outcome
-        ensures { result ≡ outcome_of (shown decision.now) }
+        ensures { result ≡ outcome_of (decision_data decision.now) }
     {
         match decision {
             Decision::Trigger { row } => Outcome::Trigger {
@@ -37,10 +38,11 @@ impl Outcome {
     }
 }
 
-/// The outcome of an event, with the number of updates whose data it was decided over.
+/// The outcome of an event, with the front over whose data it was decided: a list of accepted updates, told
+/// by its length.
 #[derive(Clone, Copy, Debug)]
 pub struct Answer {
-    /// The number of updates of the front.
+    /// How many updates the front has.
     pub front: u64,
     /// What was decided.
     pub outcome: Outcome,

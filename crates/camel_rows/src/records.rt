@@ -1,8 +1,8 @@
 ghost use Rattle.std.specs.Prelude.{◌≡◌, ◌⊎◌, Some, IfErr, IfNone, IfSome, IsOk, OnErr, OnOk};
 ghost use Rattle.std.specs.FinMap as map;
 ghost use Rattle.std.specs.Option.{option_copied};
-ghost use Rattle.camel_rows.specs.SubscriberData.{no_records};
-ghost use Rattle.camel_rows.specs.Update.{after, inserted, refusal};
+ghost use Rattle.camel_rows.specs.Records.{no_records};
+ghost use Rattle.camel_rows.specs.Update.{after, refusal};
 
 use crate::o_csi::OCsi;
 use crate::subscriber::Subscriber;
@@ -26,10 +26,10 @@ impl Model for Records {
     ghost use Rattle.std.specs.Cmp.Lexicographic.{slice_cmp};
     ghost use Rattle.std.specs.Coded.{coded_ℕ, coded_list};
     ghost use Rattle.std.specs.Ordering.{nat_cmp};
-    ghost use Rattle.camel_rows.specs.SubscriberData.{Data};
+    ghost use Rattle.camel_rows.specs.Records.{RecordsData};
     ghost use Rattle.camel_rows.specs.contracts.subscriber.Subscriber as subscriber;
 
-    ghost Value = { Data };
+    ghost Value = { RecordsData };
 
     ghost coded = { map.code (coded_list coded_ℕ) subscriber.the_row.coded };
 
@@ -55,7 +55,7 @@ impl Records {
 
     /// Whether an update may be applied.
     ///
-    /// `UnidentifiedSubscriber` is answered for an Insert where the IMSI has no record.
+    /// `UnidentifiedSubscriber` (5) is answered for an Insert where the IMSI has no record.
     pub fn check(&self, update: &Update) -> Result<(), Refusal>
         ensures refused { IfSome (refusal self.now update.now) (λ why. result ≡ Err why) }
         ensures accepted { IfNone (refusal self.now update.now) (IsOk result) }
@@ -71,8 +71,8 @@ impl Records {
 
     /// Applies an update.
     ///
-    /// `UnidentifiedSubscriber` is answered for an Insert where the IMSI has no record, and `OutOfMemory`
-    /// where memory was refused. After a refusal the records are as before.
+    /// `UnidentifiedSubscriber` (5) is answered for an Insert where the IMSI has no record, and `OutOfMemory`
+    /// (102) where memory was refused. After a refusal the records are as before.
     pub fn apply(&mut self, update: &Update) -> Result<(), Refusal>
         ensures refused { IfSome (refusal self.old update.now) (λ why. result ≡ Err why) }
         ensures applied { OnOk result (self.new ≡ after self.old update.now) }
@@ -85,8 +85,8 @@ impl Records {
                 let Some(subscriber) = self.get(imsi) else {
                     return Err(Refusal::UnidentifiedSubscriber);
                 };
-                let inserted = subscriber.with_inserted(o);
-                self.put(*imsi, inserted)?;
+                let subscriber = subscriber.with_insert(*o);
+                self.put(*imsi, subscriber)?;
             }
         }
         Ok(())

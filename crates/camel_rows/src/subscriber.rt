@@ -1,14 +1,17 @@
 ghost use Rattle.std.specs.Prelude.{◌≡◌, is_some};
 ghost use Rattle.std.specs.Option.{option_and_then, option_copied, option_map};
 ghost use Rattle.camel_rows.specs.Subscriber.{empty_record, row_among, row_at, rows_of, rows_tested_at};
-ghost use Rattle.camel_rows.specs.Update.{inserted};
+ghost use Rattle.camel_rows.specs.Update.{record_with_insert};
 
 use crate::detection_point::is_o_detection_point;
 use crate::o_csi::OCsi;
 use crate::tdp_row::TdpRow;
 use std::marker::Model;
 
-/// The record of one subscriber: the O-CSI and the VT-CSI, each with its criteria, where it is stored.
+/// The record of one subscriber: the O-CSI, where it is stored.
+///
+/// Contracts see both halves of a record, of the O-CSI and of the VT-CSI, each with its criteria; no update
+/// brings criteria or a VT-CSI yet.
 #[derive(Debug, Drop)]
 pub struct Subscriber {
     o: Option<OCsi>,
@@ -33,8 +36,8 @@ impl Subscriber {
     }
 
     // The record after an Insert with this O-CSI, if there is one.
-    pub(crate) fn with_inserted(&self, o: &Option<OCsi>) -> Subscriber
-        ensures { result ≡ inserted self.now o.now }
+    pub(crate) fn with_insert(&self, o: Option<OCsi>) -> Subscriber
+        ensures { result ≡ record_with_insert self.now o }
     {
         Subscriber { o: o.or(self.o) }
     }

@@ -1,7 +1,6 @@
-ghost use Rattle.std.specs.Prelude.{◌≡◌, ◌<◌, ◌↔◌, IsErr};
+ghost use Rattle.std.specs.Prelude.{◌≡◌, ◌<◌, ◌≤◌, ◌↔◌, IsErr};
 ghost use Rattle.camel_tbcd.specs.Address.{octets};
-ghost use Rattle.camel_rows.specs.TdpRow.{tdp_row_of};
-ghost use Rattle.camel_rows.specs.declared.tdp_row.TheConstants.{MAX_SERVICE_KEY};
+ghost use Rattle.camel_rows.specs.TdpRow.{max_service_key, tdp_row_of};
 
 use camel_criteria::{Handling, Refusal};
 use camel_tbcd::{Address, IsdnAddress};
@@ -10,7 +9,7 @@ use std::marker::Model;
 /// The greatest service key: ServiceKey of TS 29.002.
 pub const MAX_SERVICE_KEY: u32 = 2_147_483_647;
 
-/// A TDP row of a CSI: a trigger detection point that is armed, with the service to ask there
+/// A TDP row of a CSI: a trigger detection point that is armed, with the service that is invoked there
 /// (O-BcsmCamelTDPData and T-BcsmCamelTDPData of TS 29.002).
 #[derive(Clone, Copy, Debug)]
 pub struct TdpRow {
@@ -22,14 +21,13 @@ pub struct TdpRow {
 
 impl Model for TdpRow {
     ghost use Rattle.std.specs.Prelude.{◌≤◌};
-    ghost use Rattle.camel_rows.specs.TdpRow.{TdpRowData};
-    ghost use Rattle.camel_rows.specs.declared.tdp_row.TheConstants.{MAX_SERVICE_KEY};
+    ghost use Rattle.camel_rows.specs.TdpRow.{TdpRowData, max_service_key};
 
     ghost Value = { TdpRowData };
 
     ghost view = { λ a. record { dp = a.dp; key = a.key; scf = a.scf; handling = a.handling } };
 
-    ghost invariant = { λ a. a.key ≤ MAX_SERVICE_KEY };
+    ghost invariant = { λ a. a.key ≤ max_service_key };
 
     ghost inverse = { λ row. record { dp = row.dp; key = row.key; scf = row.scf; handling = row.handling } };
 }
@@ -37,10 +35,10 @@ impl Model for TdpRow {
 impl TdpRow {
     /// A row of a detection point, a service key, a gsmSCF address and a default call handling.
     ///
-    /// `UnexpectedDataValue` is answered for a service key over 2147483647.
+    /// `UnexpectedDataValue` (36) is answered for a service key over 2147483647.
     pub fn new(dp: u8, key: u32, scf: IsdnAddress, handling: Handling) -> Result<TdpRow, Refusal>
         ensures answer { result ≡ tdp_row_of dp key scf handling }
-        ensures refused { IsErr result ↔ (MAX_SERVICE_KEY < key) }
+        ensures refused { IsErr result ↔ (max_service_key < key) }
     {
         if key > MAX_SERVICE_KEY {
             return Err(Refusal::UnexpectedDataValue);
@@ -62,12 +60,13 @@ impl TdpRow {
 
     /// The service key, 0 to 2147483647.
     pub fn key(&self) -> u32
-        ensures { result ≡ self.now.key }
+        ensures key { result ≡ self.now.key }
+        ensures range { result ≤ max_service_key }
     {
         self.key
     }
 
-    /// The gsmSCF address.
+    /// The gsmSCF address, 1 to 9 octets.
     pub fn scf(&self) -> Address<'_>
         ensures { octets result ≡ self.now.scf }
     {

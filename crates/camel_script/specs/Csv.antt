@@ -34,10 +34,10 @@ IsSetUp phase.Failed reader = ⊤
 IsSetUp phase.Ended reader = ⊤
 
 -- the error is of memory or of the reader underneath
-abbrev pub IsOutside : ErrorKind → Type 0
-IsOutside kind.OutOfMemory = ⊤
-IsOutside (kind.Io e) = ⊤
-IsOutside (kind.Utf8 pos err) = ⊥
-IsOutside (kind.UnequalLengths pos expected len) = ⊥
-IsOutside (kind.Serialize text) = ⊥
-IsOutside (kind.Deserialize pos err) = ⊥
+abbrev pub IsMemoryOrIo : ErrorKind → Type 0
+IsMemoryOrIo kind.OutOfMemory = ⊤
+IsMemoryOrIo (kind.Io e) = ⊤
+IsMemoryOrIo (kind.Utf8 pos err) = ⊥
+IsMemoryOrIo (kind.UnequalLengths pos expected len) = ⊥
+IsMemoryOrIo (kind.Serialize text) = ⊥
+IsMemoryOrIo (kind.Deserialize pos err) = ⊥

@@ -16,6 +16,6 @@ or_refused (Ok value) = Ok value
 or_refused (Err refusal) = Err (Refused refusal)
 
 -- a function answers what a text reads as, unless memory was refused
-abbrev pub Tells : {A : Type 0} → Result A Stop → Result A Stop → Type 0
-Tells (Ok value) reading = reading ≡ Ok value
-Tells (Err stop) reading = (stop ≡ OutOfMemory) ⊎ (reading ≡ Err stop)
+abbrev pub ReadsAs : {A : Type 0} → Result A Stop → Result A Stop → Type 0
+ReadsAs (Ok value) reading = reading ≡ Ok value
+ReadsAs (Err stop) reading = (stop ≡ OutOfMemory) ⊎ (reading ≡ Err stop)

@@ -78,14 +78,14 @@ reading_of fields =
     else Err stop.Word
 
 -- data that are refused make a record of their own; the faults of texts are the script's
-abbrev pub settled : Result Record Stop → Result Record ScriptFault
-settled (Ok read) = Ok read
-settled (Err (stop.Refused refusal)) = Ok (record_of_script.Refused refusal)
-settled (Err stop.OutOfMemory) = Err fault.OutOfMemory
-settled (Err stop.Word) = Err fault.Word
-settled (Err stop.FieldCount) = Err fault.FieldCount
-settled (Err stop.Hexadecimal) = Err fault.Hexadecimal
-settled (Err stop.Number) = Err fault.Number
+abbrev pub record_or_fault : Result Record Stop → Result Record ScriptFault
+record_or_fault (Ok read) = Ok read
+record_or_fault (Err (stop.Refused refusal)) = Ok (record_of_script.Refused refusal)
+record_or_fault (Err stop.OutOfMemory) = Err fault.OutOfMemory
+record_or_fault (Err stop.Word) = Err fault.Word
+record_or_fault (Err stop.FieldCount) = Err fault.FieldCount
+record_or_fault (Err stop.Hexadecimal) = Err fault.Hexadecimal
+record_or_fault (Err stop.Number) = Err fault.Number
 
 unfoldable pub record_of : List (List ℕ) → Result Record ScriptFault
-record_of fields = settled (reading_of fields)
+record_of fields = record_or_fault (reading_of fields)

@@ -33,8 +33,9 @@ script_of (fields ∷ more) (suc most) = first_then (record_of fields) (script_o
 abbrev pub script : List ℕ → ℕ → ScriptData
 script bytes most = script_of (records default_config (strip_bom bytes)) most
 
--- What a `Script` is to its caller: it is not read to its end, and may give so many records more, and gives
--- what is known of it; or a read answered a fault; or it has ended.
+-- What a `Script` is to its caller. `Unread`: it is not read to its end. The number is how many records more
+-- may be read, and what it still gives stands beside it, where its bytes are known. `Failed`: a read has
+-- answered a fault. `Ended`: a read has found the end.
 pub data ScriptState : Type 0 where
   Unread : ℕ → Option ScriptData → ScriptState
   Failed : ScriptState
@@ -69,9 +70,9 @@ IsOnlyFault e None = ⊤
 IsOnlyFault e (Some old) = old ≡ only_fault e
 
 -- want of memory, or a failed read of the reader underneath
-abbrev pub IsOutsideFault : ScriptFault → Type 0
-IsOutsideFault e = (e ≡ fault.OutOfMemory) ⊎ (e ≡ fault.Read)
+abbrev pub IsMemoryOrReadFault : ScriptFault → Type 0
+IsMemoryOrReadFault e = (e ≡ fault.OutOfMemory) ⊎ (e ≡ fault.Read)
 
 -- a fault of the script comes in its place, and one from outside may come at any
 abbrev pub FaultsAs : ScriptFault → Option ScriptData → Type 0
-FaultsAs e known = IsOutsideFault e ⊎ IsOnlyFault e known
+FaultsAs e known = IsMemoryOrReadFault e ⊎ IsOnlyFault e known

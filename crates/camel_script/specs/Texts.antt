@@ -8,13 +8,10 @@ use Rattle.hex.specs.declared.error.FromHexError.{FromHexError}
 use Rattle.camel_criteria.specs.declared.basic_service.BasicService.{BasicService}
 use Rattle.camel_criteria.specs.declared.basic_service.BasicService.TheVariants.{Tele, Bearer}
 use Rattle.camel_criteria.specs.declared.refusal.Refusal.TheVariants.{UnexpectedDataValue}
-use Rattle.camel_tbcd.specs.declared.address.TheConstants.{MAX_ADDRESS_LENGTH}
-use Rattle.camel_tbcd.specs.declared.imsi.TheConstants.{MIN_IMSI_DIGITS, MAX_IMSI_DIGITS}
-use Rattle.camel_tbcd.specs.declared.isdn_address.TheConstants.{MAX_ISDN_ADDRESS_LENGTH}
+use Rattle.camel_tbcd.specs.AddressLength.{max_address_length, max_isdn_address_length}
 use Rattle.camel_script.specs.Reading.{◌>>=◌}
 use Rattle.camel_script.specs.declared.stop.Stop.{Stop}
 use Rattle.camel_script.specs.declared.stop.Stop.TheVariants.{Word, Hexadecimal, Number, Refused}
-use Rattle.camel_script.specs.declared.texts.TheConstants.{MAX_DECIMAL_DIGITS, TELESERVICE, BEARER_SERVICE}
 
 abbrev pub is_digits : List ℕ → Bool
 is_digits text = list_all is_ascii_digit text
@@ -26,7 +23,7 @@ digit_values text = map (λ character. character - 48) text
 -- IMSI: 5 to 15 characters 0 to 9
 unfoldable pub imsi_of_text : List ℕ → Result (List ℕ) Stop
 imsi_of_text text =
-    if nat_le MIN_IMSI_DIGITS (length text) && nat_le (length text) MAX_IMSI_DIGITS && is_digits text
+    if nat_le 5 (length text) && nat_le (length text) 15 && is_digits text
     then Ok (digit_values text) else Err Number
 
 -- the number that decimal digits stand for
@@ -36,7 +33,7 @@ number_of text = fold (λ value character. value * 10 + (character - 48)) 0 text
 -- a decimal: 1 to 10 characters 0 to 9, of a value not over the greatest
 unfoldable pub decimal_of : ℕ → List ℕ → Result ℕ Stop
 decimal_of greatest text =
-    if nat_le 1 (length text) && nat_le (length text) MAX_DECIMAL_DIGITS && is_digits text && nat_le (number_of text) greatest
+    if nat_le 1 (length text) && nat_le (length text) 10 && is_digits text && nat_le (number_of text) greatest
     then Ok (number_of text) else Err Number
 
 abbrev pub or_hexadecimal : Result (List ℕ) FromHexError → Result (List ℕ) Stop
@@ -51,12 +48,20 @@ octets_of text = or_hexadecimal (decode_of text)
 unfoldable pub octet_of : List ℕ → Result ℕ Stop
 octet_of text = or_hexadecimal (decode_sized text 1) >>= λ octets. Ok (slice_index octets 0)
 
--- BASIC: `t` or `b`, then one octet
+-- the letter of a teleservice, `t`
+abbrev pub teleservice_letter : ℕ
+teleservice_letter = 116
+
+-- the letter of a bearer service, `b`
+abbrev pub bearer_service_letter : ℕ
+bearer_service_letter = 98
+
+-- BASIC: `t` or `b`, for a teleservice or a bearer service, then one octet
 unfoldable pub basic_service_of : List ℕ → Result BasicService Stop
 basic_service_of [] = Err Word
 basic_service_of (letter ∷ code) =
-    if letter == TELESERVICE then (octet_of code >>= λ octet. Ok (Tele octet))
-    else if letter == BEARER_SERVICE then (octet_of code >>= λ octet. Ok (Bearer octet))
+    if letter == teleservice_letter then (octet_of code >>= λ octet. Ok (Tele octet))
+    else if letter == bearer_service_letter then (octet_of code >>= λ octet. Ok (Bearer octet))
     else Err Word
 
 -- TYPE of a call: `f` is forwarded, `n` is not
@@ -73,8 +78,8 @@ address_of greatest octets =
 
 -- the gsmSCF address of these octets, an ISDN-AddressString
 unfoldable pub isdn_address_of : List ℕ → Result (List ℕ) Stop
-isdn_address_of octets = address_of MAX_ISDN_ADDRESS_LENGTH octets
+isdn_address_of octets = address_of max_isdn_address_length octets
 
 -- the destination of these octets, an AddressString
 unfoldable pub call_address_of : List ℕ → Result (List ℕ) Stop
-call_address_of octets = address_of MAX_ADDRESS_LENGTH octets
+call_address_of octets = address_of max_address_length octets

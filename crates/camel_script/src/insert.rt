@@ -1,7 +1,7 @@
 ghost use Rattle.std.specs.Prelude.{◌≡◌, length, slice_get};
 ghost use Rattle.std.specs.Option.{option_map};
 ghost use Rattle.csv.specs.Records.{fields_of};
-ghost use Rattle.camel_script.specs.Reading.{Tells, or_refused};
+ghost use Rattle.camel_script.specs.Reading.{ReadsAs, or_refused};
 ghost use Rattle.camel_script.specs.Record.{insert_of, row_of_item, row_of_parts};
 ghost use Rattle.camel_script.specs.ScriptFields.{part, parts_of};
 
@@ -18,14 +18,14 @@ pub const PART_SEPARATOR: u8 = b':';
 
 // An insert with one item, a row of the O-CSI.
 #[tactic(auto, unfolding(crate::specs::Record::insert_of))]
-pub fn insert(alloc: Global, row: &ByteRecord) -> Result<Record, Stop>
-    ensures { Tells result (insert_of (fields_of row.now)) }
+pub fn insert(alloc: Global, fields: &ByteRecord) -> Result<Record, Stop>
+    ensures { ReadsAs result (insert_of (fields_of fields.now)) }
 {
-    if row.len() != 3 {
+    if fields.len() != 3 {
         return Err(Stop::FieldCount);
     }
-    let imsi = imsi(field(row, 1))?;
-    let tdp_row = row_of_item(alloc, field(row, 2))?;
+    let imsi = imsi(field(fields, 1))?;
+    let tdp_row = row_of_item(alloc, field(fields, 2))?;
     match OCsi::new(&[tdp_row]) {
         Ok(csi) => Ok(Record::Update(Update::Insert { imsi, o: Some(csi) })),
         Err(refusal) => Err(Stop::Refused(refusal)),
@@ -34,7 +34,7 @@ pub fn insert(alloc: Global, row: &ByteRecord) -> Result<Record, Stop>
 
 #[tactic(auto, unfolding(crate::specs::Record::row_of_item))]
 fn row_of_item(alloc: Global, item: &[u8]) -> Result<TdpRow, Stop>
-    ensures { Tells result (row_of_item item.now) }
+    ensures { ReadsAs result (row_of_item item.now) }
 {
     if part(item, 0) != b"o".as_slice() {
         return Err(Stop::Word);
@@ -48,7 +48,7 @@ fn row_of_item(alloc: Global, item: &[u8]) -> Result<TdpRow, Stop>
 // The texts of all parts come before the data.
 #[tactic(auto, unfolding(crate::specs::Record::row_of_parts))]
 fn row_of_parts(alloc: Global, item: &[u8]) -> Result<TdpRow, Stop>
-    ensures { Tells result (row_of_parts item.now) }
+    ensures { ReadsAs result (row_of_parts item.now) }
 {
     let dp = small_decimal(part(item, 1))?;
     let key = decimal(part(item, 2), u32::MAX)?;

@@ -14,3 +14,6 @@ pub use line::{Line, push_line};
 pub use record::Record;
 pub use script::Script;
 pub use script_fault::ScriptFault;
+
+#[cfg(test)]
+mod tests;

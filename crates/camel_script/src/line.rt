@@ -23,7 +23,7 @@ pub enum Line {
 
 /// Appends the text of a line, with its line feed.
 ///
-/// `OutOfMemory` is answered where memory was refused; the bytes are then as before.
+/// `OutOfMemory` (102) is answered where memory was refused; the bytes are then as before.
 pub fn push_line(alloc: Global, out: &mut Vec<u8>, line: &Line) -> Result<(), Refusal>
     ensures appended { OnOk result (out.new.items ≡ out.old.items ++ line_text line.now) }
     ensures unchanged { OnErr result (out.new.items ≡ out.old.items) }

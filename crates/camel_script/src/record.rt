@@ -1,6 +1,6 @@
 ghost use Rattle.std.specs.Prelude.{◌≡◌, ◌⊎◌, IfErr, IfOk};
 ghost use Rattle.csv.specs.Records.{fields_of};
-ghost use Rattle.camel_script.specs.Reading.{Tells};
+ghost use Rattle.camel_script.specs.Reading.{ReadsAs};
 ghost use Rattle.camel_script.specs.Record.{publish_of, reading_of, record_of, register_of};
 ghost use Rattle.camel_script.specs.ScriptFault.{IsRecordFault};
 ghost use Rattle.camel_script.specs.ScriptFields.{field};
@@ -18,7 +18,7 @@ use std::alloc::Global;
 /// A record of a script.
 #[derive(Debug, Drop)]
 pub enum Record {
-    /// An update of the home register.
+    /// An update of the subscriber data.
     Update(Update),
     /// The pending updates are to be published.
     Publish,
@@ -30,12 +30,12 @@ pub enum Record {
 
 // The record that the fields of a CSV record stand for, or the first fault of their texts.
 #[tactic(auto, unfolding(crate::specs::Record::record_of))]
-pub fn record_from(alloc: Global, row: &ByteRecord) -> Result<Record, ScriptFault>
-    ensures record { IfOk result (λ read. record_of (fields_of row.now) ≡ Ok read) }
-    ensures fault { IfErr result (λ fault. (fault ≡ ScriptFault.OutOfMemory) ⊎ (record_of (fields_of row.now) ≡ Err fault)) }
+pub fn record_from(alloc: Global, fields: &ByteRecord) -> Result<Record, ScriptFault>
+    ensures record { IfOk result (λ read. record_of (fields_of fields.now) ≡ Ok read) }
+    ensures fault { IfErr result (λ fault. (fault ≡ ScriptFault.OutOfMemory) ⊎ (record_of (fields_of fields.now) ≡ Err fault)) }
     ensures of_record { IfErr result IsRecordFault }
 {
-    match reading(alloc, row) {
+    match reading(alloc, fields) {
         Ok(read) => Ok(read),
         Err(Stop::Refused(refusal)) => Ok(Record::Refused(refusal)),
         Err(Stop::OutOfMemory) => Err(ScriptFault::OutOfMemory),
@@ -47,51 +47,51 @@ pub fn record_from(alloc: Global, row: &ByteRecord) -> Result<Record, ScriptFaul
 }
 
 #[tactic(auto, unfolding(crate::specs::Record::reading_of))]
-fn reading(alloc: Global, row: &ByteRecord) -> Result<Record, Stop>
-    ensures { Tells result (reading_of (fields_of row.now)) }
+fn reading(alloc: Global, fields: &ByteRecord) -> Result<Record, Stop>
+    ensures { ReadsAs result (reading_of (fields_of fields.now)) }
 {
-    let word = field(row, 0);
+    let word = field(fields, 0);
     if word == b"register".as_slice() {
-        return register(row);
+        return register(fields);
     }
     if word == b"insert".as_slice() {
-        return insert(alloc, row);
+        return insert(alloc, fields);
     }
     if word == b"publish".as_slice() {
-        return publish(row);
+        return publish(fields);
     }
     if word == b"call".as_slice() {
-        return call(alloc, row);
+        return call(alloc, fields);
     }
     Err(Stop::Word)
 }
 
 #[tactic(auto, unfolding(crate::specs::Record::register_of))]
-fn register(row: &ByteRecord) -> Result<Record, Stop>
-    ensures { Tells result (register_of (fields_of row.now)) }
+fn register(fields: &ByteRecord) -> Result<Record, Stop>
+    ensures { result ≡ register_of (fields_of fields.now) }
 {
-    if row.len() != 2 {
+    if fields.len() != 2 {
         return Err(Stop::FieldCount);
     }
-    let imsi = imsi(field(row, 1))?;
+    let imsi = imsi(field(fields, 1))?;
     Ok(Record::Update(Update::Register { imsi }))
 }
 
 #[tactic(auto, unfolding(crate::specs::Record::publish_of))]
-fn publish(row: &ByteRecord) -> Result<Record, Stop>
-    ensures { Tells result (publish_of (fields_of row.now)) }
+fn publish(fields: &ByteRecord) -> Result<Record, Stop>
+    ensures { result ≡ publish_of (fields_of fields.now) }
 {
-    if row.len() != 1 {
+    if fields.len() != 1 {
         return Err(Stop::FieldCount);
     }
     Ok(Record::Publish)
 }
 
 // The field at a place, from 0; empty past the last.
-pub fn field(row: &ByteRecord, at: usize) -> &[u8]
-    ensures { result.now ≡ field (fields_of row.now) at }
+pub fn field(fields: &ByteRecord, at: usize) -> &[u8]
+    ensures { result.now ≡ field (fields_of fields.now) at }
 {
-    match row.get(at) {
+    match fields.get(at) {
         Some(text) => text,
         None => &[],
     }

@@ -1,7 +1,7 @@
 ghost use Rattle.std.specs.Prelude.{◌≡◌, ◌+◌, Ok, Err, None, IfErr, IfOk, IfSome, IsOk, IsTrue, OnErr, option_map};
 ghost use Rattle.csv.specs.Reading.{error_kind, is_io};
-ghost use Rattle.camel_script.specs.Csv.{IsOutside};
-ghost use Rattle.camel_script.specs.Script.{Ended, Failed, FaultsAs, Gives, IsOutsideFault, Unread, records_left, script, still_gives};
+ghost use Rattle.camel_script.specs.Csv.{IsMemoryOrIo};
+ghost use Rattle.camel_script.specs.Script.{Ended, Failed, FaultsAs, Gives, IsMemoryOrReadFault, Unread, records_left, script, still_gives};
 
 use crate::record::{Record, record_from};
 use crate::script_fault::ScriptFault;
@@ -27,7 +27,7 @@ enum Phase {
 pub struct Script<R: Read> {
     alloc: Global,
     reader: Reader<R>,
-    row: ByteRecord,
+    fields: ByteRecord,
     records_left: u64,
     phase: Phase,
 }
@@ -45,8 +45,10 @@ impl<R: Read> Model for Script<R> {
 }
 
 impl<R: Read> Script<R> {
-    /// A script of which nothing is read yet, and of which at most `max_records` records are read. It takes
-    /// no memory.
+    /// A script of which nothing is read yet, and of which at most `max_records` records are read.
+    ///
+    /// It takes no memory, and is always Ok; a reader that kept a buffer of its own would answer
+    /// `OutOfMemory` (102).
     pub fn new(alloc: Global, reader: R, max_records: u64) -> Result<Script<R>, Refusal>
         ensures made { IsOk result }
         ensures unread { IfOk result (λ made. made ≡
@@ -59,7 +61,7 @@ impl<R: Read> Script<R> {
         Ok(Script {
             alloc,
             reader,
-            row: ByteRecord::new(alloc),
+            fields: ByteRecord::new(alloc),
             records_left: max_records,
             phase: Phase::Reading,
         })
@@ -67,10 +69,10 @@ impl<R: Read> Script<R> {
 
     /// The next record, or None at the end of the script.
     ///
-    /// A fault of a record's text is one of 202 to 205, in the order of docs/SCRIPT.md. `TooManyRecords` is
-    /// answered for one record more than `max_records`, before any other fault of it, `Read` where the
-    /// reader failed, and `OutOfMemory` where memory was refused. After any fault each later call answers
-    /// `Failed`, and after None each answers None.
+    /// A fault of a record's text is one of 202 to 205, in the order of docs/SCRIPT.md. `TooManyRecords`
+    /// (207) is answered for one record more than `max_records`, before any other fault of it, `Read` (206)
+    /// where the reader failed, and `OutOfMemory` (102) where memory was refused. After any fault each later
+    /// call answers `Failed` (209), and after None each answers None.
     pub fn read_record(&mut self) -> Result<Option<Record>, ScriptFault>
         ensures gives { IfOk result (λ read. Gives (still_gives self.old) (still_gives self.new) read) }
         ensures faults { IfErr result (λ fault. FaultsAs fault (still_gives self.old)) }
@@ -88,7 +90,7 @@ impl<R: Read> Script<R> {
             Phase::Ended => return Ok(None),
             Phase::Reading => {}
         }
-        let found = match self.reader.read_byte_record(&mut self.row) {
+        let found = match self.reader.read_byte_record(&mut self.fields) {
             Ok(found) => found,
             Err(error) => {
                 self.phase = Phase::Failed;
@@ -103,7 +105,7 @@ impl<R: Read> Script<R> {
             self.phase = Phase::Failed;
             return Err(ScriptFault::TooManyRecords);
         }
-        match record_from(self.alloc, &self.row) {
+        match record_from(self.alloc, &self.fields) {
             Ok(read) => {
                 self.records_left -= 1;
                 Ok(Some(read))
@@ -118,10 +120,10 @@ impl<R: Read> Script<R> {
 
 // Want of memory, or a failure of the reader underneath: a flexible reader of byte records has no other.
 fn read_fault(error: &csv::Error) -> ScriptFault
-    requires { IsOutside (error_kind error.now) }
+    requires { IsMemoryOrIo (error_kind error.now) }
     ensures memory { error_kind error.now ≡ ErrorKind.OutOfMemory → result ≡ ScriptFault.OutOfMemory }
     ensures read { IsTrue (is_io (error_kind error.now)) → result ≡ ScriptFault.Read }
-    ensures outside { IsOutsideFault result }
+    ensures outside { IsMemoryOrReadFault result }
 {
     match error.kind() {
         ErrorKind::OutOfMemory => ScriptFault::OutOfMemory,

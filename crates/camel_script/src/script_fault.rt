@@ -9,7 +9,8 @@ pub enum ScriptFault {
     /// 102: memory was refused.
     #[error("out of memory")]
     OutOfMemory,
-    /// 202: a word, a detection point of a call or the name of an item is not one of the format.
+    /// 202: a word, the detection point of a call, the name of an item, the letter of a basic service or the
+    /// type of a call is not one of the format.
     #[error("unknown word")]
     Word,
     /// 203: a record has too few or too many fields, or an item too few or too many parts.
@@ -28,7 +29,7 @@ pub enum ScriptFault {
     #[error("too many records")]
     TooManyRecords,
     /// 209: an earlier read of this script answered a fault.
-    #[error("an earlier record had a fault")]
+    #[error("an earlier read had a fault")]
     Failed,
 }
 

@@ -5,11 +5,14 @@ use camel_criteria::Refusal;
 pub enum Stop {
     /// Memory was refused.
     OutOfMemory,
-    /// The first fault of its texts is this.
+    /// A word, or a text that is one of few, is none of the format.
     Word,
+    /// There are too few or too many fields or parts.
     FieldCount,
+    /// A text is not pairs of hexadecimal digits.
     Hexadecimal,
+    /// A text is not an IMSI, or not a decimal in its range.
     Number,
-    /// Its texts have no fault so far, and its data are refused.
+    /// The texts that were read have no fault, and the data are refused.
     Refused(Refusal),
 }

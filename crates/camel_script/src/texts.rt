@@ -1,10 +1,8 @@
 ghost use Rattle.std.specs.Prelude.{◌≡◌, ◌≤◌, ◌-◌, IfOk, IsTrue, length, map, take};
 ghost use Rattle.std.specs.Char.{is_ascii_digit};
 ghost use Rattle.std.specs.List.{list_all};
-ghost use Rattle.camel_script.specs.Reading.{Tells};
+ghost use Rattle.camel_script.specs.Reading.{ReadsAs};
 ghost use Rattle.camel_script.specs.Texts.{basic_service_of, call_address_of, decimal_of, digit_values, imsi_of_text, is_digits, isdn_address_of, number_of, octet_of, octets_of, is_forwarded_of};
-ghost use Rattle.camel_script.specs.declared.texts.TheConstants.{MAX_DECIMAL_DIGITS};
-ghost use Rattle.camel_tbcd.specs.declared.imsi.TheConstants.{MAX_IMSI_DIGITS};
 
 use crate::stop::Stop;
 use camel_criteria::{BasicService, Refusal};
@@ -25,7 +23,7 @@ pub const BEARER_SERVICE: u8 = b'b';
 /// An IMSI: 5 to 15 characters `0` to `9`.
 #[tactic(auto, unfolding(crate::specs::Texts::imsi_of_text))]
 pub fn imsi(text: &[u8]) -> Result<Imsi, Stop>
-    ensures { Tells result (imsi_of_text text.now) }
+    ensures { result ≡ imsi_of_text text.now }
 {
     if text.len() < MIN_IMSI_DIGITS || text.len() > MAX_IMSI_DIGITS || !is_digits(text) {
         return Err(Stop::Number);
@@ -40,7 +38,7 @@ pub fn imsi(text: &[u8]) -> Result<Imsi, Stop>
 /// A decimal: 1 to 10 characters `0` to `9`, of a value not over the greatest.
 #[tactic(auto, unfolding(crate::specs::Texts::decimal_of))]
 pub fn decimal(text: &[u8], greatest: u32) -> Result<u32, Stop>
-    ensures value { Tells result (decimal_of greatest text.now) }
+    ensures value { result ≡ decimal_of greatest text.now }
     ensures range { IfOk result (λ value. value ≤ greatest) }
 {
     if text.is_empty() || text.len() > MAX_DECIMAL_DIGITS || !is_digits(text) {
@@ -55,7 +53,7 @@ pub fn decimal(text: &[u8], greatest: u32) -> Result<u32, Stop>
 
 /// A decimal of value 0 to 255.
 pub fn small_decimal(text: &[u8]) -> Result<u8, Stop>
-    ensures { Tells result (decimal_of 255 text.now) }
+    ensures { result ≡ decimal_of 255 text.now }
 {
     let value = decimal(text, 255)?;
     Ok(value as u8)
@@ -78,7 +76,7 @@ impl Model for Octets {
 /// The octets of an address: an even number of hexadecimal digits of either case, possibly none.
 #[tactic(auto, unfolding(crate::specs::Texts::octets_of))]
 pub fn octets_from(alloc: Global, text: &[u8]) -> Result<Octets, Stop>
-    ensures { Tells result (octets_of text.now) }
+    ensures { ReadsAs result (octets_of text.now) }
 {
     match hex::decode(alloc, text) {
         Ok(items) => Ok(Octets { items }),
@@ -90,7 +88,7 @@ pub fn octets_from(alloc: Global, text: &[u8]) -> Result<Octets, Stop>
 /// A basic service: `t` or `b`, then two hexadecimal digits.
 #[tactic(auto, unfolding(crate::specs::Texts::basic_service_of))]
 pub fn basic_service(text: &[u8]) -> Result<BasicService, Stop>
-    ensures { Tells result (basic_service_of text.now) }
+    ensures { result ≡ basic_service_of text.now }
 {
     let Some((letter, code)) = text.split_first() else {
         return Err(Stop::Word);
@@ -105,7 +103,7 @@ pub fn basic_service(text: &[u8]) -> Result<BasicService, Stop>
 // One octet: two hexadecimal digits.
 #[tactic(auto, unfolding(crate::specs::Texts::octet_of))]
 fn octet(text: &[u8]) -> Result<u8, Stop>
-    ensures { Tells result (octet_of text.now) }
+    ensures { result ≡ octet_of text.now }
 {
     let mut octets = [0; 1];
     match hex::decode_to_slice(text, &mut octets) {
@@ -117,7 +115,7 @@ fn octet(text: &[u8]) -> Result<u8, Stop>
 /// Whether a call is forwarded: `f` or `n`.
 #[tactic(auto, unfolding(crate::specs::Texts::is_forwarded_of))]
 pub fn is_forwarded(text: &[u8]) -> Result<bool, Stop>
-    ensures { Tells result (is_forwarded_of text.now) }
+    ensures { result ≡ is_forwarded_of text.now }
 {
     if text == b"f".as_slice() {
         return Ok(true);
@@ -131,7 +129,7 @@ pub fn is_forwarded(text: &[u8]) -> Result<bool, Stop>
 /// The gsmSCF address of these octets.
 #[tactic(auto, unfolding(crate::specs::Texts::isdn_address_of))]
 pub fn isdn_address(octets: &Octets) -> Result<IsdnAddress, Stop>
-    ensures { Tells result (isdn_address_of octets.now) }
+    ensures { result ≡ isdn_address_of octets.now }
 {
     match IsdnAddress::from_bytes(octets.items.as_slice()) {
         Ok(address) => Ok(address),
@@ -142,7 +140,7 @@ pub fn isdn_address(octets: &Octets) -> Result<IsdnAddress, Stop>
 /// The destination of these octets.
 #[tactic(auto, unfolding(crate::specs::Texts::call_address_of))]
 pub fn call_address(octets: &Octets) -> Result<CallAddress, Stop>
-    ensures { Tells result (call_address_of octets.now) }
+    ensures { result ≡ call_address_of octets.now }
 {
     match CallAddress::from_bytes(octets.items.as_slice()) {
         Ok(address) => Ok(address),
@@ -159,7 +157,7 @@ fn is_digits(text: &[u8]) -> bool
 // The values of the digits, and 0 after them.
 fn digit_values(text: &[u8]) -> [u8; MAX_IMSI_DIGITS]
     requires digits { IsTrue (is_digits text.now) }
-    requires few { length text.now ≤ MAX_IMSI_DIGITS }
+    requires few { length text.now ≤ 15 }
     ensures { take (length text.now) result ≡ digit_values text.now }
 {
     let mut values = [0; MAX_IMSI_DIGITS];
@@ -172,7 +170,7 @@ fn digit_values(text: &[u8]) -> [u8; MAX_IMSI_DIGITS]
 // The number that the digits stand for.
 fn number(text: &[u8]) -> u64
     requires digits { IsTrue (is_digits text.now) }
-    requires few { length text.now ≤ MAX_DECIMAL_DIGITS }
+    requires few { length text.now ≤ 10 }
     ensures { result ≡ number_of text.now }
 {
     let mut value = 0u64;

@@ -1,13 +1,13 @@
--- An IMSI, as the list of its digits (TS 23.003; the least number of digits is profile 1's own).
+-- An IMSI, as the list of its digits (TS 23.003; the least number of digits is that of 3 octets with a
+-- filler, the least size that TS 29.002 gives an IMSI).
 use Rattle.std.specs.Prelude.{ℕ, ◌≤◌, ◌&&◌, nat_le, nat_lt, List, length, position, All, Option, Some, None, Result, Ok, Err, if◌then◌else◌}
 use Rattle.camel_tbcd.specs.declared.imsi.ImsiFault.{ImsiFault}
 use Rattle.camel_tbcd.specs.declared.imsi.ImsiFault.TheVariants.{Length, NotDigit}
-use Rattle.camel_tbcd.specs.declared.imsi.TheConstants.{MIN_IMSI_DIGITS, MAX_IMSI_DIGITS}
 
 -- 5 to 15 decimal digits
 pub record IsImsi (digits : List ℕ) : Type 0 where
-  pub least : MIN_IMSI_DIGITS ≤ length digits
-  pub most : length digits ≤ MAX_IMSI_DIGITS
+  pub least : 5 ≤ length digits
+  pub most : length digits ≤ 15
   pub decimal : All (λ digit. digit ≤ 9) digits
 
 -- the values, or the place of the first that is over 9
@@ -18,6 +18,6 @@ decimal_or_fault values (Some at) = Err (NotDigit at)
 -- the IMSI that values make: their count is looked at first, then the values from the first one on
 abbrev pub imsi_of : List ℕ → Result (List ℕ) ImsiFault
 imsi_of values =
-    if nat_le MIN_IMSI_DIGITS (length values) && nat_le (length values) MAX_IMSI_DIGITS
+    if nat_le 5 (length values) && nat_le (length values) 15
     then decimal_or_fault values (position (λ value. nat_lt 9 value) values)
     else Err Length

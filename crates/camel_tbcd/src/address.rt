@@ -1,7 +1,7 @@
 ghost use Rattle.std.specs.Prelude.{◌≡◌, ◌≤◌, ◌<◌, ◌↔◌, length, IfOk, IsErrOf};
 ghost use Rattle.camel_tbcd.specs.Nature.{nature_of, plan_of};
 ghost use Rattle.camel_tbcd.specs.AddressFault.{address_fault_code};
-ghost use Rattle.camel_tbcd.specs.declared.address.TheConstants.{MAX_ADDRESS_LENGTH};
+ghost use Rattle.camel_tbcd.specs.AddressLength.{IsAddress, max_address_length};
 
 use std::error::Error;
 use std::fmt;
@@ -44,12 +44,11 @@ impl Error for AddressFault {}
 /// An AddressString of TS 29.002, borrowed as its octets: 1 to 20 of them.
 ///
 /// Octet 1 has the extension in bit 8, the nature of address in bits 765 and the numbering plan in bits
-/// 4321, and TBCD digits follow. No value of an octet is refused.
+/// 4321, and TBCD digits follow. No octet is refused for its value.
 #[derive(Clone, Copy, Debug)]
 pub struct Address<'a> {
     bytes: &'a [u8],
-    ghost some: { 1 ≤ length bytes.now },
-    ghost few: { length bytes.now ≤ MAX_ADDRESS_LENGTH },
+    ghost address: { IsAddress max_address_length bytes.now },
 }
 
 impl<'a> Address<'a> {
@@ -57,11 +56,11 @@ impl<'a> Address<'a> {
 
     /// Borrows octets as an address.
     ///
-    /// `Empty` is answered for no octets, and `TooLong` for more than 20.
+    /// `Empty` (1) is answered for no octets, and `TooLong` (2) for more than 20.
     pub fn new(bytes: &'a [u8]) -> Result<Address<'a>, AddressFault>
         ensures address { IfOk result (λ address. octets address ≡ bytes.now) }
         ensures empty { IsErrOf result AddressFault.Empty ↔ (length bytes.now ≡ 0) }
-        ensures too_long { IsErrOf result AddressFault.TooLong ↔ (MAX_ADDRESS_LENGTH < length bytes.now) }
+        ensures too_long { IsErrOf result AddressFault.TooLong ↔ (max_address_length < length bytes.now) }
     {
         if bytes.is_empty() {
             return Err(AddressFault::Empty);
@@ -74,14 +73,14 @@ impl<'a> Address<'a> {
 
     // The address whose octets an owned address keeps.
     pub(crate) fn of_kept(bytes: &'a [u8]) -> Address<'a>
-        requires some { 1 ≤ length bytes.now }
-        requires few { length bytes.now ≤ MAX_ADDRESS_LENGTH }
+        requires { IsAddress max_address_length bytes.now }
         ensures { octets result ≡ bytes.now }
     {
         Address { bytes }
     }
 
-    /// The nature of address, 0 to 7: bits 765 of octet 1.
+    /// The nature of address, 0 to 7: bits 765 of octet 1. TS 29.002 names 0 unknown, 1 international,
+    /// 2 national significant, 3 network specific, 4 subscriber and 6 abbreviated.
     pub fn nature(&self) -> u8
         ensures nature { result ≡ nature_of (octets self.now) }
         ensures range { result ≤ 7 }
@@ -89,7 +88,8 @@ impl<'a> Address<'a> {
         self.bytes[0] / 16 % 8
     }
 
-    /// The numbering plan, 0 to 15: bits 4321 of octet 1.
+    /// The numbering plan, 0 to 15: bits 4321 of octet 1. TS 29.002 names 0 unknown, 1 E.164, 3 X.121,
+    /// 4 telex, 6 E.212, 8 national and 9 private.
     pub fn plan(&self) -> u8
         ensures plan { result ≡ plan_of (octets self.now) }
         ensures range { result ≤ 15 }
@@ -97,9 +97,10 @@ impl<'a> Address<'a> {
         self.bytes[0] % 16
     }
 
-    /// The octets that it was made of.
+    /// The octets that it was made of, 1 to 20.
     pub fn bytes(&self) -> &'a [u8]
-        ensures { result.now ≡ octets self.now }
+        ensures same { result.now ≡ octets self.now }
+        ensures address { IsAddress max_address_length (octets self.now) }
     {
         self.bytes
     }

@@ -1,12 +1,12 @@
 ghost use Rattle.std.specs.Prelude.{◌≡◌, ◌<◌, ◌↔◌, length, IfOk, IsErrOf};
 ghost use Rattle.camel_tbcd.specs.Address.{octets};
-ghost use Rattle.camel_tbcd.specs.declared.address.TheConstants.{MAX_ADDRESS_LENGTH};
+ghost use Rattle.camel_tbcd.specs.AddressLength.{IsAddress, max_address_length};
 
 use crate::address::{Address, AddressFault, MAX_ADDRESS_LENGTH};
 use crate::short_list::ShortList;
 use std::marker::Model;
 
-/// An AddressString of TS 29.002 of its own, as the destination of a call: 1 to 20 octets.
+/// An owned AddressString of TS 29.002, as the destination of a call: 1 to 20 octets.
 ///
 /// Contracts see it as the list of its octets.
 #[derive(Clone, Copy, Debug)]
@@ -15,14 +15,14 @@ pub struct CallAddress {
 }
 
 impl Model for CallAddress {
-    ghost use Rattle.std.specs.Prelude.{ℕ, List, ◌≤◌, length};
-    ghost use Rattle.camel_tbcd.specs.declared.address.TheConstants.{MAX_ADDRESS_LENGTH};
+    ghost use Rattle.std.specs.Prelude.{ℕ, List};
+    ghost use Rattle.camel_tbcd.specs.AddressLength.{IsAddress, max_address_length};
 
     ghost Value = { List ℕ };
 
     ghost view = { λ a. a.octets };
 
-    ghost invariant = { λ a. (1 ≤ length a.octets) × (length a.octets ≤ MAX_ADDRESS_LENGTH) };
+    ghost invariant = { λ a. IsAddress max_address_length a.octets };
 
     ghost inverse = { λ octets. record { octets = octets } };
 }
@@ -30,11 +30,11 @@ impl Model for CallAddress {
 impl CallAddress {
     /// Keeps octets as an address.
     ///
-    /// `Empty` is answered for no octets, and `TooLong` for more than 20.
+    /// `Empty` (1) is answered for no octets, and `TooLong` (2) for more than 20.
     pub fn from_bytes(bytes: &[u8]) -> Result<CallAddress, AddressFault>
         ensures address { IfOk result (λ address. address ≡ bytes.now) }
         ensures empty { IsErrOf result AddressFault.Empty ↔ (length bytes.now ≡ 0) }
-        ensures too_long { IsErrOf result AddressFault.TooLong ↔ (MAX_ADDRESS_LENGTH < length bytes.now) }
+        ensures too_long { IsErrOf result AddressFault.TooLong ↔ (max_address_length < length bytes.now) }
     {
         if bytes.is_empty() {
             return Err(AddressFault::Empty);
@@ -49,7 +49,8 @@ impl CallAddress {
 
     /// The same octets, borrowed.
     pub fn lend(&self) -> Address<'_>
-        ensures { octets result ≡ self.now }
+        ensures same { octets result ≡ self.now }
+        ensures address { IsAddress max_address_length self.now }
     {
         Address::of_kept(self.octets.as_slice())
     }

@@ -5,7 +5,6 @@ ghost use Rattle.std.specs.Cmp.Lexicographic.{slice_cmp, pointwise, nat_list_cmp
 ghost use Rattle.std.proofs.Common.{refl};
 ghost use Rattle.camel_tbcd.specs.Imsi.{IsImsi, imsi_of};
 ghost use Rattle.camel_tbcd.specs.ImsiFault.{imsi_fault_code};
-ghost use Rattle.camel_tbcd.specs.declared.imsi.TheConstants.{MIN_IMSI_DIGITS, MAX_IMSI_DIGITS};
 
 use crate::short_list::ShortList;
 use std::cmp::Ordering;
@@ -13,7 +12,7 @@ use std::error::Error;
 use std::fmt;
 use std::marker::Model;
 
-/// The least number of digits of an IMSI.
+/// The least number of digits of an IMSI: 3 octets with a filler, the least size of an IMSI in TS 29.002.
 pub const MIN_IMSI_DIGITS: usize = 5;
 
 /// The greatest number of digits of an IMSI, by TS 23.003.
@@ -76,8 +75,8 @@ impl Model for Imsi {
 impl Imsi {
     /// Keeps digits, each as its value, as an IMSI.
     ///
-    /// `Length` is answered for fewer than 5 digits or more than 15, and else `NotDigit` with the place,
-    /// from 0, of the first value over 9.
+    /// `Length` (1) is answered for fewer than 5 digits or more than 15, and else `NotDigit` (2) with the
+    /// place, from 0, of the first value over 9.
     pub fn from_digits(digits: &[u8]) -> Result<Imsi, ImsiFault>
         ensures answer { result ≡ imsi_of digits.now }
         ensures kept { IfOk result (λ imsi. imsi ≡ digits.now) }

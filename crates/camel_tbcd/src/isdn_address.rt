@@ -1,6 +1,6 @@
 ghost use Rattle.std.specs.Prelude.{◌≡◌, ◌<◌, ◌↔◌, length, IfOk, IsErrOf};
 ghost use Rattle.camel_tbcd.specs.Address.{octets};
-ghost use Rattle.camel_tbcd.specs.declared.isdn_address.TheConstants.{MAX_ISDN_ADDRESS_LENGTH};
+ghost use Rattle.camel_tbcd.specs.AddressLength.{IsAddress, max_isdn_address_length};
 
 use crate::address::{Address, AddressFault};
 use crate::short_list::ShortList;
@@ -18,14 +18,14 @@ pub struct IsdnAddress {
 }
 
 impl Model for IsdnAddress {
-    ghost use Rattle.std.specs.Prelude.{ℕ, List, ◌≤◌, length};
-    ghost use Rattle.camel_tbcd.specs.declared.isdn_address.TheConstants.{MAX_ISDN_ADDRESS_LENGTH};
+    ghost use Rattle.std.specs.Prelude.{ℕ, List};
+    ghost use Rattle.camel_tbcd.specs.AddressLength.{IsAddress, max_isdn_address_length};
 
     ghost Value = { List ℕ };
 
     ghost view = { λ a. a.octets };
 
-    ghost invariant = { λ a. (1 ≤ length a.octets) × (length a.octets ≤ MAX_ISDN_ADDRESS_LENGTH) };
+    ghost invariant = { λ a. IsAddress max_isdn_address_length a.octets };
 
     ghost inverse = { λ octets. record { octets = octets } };
 }
@@ -33,11 +33,11 @@ impl Model for IsdnAddress {
 impl IsdnAddress {
     /// Keeps octets as an address.
     ///
-    /// `Empty` is answered for no octets, and `TooLong` for more than 9.
+    /// `Empty` (1) is answered for no octets, and `TooLong` (2) for more than 9.
     pub fn from_bytes(bytes: &[u8]) -> Result<IsdnAddress, AddressFault>
         ensures address { IfOk result (λ address. address ≡ bytes.now) }
         ensures empty { IsErrOf result AddressFault.Empty ↔ (length bytes.now ≡ 0) }
-        ensures too_long { IsErrOf result AddressFault.TooLong ↔ (MAX_ISDN_ADDRESS_LENGTH < length bytes.now) }
+        ensures too_long { IsErrOf result AddressFault.TooLong ↔ (max_isdn_address_length < length bytes.now) }
     {
         if bytes.is_empty() {
             return Err(AddressFault::Empty);
@@ -52,7 +52,8 @@ impl IsdnAddress {
 
     /// The same octets, borrowed.
     pub fn lend(&self) -> Address<'_>
-        ensures { octets result ≡ self.now }
+        ensures same { octets result ≡ self.now }
+        ensures address { IsAddress max_isdn_address_length self.now }
     {
         Address::of_kept(self.octets.as_slice())
     }

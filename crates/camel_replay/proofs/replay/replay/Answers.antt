@@ -1,4 +1,4 @@
-use Rattle.std.proofs.Common.{◌≡◌, ◌∙◌, ℕ, List, arith, option_map, refl}
+use Rattle.std.proofs.Common.{◌≡◌, ℕ, List, arith, option_map, refl}
 use Rattle.camel_script.specs.Script.{script, still_gives}
 use Rattle.camel_replay.proofs.Progress.{progress_at_first, progress_by_one, stopped_at_flush, stopped_by_script, stopped_in_line, wrote_all}
 use Rattle.camel_replay.proofs.replay.replay.Goals as goal
@@ -17,7 +17,7 @@ returns-in-Err-read_record-clause-stopped g c =
     let held = g.W.Write.contents in
     let whole = λ (bytes : List ℕ). script bytes 1000000 in
     stopped_by_script (g.R.Read.remaining c.args.reader) whole (held c.args.writer.now) (held c.records.writer) (still_gives c.records.script) c.args.limit c.records.number c.records.store c.in-Err-read_record.fault c.fault_at-in-Err-read_record.result c.records.invariant.so_far
-    (c.fault_at-in-Err-read_record.ensures ∙ rw c.code-in-Err-read_record.ensures refl) c.in-Err-read_record.ensures.faults
+    (rw c.code-in-Err-read_record.ensures at c.fault_at-in-Err-read_record.ensures) c.in-Err-read_record.ensures.faults
 
 pub records-preserved : goal.records-preserved
 records-preserved g c =
