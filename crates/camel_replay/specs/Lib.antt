@@ -1,4 +1,5 @@
 pub mod FaultLine
+pub mod Fronts
 pub mod Output
 pub mod ReplayFault
 pub mod Store

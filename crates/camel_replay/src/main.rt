@@ -1,6 +1,7 @@
 //! Replays a script of subscriber data updates and calls, from standard input to standard output.
 #![tactic(auto)]
 
+mod fronts;
 mod replay;
 mod run;
 mod store;

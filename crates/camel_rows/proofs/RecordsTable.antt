@@ -1,9 +1,9 @@
 -- The finite map that the entries of a table make, whose keys are lists of numbers.
-use Rattle.std.proofs.Common.{◌≡◌, ◌∙◌, ℕ, List, [], ◌∷◌, Option, Some, cond, refl, sym, ap}
+use Rattle.std.proofs.Common.{◌≡◌, ◌∙◌, ℕ, List, [], ◌∷◌, Option, Some, None, cond, refl, sym, ap}
 use Rattle.std.specs.BTreeMap.{is_at}
 use Rattle.std.specs.Cmp.{eq_by_cmp_equiv}
 use Rattle.std.specs.Cmp.Lexicographic.{slice_cmp, nat_list_cmp_total}
-use Rattle.std.specs.FinMap.{find, from_entries, get, insert, get-from_entries, get-insert, same_map}
+use Rattle.std.specs.FinMap.{find, from_entries, get, insert, remove, get-from_entries, get-insert, get-remove, same_map}
 use Rattle.std.specs.Map.{lookup}
 use Rattle.std.specs.Ordering.{nat_cmp}
 use Rattle.std.proofs.lemmas.Map.Lookups.{exact_bytes}
@@ -28,3 +28,11 @@ module _ {X : Type 0} where
   insert-entries old new key value differ = same_map nat_list_cmp_total exact_bytes _ _ (λ other.
       get-entries new other ∙ differ other ∙ ap (λ b. cond b (Some value) (entry_at old other)) ((eq_by_cmp_equiv nat_list_cmp_total).symm key other)
       ∙ sym (get-insert nat_list_cmp_total (from_entries old) key value other ∙ ap (cond (is_at (slice_cmp nat_cmp other) key) (Some value)) (get-entries old other)))
+
+  -- entries that lack one key make a map that lacks it
+  pub remove-entries : (old new : List (List ℕ × X)) (key : List ℕ)
+      → ((other : List ℕ) → entry_at new other ≡ cond (is_at (slice_cmp nat_cmp key) other) None (entry_at old other))
+      → from_entries {R = slice_cmp nat_cmp} new ≡ remove (from_entries old) key
+  remove-entries old new key differ = same_map nat_list_cmp_total exact_bytes _ _ (λ other.
+      get-entries new other ∙ differ other ∙ ap (λ b. cond b None (entry_at old other)) ((eq_by_cmp_equiv nat_list_cmp_total).symm key other)
+      ∙ sym (get-remove nat_list_cmp_total (from_entries old) key other ∙ ap (cond (is_at (slice_cmp nat_cmp other) key) None) (get-entries old other)))

@@ -13,3 +13,8 @@ pub AcceptedFrom-push : (m : RecordsData) (updates : List Update) (update : Upda
     → AcceptedFrom m (updates ++ update ∷ [])
 AcceptedFrom-push m [] update accepted next = (next, tt)
 AcceptedFrom-push m (first ∷ updates) update accepted next = (accepted.0, AcceptedFrom-push (after m first) updates update accepted.1 next)
+
+-- the beginning of accepted updates is accepted
+pub AcceptedFrom-prefix : (m : RecordsData) (first second : List Update) → AcceptedFrom m (first ++ second) → AcceptedFrom m first
+AcceptedFrom-prefix m [] second accepted = tt
+AcceptedFrom-prefix m (update ∷ first) second accepted = (accepted.0, AcceptedFrom-prefix (after m update) first second accepted.1)

@@ -100,4 +100,11 @@ impl Records {
         self.table.insert(imsi, subscriber)?;
         Ok(())
     }
+
+    // Takes the record of an IMSI out, if there is one.
+    pub(crate) fn take_out(&mut self, imsi: &Imsi)
+        ensures { self.new ≡ map.remove self.old imsi.now }
+    {
+        self.table.remove(imsi);
+    }
 }

@@ -191,3 +191,17 @@ fn does_what_the_default_call_handling_says(rt: HostRuntime) {
     assert_eq!(rt; on_failure(Handling::Continue), CallAction::Continue);
     assert_eq!(rt; on_failure(Handling::Release), CallAction::Release);
 }
+
+#[test]
+fn takes_one_record_out(rt: HostRuntime) -> Result<(), Fail> {
+    let first = Imsi::from_digits(&IMSI_DIGITS)?;
+    let second = Imsi::from_digits(&IMSI_DIGITS[1..])?;
+    let mut records = Records::new(rt.alloc());
+    for imsi in [first, second] {
+        records.apply(&Update::Register { imsi })?;
+    }
+    records.take_out(&first);
+    assert!(rt; records.get(&first).is_none());
+    assert!(rt; records.get(&second).is_some());
+    Ok(())
+}
