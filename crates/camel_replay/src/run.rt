@@ -1,6 +1,7 @@
-ghost use Rattle.std.specs.Prelude.{◌≡◌, ◌≢◌, IfOk, IfSome, string_bytes};
+ghost use Rattle.std.specs.Prelude.{◌≡◌, ◌≢◌, true, IfOk, IfSome, string_bytes};
 ghost use Rattle.camel_script.specs.Script.{script};
 ghost use Rattle.camel_replay.specs.FaultLine.{fault_line, fault_line_at};
+ghost use Rattle.camel_replay.specs.ReplayFault.{is_replay_code};
 ghost use Rattle.camel_replay.specs.Written.{AppendsPart, Stopped, WroteAll};
 ghost use Rattle.camel_replay.specs.declared.replay.ReplayFault.{ReplayFault};
 
@@ -31,6 +32,7 @@ pub fn run<R: Read + Drop, W: Write, E: Write>(
     ensures silent { result ≡ 0 → E.contents err.new ≡ E.contents err.old }
     ensures status { result ≢ 0 → result ≡ FAULT_STATUS }
     ensures stopped { result ≢ 0 → ((stop : ReplayFault)
+        × (is_replay_code stop.code ≡ true)
         × AppendsPart (E.contents err.old) (E.contents err.new) (fault_line stop)
         × IfSome (R.remaining reader) (λ bytes.
         Stopped (W.contents out.old) (W.contents out.new) UPDATE_LIMIT (script bytes MAX_RECORDS) stop)) }
