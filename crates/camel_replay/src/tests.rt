@@ -145,10 +145,15 @@ impl Write for Counted {
 
 #[test]
 fn reads_a_million_records_and_no_more(rt: HostRuntime) {
-    for (records, code) in [(1_000_000, None), (1_000_001, Some(207))] {
+    for (records, fault, status) in [
+        (1_000_000, "", 0),
+        (1_000_001, "camel_replay: record 1000001: fault 207\n", 1),
+    ] {
         let mut out = Counted { octets: 0 };
-        let ended = replay(rt.alloc(), Repeated { left: records }, &mut out, 1);
-        assert_eq!(rt; ended.err().map(|fault| fault.code), code);
+        let mut err = Vec::new(rt.alloc());
+        let ended = run(rt.alloc(), Repeated { left: records }, &mut out, &mut err);
+        assert_eq!(rt; ended, status);
+        assert_eq!(rt; err.as_slice(), fault.as_bytes());
         // Each line is `published 0`.
         assert_eq!(rt; out.octets, 12_000_000);
     }
@@ -269,6 +274,38 @@ fn a_failed_write_ends_the_run(rt: HostRuntime) {
                 .starts_with(out.taken.as_slice())
         );
     }
+}
+
+#[test]
+fn tells_a_failed_read_and_a_failed_write(rt: HostRuntime) {
+    let reader = FailingReader {
+        left: FIRST_CALL.as_bytes(),
+        calls: 25,
+    };
+    let mut out = Vec::new(rt.alloc());
+    let mut err = Vec::new(rt.alloc());
+    assert_eq!(rt; run(rt.alloc(), reader, &mut out, &mut err), 1);
+    assert_eq!(rt; out.as_slice(), "accepted 1\n".as_bytes());
+    assert_eq!(rt;
+        err.as_slice(),
+        "camel_replay: record 2: fault 206\n".as_bytes()
+    );
+
+    let mut slow = SlowWriter {
+        taken: Vec::new(rt.alloc()),
+        most: 11,
+        then: Then::Fails,
+    };
+    err.clear();
+    assert_eq!(rt;
+        run(rt.alloc(), FIRST_CALL.as_bytes(), &mut slow, &mut err),
+        1
+    );
+    assert_eq!(rt; slow.taken.as_slice(), "accepted 1\n".as_bytes());
+    assert_eq!(rt;
+        err.as_slice(),
+        "camel_replay: record 2: fault 208\n".as_bytes()
+    );
 }
 
 #[test]
