@@ -85,9 +85,11 @@ fn answer<W: Write>(
     writer: &mut W,
     request: Record,
 ) -> Result<(), u16>
-    ensures line { OnOk result (Appends (W.contents writer.old) (W.contents writer.new) (line_text (store_line store.old request))) }
+    ensures line { OnOk result (Appends (W.contents writer.old) (W.contents writer.new)
+        (line_text (store_line store.old request))) }
     ensures after { OnOk result (store.new ≡ store_after store.old request) }
-    ensures part { OnErr result (AppendsPart (W.contents writer.old) (W.contents writer.new) (line_text (store_line store.old request))) }
+    ensures part { OnErr result (AppendsPart (W.contents writer.old) (W.contents writer.new)
+        (line_text (store_line store.old request))) }
     ensures code { IfErr result (λ code. is_text_code code ≡ false) }
     ensures known { IfErr result (λ code. is_replay_code code ≡ true) }
 {

@@ -86,7 +86,8 @@ impl Store {
         ensures accepted { OnOk result (store_refusal self.old update ≡ None) }
         ensures taken { OnOk result (self.new ≡ record self.old { pending = self.old.pending ++ update ∷ [] }) }
         ensures unchanged { OnErr result (self.new ≡ self.old) }
-        ensures refused { IfErr result (λ why. (why ≡ Refusal.OutOfMemory) ⊎ (store_refusal self.old update ≡ Some why)) }
+        ensures refused { IfErr result (λ why.
+            (why ≡ Refusal.OutOfMemory) ⊎ (store_refusal self.old update ≡ Some why)) }
     {
         self.current.check(&update)?;
         let count = self.front + self.pending.len() as u64;

@@ -77,7 +77,8 @@ impl Records {
         ensures refused { IfSome (refusal self.old update.now) (λ why. result ≡ Err why) }
         ensures applied { OnOk result (self.new ≡ after self.old update.now) }
         ensures unchanged { OnErr result (self.new ≡ self.old) }
-        ensures only { IfErr result (λ why. (why ≡ Refusal.OutOfMemory) ⊎ (refusal self.old update.now ≡ Some why)) }
+        ensures only { IfErr result (λ why.
+            (why ≡ Refusal.OutOfMemory) ⊎ (refusal self.old update.now ≡ Some why)) }
     {
         match update {
             Update::Register { imsi } => self.put(*imsi, Subscriber::registered())?,

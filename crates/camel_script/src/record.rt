@@ -32,7 +32,8 @@ pub enum Record {
 #[tactic(auto, unfolding(crate::specs::Record::record_of))]
 pub fn record_from(alloc: Global, fields: &ByteRecord) -> Result<Record, ScriptFault>
     ensures record { IfOk result (λ read. record_of (fields_of fields.now) ≡ Ok read) }
-    ensures fault { IfErr result (λ fault. (fault ≡ ScriptFault.OutOfMemory) ⊎ (record_of (fields_of fields.now) ≡ Err fault)) }
+    ensures fault { IfErr result (λ fault.
+        (fault ≡ ScriptFault.OutOfMemory) ⊎ (record_of (fields_of fields.now) ≡ Err fault)) }
     ensures of_record { IfErr result IsRecordFault }
 {
     match reading(alloc, fields) {
