@@ -1,4 +1,7 @@
 pub mod BasicService
+pub mod Cause
 pub mod Criteria
 pub mod Handling
+pub mod Means
+pub mod Met
 pub mod Refusal

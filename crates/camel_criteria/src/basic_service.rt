@@ -1,5 +1,5 @@
 ghost use Rattle.std.specs.Prelude.{◌≡◌};
-ghost use Rattle.camel_criteria.specs.BasicService.{is_emergency};
+ghost use Rattle.camel_criteria.specs.BasicService.{bearer_groups, covers, covers_octet, is_emergency, tele_groups};
 
 /// The octet of teleservice 12 hexadecimal, emergency calls: TS 29.002, TeleserviceCode.
 pub const EMERGENCY_CALLS: u8 = 0x12;
@@ -21,4 +21,44 @@ impl BasicService {
     {
         matches!(self, BasicService::Tele(EMERGENCY_CALLS))
     }
+}
+
+/// Whether a code that a criterion lists covers the code of a call.
+///
+/// It covers itself. A group covers its members too: teleservice 00 every teleservice, 10 11 and 12, 60 61
+/// to 63, 80 every one but 20 to 22; bearer service 00 every bearer service, 10 11 to 17, 18 19 to 1f
+/// (octets in hexadecimal). A group as the code of a call is an octet like any other.
+pub fn covers(listed: BasicService, call: BasicService) -> bool
+    ensures { result ≡ covers listed call }
+{
+    match (listed, call) {
+        (BasicService::Tele(listed), BasicService::Tele(octet)) => tele_covers(listed, octet),
+        (BasicService::Bearer(listed), BasicService::Bearer(octet)) => bearer_covers(listed, octet),
+        _ => false,
+    }
+}
+
+fn tele_covers(listed: u8, octet: u8) -> bool
+    ensures { result ≡ covers_octet tele_groups listed octet }
+{
+    listed == octet
+        || match listed {
+            0x00 => true,
+            0x10 => matches!(octet, 0x11 | 0x12),
+            0x60 => matches!(octet, 0x61..=0x63),
+            0x80 => !matches!(octet, 0x20..=0x22),
+            _ => false,
+        }
+}
+
+fn bearer_covers(listed: u8, octet: u8) -> bool
+    ensures { result ≡ covers_octet bearer_groups listed octet }
+{
+    listed == octet
+        || match listed {
+            0x00 => true,
+            0x10 => matches!(octet, 0x11..=0x17),
+            0x18 => matches!(octet, 0x19..=0x1f),
+            _ => false,
+        }
 }

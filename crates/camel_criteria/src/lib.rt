@@ -1,15 +1,27 @@
-//! What the triggering criteria of CAMEL phase 3 (3GPP TS 23.078) are made of, and the numbers of the
-//! product's refusals. No call of this crate takes memory.
+//! The triggering criteria of CAMEL phase 3 (3GPP TS 23.078), whether an event meets them, and the numbers of
+//! the product's refusals. Only the constructors of criteria and their copies take memory.
 #![tactic(auto)]
 
 mod basic_service;
+mod cause;
 mod criteria;
+mod entry;
+mod event;
 mod handling;
+mod laws;
+mod met;
+mod number_criterion;
 mod refusal;
 
-pub use basic_service::{BasicService, EMERGENCY_CALLS};
+pub use basic_service::{BasicService, EMERGENCY_CALLS, covers};
+pub use cause::{Cause, MAX_CAUSE};
 pub use criteria::{CallType, MatchType};
+pub use entry::{MAX_BASIC_SERVICES, MAX_CAUSES, OCriteria, TCriteria};
+pub use event::{OEvent, TEvent};
 pub use handling::Handling;
+pub use laws::criteria_mean;
+pub use met::{o_met, t_met};
+pub use number_criterion::{MAX_LENGTHS, MAX_NUMBERS, NumberCriterion};
 pub use refusal::Refusal;
 
 #[cfg(test)]

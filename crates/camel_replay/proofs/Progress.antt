@@ -1,5 +1,5 @@
 -- How far a replay has come: what was written, and what the script still gives.
-use Rattle.std.proofs.Common.{◌≡◌, ◌∙◌, ℕ, ◌+◌, ◌-◌, Bool, true, false, List, [], ◌∷◌, ◌++◌, length, take, Option, Some, None, option_map, IfSome, IsTrue, refl, sym, ap, inl, inr, arith, append_assoc}
+use Rattle.std.proofs.Common.{◌≡◌, ◌∙◌, ℕ, ◌+◌, ◌-◌, false, List, [], ◌∷◌, ◌++◌, length, take, Option, Some, None, option_map, IfSome, IsTrue, refl, sym, ap, inl, inr, arith, append_assoc}
 use Rattle.std.proofs.KnownBytes.{Appends-kept, Appends-nil, Appends-trans}
 use Rattle.std.proofs.lemmas.List.{append-nil, length-append}
 use Rattle.std.proofs.Math.Seq.{take-append-add, take-append_seam}
@@ -12,7 +12,7 @@ use Rattle.camel_script.specs.declared.script_fault.ScriptFault.{ScriptFault}
 use Rattle.camel_replay.specs.Output.{no_history, output}
 use Rattle.camel_replay.specs.ReplayFault.{is_text_code}
 use Rattle.camel_replay.specs.Store.{StoreData, empty_store, store_after, store_line}
-use Rattle.camel_replay.specs.Written.{AppendsPart, Stopped, StopsAt, StopsAtFault, StopsInRecord, WroteAll}
+use Rattle.camel_replay.specs.Written.{AppendsPart, Stopped, StopsAt, StopsAtFault, WroteAll}
 use Rattle.camel_replay.specs.declared.replay.ReplayFault.{ReplayFault}
 use Rattle.camel_replay.proofs.StoreLemmas.{store_output, store_output-store_of}
 

@@ -1,5 +1,5 @@
 -- A store of one thread keeps enough of a history to answer as the history does.
-use Rattle.std.proofs.Common.{◌≡◌, ◌∙◌, ℕ, ◌+◌, ◌<◌, ◌==◌, Bool, true, false, List, [], ◌∷◌, ◌++◌, length, Option, Some, None, refl, sym, ap, arith}
+use Rattle.std.proofs.Common.{◌≡◌, ◌∙◌, ℕ, ◌+◌, ◌<◌, ◌==◌, List, [], ◌∷◌, ◌++◌, length, Option, Some, None, refl, sym, ap, arith}
 use Rattle.std.proofs.lemmas.List.{length-append}
 use Rattle.camel_criteria.specs.declared.refusal.Refusal.{Refusal}
 use Rattle.camel_rows.proofs.UpdateLemmas.{AcceptedFrom-push, state_from-append}
@@ -7,7 +7,6 @@ use Rattle.camel_rows.specs.Records.{RecordsData, no_records}
 use Rattle.camel_rows.specs.Update.{after, refusal, state, state_from}
 use Rattle.camel_rows.specs.declared.update.Update.{Update}
 use Rattle.camel_script.specs.Line.{line_text}
-use Rattle.camel_script.specs.declared.line.Line.{Line}
 use Rattle.camel_script.specs.declared.record.Record.{Record}
 use Rattle.camel_script.specs.declared.record.Record.TheVariants as request
 use Rattle.camel_replay.specs.Output.{History, accepted_updates, history_after, line_of, or_full, output_from, update_line, why_refused, with_update}

@@ -1,6 +1,7 @@
 -- An IMSI, as the list of its digits (TS 23.003; the least number of digits is that of 3 octets with a
 -- filler, the least size that TS 29.002 gives an IMSI).
-use Rattle.std.specs.Prelude.{ℕ, ◌≤◌, ◌&&◌, nat_le, nat_lt, List, length, position, All, Option, Some, None, Result, Ok, Err, if◌then◌else◌}
+use Rattle.std.specs.Prelude.{ℕ, ◌≤◌, ◌-◌, ◌==◌, ◌&&◌, nat_le, nat_lt, List, length, position, slice_index, take, All, Option, Some, None, Result, Ok, Err, if◌then◌else◌}
+use Rattle.camel_tbcd.specs.Digits.{filler, nibbles}
 use Rattle.camel_tbcd.specs.declared.imsi.ImsiFault.{ImsiFault}
 use Rattle.camel_tbcd.specs.declared.imsi.ImsiFault.TheVariants.{Length, NotDigit}
 
@@ -15,9 +16,28 @@ abbrev pub decimal_or_fault : List ℕ → Option ℕ → Result (List ℕ) Imsi
 decimal_or_fault values None = Ok values
 decimal_or_fault values (Some at) = Err (NotDigit at)
 
+-- the values, where they are not too many, or the place of the first that is over 9
+abbrev pub few_or_fault : List ℕ → Option ℕ → Result (List ℕ) ImsiFault
+few_or_fault values (Some at) = Err (NotDigit at)
+few_or_fault values None = if nat_le (length values) 15 then Ok values else Err Length
+
 -- the IMSI that values make: their count is looked at first, then the values from the first one on
 abbrev pub imsi_of : List ℕ → Result (List ℕ) ImsiFault
 imsi_of values =
     if nat_le 5 (length values) && nat_le (length values) 15
     then decimal_or_fault values (position (λ value. nat_lt 9 value) values)
+    else Err Length
+
+-- nibbles without the filler, where it stands last
+abbrev pub without_filler : List ℕ → List ℕ
+without_filler values = if slice_index values (length values - 1) == filler then take (length values - 1) values else values
+
+-- the IMSI that the nibbles of octets make: the first of them over 9 is looked for, and then their count
+abbrev pub imsi_of_nibbles : List ℕ → Result (List ℕ) ImsiFault
+imsi_of_nibbles values = few_or_fault values (position (λ value. nat_lt 9 value) values)
+
+-- the IMSI that 3 to 8 TBCD octets make, where a filler stands only as the last high nibble
+abbrev pub imsi_of_tbcd : List ℕ → Result (List ℕ) ImsiFault
+imsi_of_tbcd octets =
+    if nat_le 3 (length octets) && nat_le (length octets) 8 then imsi_of_nibbles (without_filler (nibbles octets))
     else Err Length

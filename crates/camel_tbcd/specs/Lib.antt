@@ -1,6 +1,8 @@
 pub mod Address
 pub mod AddressFault
 pub mod AddressLength
+pub mod DigitList
+pub mod Digits
 pub mod Imsi
 pub mod ImsiFault
 pub mod Nature

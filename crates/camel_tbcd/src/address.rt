@@ -3,6 +3,7 @@ ghost use Rattle.camel_tbcd.specs.Nature.{nature_of, plan_of};
 ghost use Rattle.camel_tbcd.specs.AddressFault.{address_fault_code};
 ghost use Rattle.camel_tbcd.specs.AddressLength.{IsAddress, max_address_length};
 
+use crate::digits::Digits;
 use std::error::Error;
 use std::fmt;
 
@@ -53,6 +54,8 @@ pub struct Address<'a> {
 
 impl<'a> Address<'a> {
     ghost use Rattle.camel_tbcd.specs.Address.{octets};
+    ghost use Rattle.camel_tbcd.specs.DigitList.{digit_list};
+    ghost use Rattle.camel_tbcd.specs.Digits.{digits};
 
     /// Borrows octets as an address.
     ///
@@ -103,5 +106,13 @@ impl<'a> Address<'a> {
         ensures address { IsAddress max_address_length (octets self.now) }
     {
         self.bytes
+    }
+
+    /// Its digits: the nibbles after octet 1, low nibble first, before the first filler. Nothing after that
+    /// filler is looked at.
+    pub fn digits(&self) -> Digits<'a>
+        ensures { digit_list result ≡ digits (octets self.now) }
+    {
+        Digits::of_address(self.bytes)
     }
 }

@@ -1,11 +1,13 @@
-ghost use Rattle.std.specs.Prelude.{◌≡◌, ◌≤◌, ◌<◌, ◌↔◌, length, position, nat_eq, nat_lt, All, IsNone, IfOk, IsOk};
+ghost use Rattle.std.specs.Prelude.{◌≡◌, ◌≤◌, ◌<◌, ◌↔◌, length, position, take, ◌*◌, nat_eq, nat_lt, All, IsNone, IfOk, IsOk};
 ghost use Rattle.std.specs.Ordering.{nat_cmp, as_partial_cmp};
 ghost use Rattle.std.specs.Cmp.{partial_equiv_from_equiv, partial_order_from_agreeing_total};
 ghost use Rattle.std.specs.Cmp.Lexicographic.{slice_cmp, pointwise, nat_list_cmp_total, nat_list_eq_equiv, texts_ties};
 ghost use Rattle.std.proofs.Common.{refl};
-ghost use Rattle.camel_tbcd.specs.Imsi.{IsImsi, imsi_of};
+ghost use Rattle.camel_tbcd.specs.Digits.{nibbles};
+ghost use Rattle.camel_tbcd.specs.Imsi.{IsImsi, imsi_of, imsi_of_nibbles, imsi_of_tbcd, without_filler};
 ghost use Rattle.camel_tbcd.specs.ImsiFault.{imsi_fault_code};
 
+use crate::digits::FILLER;
 use crate::short_list::ShortList;
 use std::cmp::Ordering;
 use std::error::Error;
@@ -17,6 +19,12 @@ pub const MIN_IMSI_DIGITS: usize = 5;
 
 /// The greatest number of digits of an IMSI, by TS 23.003.
 pub const MAX_IMSI_DIGITS: usize = 15;
+
+/// The least number of octets of an IMSI as a TBCD-STRING: SIZE (3..8) of TS 29.002.
+pub const MIN_IMSI_OCTETS: usize = 3;
+
+/// The greatest number of octets of an IMSI as a TBCD-STRING: SIZE (3..8) of TS 29.002.
+pub const MAX_IMSI_OCTETS: usize = 8;
 
 /// Why digits are no IMSI. Nothing was made.
 #[derive(Clone, Copy, Debug, PartialEq, Eq)]
@@ -93,12 +101,67 @@ impl Imsi {
         }
     }
 
+    /// Keeps the digits that TBCD octets hold, two in each, as an IMSI. A filler stands only as the high nibble
+    /// of the last octet.
+    ///
+    /// `Length` (1) is answered for fewer than 3 octets or more than 8, then `NotDigit` (2) with the place, from
+    /// 0 and low nibble first, of the first nibble over 9 other than that filler, and then `Length` for 16
+    /// digits.
+    pub fn from_tbcd(octets: &[u8]) -> Result<Imsi, ImsiFault>
+        ensures answer { result ≡ imsi_of_tbcd octets.now }
+        ensures kept { IfOk result (λ imsi. imsi ≡ without_filler (nibbles octets.now)) }
+    {
+        if octets.len() < MIN_IMSI_OCTETS || octets.len() > MAX_IMSI_OCTETS {
+            return Err(ImsiFault::Length);
+        }
+        let nibbles = nibbles_of(octets);
+        Imsi::from_nibbles(without_filler(&nibbles[..2 * octets.len()]))
+    }
+
+    fn from_nibbles(nibbles: &[u8]) -> Result<Imsi, ImsiFault>
+        requires least { 5 ≤ length nibbles.now }
+        requires most { length nibbles.now ≤ 16 }
+        ensures { result ≡ imsi_of_nibbles nibbles.now }
+    {
+        match first_over_nine(nibbles) {
+            Some(at) => Err(ImsiFault::NotDigit { at }),
+            None if nibbles.len() > MAX_IMSI_DIGITS => Err(ImsiFault::Length),
+            None => Imsi::from_digits(nibbles),
+        }
+    }
+
     /// Its digits, each as its value, the first one first.
     pub fn digits(&self) -> &[u8]
         ensures same { result.now ≡ self.now }
         ensures imsi { IsImsi self.now }
     {
         self.digits.as_slice()
+    }
+}
+
+// The nibbles of the octets, low nibble first, and 0 after them.
+fn nibbles_of(octets: &[u8]) -> [u8; 16]
+    requires { length octets.now ≤ 8 }
+    ensures { take (2 * length octets.now) result ≡ nibbles octets.now }
+{
+    let mut nibbles = [0; 16];
+    for at in 0..octets.len() {
+        nibbles[2 * at] = octets[at] % 16;
+        nibbles[2 * at + 1] = octets[at] / 16;
+    }
+    nibbles
+}
+
+// The nibbles without a filler in the last place.
+fn without_filler(nibbles: &[u8]) -> &[u8]
+    requires { 1 ≤ length nibbles.now }
+    ensures { result.now ≡ without_filler nibbles.now }
+{
+    let last = nibbles.len() - 1;
+    if nibbles[last] == FILLER {
+        &nibbles[..last]
+    } else {
+        nibbles
     }
 }
 

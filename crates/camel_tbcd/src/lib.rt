@@ -6,13 +6,17 @@
 
 mod address;
 mod call_address;
+mod digits;
 mod imsi;
 mod isdn_address;
 mod short_list;
 
 pub use address::{Address, AddressFault, MAX_ADDRESS_LENGTH};
 pub use call_address::CallAddress;
-pub use imsi::{Imsi, ImsiFault, MAX_IMSI_DIGITS, MIN_IMSI_DIGITS};
+pub use digits::Digits;
+pub use imsi::{
+    Imsi, ImsiFault, MAX_IMSI_DIGITS, MAX_IMSI_OCTETS, MIN_IMSI_DIGITS, MIN_IMSI_OCTETS,
+};
 pub use isdn_address::{IsdnAddress, MAX_ISDN_ADDRESS_LENGTH};
 
 #[cfg(test)]

@@ -156,3 +156,109 @@ fn numbers_and_prints_each_fault(rt: HostRuntime) -> Result<(), Fail> {
     }
     Ok(())
 }
+
+// Digits stand low nibble first, and the first filler, f, ends them whatever follows.
+#[test]
+fn reads_the_digits_of_an_address(rt: HostRuntime) -> Result<(), Fail> {
+    let cases: [(&[u8], &[u8]); 7] = [
+        (&[0x91], &[]),
+        (&[0x91, 0x21, 0xf3], &[1, 2, 3]),
+        (&[0x91, 0x21, 0x43], &[1, 2, 3, 4]),
+        (&[0x91, 0xf1, 0x43], &[1]),
+        (&[0x91, 0x2f, 0x43], &[]),
+        (&[0x91, 0xa1], &[1, 10]),
+        (&[0xa1, 0xed, 0xcb], &[13, 14, 11, 12]),
+    ];
+    for (octets, wanted) in cases {
+        let digits = Address::new(octets)?.digits();
+        assert_eq!(rt; digits.len(), wanted.len(), "of {octets:?}");
+        assert_eq!(rt; digits.is_empty(), wanted.is_empty(), "of {octets:?}");
+        for at in 0..wanted.len() + 2 {
+            assert_eq!(rt;
+                digits.get(at),
+                wanted.get(at).copied(),
+                "{at} of {octets:?}"
+            );
+        }
+    }
+    Ok(())
+}
+
+#[test]
+fn reads_38_digits(rt: HostRuntime) -> Result<(), Fail> {
+    let mut octets = [0x11; 20];
+    octets[0] = 0x91;
+    let digits = Address::new(&octets)?.digits();
+    assert_eq!(rt; digits.len(), 38);
+    for at in 0..38 {
+        assert_eq!(rt; digits.get(at), Some(1), "at {at}");
+    }
+    assert_eq!(rt; digits.get(38), None);
+    Ok(())
+}
+
+// Octet 1 is no digit, so that addresses of another nature may begin with these or be the same.
+#[test]
+fn compares_digits_and_not_octets(rt: HostRuntime) -> Result<(), Fail> {
+    let cases: [(&[u8], &[u8], bool, bool); 11] = [
+        (&[0x91, 0x21, 0x43], &[0x91, 0x21, 0xf3], true, false),
+        (&[0x91, 0x21, 0x43], &[0x91], true, false),
+        (&[0x91, 0x21, 0x43], &[0x91, 0x21, 0x43], true, true),
+        (&[0x91, 0x21, 0x43], &[0x91, 0x55], false, false),
+        (&[0x91, 0x21, 0xf3], &[0x91, 0x21, 0x43], false, false),
+        (&[0xa1, 0x21, 0x43], &[0x91, 0x21, 0xf3], true, false),
+        (&[0x91, 0x21, 0xf3], &[0x11, 0x21, 0xf3], true, true),
+        (&[0x91, 0x21, 0xf3], &[0x91, 0x21, 0x4f], true, false),
+        (&[0x91, 0x21], &[0x91, 0x21, 0x4f], true, true),
+        (&[0x91, 0x21, 0xf4], &[0x91, 0x21, 0xf3], false, false),
+        (&[0x91], &[0xa1], true, true),
+    ];
+    for (octets, others, begins, same) in cases {
+        let digits = Address::new(octets)?.digits();
+        let front = Address::new(others)?.digits();
+        assert_eq!(rt;
+            digits.begins_with(&front),
+            begins,
+            "{octets:?} with {others:?}"
+        );
+        assert_eq!(rt; digits.same(&front), same, "{octets:?} and {others:?}");
+        assert_eq!(rt; front.same(&digits), same, "{others:?} and {octets:?}");
+    }
+    Ok(())
+}
+
+// By TS 29.002 a TBCD-STRING has the first digit in the low nibble, and a filler only for an odd count.
+#[test]
+fn keeps_the_digits_of_tbcd_octets(rt: HostRuntime) {
+    let cases: [(&[u8], &[u8]); 4] = [
+        (
+            &[0x62, 0x02, 0x01, 0x00, 0x00, 0x00, 0x00, 0xf1],
+            &[2, 6, 2, 0, 1, 0, 0, 0, 0, 0, 0, 0, 0, 0, 1],
+        ),
+        (&[0x11, 0x11, 0xf1], &[1, 1, 1, 1, 1]),
+        (&[0x11, 0x11, 0x11], &[1, 1, 1, 1, 1, 1]),
+        (&[0x21, 0x43, 0x65], &[1, 2, 3, 4, 5, 6]),
+    ];
+    for (octets, wanted) in cases {
+        let kept = Imsi::from_tbcd(octets).map(|imsi| imsi.digits() == wanted);
+        assert_eq!(rt; kept, Ok(true), "of {octets:?}");
+    }
+}
+
+#[test]
+fn refuses_tbcd_octets_of_no_imsi(rt: HostRuntime) {
+    let cases: [(&[u8], ImsiFault); 9] = [
+        (&[], ImsiFault::Length),
+        (&[0x11; 2], ImsiFault::Length),
+        (&[0x11; 8], ImsiFault::Length),
+        (&[0x11; 9], ImsiFault::Length),
+        (&[0xaa; 9], ImsiFault::Length),
+        (&[0x11, 0xa1, 0x11], ImsiFault::NotDigit { at: 3 }),
+        (&[0x11, 0x11, 0x1f], ImsiFault::NotDigit { at: 4 }),
+        (&[0xf1, 0x11, 0x11], ImsiFault::NotDigit { at: 1 }),
+        (&[0x11, 0x11, 0xff], ImsiFault::NotDigit { at: 4 }),
+    ];
+    for (octets, fault) in cases {
+        assert_eq!(rt; Imsi::from_tbcd(octets).err(), Some(fault), "of {octets:?}");
+    }
+}

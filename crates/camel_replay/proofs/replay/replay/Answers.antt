@@ -1,4 +1,4 @@
-use Rattle.std.proofs.Common.{◌≡◌, ℕ, List, arith, option_map, refl}
+use Rattle.std.proofs.Common.{ℕ, List, arith, option_map, refl}
 use Rattle.camel_script.specs.Script.{script, still_gives}
 use Rattle.camel_replay.proofs.Progress.{progress_at_first, progress_by_one, stopped_at_flush, stopped_by_script, stopped_in_line, wrote_all}
 use Rattle.camel_replay.proofs.replay.replay.Goals as goal

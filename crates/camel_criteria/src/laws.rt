@@ -1,0 +1,15 @@
+ghost use Rattle.std.specs.Prelude.{◌↔◌, ℕ, IsTrue, List};
+ghost use Rattle.camel_criteria.specs.Criteria.{NumberCriterionData, OCriteriaData, TCriteriaData};
+ghost use Rattle.camel_criteria.specs.Means.{NumberMetBy, OMet, TMet};
+ghost use Rattle.camel_criteria.specs.Met.{number_met, o_met, t_met};
+ghost use Rattle.camel_criteria.specs.declared.event.OEvent.{OEvent};
+ghost use Rattle.camel_criteria.specs.declared.event.TEvent.{TEvent};
+
+/// A law of the definitions: a destination number criterion is met, and an entry of criteria is met, exactly
+/// where the words of TS 23.078 say so. It does nothing when it is called.
+pub fn criteria_mean()
+    ensures number { (criterion : NumberCriterionData) (destination : List ℕ)
+        → IsTrue (number_met criterion destination) ↔ NumberMetBy criterion.match_type criterion destination }
+    ensures o_entry { (entry : OCriteriaData) (event : OEvent) → IsTrue (o_met entry event) ↔ OMet entry event }
+    ensures t_entry { (entry : TCriteriaData) (event : TEvent) → IsTrue (t_met entry event) ↔ TMet entry event }
+{}

@@ -1,0 +1,112 @@
+ghost use Rattle.std.specs.Prelude.{◌≡◌, ◌==◌};
+ghost use Rattle.std.specs.List.{list_any};
+ghost use Rattle.std.specs.Option.{option_copied};
+ghost use Rattle.camel_tbcd.specs.Address.{octets};
+ghost use Rattle.camel_criteria.specs.BasicService.{covers};
+ghost use Rattle.camel_criteria.specs.Met.{basic_met, cause_met, held_number_met, is_listed, number_matches, number_met, o_met, t_met, type_met};
+
+use crate::basic_service::{BasicService, covers};
+use crate::cause::Cause;
+use crate::criteria::{CallType, MatchType};
+use crate::entry::{OCriteria, TCriteria};
+use crate::event::{OEvent, TEvent};
+use crate::number_criterion::NumberCriterion;
+use camel_tbcd::{Address, IsdnAddress};
+
+/// Whether an event meets each criterion that an entry of the O-CSI holds. One that holds none is met by every
+/// event. The detection points are not compared.
+pub fn o_met(entry: &OCriteria, event: &OEvent) -> bool
+    ensures { result ≡ o_met entry.now event.now }
+{
+    held_number_met(entry.number(), &event.destination)
+        && basic_met(entry.basic(), event.basic)
+        && type_met(entry.call_type(), event.forwarded)
+        && cause_met(entry.causes(), event.cause)
+}
+
+/// Whether an event meets each criterion that an entry of the VT-CSI holds. One that holds none is met by
+/// every event. The detection points are not compared.
+pub fn t_met(entry: &TCriteria, event: &TEvent) -> bool
+    ensures { result ≡ t_met entry.now event.now }
+{
+    basic_met(entry.basic(), event.basic) && cause_met(entry.causes(), event.cause)
+}
+
+fn held_number_met(criterion: Option<&NumberCriterion>, destination: &Address) -> bool
+    ensures { result ≡ held_number_met (option_copied criterion.entry) (octets destination.now) }
+{
+    match criterion {
+        Some(criterion) => number_met(criterion, destination),
+        None => true,
+    }
+}
+
+fn number_met(criterion: &NumberCriterion, destination: &Address) -> bool
+    ensures { result ≡ number_met criterion.now (octets destination.now) }
+{
+    let listed = is_listed(criterion, destination);
+    match criterion.match_type() {
+        MatchType::Enabling => listed,
+        MatchType::Inhibiting => !listed,
+    }
+}
+
+fn is_listed(criterion: &NumberCriterion, destination: &Address) -> bool
+    ensures { result ≡ is_listed criterion.now (octets destination.now) }
+{
+    has_number(criterion.numbers(), destination)
+        || has_length(criterion.lengths(), destination.digits().len())
+}
+
+fn has_number(numbers: &[IsdnAddress], destination: &Address) -> bool
+    ensures { result ≡ list_any (λ listed. number_matches listed (octets destination.now)) numbers.now }
+{
+    numbers
+        .iter()
+        .any(|listed| number_matches(listed, destination))
+}
+
+fn has_length(lengths: &[u8], count: usize) -> bool
+    ensures { result ≡ list_any (λ listed. listed == count) lengths.now }
+{
+    lengths.iter().any(|listed| usize::from(*listed) == count)
+}
+
+fn number_matches(listed: &IsdnAddress, destination: &Address) -> bool
+    ensures { result ≡ number_matches listed.now (octets destination.now) }
+{
+    let listed = listed.lend();
+    listed.nature() == destination.nature() && destination.digits().begins_with(&listed.digits())
+}
+
+fn basic_met(listed: &[BasicService], call: BasicService) -> bool
+    ensures { result ≡ basic_met listed.now call }
+{
+    listed.is_empty() || has_cover(listed, call)
+}
+
+fn has_cover(listed: &[BasicService], call: BasicService) -> bool
+    ensures { result ≡ list_any (λ listed. covers listed call) listed.now }
+{
+    listed.iter().any(|listed| covers(*listed, call))
+}
+
+fn type_met(call_type: Option<CallType>, forwarded: bool) -> bool
+    ensures { result ≡ type_met call_type forwarded }
+{
+    match call_type {
+        None => true,
+        Some(CallType::Forwarded) => forwarded,
+        Some(CallType::NotForwarded) => !forwarded,
+    }
+}
+
+fn cause_met(listed: &[u8], cause: Option<Cause>) -> bool
+    ensures { result ≡ cause_met listed.now cause }
+{
+    match cause {
+        _ if listed.is_empty() => true,
+        Some(cause) => listed.contains(&cause.value()),
+        None => false,
+    }
+}

@@ -1,0 +1,115 @@
+ghost use Rattle.std.specs.Prelude.{◌≡◌, IfErr, length, slice_get};
+ghost use Rattle.std.specs.List.{list_all};
+ghost use Rattle.std.specs.Option.{option_map};
+ghost use Rattle.camel_tbcd.specs.Address.{octets};
+ghost use Rattle.camel_criteria.specs.Criteria.{is_length, number_criterion_of};
+ghost use Rattle.camel_criteria.specs.Refusal.{MakesOf};
+
+use crate::criteria::MatchType;
+use crate::refusal::Refusal;
+use camel_tbcd::{Address, IsdnAddress};
+use std::alloc::{AllocError, Global};
+use std::marker::Model;
+
+/// The greatest number of numbers of a destination number criterion (TS 29.002).
+pub const MAX_NUMBERS: usize = 10;
+
+/// The greatest number of lengths of a destination number criterion (TS 29.002).
+pub const MAX_LENGTHS: usize = 3;
+
+/// A destination number criterion (DestinationNumberCriteria of TS 29.002): a match type, up to 10 numbers
+/// and up to 3 lengths, each 1 to 15.
+#[derive(Debug, Drop)]
+pub struct NumberCriterion {
+    match_type: MatchType,
+    numbers: Vec<IsdnAddress>,
+    lengths: Vec<u8>,
+}
+
+impl Model for NumberCriterion {
+    ghost use Rattle.camel_criteria.specs.Criteria.{NumberCriterionData};
+
+    ghost Value = { NumberCriterionData };
+
+    ghost view = { λ a. record { match_type = a.match_type; numbers = a.numbers.items; lengths = a.lengths.items } };
+}
+
+impl NumberCriterion {
+    /// A criterion of these lists. An empty slice is an absent list.
+    ///
+    /// `DataMissing` (35) is answered where both lists are absent, `UnexpectedDataValue` (36) for more than 10
+    /// numbers, more than 3 lengths or a length outside 1 to 15, and `OutOfMemory` (102) where memory was
+    /// refused. Nothing was made then.
+    pub fn new(
+        alloc: Global,
+        match_type: MatchType,
+        numbers: &[IsdnAddress],
+        lengths: &[u8],
+    ) -> Result<NumberCriterion, Refusal>
+        ensures made { MakesOf result (number_criterion_of match_type numbers.now lengths.now) }
+        ensures refused { IfErr (number_criterion_of match_type numbers.now lengths.now) (λ why. result ≡ Err why) }
+    {
+        if numbers.is_empty() && lengths.is_empty() {
+            return Err(Refusal::DataMissing);
+        }
+        if numbers.len() > MAX_NUMBERS || lengths.len() > MAX_LENGTHS || !are_lengths(lengths) {
+            return Err(Refusal::UnexpectedDataValue);
+        }
+        Ok(NumberCriterion {
+            match_type,
+            numbers: Vec::from_slice(alloc, numbers)?,
+            lengths: Vec::from_slice(alloc, lengths)?,
+        })
+    }
+
+    /// Whether the destination is to be listed or not.
+    pub fn match_type(&self) -> MatchType
+        ensures { result ≡ self.now.match_type }
+    {
+        self.match_type
+    }
+
+    /// The listed numbers, in the order received.
+    pub fn numbers(&self) -> &[IsdnAddress]
+        ensures { result.now ≡ self.now.numbers }
+    {
+        &self.numbers
+    }
+
+    /// The listed number at a place, from 0, borrowed; None from their count on.
+    pub fn number(&self, at: usize) -> Option<Address<'_>>
+        ensures { option_map octets result ≡ slice_get self.now.numbers at }
+    {
+        match self.numbers.get(at) {
+            Some(number) => Some(number.lend()),
+            None => None,
+        }
+    }
+
+    /// The listed lengths, in digits, in the order received.
+    pub fn lengths(&self) -> &[u8]
+        ensures { result.now ≡ self.now.lengths }
+    {
+        &self.lengths
+    }
+}
+
+fn are_lengths(lengths: &[u8]) -> bool
+    ensures { result ≡ list_all is_length lengths.now }
+{
+    lengths.iter().all(|length| 1 <= *length && *length <= 15)
+}
+
+impl Clone for NumberCriterion {
+    ghost use Rattle.std.specs.Prelude.{◌≡◌};
+
+    ghost is_clone = { λ old new. new ≡ old };
+
+    fn clone(&self) -> Result<NumberCriterion, AllocError> {
+        Ok(NumberCriterion {
+            match_type: self.match_type,
+            numbers: self.numbers.clone()?,
+            lengths: self.lengths.clone()?,
+        })
+    }
+}

@@ -1,0 +1,74 @@
+-- Where the nibbles of octets stand.
+use Rattle.std.proofs.Common.{◌≡◌, ◌≤◌, ◌<◌, ℕ, zero, suc, ◌+◌, ◌-◌, ◌*◌, ◌/◌, ◌%◌, ◌==◌, Bool, true, false, ◌↔◌, IsTrue, List, [], ◌∷◌, ◌++◌, length, take, drop, get_or, slice_index, min, nat_eq, refl, sym, ap, ◌∙◌, arith}
+use Rattle.std.proofs.lemmas.List.{get_or-take, length-drop, length-take, length-take-le, take-append-drop}
+use Rattle.std.proofs.lemmas.List.Sums.{position_or_len_is}
+use Rattle.std.proofs.Math.ListN.{length-set, set}
+use Rattle.std.proofs.Math.Seq.{take-append_seam, take-suc, take-suc-set}
+use Rattle.std.specs.Cmp.Lexicographic.{bytes_decides}
+use Rattle.std.specs.List.{position_or_len, starts_with}
+use Rattle.camel_tbcd.specs.Digits.{BeginsWith, digits, nibbles}
+
+length-nibbles : (octets : List ℕ) → length (nibbles octets) ≡ 2 * length octets
+length-nibbles [] = refl
+length-nibbles (octet ∷ octets) = omega (arith, length-nibbles octets)
+
+-- an even place holds a low nibble
+pub low_nibble : (octets : List ℕ) (i at : ℕ) → at ≡ i + i → i < length octets → get_or (nibbles octets) at 0 ≡ get_or octets i 0 % 16
+low_nibble [] i at even within = absurd (omega arith)
+low_nibble (octet ∷ octets) zero at even within = let first : at ≡ 0 = omega arith in rw first refl
+low_nibble (octet ∷ octets) (suc i) at even within =
+    let later : at ≡ suc (suc (i + i)) = omega arith in
+    rw later (low_nibble octets i (i + i) refl (omega arith))
+
+-- an odd place holds a high nibble
+pub high_nibble : (octets : List ℕ) (i at : ℕ) → at ≡ i + i + 1 → i < length octets → get_or (nibbles octets) at 0 ≡ get_or octets i 0 / 16
+high_nibble [] i at odd within = absurd (omega arith)
+high_nibble (octet ∷ octets) zero at odd within = let first : at ≡ 1 = omega arith in rw first refl
+high_nibble (octet ∷ octets) (suc i) at odd within =
+    let later : at ≡ suc (suc (i + i + 1)) = omega arith in
+    rw later (high_nibble octets i (i + i + 1) refl (omega arith))
+
+pub length-nibbles-drop : (octets : List ℕ) → length (nibbles (drop 1 octets)) ≡ 2 * (length octets - 1)
+length-nibbles-drop octets = length-nibbles (drop 1 octets) ∙ ap (λ n. 2 * n) (length-drop 1 octets)
+
+-- the first filler ends the digits
+pub length-digits : (octets : List ℕ) (at : ℕ) → at ≤ length (nibbles (drop 1 octets)) → ((k : ℕ) → k < at → (slice_index (nibbles (drop 1 octets)) k == 15) ≡ false)
+    → (at < length (nibbles (drop 1 octets)) → (slice_index (nibbles (drop 1 octets)) at == 15) ≡ true) → at ≡ length (digits octets)
+length-digits octets at within none here =
+    let first : position_or_len (λ nibble. nibble == 15) (nibbles (drop 1 octets)) ≡ at = position_or_len_is (λ nibble. nibble == 15) (nibbles (drop 1 octets)) at 0 within none here in
+    sym (length-take-le _ (nibbles (drop 1 octets)) (rw first within) ∙ first)
+
+-- a digit is the nibble at its place
+pub get-digits : (octets : List ℕ) (at : ℕ) → at < length (digits octets) → get_or (digits octets) at 0 ≡ get_or (nibbles (drop 1 octets)) at 0
+get-digits octets at within =
+    let all : List ℕ = nibbles (drop 1 octets) in
+    let n : ℕ = position_or_len (λ nibble. nibble == 15) all in
+    let room : length (take n all) ≡ min n (length all) = length-take n all in
+    get_or-take n all at 0 (omega arith)
+
+-- a test of the prefix is std's
+pub starts_with-from_prefix : (all front : List ℕ) (b : Bool) → IsTrue b ↔ BeginsWith all front → b ≡ starts_with nat_eq all front
+starts_with-from_prefix all front true is =
+    let same : take (length front) all ≡ front = ap (take (length front)) (is.0 refl).1 ∙ take-append_seam front _ in
+    sym ((bytes_decides front (take (length front) all)).1 (sym same))
+starts_with-from_prefix all front false is =
+    elim (starts_with nat_eq all front) as (λ b. starts_with nat_eq all front ≡ b → false ≡ b) [
+      | true ↦ λ e. is.1 (drop (length front) all, sym (take-append-drop (length front) all) ∙ ap (λ f. f ++ drop (length front) all) (sym ((bytes_decides front (take (length front) all)).0 e)))
+      | false ↦ λ e. refl
+    ] refl
+
+nibbles-push : (octets : List ℕ) (octet : ℕ) → nibbles (octets ++ octet ∷ []) ≡ (nibbles octets ++ octet % 16 ∷ []) ++ octet / 16 ∷ []
+nibbles-push [] octet = refl
+nibbles-push (first ∷ octets) octet = ap (λ more. first % 16 ∷ first / 16 ∷ more) (nibbles-push octets octet)
+
+take-two_sets : (room : List ℕ) (at low high : ℕ) → suc at < length room → take (suc (suc at)) (set (set room at low) (suc at) high) ≡ (take at room ++ low ∷ []) ++ high ∷ []
+take-two_sets room at low high within =
+    take-suc-set (set room at low) (suc at) high (rw (length-set room at low) within) ∙ ap (λ front. front ++ high ∷ []) (take-suc-set room at low (omega arith))
+
+-- one octet more gives two nibbles more
+pub take-nibbles : (room octets : List ℕ) (i at next end more : ℕ) → at ≡ 2 * i → next ≡ suc at → end ≡ suc next → more ≡ suc i → next < length room → i < length octets
+    → take at room ≡ nibbles (take i octets) → take end (set (set room at (get_or octets i 0 % 16)) next (get_or octets i 0 / 16)) ≡ nibbles (take more octets)
+take-nibbles room octets i at next end more at_is next_is end_is more_is fits within so_far =
+    rw (end_is, more_is, next_is)
+    (take-two_sets room at _ _ (omega arith) ∙ ap (λ front. (front ++ get_or octets i 0 % 16 ∷ []) ++ get_or octets i 0 / 16 ∷ []) so_far
+    ∙ sym (nibbles-push (take i octets) (get_or octets i 0)) ∙ ap nibbles (sym (take-suc octets i 0 within)))

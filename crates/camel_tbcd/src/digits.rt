@@ -1,0 +1,109 @@
+ghost use Rattle.std.specs.Prelude.{◌≡◌, ◌≤◌, ◌<◌, ◌+◌, ◌-◌, ◌*◌, ◌/◌, ◌%◌, ◌↔◌, [], IsTrue, drop, length, nat_eq, slice_get, slice_index};
+ghost use Rattle.std.specs.List.{starts_with};
+ghost use Rattle.camel_tbcd.specs.AddressLength.{IsAddress, max_address_length};
+ghost use Rattle.camel_tbcd.specs.Digits.{BeginsWith, digits, nibbles};
+
+/// The digits of an address, read where its octets stand: no list is made of them.
+///
+/// A digit is a number from 0 to 14: 0 to 9, 10 for `*`, 11 for `#`, and 12, 13 and 14 for `a`, `b` and `c`.
+#[derive(Clone, Copy, Debug)]
+pub struct Digits<'a> {
+    bytes: &'a [u8],
+    len: usize,
+    ghost counted: { len ≡ length (digits bytes.now) },
+}
+
+impl<'a> Digits<'a> {
+    ghost use Rattle.camel_tbcd.specs.DigitList.{digit_list};
+
+    // The digits of an address of these octets.
+    pub(crate) fn of_address(bytes: &'a [u8]) -> Digits<'a>
+        requires { IsAddress max_address_length bytes.now }
+        ensures { digit_list result ≡ digits bytes.now }
+    {
+        Digits {
+            bytes,
+            len: digit_count(bytes),
+        }
+    }
+
+    /// How many digits there are, 0 to 38.
+    pub fn len(&self) -> usize
+        ensures { result ≡ length (digit_list self.now) }
+    {
+        self.len
+    }
+
+    /// Whether there is no digit.
+    pub fn is_empty(&self) -> bool
+        ensures { IsTrue result ↔ (digit_list self.now ≡ []) }
+    {
+        self.len == 0
+    }
+
+    /// The digit at a place, from 0; None from `len` on.
+    pub fn get(&self, at: usize) -> Option<u8>
+        ensures { result ≡ slice_get (digit_list self.now) at }
+    {
+        if at < self.len {
+            Some(nibble(self.bytes, at))
+        } else {
+            None
+        }
+    }
+
+    /// Whether the digits of `front` are the first ones of these.
+    pub fn begins_with(&self, front: &Digits) -> bool
+        ensures tested { result ≡ starts_with nat_eq (digit_list self.now) (digit_list front.now) }
+        ensures prefix { IsTrue result ↔ BeginsWith (digit_list self.now) (digit_list front.now) }
+    {
+        self.has_front(front)
+    }
+
+    fn has_front(&self, front: &Digits) -> bool
+        ensures { IsTrue result ↔ BeginsWith (digit_list self.now) (digit_list front.now) }
+    {
+        if self.len < front.len {
+            return false;
+        }
+        for at in 0..front.len {
+            if nibble(self.bytes, at) != nibble(front.bytes, at) {
+                return false;
+            }
+        }
+        true
+    }
+
+    /// Whether the digits are the same, whatever octets hold them.
+    pub fn same(&self, other: &Digits) -> bool
+        ensures { IsTrue result ↔ (digit_list self.now ≡ digit_list other.now) }
+    {
+        self.len == other.len && self.begins_with(other)
+    }
+}
+
+// The nibble at a place after octet 1, from 0.
+fn nibble(bytes: &[u8], at: usize) -> u8
+    requires { at < length (nibbles (drop 1 bytes.now)) }
+    ensures { result ≡ slice_index (nibbles (drop 1 bytes.now)) at }
+{
+    let octet = bytes[1 + at / 2];
+    if at % 2 == 0 { octet % 16 } else { octet / 16 }
+}
+
+// How many nibbles stand after octet 1 and before the first filler.
+fn digit_count(bytes: &[u8]) -> usize
+    requires { IsAddress max_address_length bytes.now }
+    ensures { result ≡ length (digits bytes.now) }
+{
+    let end = 2 * (bytes.len() - 1);
+    for at in 0..end {
+        if nibble(bytes, at) == FILLER {
+            return at;
+        }
+    }
+    end
+}
+
+/// The nibble that fills an odd count of digits, 1111 of TS 29.002.
+pub(crate) const FILLER: u8 = 15;
