@@ -8,9 +8,10 @@ ghost use Rattle.camel_criteria.specs.Met.{basic_met, cause_met, held_number_met
 use crate::basic_service::{BasicService, covers};
 use crate::cause::Cause;
 use crate::criteria::{CallType, MatchType};
-use crate::entry::{OCriteria, TCriteria};
 use crate::event::{OEvent, TEvent};
 use crate::number_criterion::NumberCriterion;
+use crate::o_criteria::OCriteria;
+use crate::t_criteria::TCriteria;
 use camel_tbcd::{Address, IsdnAddress};
 
 /// Whether an event meets each criterion that an entry of the O-CSI holds. One that holds none is met by every
