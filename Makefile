@@ -1,17 +1,35 @@
-# `make replay SCRIPT=examples/first-call.csv` replays a script, and `make test` is the gate.
+# `make replay SCRIPT=examples/first-call.csv` replays a script, and `make test` passes all tests: the gate, and
+# then each example with its output.
 
 SCRIPT ?= examples/first-call.csv
+LIMIT ?= 1000000
 PROGRAM := crates/camel_replay/out/camel_replay
 LOG := crates/camel_replay/out/build.log
 
-.PHONY: replay test
+# An example, and the limit with which it is replayed.
+EXAMPLES := first-call:1000000 prepaid:1000000 change-of-profile:1000000 refusals:3
 
-# Proves and builds the program where a source has changed, some minutes the first time, and runs it on
-# the script. Its output alone comes on standard output.
-replay:
+.PHONY: program replay examples bench test
+
+# Proves and builds the program where a source has changed, some minutes the first time.
+program:
 	@mkdir -p crates/camel_replay/out
 	@(cd crates/camel_replay && rt run < /dev/null) > $(LOG) 2>&1 || { cat $(LOG) >&2; exit 1; }
-	@$(PROGRAM) < $(SCRIPT)
+
+# The output of the script alone comes on standard output.
+replay: program
+	@$(PROGRAM) --limit $(LIMIT) < $(SCRIPT)
+
+examples: program
+	@for example in $(EXAMPLES); do \
+	    name=$${example%:*}; \
+	    $(PROGRAM) --limit $${example#*:} < examples/$$name.csv | diff examples/$$name.txt - || exit 1; \
+	    echo "example $$name ... ok"; \
+	done
+
+bench: program
+	@bench/run
 
 test:
 	rt ci
+	@$(MAKE) --no-print-directory examples

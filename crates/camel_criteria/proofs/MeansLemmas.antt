@@ -6,10 +6,10 @@ use Rattle.std.proofs.lemmas.List.Folds.{Any-from_list_any, list_any-from_Any}
 use Rattle.std.specs.Cmp.Lexicographic.{bytes_decides}
 use Rattle.std.specs.List.{list_any, starts_with}
 use Rattle.camel_tbcd.proofs.DigitLemmas.{starts_with-from_prefix}
-use Rattle.camel_tbcd.specs.Address.{octets}
 use Rattle.camel_tbcd.specs.Digits.{BeginsWith, digits}
 use Rattle.camel_criteria.specs.BasicService.{covers}
 use Rattle.camel_criteria.specs.Criteria.{NumberCriterionData, OCriteriaData, TCriteriaData}
+use Rattle.camel_criteria.specs.Event.{OEventData}
 use Rattle.camel_criteria.specs.Means.{BasicMet, CauseMet, HeldNumberMet, NumberMatches, NumberMetBy, OMet, TMet, TypeMet}
 use Rattle.camel_criteria.specs.Met.{basic_met, cause_met, held_number_met, is_listed, met_by, number_matches, number_met, o_met, t_met, type_met}
 use Rattle.camel_criteria.specs.declared.basic_service.BasicService.{BasicService}
@@ -17,7 +17,6 @@ use Rattle.camel_criteria.specs.declared.criteria.CallType.{CallType}
 use Rattle.camel_criteria.specs.declared.criteria.CallType.TheVariants.{Forwarded, NotForwarded}
 use Rattle.camel_criteria.specs.declared.criteria.MatchType.{MatchType}
 use Rattle.camel_criteria.specs.declared.criteria.MatchType.TheVariants.{Inhibiting, Enabling}
-use Rattle.camel_criteria.specs.declared.event.OEvent.{OEvent}
 use Rattle.camel_criteria.specs.declared.event.TEvent.{TEvent}
 
 and_parts : (a b : Bool) → a && b ≡ true → (a ≡ true) × (b ≡ true)
@@ -127,20 +126,20 @@ cause_means (first ∷ more) (Some cause) = (
   ],
 )
 
-pub o_means : (entry : OCriteriaData) (event : OEvent) → IsTrue (o_met entry event) ↔ OMet entry event
+pub o_means : (entry : OCriteriaData) (event : OEventData) → IsTrue (o_met entry event) ↔ OMet entry event
 o_means entry event = (
   λ e.
-      let first = and_parts (held_number_met entry.number (octets event.destination)) _ e in
+      let first = and_parts (held_number_met entry.number event.destination) _ e in
       let second = and_parts (basic_met entry.basic event.basic) _ first.1 in
       let third = and_parts (type_met entry.call_type event.forwarded) _ second.1 in
       record {
-        number = (held_number_means entry.number (octets event.destination)).0 first.0;
+        number = (held_number_means entry.number event.destination).0 first.0;
         basic = (basic_means entry.basic event.basic).0 second.0;
         call_type = (type_means entry.call_type event.forwarded).0 third.0;
         cause = (cause_means entry.causes event.cause).0 third.1;
       },
   λ met.
-      and_whole _ _ ((held_number_means entry.number (octets event.destination)).1 met.number)
+      and_whole _ _ ((held_number_means entry.number event.destination).1 met.number)
       (and_whole _ _ ((basic_means entry.basic event.basic).1 met.basic)
       (and_whole _ _ ((type_means entry.call_type event.forwarded).1 met.call_type) ((cause_means entry.causes event.cause).1 met.cause))),
 )

@@ -41,7 +41,7 @@ number_criterion_of match_type numbers lengths =
     then Ok (record { match_type = match_type; numbers = numbers; lengths = lengths })
     else Err UnexpectedDataValue
 
--- up to 5 causes, each 0 to 127, and none at the detection point that comes before any release
+-- up to 5 causes, each 0 to 127, and none at the detection point that comes before any release (profile 1's own)
 abbrev pub are_causes_at : ℕ → ℕ → List ℕ → Bool
 are_causes_at without_release dp causes =
     nat_le (length causes) 5 && (list_all (λ cause. nat_le cause max_cause) causes && (not (dp == without_release) || length causes == 0))

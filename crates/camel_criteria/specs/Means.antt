@@ -1,16 +1,15 @@
 -- What `Met` computes, in the words of the standard (TS 23.078).
 use Rattle.std.specs.Prelude.{◌≡◌, ◌⊎◌, ⊤, ℕ, Bool, IsTrue, List, [], Option, Some, None, Any, Contains, length}
-use Rattle.camel_tbcd.specs.Address.{octets}
 use Rattle.camel_tbcd.specs.Digits.{BeginsWith, digits}
 use Rattle.camel_tbcd.specs.Nature.{nature_of}
 use Rattle.camel_criteria.specs.BasicService.{covers}
 use Rattle.camel_criteria.specs.Criteria.{NumberCriterionData, OCriteriaData, TCriteriaData}
+use Rattle.camel_criteria.specs.Event.{OEventData}
 use Rattle.camel_criteria.specs.declared.basic_service.BasicService.{BasicService}
 use Rattle.camel_criteria.specs.declared.criteria.CallType.{CallType}
 use Rattle.camel_criteria.specs.declared.criteria.CallType.TheVariants.{Forwarded, NotForwarded}
 use Rattle.camel_criteria.specs.declared.criteria.MatchType.{MatchType}
 use Rattle.camel_criteria.specs.declared.criteria.MatchType.TheVariants.{Inhibiting, Enabling}
-use Rattle.camel_criteria.specs.declared.event.OEvent.{OEvent}
 use Rattle.camel_criteria.specs.declared.event.TEvent.{TEvent}
 
 -- a listed number is of the destination's nature, with its digits a prefix of the destination's
@@ -43,8 +42,8 @@ abbrev pub CauseMet : List ℕ → Option ℕ → Type 0
 CauseMet listed cause = (listed ≡ []) ⊎ ((value : ℕ) × (cause ≡ Some value) × Contains listed value)
 
 -- an event meets an entry of the O-CSI where it meets each criterion
-pub record OMet (entry : OCriteriaData) (event : OEvent) : Type 0 where
-  pub number : HeldNumberMet entry.number (octets event.destination)
+pub record OMet (entry : OCriteriaData) (event : OEventData) : Type 0 where
+  pub number : HeldNumberMet entry.number event.destination
   pub basic : BasicMet entry.basic event.basic
   pub call_type : TypeMet entry.call_type event.forwarded
   pub cause : CauseMet entry.causes event.cause

@@ -1,14 +1,14 @@
--- When the triggering criteria of a detection point are met (TS 23.078; that the numbering plan is not
--- compared is profile 1's own). `Means` says the same in the words of the standard.
+-- When the triggering criteria of a detection point are met (TS 23.078). That the numbering plan is not compared,
+-- that all criteria of an entry are to be met at whichever detection point it stands, and that an entry which
+-- holds none is met, is profile 1's own. `Means` says the same in the words of the standard.
 use Rattle.std.specs.Prelude.{ℕ, Bool, true, false, not, ◌==◌, ◌&&◌, ◌||◌, List, [], ◌∷◌, Option, Some, None, length, nat_eq}
 use Rattle.std.specs.List.{list_any, starts_with}
-use Rattle.camel_tbcd.specs.Address.{octets}
 use Rattle.camel_tbcd.specs.Digits.{digits}
 use Rattle.camel_tbcd.specs.Nature.{nature_of}
 use Rattle.camel_criteria.specs.BasicService.{covers}
 use Rattle.camel_criteria.specs.Criteria.{NumberCriterionData, OCriteriaData, TCriteriaData}
+use Rattle.camel_criteria.specs.Event.{OEventData}
 use Rattle.camel_criteria.specs.declared.basic_service.BasicService.{BasicService}
-use Rattle.camel_criteria.specs.declared.event.OEvent.{OEvent}
 use Rattle.camel_criteria.specs.declared.event.TEvent.{TEvent}
 use Rattle.camel_criteria.specs.declared.criteria.CallType.{CallType}
 use Rattle.camel_criteria.specs.declared.criteria.CallType.TheVariants.{Forwarded, NotForwarded}
@@ -54,9 +54,9 @@ cause_met (first ∷ more) None = false
 cause_met (first ∷ more) (Some cause) = list_any (λ listed. listed == cause) (first ∷ more)
 
 -- an event meets an entry where it meets each criterion that the entry holds
-abbrev pub o_met : OCriteriaData → OEvent → Bool
+abbrev pub o_met : OCriteriaData → OEventData → Bool
 o_met entry event =
-    held_number_met entry.number (octets event.destination)
+    held_number_met entry.number event.destination
     && (basic_met entry.basic event.basic && (type_met entry.call_type event.forwarded && cause_met entry.causes event.cause))
 
 abbrev pub t_met : TCriteriaData → TEvent → Bool

@@ -1,8 +1,8 @@
 ghost use Rattle.std.specs.Prelude.{◌↔◌, ℕ, IsTrue, List};
 ghost use Rattle.camel_criteria.specs.Criteria.{NumberCriterionData, OCriteriaData, TCriteriaData};
+ghost use Rattle.camel_criteria.specs.Event.{OEventData};
 ghost use Rattle.camel_criteria.specs.Means.{NumberMetBy, OMet, TMet};
 ghost use Rattle.camel_criteria.specs.Met.{number_met, o_met, t_met};
-ghost use Rattle.camel_criteria.specs.declared.event.OEvent.{OEvent};
 ghost use Rattle.camel_criteria.specs.declared.event.TEvent.{TEvent};
 
 /// A law of the definitions: a destination number criterion is met, and an entry of criteria is met, exactly
@@ -10,6 +10,6 @@ ghost use Rattle.camel_criteria.specs.declared.event.TEvent.{TEvent};
 pub fn criteria_mean()
     ensures number { (criterion : NumberCriterionData) (destination : List ℕ)
         → IsTrue (number_met criterion destination) ↔ NumberMetBy criterion.match_type criterion destination }
-    ensures o_entry { (entry : OCriteriaData) (event : OEvent) → IsTrue (o_met entry event) ↔ OMet entry event }
+    ensures o_entry { (entry : OCriteriaData) (event : OEventData) → IsTrue (o_met entry event) ↔ OMet entry event }
     ensures t_entry { (entry : TCriteriaData) (event : TEvent) → IsTrue (t_met entry event) ↔ TMet entry event }
 {}

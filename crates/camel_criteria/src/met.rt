@@ -3,6 +3,7 @@ ghost use Rattle.std.specs.List.{list_any};
 ghost use Rattle.std.specs.Option.{option_copied};
 ghost use Rattle.camel_tbcd.specs.Address.{octets};
 ghost use Rattle.camel_criteria.specs.BasicService.{covers};
+ghost use Rattle.camel_criteria.specs.Event.{o_event_data};
 ghost use Rattle.camel_criteria.specs.Met.{basic_met, cause_met, held_number_met, is_listed, number_matches, number_met, o_met, t_met, type_met};
 
 use crate::basic_service::{BasicService, covers};
@@ -17,7 +18,7 @@ use camel_tbcd::{Address, IsdnAddress};
 /// Whether an event meets each criterion that an entry of the O-CSI holds. One that holds none is met by every
 /// event. The detection points are not compared.
 pub fn o_met(entry: &OCriteria, event: &OEvent) -> bool
-    ensures { result ≡ o_met entry.now event.now }
+    ensures { result ≡ o_met entry.now (o_event_data event.now) }
 {
     held_number_met(entry.number(), &event.destination)
         && basic_met(entry.basic(), event.basic)

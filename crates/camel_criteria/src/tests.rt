@@ -1,6 +1,11 @@
+mod agreement;
+mod basic_services;
+mod plain;
+mod random;
+
 use crate::{
     BasicService, CallType, Cause, Handling, MatchType, NumberCriterion, OCriteria, OEvent,
-    Refusal, TCriteria, TEvent, covers, criteria_mean, o_met, t_met,
+    Refusal, TCriteria, TEvent, criteria_mean, o_met, t_met,
 };
 use camel_tbcd::{Address, IsdnAddress};
 use std::alloc::{AllocError, AllocFailed, Global};
@@ -85,45 +90,6 @@ fn takes_want_of_memory_as_its_refusal(rt: HostRuntime) {
     let no_room = AllocFailed { value: 7u8 };
     assert_eq!(rt; refusal_from(AllocError), Err(Refusal::OutOfMemory));
     assert_eq!(rt; refusal_from(no_room), Err(Refusal::OutOfMemory));
-}
-
-// Each listed code with the first and the last octet of each run that it covers, as a teleservice and as a
-// bearer service.
-#[test]
-fn covers_itself_and_the_members_of_a_group(rt: HostRuntime) {
-    let cases: [(u8, &[(u8, u8)], &[(u8, u8)]); 9] = [
-        (0x00, &[(0x00, 0xff)], &[(0x00, 0xff)]),
-        (0x10, &[(0x10, 0x12)], &[(0x10, 0x17)]),
-        (0x11, &[(0x11, 0x11)], &[(0x11, 0x11)]),
-        (0x18, &[(0x18, 0x18)], &[(0x18, 0x1f)]),
-        (0x20, &[(0x20, 0x20)], &[(0x20, 0x20)]),
-        (0x60, &[(0x60, 0x63)], &[(0x60, 0x60)]),
-        (0x61, &[(0x61, 0x61)], &[(0x61, 0x61)]),
-        (0x80, &[(0x00, 0x1f), (0x23, 0xff)], &[(0x80, 0x80)]),
-        (0x90, &[(0x90, 0x90)], &[(0x90, 0x90)]),
-    ];
-    for (listed, tele, bearer) in cases {
-        for octet in 0..=255u8 {
-            let as_tele = covers(BasicService::Tele(listed), BasicService::Tele(octet));
-            assert_eq!(rt;
-                as_tele,
-                is_in(tele, octet),
-                "teleservices {listed} and {octet}"
-            );
-            let as_bearer = covers(BasicService::Bearer(listed), BasicService::Bearer(octet));
-            assert_eq!(rt;
-                as_bearer,
-                is_in(bearer, octet),
-                "bearers {listed} and {octet}"
-            );
-            assert!(rt; !covers(BasicService::Tele(listed), BasicService::Bearer(octet)));
-            assert!(rt; !covers(BasicService::Bearer(listed), BasicService::Tele(octet)));
-        }
-    }
-}
-
-fn is_in(runs: &[(u8, u8)], octet: u8) -> bool {
-    runs.iter().any(|run| run.0 <= octet && octet <= run.1)
 }
 
 #[test]

@@ -1,7 +1,9 @@
 //! Replays a script of subscriber data updates and calls, from standard input to standard output.
 #![tactic(auto)]
 
+mod command_line;
 mod fronts;
+mod options;
 mod replay;
 mod run;
 mod store;
@@ -9,10 +11,34 @@ mod store;
 mod tests;
 mod write;
 
-use crate::run::run;
+use crate::run::{FAULT_STATUS, REJECTED_STATUS, run};
+use crate::write::write_whole;
+use std::io;
+use std::io::ErrorKind;
 use std::process::ExitCode;
 
 fn main(rt: HostRuntime) -> ExitCode {
-    let status = run(rt.alloc(), rt.stdin(), &mut rt.stdout(), &mut rt.stderr());
+    let status = match words(&rt) {
+        Ok(words) => run(
+            rt.alloc(),
+            &words,
+            rt.stdin(),
+            &mut rt.stdout(),
+            &mut rt.stderr(),
+        ),
+        Err(error) => {
+            let (text, status) = match error.kind() {
+                ErrorKind::OutOfMemory => ("camel_replay: fault 102\n", FAULT_STATUS),
+                _ => ("error: an argument is not UTF-8\n", REJECTED_STATUS),
+            };
+            let _ = write_whole(&mut rt.stderr(), text.as_bytes());
+            status
+        }
+    };
     ExitCode::from(status)
+}
+
+// The words with which the program was started, its name first.
+fn words(rt: &HostRuntime) -> io::Result<Vec<String>> {
+    Ok(std::env::args(rt)?.collect(rt.alloc())?)
 }

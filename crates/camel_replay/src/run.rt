@@ -1,43 +1,56 @@
-ghost use Rattle.std.specs.Prelude.{◌≡◌, ◌≢◌, true, IfOk, IfSome, string_bytes};
-ghost use Rattle.camel_script.specs.Script.{script};
+ghost use Rattle.std.specs.Prelude.{◌≡◌, ◌⊎◌, None, Some, IfOk, map, string_bytes};
 ghost use Rattle.camel_replay.specs.FaultLine.{fault_line, fault_line_at};
-ghost use Rattle.camel_replay.specs.ReplayFault.{is_replay_code};
-ghost use Rattle.camel_replay.specs.Written.{AppendsPart, Stopped, WroteAll};
-ghost use Rattle.camel_replay.specs.declared.replay.ReplayFault.{ReplayFault};
+ghost use Rattle.camel_replay.specs.Run.{Helps, LacksMemory, Rejects, Replays, Runs};
+ghost use Rattle.camel_replay.specs.Written.{AppendsPart};
 
-use crate::replay::{MAX_RECORDS, ReplayFault, replay};
+use crate::command_line::options;
+use crate::replay::{ReplayFault, replay};
 use crate::write::write_whole;
+use clap::error::ErrorKind;
 use std::alloc::{AllocError, Global};
 use std::io::{Read, Write};
-
-/// The greatest number of updates that the program takes.
-pub const UPDATE_LIMIT: u64 = 1_000_000;
 
 /// The status of a run that ended with a fault.
 pub const FAULT_STATUS: u8 = 1;
 
-/// Runs the program: replays the script that the reader gives and writes its output to `out`. Where the
-/// replay ends with a fault, its line is written to `err`. Answers the status of the process: 0, or 1 after
-/// a fault.
+/// The status of a run whose command line was rejected.
+pub const REJECTED_STATUS: u8 = 2;
+
+/// Runs the program that was started with these words, its name first: replays the script that the reader gives
+/// and writes its output to `out`. Answers the status of the process.
 ///
-/// A failed write to `err` is ignored.
+/// Status 0 is that of a run without a fault, and of `--help`, whose text goes to `out`. After a fault its line is
+/// written to `err`, and the status is 1. A rejected command line has status 2, and its text goes to `err`.
+///
+/// A failed write to `err`, or of the help text to `out`, is ignored.
 pub fn run<R: Read + Drop, W: Write, E: Write>(
     alloc: Global,
+    words: &[String],
     reader: R,
     out: &mut W,
     err: &mut E,
 ) -> u8
-    ensures whole { result ≡ 0 → IfSome (R.remaining reader) (λ bytes.
-        WroteAll (W.contents out.old) (W.contents out.new) UPDATE_LIMIT (script bytes MAX_RECORDS)) }
-    ensures silent { result ≡ 0 → E.contents err.new ≡ E.contents err.old }
-    ensures status { result ≢ 0 → result ≡ FAULT_STATUS }
-    ensures stopped { result ≢ 0 → ((stop : ReplayFault)
-        × (is_replay_code stop.code ≡ true)
-        × AppendsPart (E.contents err.old) (E.contents err.new) (fault_line stop)
-        × IfSome (R.remaining reader) (λ bytes.
-        Stopped (W.contents out.old) (W.contents out.new) UPDATE_LIMIT (script bytes MAX_RECORDS) stop)) }
+    ensures { Runs (map string_bytes words.now) (R.remaining reader)
+        (W.contents out.old) (W.contents out.new) (E.contents err.old) (E.contents err.new) result }
 {
-    match replay(alloc, reader, out, UPDATE_LIMIT) {
+    match options(alloc, words) {
+        Ok(options) => run_replay(alloc, options.limit, reader, out, err),
+        Err(error) => tell(alloc, &error, out, err),
+    }
+}
+
+// Replays the script, and tells its fault, if there is one.
+fn run_replay<R: Read + Drop, W: Write, E: Write>(
+    alloc: Global,
+    limit: u64,
+    reader: R,
+    out: &mut W,
+    err: &mut E,
+) -> u8
+    ensures { Replays limit (R.remaining reader)
+        (W.contents out.old) (W.contents out.new) (E.contents err.old) (E.contents err.new) result }
+{
+    match replay(alloc, reader, out, limit) {
         Ok(()) => 0,
         Err(fault) => {
             write_fault_line(alloc, err, &fault);
@@ -45,6 +58,41 @@ pub fn run<R: Read + Drop, W: Write, E: Write>(
         }
     }
 }
+
+// Tells why the command line gave no options.
+fn tell<W: Write, E: Write>(alloc: Global, error: &clap::Error, out: &mut W, err: &mut E) -> u8
+    ensures { Rejects (W.contents out.old) (W.contents out.new) result
+        ⊎ (Helps (E.contents err.old) (E.contents err.new) result
+        ⊎ LacksMemory (W.contents out.old) (W.contents out.new) (E.contents err.old) (E.contents err.new) result) }
+{
+    match error.kind() {
+        ErrorKind::DisplayHelp => {
+            write_text(alloc, out, error);
+            0
+        }
+        ErrorKind::OutOfMemory => {
+            write_fault_line(alloc, err, &OUT_OF_MEMORY);
+            FAULT_STATUS
+        }
+        _ => {
+            write_text(alloc, err, error);
+            REJECTED_STATUS
+        }
+    }
+}
+
+// Writes the text of `clap`, or a part of it where memory or the writer refuses the rest.
+fn write_text<W: Write>(alloc: Global, writer: &mut W, error: &clap::Error) {
+    if let Ok(text) = format!(in alloc; "{error}") {
+        let _ = write_whole(writer, text.as_bytes());
+    }
+}
+
+// Memory was refused before the first record.
+const OUT_OF_MEMORY: ReplayFault = ReplayFault {
+    number: None,
+    code: 102,
+};
 
 // Writes the line of a fault, or a part of it where memory or the writer refuses the rest.
 fn write_fault_line<E: Write>(alloc: Global, err: &mut E, fault: &ReplayFault)

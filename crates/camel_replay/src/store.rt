@@ -1,11 +1,9 @@
 ghost use Rattle.std.specs.Prelude.{◌≡◌, ◌+◌, ◌⊎◌, [], ◌∷◌, ◌++◌, Some, None, IfErr, IfOk, OnErr, OnOk, length};
-ghost use Rattle.camel_rows.specs.Decision.{decision};
-ghost use Rattle.camel_rows.specs.Outcome.{outcome_of};
 ghost use Rattle.camel_rows.specs.Update.{after, refusal};
 ghost use Rattle.camel_replay.specs.Store.{StoreData, empty_store, store_after, store_answer, store_line, store_refusal, update_count};
 
 use camel_criteria::Refusal;
-use camel_rows::{Answer, CallEvent, Event, Outcome, Records, Update, decide_in};
+use camel_rows::{Answer, CallEvent, Outcome, Records, Update};
 use camel_script::{Line, Record};
 use std::alloc::Global;
 use std::collections::VecDeque;
@@ -119,29 +117,7 @@ impl Store {
     {
         Answer {
             front: self.front,
-            outcome: outcome_over(&self.published, event),
-        }
-    }
-}
-
-// The event is written out in place of `CallEvent::lend`: docs/DECISIONS.md says why.
-fn outcome_over(records: &Records, event: &CallEvent) -> Outcome
-    ensures { result ≡ outcome_of (decision records.now event.now) }
-{
-    match event {
-        CallEvent::CollectedInfo {
-            imsi,
-            destination,
-            basic,
-            forwarded,
-        } => {
-            let event = Event::CollectedInfo {
-                imsi: *imsi,
-                destination: destination.lend(),
-                basic: *basic,
-                forwarded: *forwarded,
-            };
-            Outcome::of(&decide_in(records, &event))
+            outcome: Outcome::over(&self.published, event),
         }
     }
 }

@@ -1,3 +1,4 @@
-pub mod OCsiLemmas
+pub mod MeansLemmas
+pub mod ReceivedLemmas
 pub mod RecordsTable
 pub mod UpdateLemmas

@@ -1,18 +1,20 @@
 -- The trigger detection points of CAMEL phase 3 (TS 23.078), by their numbers in TS 29.002.
-use Rattle.std.specs.Prelude.{ℕ, Bool, ◌==◌, ◌||◌}
+use Rattle.std.specs.Prelude.{ℕ, Bool, ◌==◌, List, [], ◌∷◌}
+use Rattle.std.specs.List.{list_any}
 
--- collectedInfo
-abbrev pub collected_info : ℕ
-collected_info = 2
-
--- routeSelectFailure
-abbrev pub route_select_failure : ℕ
-route_select_failure = 4
-
--- the detection points that are tested against the O-CSI
-abbrev pub is_o_detection_point : ℕ → Bool
-is_o_detection_point dp = dp == collected_info || dp == route_select_failure
+-- those that are tested against the O-CSI: collectedInfo and routeSelectFailure
+abbrev pub o_detection_points : List ℕ
+o_detection_points = 2 ∷ 4 ∷ []
 
 -- those that are tested against the VT-CSI: termAttemptAuthorized, tBusy and tNoAnswer
+abbrev pub vt_detection_points : List ℕ
+vt_detection_points = 12 ∷ 13 ∷ 14 ∷ []
+
+abbrev pub is_among : List ℕ → ℕ → Bool
+is_among points dp = list_any (λ point. point == dp) points
+
+abbrev pub is_o_detection_point : ℕ → Bool
+is_o_detection_point dp = is_among o_detection_points dp
+
 abbrev pub is_vt_detection_point : ℕ → Bool
-is_vt_detection_point dp = dp == 12 || dp == 13 || dp == 14
+is_vt_detection_point dp = is_among vt_detection_points dp

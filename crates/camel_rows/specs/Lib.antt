@@ -1,9 +1,11 @@
+pub mod Change
 pub mod Decision
 pub mod DetectionPoint
 pub mod Event
 pub mod Front
-pub mod OCsi
+pub mod Means
 pub mod Outcome
+pub mod Received
 pub mod Records
 pub mod Rows
 pub mod Subscriber

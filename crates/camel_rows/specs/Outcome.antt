@@ -9,7 +9,7 @@ use Rattle.camel_rows.specs.declared.outcome.Outcome.TheVariants.{Trigger, NoTri
 
 -- the four values of the row, or the reason
 abbrev pub outcome_of : DecisionData → Outcome
-outcome_of (Triggers row) = Trigger row.dp row.key row.scf row.handling
+outcome_of (Triggers row entry) = Trigger row.dp row.key row.scf row.handling
 outcome_of (TriggersNothing reason) = NoTrigger reason
 
 -- the default call handling is the action of its name

@@ -1,10 +1,13 @@
 ghost use Rattle.std.specs.Prelude.{◌≡◌};
-ghost use Rattle.camel_rows.specs.Decision.{decision, decision_data};
+ghost use Rattle.camel_rows.specs.Decision.{decision, decision_data, meets};
 ghost use Rattle.camel_rows.specs.Event.{event_data};
+ghost use Rattle.camel_rows.specs.Subscriber.{entry_data};
 
 use crate::event::Event;
+use crate::lent::Lent;
 use crate::records::Records;
 use crate::tdp_row::TdpRow;
+use camel_criteria::{o_met, t_met};
 
 /// Why an event triggers nothing, in the order in which the reasons are looked at.
 #[derive(Clone, Copy, Debug, PartialEq, Eq)]
@@ -17,13 +20,19 @@ pub enum Reason {
     NotArmed,
     /// CAMEL does not apply to emergency calls.
     Emergency,
+    /// The event does not meet the criteria of the detection point.
+    Criteria,
 }
 
-/// Whether an event triggers a service, with the stored row borrowed.
+/// Whether an event triggers a service, with what is stored borrowed.
 #[derive(Clone, Copy, Debug)]
 pub enum Decision<'r> {
-    /// The service of this row is invoked at its gsmSCF.
-    Trigger { row: &'r TdpRow },
+    /// The service of this row is invoked at its gsmSCF. `criteria` is the entry of the detection point, which the
+    /// event meets; None where there is none.
+    Trigger {
+        row: &'r TdpRow,
+        criteria: Option<Lent<'r>>,
+    },
     /// No service is invoked.
     NoTrigger(Reason),
 }
@@ -32,17 +41,34 @@ pub enum Decision<'r> {
 pub fn decide_in<'r>(records: &'r Records, event: &Event) -> Decision<'r>
     ensures { decision_data result ≡ decision records.now (event_data event.now) }
 {
+    let dp = event.dp();
     let Some(subscriber) = records.get(&event.imsi()) else {
         return Decision::NoTrigger(Reason::Unknown);
     };
-    if !subscriber.has_csi(event.dp()) {
+    if !subscriber.has_csi(dp) {
         return Decision::NoTrigger(Reason::NoCsi);
     }
-    let Some(row) = subscriber.row(event.dp()) else {
+    let Some(row) = subscriber.row(dp) else {
         return Decision::NoTrigger(Reason::NotArmed);
     };
     if event.basic().is_emergency() {
         return Decision::NoTrigger(Reason::Emergency);
     }
-    Decision::Trigger { row }
+    match subscriber.criteria(dp) {
+        Some(entry) if !meets(event, entry) => Decision::NoTrigger(Reason::Criteria),
+        criteria => Decision::Trigger { row, criteria },
+    }
+}
+
+// Whether an event meets an entry of its detection point.
+fn meets(event: &Event, entry: Lent) -> bool
+    ensures { result ≡ meets (event_data event.now) (entry_data entry.entry) }
+{
+    match entry {
+        Lent::O(entry) => match event.o_event() {
+            Some(shown) => o_met(entry, &shown),
+            None => false,
+        },
+        Lent::T(entry) => t_met(entry, &event.t_event()),
+    }
 }

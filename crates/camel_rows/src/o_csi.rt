@@ -1,14 +1,12 @@
-ghost use Rattle.std.specs.Prelude.{◌≡◌, ◌==◌, ◌≤◌, ◌+◌, ◌↔◌, [], IsTrue, find, length, slice_get};
+ghost use Rattle.std.specs.Prelude.{◌≡◌, ◌==◌, ◌≤◌, ◌↔◌, [], IsTrue, find, length, slice_get};
 ghost use Rattle.std.specs.Option.{option_copied};
-ghost use Rattle.camel_rows.specs.OCsi.{count_at, kept_o_rows, o_csi_of};
+ghost use Rattle.camel_rows.specs.Received.{o_csi_of};
 
-use crate::detection_point::{COLLECTED_INFO, ROUTE_SELECT_FAILURE, is_o_detection_point};
+use crate::detection_point::O_DETECTION_POINTS;
+use crate::received::{are_single_rows, check_list, kept_row};
 use crate::tdp_row::TdpRow;
 use camel_criteria::Refusal;
 use std::marker::Model;
-
-/// The greatest number of TDP rows that a CSI is sent with: maxNumOfCamelTDPData of TS 29.002.
-pub const MAX_TDP_ROWS: usize = 10;
 
 /// The TDP rows of an O-CSI (TS 23.078), in the order received, without the ignored ones.
 ///
@@ -21,20 +19,19 @@ pub struct OCsi {
 }
 
 impl Model for OCsi {
-    ghost use Rattle.std.specs.Prelude.{List, ◌++◌, slice_get};
-    ghost use Rattle.std.specs.Option.{option_to_list};
+    ghost use Rattle.std.specs.Prelude.{List, slice_get};
     ghost use Rattle.camel_rows.specs.TdpRow.{TdpRowData};
-    ghost use Rattle.camel_rows.specs.Rows.{IsInFront, first-place, second-place};
+    ghost use Rattle.camel_rows.specs.Rows.{IsInFront, first-of_two, second-of_two, two_places};
 
     ghost Value = { List TdpRowData };
 
-    ghost view = { λ a. option_to_list a.first ++ option_to_list a.second };
+    ghost view = { λ a. two_places a.first a.second };
 
     ghost invariant = { λ a. IsInFront a.first a.second };
 
     ghost inverse = { λ rows. record { first = slice_get rows 0; second = slice_get rows 1 } };
 
-    ghost inverse_ok = { λ a h i. record { first = first-place a.first a.second h i; second = second-place a.first a.second h i } };
+    ghost inverse_ok = { λ a h i. record { first = first-of_two a.first a.second h i; second = second-of_two a.first a.second h i } };
 }
 
 impl OCsi {
@@ -46,18 +43,13 @@ impl OCsi {
     pub fn new(received: &[TdpRow]) -> Result<OCsi, Refusal>
         ensures { result ≡ o_csi_of received.now }
     {
-        if received.is_empty() {
-            return Err(Refusal::DataMissing);
-        }
-        if received.len() > MAX_TDP_ROWS
-            || count_at(received, COLLECTED_INFO) > 1
-            || count_at(received, ROUTE_SELECT_FAILURE) > 1
-        {
-            return Err(Refusal::UnexpectedDataValue);
-        }
+        check_list(
+            received.len(),
+            are_single_rows(received, &O_DETECTION_POINTS),
+        )?;
         Ok(OCsi {
-            first: kept_row(received, 0),
-            second: kept_row(received, 1),
+            first: kept_row(received, &O_DETECTION_POINTS, 0),
+            second: kept_row(received, &O_DETECTION_POINTS, 1),
         })
     }
 
@@ -97,27 +89,4 @@ impl OCsi {
             _ => None,
         }
     }
-}
-
-// How many of the rows are of a detection point.
-fn count_at(received: &[TdpRow], dp: u8) -> usize
-    ensures { result ≡ count_at dp received.now }
-{
-    received.iter().filter(|row| row.dp() == dp).count()
-}
-
-// The row at a place among those that are not ignored.
-fn kept_row(received: &[TdpRow], at: usize) -> Option<TdpRow>
-    ensures { result ≡ slice_get (kept_o_rows received.now) at }
-{
-    let mut left = at;
-    for row in received {
-        if is_o_detection_point(row.dp()) {
-            if left == 0 {
-                return Some(*row);
-            }
-            left -= 1;
-        }
-    }
-    None
 }

@@ -1,10 +1,12 @@
 ghost use Rattle.std.specs.Prelude.{◌≡◌};
-ghost use Rattle.camel_rows.specs.Decision.{decision_data};
+ghost use Rattle.camel_rows.specs.Decision.{decision, decision_data};
 ghost use Rattle.camel_rows.specs.Outcome.{action_of, outcome_of};
 
-use crate::decision::{Decision, Reason};
+use crate::decision::{Decision, Reason, decide_in};
+use crate::event::CallEvent;
+use crate::records::Records;
 use camel_criteria::Handling;
-use camel_tbcd::IsdnAddress;
+use camel_tbcd::{Address, IsdnAddress};
 
 /// A decision with the row's four values, or the reason why no service is invoked.
 #[derive(Clone, Copy, Debug)]
@@ -22,12 +24,21 @@ pub enum Outcome {
 }
 
 impl Outcome {
+    /// The outcome of an event over the records.
+    pub fn over(records: &Records, event: &CallEvent) -> Outcome
+        ensures { result ≡ outcome_of (decision records.now event.now) }
+    {
+        // The check of a lent event needs this type named: docs/DECISIONS.md says why.
+        let _: Option<Address> = None;
+        Outcome::of(&decide_in(records, &event.lend()))
+    }
+
     /// What a decision says, without borrowing from the records.
     pub fn of(decision: &Decision) -> Outcome
         ensures { result ≡ outcome_of (decision_data decision.now) }
     {
         match decision {
-            Decision::Trigger { row } => Outcome::Trigger {
+            Decision::Trigger { row, .. } => Outcome::Trigger {
                 dp: row.dp(),
                 key: row.key(),
                 scf: row.kept_scf(),

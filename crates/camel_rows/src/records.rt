@@ -1,12 +1,15 @@
-ghost use Rattle.std.specs.Prelude.{◌≡◌, ◌⊎◌, Some, IfErr, IfNone, IfSome, IsOk, OnErr, OnOk};
+ghost use Rattle.std.specs.Prelude.{◌≡◌, ◌⊎◌, Some, IfErr, IfNone, IfOk, IfSome, IsOk, IsSome, OnErr, OnOk};
 ghost use Rattle.std.specs.FinMap as map;
-ghost use Rattle.std.specs.Option.{option_copied};
+ghost use Rattle.std.specs.Option.{option_copied, option_map};
+ghost use Rattle.camel_rows.specs.Change.{with_changes};
 ghost use Rattle.camel_rows.specs.Records.{no_records};
-ghost use Rattle.camel_rows.specs.Update.{after, refusal};
+ghost use Rattle.camel_rows.specs.Update.{after, refusal, with_record};
 
-use crate::o_csi::OCsi;
+use crate::change::{Change, removal};
+use crate::o_half::OHalf;
 use crate::subscriber::Subscriber;
 use crate::update::Update;
+use crate::vt_half::VtHalf;
 use camel_criteria::Refusal;
 use camel_tbcd::Imsi;
 use std::alloc::{AllocError, Global};
@@ -55,14 +58,28 @@ impl Records {
 
     /// Whether an update may be applied.
     ///
-    /// `UnidentifiedSubscriber` (5) is answered for an Insert where the IMSI has no record.
+    /// `UnidentifiedSubscriber` (5) is answered for an Insert or a Delete where the IMSI has no record, and
+    /// `DataMissing` (35) for an Insert of criteria without their CSI where that CSI is not stored.
     pub fn check(&self, update: &Update) -> Result<(), Refusal>
         ensures refused { IfSome (refusal self.now update.now) (λ why. result ≡ Err why) }
         ensures accepted { IfNone (refusal self.now update.now) (IsOk result) }
     {
         match update {
-            Update::Register { .. } => Ok(()),
-            Update::Insert { imsi, .. } => match self.get(imsi) {
+            Update::Register { .. } | Update::Cancel { .. } => Ok(()),
+            Update::Delete { imsi, .. } => match self.get(imsi) {
+                Some(_) => Ok(()),
+                None => Err(Refusal::UnidentifiedSubscriber),
+            },
+            Update::Insert {
+                imsi,
+                o,
+                o_criteria,
+                vt,
+                t_criteria,
+            } => match self.get(imsi) {
+                Some(subscriber) if subscriber.lacks_csi(o, o_criteria, vt, t_criteria) => {
+                    Err(Refusal::DataMissing)
+                }
                 Some(_) => Ok(()),
                 None => Err(Refusal::UnidentifiedSubscriber),
             },
@@ -71,8 +88,8 @@ impl Records {
 
     /// Applies an update.
     ///
-    /// `UnidentifiedSubscriber` (5) is answered for an Insert where the IMSI has no record, and `OutOfMemory`
-    /// (102) where memory was refused. After a refusal the records are as before.
+    /// It answers the refusals of [`Records::check`], and `OutOfMemory` (102) where memory was refused. After a
+    /// refusal the records are as before.
     pub fn apply(&mut self, update: &Update) -> Result<(), Refusal>
         ensures refused { IfSome (refusal self.old update.now) (λ why. result ≡ Err why) }
         ensures applied { OnOk result (self.new ≡ after self.old update.now) }
@@ -80,17 +97,47 @@ impl Records {
         ensures only { IfErr result (λ why.
             (why ≡ Refusal.OutOfMemory) ⊎ (refusal self.old update.now ≡ Some why)) }
     {
+        self.check(update)?;
         match update {
             Update::Register { imsi } => self.put(*imsi, Subscriber::registered())?,
-            Update::Insert { imsi, o } => {
-                let Some(subscriber) = self.get(imsi) else {
-                    return Err(Refusal::UnidentifiedSubscriber);
-                };
-                let subscriber = subscriber.with_insert(*o);
-                self.put(*imsi, subscriber)?;
+            Update::Insert {
+                imsi,
+                o,
+                o_criteria,
+                vt,
+                t_criteria,
+            } => {
+                if let Some(subscriber) = self.get(imsi) {
+                    let o = subscriber.o_inserted(*o, o_criteria)?;
+                    let vt = subscriber.vt_inserted(*vt, t_criteria)?;
+                    self.change(imsi, o, vt);
+                }
             }
+            Update::Delete { imsi, what } => {
+                let o = removal(what.o || what.everything);
+                let vt = removal(what.vt || what.everything);
+                self.change(imsi, o, vt);
+            }
+            Update::Cancel { imsi } => self.take_out(imsi),
         }
         Ok(())
+    }
+
+    /// Equal records. `OutOfMemory` (102) is answered where memory was refused.
+    pub fn copy(&self) -> Result<Records, Refusal>
+        ensures equal { IfOk result (λ copied. copied ≡ self.now) }
+        ensures only { IfErr result (λ why. why ≡ Refusal.OutOfMemory) }
+    {
+        Ok(self.clone()?)
+    }
+
+    // Changes the record of an IMSI in its place.
+    fn change(&mut self, imsi: &Imsi, o: Change<OHalf>, vt: Change<VtHalf>)
+        requires { IsSome (map.get self.old imsi.now) }
+        ensures { self.new ≡ with_record self.old imsi.now (option_map (with_changes o vt) (map.get self.old imsi.now)) }
+    {
+        let subscriber = self.table.get_mut(imsi).unwrap();
+        subscriber.change(o, vt);
     }
 
     // Puts a record in the place of the one that is there.
@@ -103,9 +150,21 @@ impl Records {
     }
 
     // Takes the record of an IMSI out, if there is one.
-    pub(crate) fn take_out(&mut self, imsi: &Imsi)
+    fn take_out(&mut self, imsi: &Imsi)
         ensures { self.new ≡ map.remove self.old imsi.now }
     {
         self.table.remove(imsi);
+    }
+}
+
+impl Clone for Records {
+    ghost use Rattle.std.specs.Prelude.{◌≡◌};
+
+    ghost is_clone = { λ old new. new ≡ old };
+
+    fn clone(&self) -> Result<Records, AllocError> {
+        Ok(Records {
+            table: self.table.clone()?,
+        })
     }
 }

@@ -1,4 +1,6 @@
+pub mod Call
 pub mod Csv
+pub mod Item
 pub mod Line
 pub mod Reading
 pub mod Record

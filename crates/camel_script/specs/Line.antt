@@ -5,7 +5,7 @@ use Rattle.std.specs.Fmt.{decimal}
 use Rattle.hex.specs.Hex.{encode_lower}
 use Rattle.camel_rows.specs.Outcome.{action_of}
 use Rattle.camel_rows.specs.declared.decision.Reason.{Reason}
-use Rattle.camel_rows.specs.declared.decision.Reason.TheVariants.{Unknown, NoCsi, NotArmed, Emergency}
+use Rattle.camel_rows.specs.declared.decision.Reason.TheVariants.{Unknown, NoCsi, NotArmed, Emergency, Criteria}
 use Rattle.camel_rows.specs.declared.outcome.CallAction.{CallAction}
 use Rattle.camel_rows.specs.declared.outcome.CallAction.TheVariants.{Continue, Release}
 use Rattle.camel_rows.specs.declared.outcome.Outcome.{Outcome}
@@ -22,6 +22,7 @@ reason_text Unknown = codes "unknown"
 reason_text NoCsi = codes "no-csi"
 reason_text NotArmed = codes "not-armed"
 reason_text Emergency = codes "emergency"
+reason_text Criteria = codes "criteria"
 
 -- the front, and the row's four values, the last as what is done with the call, or the reason
 abbrev pub decided_text : ℕ → Outcome → List ℕ

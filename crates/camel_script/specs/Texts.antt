@@ -1,5 +1,5 @@
 -- What the texts of a script's fields stand for (profile 1's own format).
-use Rattle.std.specs.Prelude.{ℕ, ◌+◌, ◌-◌, ◌*◌, ◌==◌, ◌&&◌, Bool, true, false, nat_le, List, [], ◌∷◌, length, map, fold, codes, slice_index, Result, Ok, Err, if◌then◌else◌}
+use Rattle.std.specs.Prelude.{ℕ, ◌+◌, ◌-◌, ◌*◌, ◌==◌, ◌&&◌, Bool, true, false, nat_le, List, [], ◌∷◌, length, map, fold, codes, slice_index, Option, Some, None, Result, Ok, Err, if◌then◌else◌}
 use Rattle.std.specs.Char.{is_ascii_digit}
 use Rattle.std.specs.List.{list_all}
 use Rattle.std.specs.Str.{bytes_eq}
@@ -7,6 +7,11 @@ use Rattle.hex.specs.Hex.{decode_of, decode_sized}
 use Rattle.hex.specs.declared.error.FromHexError.{FromHexError}
 use Rattle.camel_criteria.specs.declared.basic_service.BasicService.{BasicService}
 use Rattle.camel_criteria.specs.declared.basic_service.BasicService.TheVariants.{Tele, Bearer}
+use Rattle.camel_criteria.specs.Cause.{cause_of}
+use Rattle.camel_criteria.specs.declared.criteria.CallType.{CallType}
+use Rattle.camel_criteria.specs.declared.criteria.CallType.TheVariants.{Forwarded, NotForwarded}
+use Rattle.camel_criteria.specs.declared.criteria.MatchType.{MatchType}
+use Rattle.camel_criteria.specs.declared.criteria.MatchType.TheVariants.{Inhibiting, Enabling}
 use Rattle.camel_criteria.specs.declared.refusal.Refusal.TheVariants.{UnexpectedDataValue}
 use Rattle.camel_tbcd.specs.AddressLength.{max_address_length, max_isdn_address_length}
 use Rattle.camel_script.specs.Reading.{◌>>=◌}
@@ -71,6 +76,19 @@ is_forwarded_of text =
     else if bytes_eq text (codes "n") then Ok false
     else Err Word
 
+-- TYPE of an item: empty for no criterion
+unfoldable pub call_type_of : List ℕ → Result (Option CallType) Stop
+call_type_of [] = Ok None
+call_type_of (first ∷ more) =
+    is_forwarded_of (first ∷ more) >>= λ forwarded. Ok (Some (if forwarded then Forwarded else NotForwarded))
+
+-- the match type of NUMBER: `e` is enabling, `i` is inhibiting
+unfoldable pub match_type_of : List ℕ → Result MatchType Stop
+match_type_of text =
+    if bytes_eq text (codes "e") then Ok Enabling
+    else if bytes_eq text (codes "i") then Ok Inhibiting
+    else Err Word
+
 -- octets as an address of at most so many
 abbrev pub address_of : ℕ → List ℕ → Result (List ℕ) Stop
 address_of greatest octets =
@@ -83,3 +101,11 @@ isdn_address_of octets = address_of max_isdn_address_length octets
 -- the destination of these octets, an AddressString
 unfoldable pub call_address_of : List ℕ → Result (List ℕ) Stop
 call_address_of octets = address_of max_address_length octets
+
+abbrev pub some_or_refused : {A : Type 0} → Option A → Result A Stop
+some_or_refused None = Err (Refused UnexpectedDataValue)
+some_or_refused (Some value) = Ok value
+
+-- the cause of a call of this value
+unfoldable pub cause_of_value : ℕ → Result ℕ Stop
+cause_of_value value = some_or_refused (cause_of value)

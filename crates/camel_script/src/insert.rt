@@ -1,84 +1,96 @@
-ghost use Rattle.std.specs.Prelude.{◌≡◌, length, slice_get};
-ghost use Rattle.std.specs.Option.{option_map};
+ghost use Rattle.std.specs.Prelude.{◌≡◌, drop};
 ghost use Rattle.csv.specs.Records.{fields_of};
-ghost use Rattle.camel_script.specs.Reading.{ReadsAs, or_refused};
-ghost use Rattle.camel_script.specs.Record.{insert_of, row_of_item, row_of_parts};
-ghost use Rattle.camel_script.specs.ScriptFields.{part, parts_of};
+ghost use Rattle.camel_rows.specs.Received.{o_criteria_set_of, o_csi_of, t_criteria_set_of, vt_csi_of};
+ghost use Rattle.camel_script.specs.Item.{items_of};
+ghost use Rattle.camel_script.specs.Reading.{ReadsAs};
+ghost use Rattle.camel_script.specs.Record.{insert_of, insert_of_items, received_list};
 
-use crate::record::{Record, field};
+use crate::items::Items;
+use crate::parts::field;
+use crate::record::Record;
 use crate::stop::Stop;
-use crate::texts::{decimal, imsi, isdn_address, octets_from, small_decimal};
-use camel_criteria::Handling;
-use camel_rows::{OCsi, TdpRow, Update};
+use crate::texts::imsi;
+use camel_criteria::{OCriteria, TCriteria};
+use camel_rows::{OCriteriaSet, OCsi, TCriteriaSet, TdpRow, Update, VtCsi};
+use camel_tbcd::Imsi;
 use csv::ByteRecord;
 use std::alloc::Global;
 
-/// What stands between the parts of an item.
-pub const PART_SEPARATOR: u8 = b':';
-
-// An insert with one item, a row of the O-CSI.
+// An insert with its items, if any.
 #[tactic(auto, unfolding(crate::specs::Record::insert_of))]
 pub fn insert(alloc: Global, fields: &ByteRecord) -> Result<Record, Stop>
     ensures { ReadsAs result (insert_of (fields_of fields.now)) }
 {
-    if fields.len() != 3 {
+    if fields.len() < 2 {
         return Err(Stop::FieldCount);
     }
     let imsi = imsi(field(fields, 1))?;
-    let tdp_row = row_of_item(alloc, field(fields, 2))?;
-    match OCsi::new(&[tdp_row]) {
-        Ok(csi) => Ok(Record::Update(Update::Insert { imsi, o: Some(csi) })),
-        Err(refusal) => Err(Stop::Refused(refusal)),
-    }
+    insert_of_items(imsi, items(alloc, fields)?)
 }
 
-#[tactic(auto, unfolding(crate::specs::Record::row_of_item))]
-fn row_of_item(alloc: Global, item: &[u8]) -> Result<TdpRow, Stop>
-    ensures { ReadsAs result (row_of_item item.now) }
+// The items, from the third field on.
+fn items(alloc: Global, fields: &ByteRecord) -> Result<Items, Stop>
+    ensures { ReadsAs result (items_of (drop 2 (fields_of fields.now))) }
 {
-    if part(item, 0) != b"o".as_slice() {
-        return Err(Stop::Word);
+    let mut items = Items::new(alloc);
+    for at in 2..fields.len() {
+        match items.take(alloc, field(fields, at)) {
+            Ok(()) => {}
+            Err(stop) => return Err(stop),
+        }
     }
-    if part_count(item) != 5 {
-        return Err(Stop::FieldCount);
-    }
-    row_of_parts(alloc, item)
+    Ok(items)
 }
 
-// The texts of all parts come before the data.
-#[tactic(auto, unfolding(crate::specs::Record::row_of_parts))]
-fn row_of_parts(alloc: Global, item: &[u8]) -> Result<TdpRow, Stop>
-    ensures { ReadsAs result (row_of_parts item.now) }
+#[tactic(auto, unfolding(crate::specs::Record::insert_of_items))]
+fn insert_of_items(imsi: Imsi, items: Items) -> Result<Record, Stop>
+    ensures { ReadsAs result (insert_of_items imsi items) }
 {
-    let dp = small_decimal(part(item, 1))?;
-    let key = decimal(part(item, 2), u32::MAX)?;
-    let octets = octets_from(alloc, part(item, 3))?;
-    let received = decimal(part(item, 4), u32::MAX)?;
-    let scf = isdn_address(&octets)?;
-    match TdpRow::new(dp, key, scf, Handling::of_received(received)) {
-        Ok(row) => Ok(row),
-        Err(refusal) => Err(Stop::Refused(refusal)),
+    let o = o_csi(&items.o)?;
+    let o_criteria = o_criteria_set(items.o_criteria)?;
+    let vt = vt_csi(&items.vt)?;
+    let t_criteria = t_criteria_set(items.t_criteria)?;
+    Ok(Record::Update(Update::Insert {
+        imsi,
+        o,
+        o_criteria,
+        vt,
+        t_criteria,
+    }))
+}
+
+fn o_csi(rows: &[TdpRow]) -> Result<Option<OCsi>, Stop>
+    ensures { ReadsAs result (received_list o_csi_of rows.now) }
+{
+    if rows.is_empty() {
+        return Ok(None);
     }
+    Ok(Some(OCsi::new(rows)?))
 }
 
-fn part_count(item: &[u8]) -> usize
-    ensures { result ≡ length (parts_of item.now) }
+fn o_criteria_set(entries: Vec<OCriteria>) -> Result<Option<OCriteriaSet>, Stop>
+    ensures { ReadsAs result (received_list o_criteria_set_of entries.items) }
 {
-    item.split(|character| *character == PART_SEPARATOR).count()
-}
-
-// The part at a place, from 0; empty past the last.
-fn part(item: &[u8], at: usize) -> &[u8]
-    ensures { result.now ≡ part item.now at }
-{
-    match part_at(item, at) {
-        Some(text) => text,
-        None => &[],
+    if entries.is_empty() {
+        return Ok(None);
     }
+    Ok(Some(OCriteriaSet::new(entries)?))
 }
 
-fn part_at(item: &[u8], at: usize) -> Option<&[u8]>
-    ensures { option_map (λ text. text.now) result ≡ slice_get (parts_of item.now) at }
+fn vt_csi(rows: &[TdpRow]) -> Result<Option<VtCsi>, Stop>
+    ensures { ReadsAs result (received_list vt_csi_of rows.now) }
 {
-    item.split(|character| *character == PART_SEPARATOR).nth(at)
+    if rows.is_empty() {
+        return Ok(None);
+    }
+    Ok(Some(VtCsi::new(rows)?))
+}
+
+fn t_criteria_set(entries: Vec<TCriteria>) -> Result<Option<TCriteriaSet>, Stop>
+    ensures { ReadsAs result (received_list t_criteria_set_of entries.items) }
+{
+    if entries.is_empty() {
+        return Ok(None);
+    }
+    Ok(Some(TCriteriaSet::new(entries)?))
 }

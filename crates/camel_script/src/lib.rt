@@ -2,8 +2,13 @@
 #![tactic(auto)]
 
 mod call;
+mod delete;
+mod elements;
 mod insert;
+mod items;
 mod line;
+mod number;
+mod parts;
 mod record;
 mod script;
 mod script_fault;

@@ -104,5 +104,6 @@ fn reason_text(reason: Reason) -> &'static str
         Reason::NoCsi => "no-csi",
         Reason::NotArmed => "not-armed",
         Reason::Emergency => "emergency",
+        Reason::Criteria => "criteria",
     }
 }

@@ -1,17 +1,19 @@
 ghost use Rattle.std.specs.Prelude.{◌≡◌, ◌⊎◌, IfErr, IfOk};
 ghost use Rattle.csv.specs.Records.{fields_of};
 ghost use Rattle.camel_script.specs.Reading.{ReadsAs};
-ghost use Rattle.camel_script.specs.Record.{publish_of, reading_of, record_of, register_of};
+ghost use Rattle.camel_script.specs.Record.{cancel_of, imsi_alone_of, publish_of, reading_of, record_of, register_of};
 ghost use Rattle.camel_script.specs.ScriptFault.{IsRecordFault};
-ghost use Rattle.camel_script.specs.ScriptFields.{field};
 
 use crate::call::call;
+use crate::delete::delete;
 use crate::insert::insert;
+use crate::parts::field;
 use crate::script_fault::ScriptFault;
 use crate::stop::Stop;
 use crate::texts::imsi;
 use camel_criteria::Refusal;
 use camel_rows::{CallEvent, Update};
+use camel_tbcd::Imsi;
 use csv::ByteRecord;
 use std::alloc::Global;
 
@@ -58,6 +60,12 @@ fn reading(alloc: Global, fields: &ByteRecord) -> Result<Record, Stop>
     if word == b"insert".as_slice() {
         return insert(alloc, fields);
     }
+    if word == b"delete".as_slice() {
+        return delete(fields);
+    }
+    if word == b"cancel".as_slice() {
+        return cancel(fields);
+    }
     if word == b"publish".as_slice() {
         return publish(fields);
     }
@@ -67,15 +75,29 @@ fn reading(alloc: Global, fields: &ByteRecord) -> Result<Record, Stop>
     Err(Stop::Word)
 }
 
-#[tactic(auto, unfolding(crate::specs::Record::register_of))]
-fn register(fields: &ByteRecord) -> Result<Record, Stop>
-    ensures { result ≡ register_of (fields_of fields.now) }
+// The IMSI of a record that has nothing else.
+#[tactic(auto, unfolding(crate::specs::Record::imsi_alone_of))]
+fn imsi_alone(fields: &ByteRecord) -> Result<Imsi, Stop>
+    ensures { result ≡ imsi_alone_of (fields_of fields.now) }
 {
     if fields.len() != 2 {
         return Err(Stop::FieldCount);
     }
-    let imsi = imsi(field(fields, 1))?;
+    imsi(field(fields, 1))
+}
+
+fn register(fields: &ByteRecord) -> Result<Record, Stop>
+    ensures { result ≡ register_of (fields_of fields.now) }
+{
+    let imsi = imsi_alone(fields)?;
     Ok(Record::Update(Update::Register { imsi }))
+}
+
+fn cancel(fields: &ByteRecord) -> Result<Record, Stop>
+    ensures { result ≡ cancel_of (fields_of fields.now) }
+{
+    let imsi = imsi_alone(fields)?;
+    Ok(Record::Update(Update::Cancel { imsi }))
 }
 
 #[tactic(auto, unfolding(crate::specs::Record::publish_of))]
@@ -86,14 +108,4 @@ fn publish(fields: &ByteRecord) -> Result<Record, Stop>
         return Err(Stop::FieldCount);
     }
     Ok(Record::Publish)
-}
-
-// The field at a place, from 0; empty past the last.
-pub fn field(fields: &ByteRecord, at: usize) -> &[u8]
-    ensures { result.now ≡ field (fields_of fields.now) at }
-{
-    match fields.get(at) {
-        Some(text) => text,
-        None => &[],
-    }
 }

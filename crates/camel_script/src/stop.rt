@@ -1,4 +1,5 @@
 use camel_criteria::Refusal;
+use std::alloc::{AllocError, AllocFailed};
 
 /// Why the reading of one record stops.
 #[derive(Clone, Copy, Debug, PartialEq, Eq)]
@@ -15,4 +16,40 @@ pub enum Stop {
     Number,
     /// The texts that were read have no fault, and the data are refused.
     Refused(Refusal),
+}
+
+impl From<AllocError> for Stop {
+    ghost use Rattle.std.specs.Prelude.{◌≡◌};
+    ghost use Rattle.camel_script.specs.declared.stop.Stop.{Stop};
+
+    ghost from_gives = { λ _ stop. stop ≡ Stop.OutOfMemory };
+
+    fn from(_error: AllocError) -> Stop {
+        Stop::OutOfMemory
+    }
+}
+
+impl<T: Drop> From<AllocFailed<T>> for Stop {
+    ghost use Rattle.std.specs.Prelude.{◌≡◌};
+    ghost use Rattle.camel_script.specs.declared.stop.Stop.{Stop};
+
+    ghost from_gives = { λ _ stop. stop ≡ Stop.OutOfMemory };
+
+    fn from(_error: AllocFailed<T>) -> Stop {
+        Stop::OutOfMemory
+    }
+}
+
+impl From<Refusal> for Stop {
+    ghost use Rattle.std.specs.Prelude.{◌≡◌};
+    ghost use Rattle.camel_script.specs.Reading.{stop_of};
+
+    ghost from_gives = { λ refusal stop. stop ≡ stop_of refusal };
+
+    fn from(refusal: Refusal) -> Stop {
+        match refusal {
+            Refusal::OutOfMemory => Stop::OutOfMemory,
+            refusal => Stop::Refused(refusal),
+        }
+    }
 }

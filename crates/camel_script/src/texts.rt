@@ -2,10 +2,10 @@ ghost use Rattle.std.specs.Prelude.{◌≡◌, ◌≤◌, ◌-◌, IfOk, IsTrue,
 ghost use Rattle.std.specs.Char.{is_ascii_digit};
 ghost use Rattle.std.specs.List.{list_all};
 ghost use Rattle.camel_script.specs.Reading.{ReadsAs};
-ghost use Rattle.camel_script.specs.Texts.{basic_service_of, call_address_of, decimal_of, digit_values, imsi_of_text, is_digits, isdn_address_of, number_of, octet_of, octets_of, is_forwarded_of};
+ghost use Rattle.camel_script.specs.Texts.{basic_service_of, call_address_of, call_type_of, cause_of_value, decimal_of, digit_values, imsi_of_text, is_digits, isdn_address_of, match_type_of, number_of, octet_of, octets_of, is_forwarded_of};
 
 use crate::stop::Stop;
-use camel_criteria::{BasicService, Refusal};
+use camel_criteria::{BasicService, CallType, Cause, MatchType, Refusal};
 use camel_tbcd::{CallAddress, Imsi, IsdnAddress, MAX_IMSI_DIGITS, MIN_IMSI_DIGITS};
 use hex::FromHexError;
 use std::alloc::Global;
@@ -124,6 +124,46 @@ pub fn is_forwarded(text: &[u8]) -> Result<bool, Stop>
         return Ok(false);
     }
     Err(Stop::Word)
+}
+
+/// The call type criterion of an item: `f` or `n`, or empty for none.
+#[tactic(auto, unfolding(crate::specs::Texts::call_type_of))]
+pub fn call_type(text: &[u8]) -> Result<Option<CallType>, Stop>
+    ensures { result ≡ call_type_of text.now }
+{
+    if text.is_empty() {
+        return Ok(None);
+    }
+    Ok(Some(if is_forwarded(text)? {
+        CallType::Forwarded
+    } else {
+        CallType::NotForwarded
+    }))
+}
+
+/// The match type of a destination number criterion: `e` or `i`.
+#[tactic(auto, unfolding(crate::specs::Texts::match_type_of))]
+pub fn match_type(text: &[u8]) -> Result<MatchType, Stop>
+    ensures { result ≡ match_type_of text.now }
+{
+    if text == b"e".as_slice() {
+        return Ok(MatchType::Enabling);
+    }
+    if text == b"i".as_slice() {
+        return Ok(MatchType::Inhibiting);
+    }
+    Err(Stop::Word)
+}
+
+/// The cause of a call of this value.
+#[tactic(auto, unfolding(crate::specs::Texts::cause_of_value))]
+pub fn cause(value: u8) -> Result<Cause, Stop>
+    ensures { result ≡ cause_of_value value }
+{
+    match Cause::new(value) {
+        Some(cause) => Ok(cause),
+        None => Err(Stop::Refused(Refusal::UnexpectedDataValue)),
+    }
 }
 
 /// The gsmSCF address of these octets.

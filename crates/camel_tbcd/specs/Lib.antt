@@ -5,5 +5,6 @@ pub mod DigitList
 pub mod Digits
 pub mod Imsi
 pub mod ImsiFault
+pub mod ImsiOrder
 pub mod Nature
 pub mod ShortList

@@ -5,6 +5,7 @@ ghost use Rattle.std.specs.Cmp.Lexicographic.{slice_cmp, pointwise, nat_list_cmp
 ghost use Rattle.std.proofs.Common.{refl};
 ghost use Rattle.camel_tbcd.specs.Digits.{nibbles};
 ghost use Rattle.camel_tbcd.specs.Imsi.{IsImsi, imsi_of, imsi_of_nibbles, imsi_of_tbcd, without_filler};
+ghost use Rattle.camel_tbcd.specs.ImsiOrder.{order_number, value_at};
 ghost use Rattle.camel_tbcd.specs.ImsiFault.{imsi_fault_code};
 
 use crate::digits::FILLER;
@@ -65,19 +66,25 @@ impl Error for ImsiFault {}
 #[derive(Clone, Copy, Debug)]
 pub struct Imsi {
     digits: ShortList<MAX_IMSI_DIGITS>,
+    // The digits as one number whose order is theirs, so that a look-up by IMSI compares in one step.
+    order: u64,
 }
 
 impl Model for Imsi {
-    ghost use Rattle.std.specs.Prelude.{ℕ, List};
+    ghost use Rattle.std.specs.Prelude.{◌≡◌, ℕ, List};
+    ghost use Rattle.std.proofs.Common.{sym};
     ghost use Rattle.camel_tbcd.specs.Imsi.{IsImsi};
+    ghost use Rattle.camel_tbcd.specs.ImsiOrder.{order_number};
 
     ghost Value = { List ℕ };
 
     ghost view = { λ a. a.digits };
 
-    ghost invariant = { λ a. IsImsi a.digits };
+    ghost invariant = { λ a. IsImsi a.digits × (a.order ≡ order_number a.digits) };
 
-    ghost inverse = { λ digits. record { digits = digits } };
+    ghost inverse = { λ digits. record { digits = digits; order = order_number digits } };
+
+    ghost inverse_ok = { λ a h i. record { digits = a.digits; order = sym h.1 i } };
 }
 
 impl Imsi {
@@ -97,6 +104,7 @@ impl Imsi {
             Some(at) => Err(ImsiFault::NotDigit { at }),
             None => Ok(Imsi {
                 digits: ShortList::from_slice(digits),
+                order: order_number(digits),
             }),
         }
     }
@@ -136,6 +144,30 @@ impl Imsi {
         ensures imsi { IsImsi self.now }
     {
         self.digits.as_slice()
+    }
+}
+
+// The number whose order is that of the digits.
+fn order_number(digits: &[u8]) -> u64
+    requires decimal { All (λ digit. digit ≤ 9) digits.now }
+    ensures { result ≡ order_number digits.now }
+{
+    let mut number = 0u64;
+    for at in 0..MAX_IMSI_DIGITS {
+        number = number * 16 + value_at(digits, at);
+    }
+    number
+}
+
+// What stands for the digit in a place.
+fn value_at(digits: &[u8], at: usize) -> u64
+    requires decimal { All (λ digit. digit ≤ 9) digits.now }
+    ensures value { result ≡ value_at digits.now at }
+    ensures range { result ≤ 10 }
+{
+    match digits.get(at) {
+        Some(digit) => u64::from(*digit) + 1,
+        None => 0,
     }
 }
 
@@ -207,6 +239,6 @@ impl Ord for Imsi {
     ghost matches_eq = { texts_ties };
 
     fn cmp(&self, other: &Imsi) -> Ordering {
-        self.digits().cmp(&other.digits())
+        self.order.cmp(&other.order)
     }
 }

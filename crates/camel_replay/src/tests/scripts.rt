@@ -1,0 +1,255 @@
+use super::{FIRST_CALL, FIRST_CALL_OUTPUT, check_run, check_run_with, spelled_out};
+use std::alloc::Global;
+use std::process::Abort;
+use std::test::Fail;
+
+// Whole scripts with their outputs.
+#[test]
+fn answers_each_record_by_a_line(rt: HostRuntime) -> Result<(), Fail> {
+    for (script, output) in [
+        ("", ""),
+        (FIRST_CALL, FIRST_CALL_OUTPUT),
+        ("call,2,A,t11,912143,n\n", "front 0 none unknown\n"),
+        ("insert,A,o:2:100:S:0\n", "refused 5\n"),
+        ("insert,A,o:2:2147483648:91:0\n", "refused 36\n"),
+        (
+            "register,A\ninsert,A,t:12:300:S:0,oc:2:e/9155/:::\npublish\ncall,12,A,t11\n",
+            "accepted 1\nrefused 35\npublished 1\nfront 1 none no-csi\n",
+        ),
+        (
+            "register,A\ninsert,A,o:2:100:S:0,t:12:300:S:0\ndelete,A,all,o\npublish\ncall,2,A,t11,912143,n\ncall,12,A,t11\ncancel,A\ncancel,A\ncancel,B\ndelete,A,o\npublish\ncall,12,A,t11\n",
+            "accepted 1\naccepted 2\naccepted 3\npublished 3\nfront 3 none no-csi\nfront 3 none no-csi\naccepted 4\naccepted 5\naccepted 6\nrefused 5\npublished 6\nfront 6 none unknown\n",
+        ),
+        (
+            "register,A\ninsert,A,o:2:100:S:0\npublish\ninsert,A,t:12:300:S:0\npublish\ncall,2,A,t11,912143,n\ncall,12,A,t11\ndelete,A,o\npublish\ncall,2,A,t11,912143,n\ncall,12,A,t11\nregister,A\npublish\ncall,12,A,t11\n",
+            "accepted 1\naccepted 2\npublished 2\naccepted 3\npublished 3\nfront 3 trigger 2 100 S continue\nfront 3 trigger 12 300 S continue\naccepted 4\npublished 4\nfront 4 none no-csi\nfront 4 trigger 12 300 S continue\naccepted 5\npublished 5\nfront 5 none no-csi\n",
+        ),
+    ] {
+        let alloc = rt.alloc();
+        let script = spelled_out(alloc, script)?;
+        let output = spelled_out(alloc, output)?;
+        check_run(&rt, alloc, script.as_str(), output.as_str(), "", 0)?;
+    }
+    Ok(())
+}
+
+// A subscriber who has registered and has these items, published, and then these records with their lines.
+fn check_records(
+    rt: &impl Abort,
+    alloc: Global,
+    items: &str,
+    records: &[(&str, &str)],
+) -> Result<(), Fail> {
+    let mut script = spelled_out(alloc, "register,A\ninsert,A,")?;
+    script.push_str(spelled_out(alloc, items)?.as_str())?;
+    script.push_str("\npublish\n")?;
+    let mut output = spelled_out(alloc, "accepted 1\naccepted 2\npublished 2\n")?;
+    for (record, line) in records {
+        script.push_str(spelled_out(alloc, record)?.as_str())?;
+        script.push_str("\n")?;
+        output.push_str(spelled_out(alloc, line)?.as_str())?;
+        output.push_str("\n")?;
+    }
+    check_run(rt, alloc, script.as_str(), output.as_str(), "", 0)
+}
+
+#[test]
+fn decides_by_the_destination(rt: HostRuntime) -> Result<(), Fail> {
+    let trigger = "front 2 trigger 2 100 S continue";
+    let criteria = "front 2 none criteria";
+    let (destination, longer) = ("call,2,A,t11,912143,n", "call,2,A,t11,9121f3,n");
+    let other_nature = "call,2,A,t11,a12143,n";
+    for (items, records) in [
+        (
+            "o:2:100:S:0,oc:2:e/9121f3/:::",
+            [(destination, trigger), (longer, trigger)],
+        ),
+        (
+            "o:2:100:S:0,oc:2:e/912143/:::",
+            [(longer, criteria), (other_nature, criteria)],
+        ),
+        (
+            "o:2:100:S:0,oc:2:i/9155+9121f3/:::",
+            [(destination, criteria), ("call,2,A,t11,919999,n", trigger)],
+        ),
+        (
+            "o:2:100:S:0,oc:2:e//4:::",
+            [("call,2,A,t11,91f143,n", criteria), (destination, trigger)],
+        ),
+        (
+            "o:2:100:S:0,oc:2:e/91/:::",
+            [(destination, trigger), (other_nature, criteria)],
+        ),
+        (
+            "o:2:100:S:0,oc:2:e/1121f3/:::",
+            [(destination, trigger), (other_nature, criteria)],
+        ),
+    ] {
+        check_records(&rt, rt.alloc(), items, &records)?;
+    }
+    Ok(())
+}
+
+#[test]
+fn decides_at_each_detection_point(rt: HostRuntime) -> Result<(), Fail> {
+    let alloc = rt.alloc();
+    check_records(
+        &rt,
+        alloc,
+        "o:2:1:S:2,o:4:2:S:31,t:12:3:S:32",
+        &[
+            ("call,2,A,t11,912143,n", "front 2 trigger 2 1 S continue"),
+            ("call,4,A,t11,912143,n,3", "front 2 trigger 4 2 S continue"),
+            ("call,12,A,t11", "front 2 trigger 12 3 S release"),
+        ],
+    )?;
+    check_records(
+        &rt,
+        alloc,
+        "o:4:200:S:1,oc:4::::17+18",
+        &[
+            (
+                "call,4,A,t11,912143,n,17",
+                "front 2 trigger 4 200 S release",
+            ),
+            ("call,4,A,t11,912143,n,19", "front 2 none criteria"),
+            ("call,2,A,t12,912143,n", "front 2 none not-armed"),
+        ],
+    )?;
+    check_records(
+        &rt,
+        alloc,
+        "t:12:300:S:0,t:13:301:S:1,t:14:302:S:0,tc:13:t60:17,tc:14::19",
+        &[
+            ("call,12,A,t11", "front 2 trigger 12 300 S continue"),
+            ("call,13,A,t62,17", "front 2 trigger 13 301 S release"),
+            ("call,13,A,t11,17", "front 2 none criteria"),
+            ("call,14,A,b11,19", "front 2 trigger 14 302 S continue"),
+            ("call,14,A,b11,18", "front 2 none criteria"),
+            ("call,12,A,t12", "front 2 none emergency"),
+            ("call,2,A,t11,912143,n", "front 2 none no-csi"),
+        ],
+    )
+}
+
+#[test]
+fn decides_by_basic_service_and_ignores_other_items(rt: HostRuntime) -> Result<(), Fail> {
+    let alloc = rt.alloc();
+    check_records(
+        &rt,
+        alloc,
+        "o:2:100:S:0,oc:2::t10::",
+        &[
+            ("call,2,A,t11,912143,n", "front 2 trigger 2 100 S continue"),
+            ("call,2,A,t12,912143,n", "front 2 none emergency"),
+            ("call,2,A,t62,912143,n", "front 2 none criteria"),
+        ],
+    )?;
+    check_records(
+        &rt,
+        alloc,
+        "o:3:7:S:0,o:12:8:S:0",
+        &[("call,2,A,t11,912143,n", "front 2 none not-armed")],
+    )?;
+    check_records(
+        &rt,
+        alloc,
+        "o:2:100:S:0,oc:3:e/9155/:::",
+        &[("call,2,A,t11,912143,n", "front 2 trigger 2 100 S continue")],
+    )
+}
+
+#[test]
+fn decides_over_what_is_published(rt: HostRuntime) -> Result<(), Fail> {
+    let call = "call,2,A,t11,912143,n";
+    check_records(
+        &rt,
+        rt.alloc(),
+        "o:2:100:S:0,oc:2:e/9155/:::",
+        &[
+            (call, "front 2 none criteria"),
+            ("insert,A,o:2:101:S:0", "accepted 3"),
+            (call, "front 2 none criteria"),
+            ("register,B", "accepted 4"),
+            ("call,2,B,t11,912143,n", "front 2 none unknown"),
+            ("publish", "published 4"),
+            (call, "front 4 trigger 2 101 S continue"),
+            ("call,2,B,t11,912143,n", "front 4 none no-csi"),
+        ],
+    )
+}
+
+#[test]
+fn takes_or_refuses_each_item(rt: HostRuntime) -> Result<(), Fail> {
+    let alloc = rt.alloc();
+    let mut script = spelled_out(alloc, "register,A\n")?;
+    let mut output = spelled_out(alloc, "accepted 1\n")?;
+    let ten = "oc:4:e/9111+9111+9111+9111+9111+9111+9111+9111+9111+9111/:::";
+    let eleven = "oc:4:e/9111+9111+9111+9111+9111+9111+9111+9111+9111+9111+9111/:::";
+    for (items, line) in [
+        ("o:2:2147483647:S:0", "accepted 2\n"),
+        ("o:2:2147483648:S:0", "refused 36\n"),
+        ("oc:4:e//15:::", "accepted 3\n"),
+        ("oc:4:e//16:::", "refused 36\n"),
+        (ten, "accepted 4\n"),
+        (eleven, "refused 36\n"),
+        ("oc:4::::17", "accepted 5\n"),
+        ("oc:2::::17", "refused 36\n"),
+        ("oc:4:e//:::", "refused 35\n"),
+        ("o:2:1:S:0,o:2:2:S:0", "refused 36\n"),
+    ] {
+        script.push_str(spelled_out(alloc, "insert,A,")?.as_str())?;
+        script.push_str(spelled_out(alloc, items)?.as_str())?;
+        script.push_str("\n")?;
+        output.push_str(line)?;
+    }
+    check_run(&rt, alloc, script.as_str(), output.as_str(), "", 0)
+}
+
+#[test]
+fn reads_each_form_of_a_line(rt: HostRuntime) -> Result<(), Fail> {
+    for script in [
+        "register,26201\r\npublish\r\n",
+        "\"register\",\"26201\"\n\"publish\"\n",
+        "\n\nregister,26201\n\r\n\npublish\n\n",
+        "register,26201\npublish",
+    ] {
+        check_run(&rt, rt.alloc(), script, "accepted 1\npublished 1\n", "", 0)?;
+    }
+    Ok(())
+}
+
+#[test]
+fn takes_no_more_updates_than_its_limit(rt: HostRuntime) -> Result<(), Fail> {
+    let alloc = rt.alloc();
+    let three =
+        "register,A\nregister,B\ninsert,A,o:2:100:S:0\ncancel,A\ndelete,C,all\npublish\ncall,2,A,t11,912143,n\n";
+    let three_output =
+        "accepted 1\naccepted 2\naccepted 3\nrefused 101\nrefused 5\npublished 3\nfront 3 trigger 2 100 S continue\n";
+    for (limit, script, output) in [
+        ("3", three, three_output),
+        (
+            "1",
+            FIRST_CALL,
+            "accepted 1\nrefused 101\npublished 1\nfront 1 none no-csi\n",
+        ),
+        (
+            "1",
+            "register,26201\nregister,26202\npublish\nregister,26202\n",
+            "accepted 1\nrefused 101\npublished 1\nrefused 101\n",
+        ),
+    ] {
+        let script = spelled_out(alloc, script)?;
+        let output = spelled_out(alloc, output)?;
+        check_run_with(
+            &rt,
+            alloc,
+            &["--limit", limit],
+            script.as_str(),
+            output.as_str(),
+            "",
+            0,
+        )?;
+    }
+    Ok(())
+}

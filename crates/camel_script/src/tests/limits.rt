@@ -1,0 +1,118 @@
+use super::{Given, first};
+use std::alloc::{AllocError, Global};
+use std::test::Fail;
+
+// What stands before, then octets so many times, and then what stands after.
+fn repeated(
+    alloc: Global,
+    before: &str,
+    octets: &[u8],
+    count: usize,
+    after: &str,
+) -> Result<Vec<u8>, AllocError> {
+    let mut text = Vec::from_slice(alloc, before.as_bytes())?;
+    for _ in 0..count {
+        text.extend_from_slice(octets)?;
+    }
+    text.extend_from_slice(after.as_bytes())?;
+    Ok(text)
+}
+
+// Records of 10,000 fields.
+#[test]
+fn reads_records_of_many_fields(rt: HostRuntime) -> Result<(), Fail> {
+    for (before, field, count, after, wanted) in [
+        ("insert,26201", ",o:3:1:91:0", 9_998, "", Given::Refused(36)),
+        (
+            "insert,26201",
+            ",o:3:1:91:0",
+            9_997,
+            ",d",
+            Given::Fault(202),
+        ),
+        (
+            "insert,26201",
+            ",tc:4::17",
+            9_997,
+            ",t:1",
+            Given::Fault(203),
+        ),
+        ("insert,26201,o:3:1::0", ",d", 9_997, "", Given::Refused(36)),
+        ("insert,26201", ",", 9_998, "", Given::Fault(202)),
+        ("delete,26201", ",vt", 9_998, "", Given::Delete),
+        ("delete,26201", ",vt", 9_997, ",", Given::Fault(202)),
+        ("publish", ",", 9_999, "", Given::Fault(203)),
+        ("register,26201", ",", 9_998, "", Given::Fault(203)),
+        ("cancel,26201", ",", 9_998, "", Given::Fault(203)),
+        ("call", ",", 9_999, "", Given::Fault(202)),
+        ("call,2", ",", 9_998, "", Given::Fault(203)),
+        ("call,14", ",", 9_998, "", Given::Fault(203)),
+        ("", ",", 9_999, "", Given::Fault(202)),
+    ] {
+        let text = repeated(rt.alloc(), before, field.as_bytes(), count, after)?;
+        assert_eq!(rt; first(rt.alloc(), &text)?, wanted, "{before}{field}");
+    }
+    Ok(())
+}
+
+const MEBIBYTE: usize = 1_048_576;
+
+// One field of 1 MiB, at each place.
+#[test]
+fn reads_a_long_field_of_a_call_or_word(rt: HostRuntime) -> Result<(), Fail> {
+    for (before, octet, after, wanted) in [
+        ("", "p", "", Given::Fault(202)),
+        ("publish", "p", "", Given::Fault(202)),
+        ("register,", "2", "", Given::Fault(205)),
+        ("cancel,", "2", "", Given::Fault(205)),
+        ("insert,", "2", "", Given::Fault(205)),
+        ("delete,", "2", ",o", Given::Fault(205)),
+        ("delete,26201,", "o", "", Given::Fault(202)),
+        ("call,", "2", "", Given::Fault(202)),
+        ("call,2,", "2", ",t11,91,n", Given::Fault(205)),
+        ("call,2,26201,t", "1", ",91,n", Given::Fault(204)),
+        ("call,2,26201,", "x", ",91,n", Given::Fault(202)),
+        ("call,2,26201,t11,", "1", ",n", Given::Refused(36)),
+        ("call,2,26201,t11,", "1", ",x", Given::Fault(202)),
+        ("call,2,26201,t11,9", "1", ",n", Given::Fault(204)),
+        ("call,2,26201,t11,91,", "n", "", Given::Fault(202)),
+        ("call,4,26201,t11,91,n,", "0", "", Given::Fault(205)),
+        ("call,13,26201,t11,", "1", "", Given::Fault(205)),
+    ] {
+        let text = repeated(rt.alloc(), before, octet.as_bytes(), MEBIBYTE, after)?;
+        assert_eq!(rt; first(rt.alloc(), &text)?, wanted, "{before}{octet}{after}");
+    }
+    Ok(())
+}
+
+#[test]
+fn reads_a_long_item(rt: HostRuntime) -> Result<(), Fail> {
+    for (before, octets, after, wanted) in [
+        ("insert,26201,", "o", "", Given::Fault(202)),
+        ("insert,26201,", ":", "", Given::Fault(202)),
+        ("insert,26201,o", ":", "", Given::Fault(203)),
+        ("insert,26201,o:", "2", ":1:91:0", Given::Fault(205)),
+        ("insert,26201,o:2:1:", "1", ":0", Given::Refused(36)),
+        ("insert,26201,o:2:1:", "1", ":x", Given::Fault(205)),
+        ("insert,26201,o:2:1:9", "1", ":0", Given::Fault(204)),
+        ("insert,26201,oc:4:", "e", ":::", Given::Fault(203)),
+        ("insert,26201,oc:4:", "/", ":::", Given::Fault(203)),
+        ("insert,26201,oc:4:e/", "1", "/:::", Given::Refused(36)),
+        ("insert,26201,oc:4:e/", "+", "/:::", Given::Refused(36)),
+        ("insert,26201,oc:4:e/", "91+", "/:::", Given::Refused(36)),
+        ("insert,26201,oc:4:e//7", "+7", ":::", Given::Refused(36)),
+        ("insert,26201,oc:4:::", "n", ":", Given::Fault(202)),
+        ("insert,26201,tc:13:t11", "+b1f", ":", Given::Refused(36)),
+        ("insert,26201,tc:13::17", "+17", "", Given::Refused(36)),
+        ("insert,26201,tc:13::17", "+17", "+", Given::Fault(205)),
+    ] {
+        let count = MEBIBYTE / octets.len().max(1);
+        let text = repeated(rt.alloc(), before, octets.as_bytes(), count, after)?;
+        assert_eq!(rt;
+            first(rt.alloc(), &text)?,
+            wanted,
+            "{before}{octets}{after}"
+        );
+    }
+    Ok(())
+}
