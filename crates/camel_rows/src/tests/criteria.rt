@@ -1,11 +1,13 @@
 use super::{
     BARE, CONTINUE, DESTINATION, EMERGENCY, FACSIMILE, Items, NOTHING, Numbers, ONE_ROW,
-    PlainNumber, PlainO, PlainRow, PlainT, RELEASE, TELEPHONY, base, call_at, check_calls, held_at,
-    imsi_of, insert, number_of, one_number, told,
+    PlainNumber, PlainO, PlainRow, PlainT, RELEASE, TELEPHONY, Told, base, call_at, check_calls,
+    held_at, imsi_of, insert, number_of, one_number, told,
 };
 use crate::{CallEvent, Reason};
 use camel_criteria::{BasicService, CallType, Cause, MatchType, Refusal};
 use camel_tbcd::CallAddress;
+use std::alloc::Global;
+use std::process::Abort;
 use std::test::Fail;
 
 fn two(first: &[u8], second: &[u8]) -> Result<Numbers, Refusal> {
@@ -39,11 +41,22 @@ fn a_destination_number_criterion_decides_a_call(rt: HostRuntime) -> Result<(), 
         (nature, [0xa1, 0x21, 0x43], unmet),
         (without_bit_8, [0x91, 0x21, 0x43], triggers),
     ] {
-        let records = base(rt.alloc(), &with_number(number))?;
-        let call = call_at(2, imsi_of(1)?, TELEPHONY, &destination, 0)?;
-        assert_eq!(rt; told(&rt, &records, &call), wanted, "{number:?}, {call:?}");
+        let found = told_by(rt.alloc(), &rt, number, &destination)?;
+        assert_eq!(rt; found, wanted, "{number:?}, {destination:?}");
     }
     Ok(())
+}
+
+// What is told of a call to this destination where this is the only criterion.
+fn told_by(
+    alloc: Global,
+    rt: &impl Abort,
+    number: PlainNumber,
+    destination: &[u8; 3],
+) -> Result<Told, Fail> {
+    let records = base(alloc, &with_number(number))?;
+    let call = call_at(2, imsi_of(1)?, TELEPHONY, destination, 0)?;
+    Ok(told(rt, &records, &call))
 }
 
 // One row with an entry of this criterion.
