@@ -1,3 +1,4 @@
+pub mod CommandLineLemmas
 pub mod FrontLemmas
 pub mod Progress
 pub mod StoreLemmas

@@ -1,7 +1,7 @@
 -- The options of the command line, as the crate `clap` reads them.
-use Rattle.std.specs.Prelude.{◌≡◌, ℕ, ◌≤◌, List, [], ◌∷◌, Some, codes}
+use Rattle.std.specs.Prelude.{◌≡◌, ℕ, ◌≤◌, List, [], ◌∷◌, Option, Some, codes}
 use Rattle.std.specs.Str.Parse.{IsNumeral, digits_value, without_leading_plus}
-use Rattle.clap.specs.Words.{App, HasMatchesOf, Rule, first_value, found_of, new_app, new_rule, with_rule}
+use Rattle.clap.specs.Words.{App, Rule, Text, first_of, first_value, found_of, matches_of, new_app, new_rule, with_rule}
 use Rattle.clap.specs.declared.builder.value_parser.ValueParser.TheVariants.{Unsigned}
 use Rattle.clap.specs.declared.parser.matches.ArgMatches.{ArgMatches}
 
@@ -17,15 +17,21 @@ limit_rule = record (new_rule (codes "limit")) {
 abbrev pub the_program : App
 the_program = with_rule (new_app (codes "camel_replay")) limit_rule
 
--- the limit that matches hold: the number that its text is, 1 to 1000000
-pub record HoldsLimit (matches : ArgMatches) (limit : ℕ) : Type 0 where
-  pub text : List ℕ
-  pub held : first_value (found_of matches) (codes "limit") ≡ Some text
+-- the text of the option `--limit` that `clap` finds in these words, the name of the program first
+abbrev pub limit_text : List Text → Option Text
+limit_text words = first_of (codes "limit") (matches_of the_program words)
+
+-- a text is the numeral of a limit, 1 to 1000000
+pub record IsLimit (text : Text) (limit : ℕ) : Type 0 where
   pub numeral : IsNumeral 10 (without_leading_plus text)
   pub number : limit ≡ digits_value 10 (without_leading_plus text)
   pub least : 1 ≤ limit
   pub most : limit ≤ 1000000
 
--- the limit of these words, the name of the program first
-abbrev pub LimitOf : List (List ℕ) → ℕ → Type 0
-LimitOf words limit = (matches : ArgMatches) × HasMatchesOf the_program words matches × HoldsLimit matches limit
+-- the limit of these words
+abbrev pub LimitOf : List Text → ℕ → Type 0
+LimitOf words limit = (text : Text) × (limit_text words ≡ Some text) × IsLimit text limit
+
+-- the limit that matches hold
+abbrev pub HoldsLimit : ArgMatches → ℕ → Type 0
+HoldsLimit matches limit = (text : Text) × (first_value (found_of matches) (codes "limit") ≡ Some text) × IsLimit text limit

@@ -1,7 +1,7 @@
 use Rattle.std.proofs.Common.{◌≡◌, ◌∙◌, ap, ap₂, codes, rules}
 use Rattle.clap.specs.Simple.{app_of_fields}
 use Rattle.clap.specs.Words.{app_of, new_app, rule_of, with_rule}
-use Rattle.camel_replay.specs.CommandLine.{limit_rule, the_program}
+use Rattle.camel_replay.specs.CommandLine.{limit_rule}
 use Rattle.camel_replay.proofs.command_line.command.Goals as goal
 
 pub returns : goal.returns
