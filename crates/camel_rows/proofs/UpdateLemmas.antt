@@ -46,7 +46,7 @@ other_record m update imsi apart =
     either (is_some (refusal m update)) _ m imsi (get-other m (update_imsi update) (record_after (map.get m (update_imsi update)) update) imsi apart)
 
 -- an update that is not refused leaves its record
-own_record : (m : RecordsData) (update : Update) → refusal m update ≡ None → map.get (after m update) (update_imsi update) ≡ record_after (map.get m (update_imsi update)) update
+pub own_record : (m : RecordsData) (update : Update) → refusal m update ≡ None → map.get (after m update) (update_imsi update) ≡ record_after (map.get m (update_imsi update)) update
 own_record m update accepted = rw accepted (get-there m (update_imsi update) (record_after (map.get m (update_imsi update)) update))
 
 inserted : (m : RecordsData) (imsi : List ℕ) (o : Option (List TdpRowData)) (o_criteria : Option (List OCriteriaData)) (vt : Option (List TdpRowData)) (t_criteria : Option (List TCriteriaData))

@@ -1,0 +1,51 @@
+-- Fronts that extend others.
+use Rattle.std.proofs.Common.{◌≡◌, ◌∙◌, ℕ, ◌<◌, All, List, [], ◌∷◌, ◌++◌, None, length, refl, sym, ap, subst, arith, append_assoc, append-nil, length-append}
+use Rattle.std.proofs.lemmas.List.Elements.{All-head, All-nil, All-push, All-tail, All-weaker}
+use Rattle.camel_rows.proofs.UpdateLemmas.{AcceptedFrom-push, state_from-append}
+use Rattle.camel_rows.specs.Front.{Extends, IsFront}
+use Rattle.camel_rows.specs.Records.{no_records}
+use Rattle.camel_rows.specs.Update.{after, refusal, state}
+use Rattle.camel_rows.specs.declared.update.Update.{Update}
+use Rattle.camel_vlr.specs.Fronts.{ExtendsAll}
+
+pub extends_itself : (front : List Update) → Extends front front
+extends_itself front = ([], sym (append-nil front))
+
+pub extends_further : (f g h : List Update) → Extends f g → Extends g h → Extends f h
+extends_further f g h (r, p) (s, q) = (s ++ r, p ∙ (ap (λ x. x ++ r) q ∙ append_assoc h s r))
+
+-- a front as long as one that it extends is that one
+pub same_length : (f g : List Update) → Extends f g → length f ≡ length g → f ≡ g
+same_length f g (r, p) same = p ∙ (ap (λ x. g ++ x) (none r (omega (arith, same, ap length p, length-append g r))) ∙ append-nil g)
+  where
+    none : (xs : List Update) → length xs ≡ 0 → xs ≡ []
+    none [] e = refl
+    none (x ∷ xs) e = absurd (omega arith)
+
+pub all_further : (f g : List Update) (earlier : List (List Update)) → Extends f g → ExtendsAll g earlier → ExtendsAll f earlier
+all_further f g earlier more all = record { each = All-weaker (Extends g) (Extends f) (λ h. extends_further f g h more) earlier all.each }
+
+pub all_push : (f : List Update) (earlier : List (List Update)) (h : List Update) → ExtendsAll f earlier → Extends f h → ExtendsAll f (earlier ++ h ∷ [])
+all_push f earlier h all more = record { each = All-push (Extends f) earlier h all.each more }
+
+pub all_none : (f : List Update) → ExtendsAll f []
+all_none f = record { each = All-nil (Extends f) }
+
+pub all_last : (f : List Update) (earlier : List (List Update)) (h : List Update) → ExtendsAll f (earlier ++ h ∷ []) → Extends f h
+all_last f earlier h all = last earlier all.each
+  where
+    last : (xs : List (List Update)) → All (Extends f) (xs ++ h ∷ []) → Extends f h
+    last [] a = All-head (Extends f) h [] a
+    last (x ∷ xs) a = last xs (All-tail (Extends f) x (xs ++ h ∷ []) a)
+
+-- an update that is not refused, behind a front with room, makes a front
+pub front_push : (limit : ℕ) (p q : List Update) (update : Update) → IsFront limit (p ++ q) → refusal (state (p ++ q)) update ≡ None → length (p ++ q) < limit → IsFront limit (p ++ (q ++ update ∷ []))
+front_push limit p q update front free room =
+    let all : IsFront limit (p ++ q ++ update ∷ []) = record {
+      accepted = AcceptedFrom-push no_records (p ++ q) update front.accepted free;
+      few = omega (arith, room, length-append (p ++ q) (update ∷ []));
+    } in subst (IsFront limit) (append_assoc p q (update ∷ [])) all
+
+-- and leaves what it makes of the data before it
+pub state_push : (p q : List Update) (update : Update) → state (p ++ (q ++ update ∷ [])) ≡ after (state (p ++ q)) update
+state_push p q update = ap state (sym (append_assoc p q (update ∷ []))) ∙ state_from-append no_records (p ++ q) (update ∷ [])

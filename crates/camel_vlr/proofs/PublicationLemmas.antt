@@ -1,0 +1,55 @@
+-- One publication keeps the rule.
+use Rattle.std.proofs.Common.{◌≡◌, ◌∙◌, ℕ, ◌+◌, ◌≤◌, List, [], ◌∷◌, ◌++◌, length, length-append, fold, sym, ap, subst, arith, append-nil, Result, Ok, Err, MatchResult, OnOk}
+use Rattle.std.proofs.lemmas.List.Sums.{fold-append}
+use Rattle.camel_history.specs.Beginning.{BeginningData}
+use Rattle.camel_rows.proofs.UpdateLemmas.{state_from-append}
+use Rattle.camel_rows.specs.Front.{IsFront}
+use Rattle.camel_rows.specs.Records.{no_records}
+use Rattle.camel_rows.specs.Update.{state, state_from}
+use Rattle.camel_vlr.proofs.ChangeLemmas.{fold_changed, updates_among-append}
+use Rattle.camel_vlr.specs.Change.{CopyData, changed, updates_among}
+use Rattle.camel_vlr.specs.PublishedCopy.{IsOfItsFront}
+use Rattle.camel_vlr.specs.Rule.{Knows, Published}
+use Rattle.camel_vlr.specs.declared.change.Change.{Change}
+use Rattle.camel_vlr.specs.declared.change.Change.TheVariants as change
+use Rattle.camel_vlr.specs.declared.published_copy.PublishedCopy.{PublishedCopy}
+use Rattle.camel_vlr.specs.declared.rule.View.{View}
+
+abbrev pub data_of : PublishedCopy → CopyData
+data_of copy = (copy.records, copy.count, copy.front)
+
+-- a copy to which all that was pending was applied, its front last, is of that front
+pub next_copy : (old new : PublishedCopy) (front : BeginningData) (changes : List Change) → IsOfItsFront old
+    → front.updates ≡ old.front.updates ++ updates_among (changes ++ change.Front front ∷ []) → IsFront front.store.limit front.updates → front.store.limit ≤ 1000000
+    → data_of new ≡ fold changed (data_of old) (changes ++ change.Front front ∷ []) → (IsOfItsFront new) × (new.front ≡ front)
+next_copy old new front changes is updates is_front greatest now =
+    let more = updates_among changes in
+    let list : front.updates ≡ old.front.updates ++ more = updates ∙ ap (λ w. old.front.updates ++ w) (updates_among-append changes (change.Front front ∷ []) ∙ append-nil more) in
+    let few : old.count + length more ≤ 1000000 = omega (arith, is.count, is_front.few, greatest, ap length list, length-append old.front.updates more) in
+    let all = now ∙ fold-append changed (data_of old) changes (change.Front front ∷ []) in
+    let each = fold_changed (data_of old) changes few in
+    let same : new.front ≡ front = ap (λ s. s.2) all in
+    let new_list : new.front.updates ≡ old.front.updates ++ more = ap (λ x. x.updates) same ∙ list in (
+      record {
+        front = subst (λ (x : BeginningData). IsFront x.store.limit x.updates) (sym same) is_front;
+        records = ap (λ s. s.0) all ∙ (each.0 ∙ (ap (λ m. state_from m more) is.records ∙ (sym (state_from-append no_records old.front.updates more) ∙ ap state (sym new_list))));
+        count = ap (λ s. s.1) all ∙ (each.1 ∙ (ap (λ (k : ℕ). k + length more) is.count ∙ (sym (length-append old.front.updates more) ∙ ap length (sym new_list))));
+      },
+      same,
+    )
+
+pub on_ok : {T E : Type 0} (r : Result T E) (A B C : Type 0) → MatchResult r (λ _. A) (λ _. B) → (A → C) → OnOk r C
+on_ok (Ok x) A B C m f = f m
+on_ok (Err e) A B C m f = tt
+
+pub both_ok : {T E : Type 0} (r : Result T E) (A B A' B' C : Type 0) → MatchResult r (λ _. A) (λ _. B) → MatchResult r (λ _. A') (λ _. B') → (A → A' → C) → OnOk r C
+both_ok (Ok x) A B A' B' C m n f = f m n
+both_ok (Err e) A B A' B' C m n f = tt
+
+pub knows_published : (copy : PublishedCopy) (front : BeginningData) (view : View) → Published view copy copy view → copy.front ≡ front → Knows view front.store front.updates
+knows_published copy front view is same =
+    subst (λ (v : View). Knows v front.store front.updates) (sym is) (ap (λ x. x.store) same, ([], ap (λ x. x.updates) same ∙ sym (append-nil front.updates)))
+
+pub where_ok : {T E : Type 0} (r : Result T E) (x : T) (A : Type 0) → r ≡ Ok x → OnOk r A → A
+where_ok (Ok y) x A is h = h
+where_ok (Err e) x A is h = absurd (cc is)

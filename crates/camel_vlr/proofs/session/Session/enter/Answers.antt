@@ -1,0 +1,20 @@
+use Rattle.std.proofs.Common.{◌∙◌, refl, sym, ap, subst}
+use Rattle.left_right.specs.Sides.{view}
+use Rattle.camel_vlr.proofs.FrontLemmas.{all_further}
+use Rattle.camel_vlr.proofs.RuleLemmas.{looks, sees}
+use Rattle.camel_vlr.specs.Rule.{Knows}
+use Rattle.camel_vlr.specs.Seat.{view_of}
+use Rattle.camel_vlr.specs.SessionFields.{session_of}
+use Rattle.camel_vlr.specs.declared.rule.View.{View}
+use Rattle.camel_vlr.proofs.session.Session.enter.Goals as goal
+
+pub enter_as-requires : goal.enter_as-requires
+enter_as-requires c copy = looks _ _ copy
+
+pub returns-then-begins-clause-yes : goal.returns-then-begins-clause-yes
+returns-then-begins-clause-yes c _ =
+    let a = c.self.inside in
+    let same = c.into_reader-reader.ensures ∙ ap view_of c.replace.ensures.value in
+    let knows = subst (λ (v : View). Knows v a.seen.store a.seen.updates) (sym same) c.self.invariant.knows in
+    let front = c.receipt-front.ensures ∙ ap (λ y. y.front) c.get.ensures in
+    rw (← c.self.view_is) (sees (session_of a) c.in-Ok.reading.part.value (view c.into_reader-reader.result.place) (view c.in-Ok.reading.place) knows c.in-Ok.ensures.1 c.receipt-front.result front (all_further c.receipt-front.result.updates a.longest.updates a.told.value (c.if-begins.ensures.yes refl) c.self.invariant.told))

@@ -1,0 +1,12 @@
+pub mod Change
+pub mod Directory
+pub mod Fronts
+pub mod PublishedCopy
+pub mod Receipt
+pub mod Rule
+pub mod Seat
+pub mod Session
+pub mod SessionFields
+pub mod Store
+pub mod StoreFields
+pub mod Told
