@@ -1,6 +1,7 @@
 pub mod Change
 pub mod Directory
 pub mod Fronts
+pub mod OwnUpdates
 pub mod PublishedCopy
 pub mod Receipt
 pub mod Rule

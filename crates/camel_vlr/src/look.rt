@@ -5,6 +5,7 @@ ghost use Rattle.camel_rows.specs.Decision.{decision, decision_data};
 ghost use Rattle.camel_rows.specs.Event.{event_data};
 ghost use Rattle.camel_rows.specs.Subscriber.{entry_at, entry_data, row_at};
 ghost use Rattle.camel_rows.specs.Update.{state};
+ghost use Rattle.camel_vlr.specs.OwnUpdates.{DecidedByOwn};
 
 use crate::session::Session;
 use camel_criteria::Refusal;
@@ -27,10 +28,12 @@ impl Look<'_> {
     ghost use Rattle.camel_vlr.specs.Session.{Ended};
 
     /// Decides an event by the trigger rules of TS 23.078, over the data of the front. The row and the entry that it
-    /// lends are the stored ones.
+    /// lends are the stored ones. The updates of the event's subscriber alone would leave the same decision.
     pub fn decide(&self, event: &Event) -> Decision<'_>
         requires { self.now.session.now.looks ≡ true }
-        ensures { decision_data result ≡ decision (state self.now.session.now.seen) (event_data event.now) }
+        ensures decision { decision_data result ≡ decision (state self.now.session.now.seen) (event_data event.now) }
+        ensures own { DecidedByOwn self.now.session.now.store.limit self.now.session.now.seen (event_data event.now)
+            (decision_data result) }
     {
         decide_in(&self.session.copy_at_hand().records, event)
     }

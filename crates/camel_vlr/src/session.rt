@@ -1,4 +1,5 @@
 ghost use Rattle.std.specs.Prelude.{◌≡◌, [], true, false, length, IfOk};
+ghost use Rattle.camel_rows.specs.Front.{IsFront};
 ghost use Rattle.camel_rows.specs.Update.{state};
 
 use crate::look::{Look, NoLook};
@@ -129,6 +130,7 @@ impl Session {
         requires { self.now.looks ≡ true }
         ensures records { result.now.records ≡ state self.now.seen }
         ensures count { result.now.count ≡ length self.now.seen }
+        ensures front { IsFront self.now.store.limit self.now.seen }
     {
         match &self.seat {
             Seat::In(reading) => reading.get(),
