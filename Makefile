@@ -1,5 +1,5 @@
-# `make replay SCRIPT=examples/first-call.csv` replays a script, and `make test` passes all tests: the gate, and
-# then each example with its output.
+# `make replay SCRIPT=examples/first-call.csv` replays a script, and `make test` passes all tests: the gate, then the
+# programs that must not compile, and each example with its output.
 
 SCRIPT ?= examples/first-call.csv
 LIMIT ?= 1000000
@@ -32,4 +32,5 @@ bench: program
 
 test:
 	rt ci
+	@.ci/must-not-compile
 	@$(MAKE) --no-print-directory examples
