@@ -9,7 +9,7 @@ LOG := crates/camel_replay/out/build.log
 # An example, and the limit with which it is replayed.
 EXAMPLES := first-call:1000000 prepaid:1000000 change-of-profile:1000000 refusals:3
 
-.PHONY: program replay examples bench test
+.PHONY: program replay examples bench bench-vlr test
 
 # Proves and builds the program where a source has changed, some minutes the first time.
 program:
@@ -29,6 +29,10 @@ examples: program
 
 bench: program
 	@bench/run
+
+bench-vlr:
+	@(cd crates/camel_vlr_bench && mkdir -p out && rt run < /dev/null) > crates/camel_vlr_bench/out/build.log 2>&1
+	@bench/run-vlr
 
 test:
 	rt ci

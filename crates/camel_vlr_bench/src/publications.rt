@@ -1,0 +1,95 @@
+use crate::data::{imsi_of, insert, next};
+use camel_rows::Update;
+use camel_vlr::{Session, Vlr};
+use std::alloc::Global;
+use std::rt::Clock;
+use std::sync::Wait;
+use std::time::Instant;
+
+const LIMIT: u64 = 1_000_000;
+
+/// Nanoseconds of so many submitted updates and their publication.
+pub fn of<R: Clock + Wait>(
+    rt: &R,
+    alloc: Global,
+    subscribers: u64,
+    updates: u64,
+    rounds: u64,
+) -> Option<u64> {
+    let (mut store, _sessions) = filled(rt, alloc, subscribers, 1)?;
+    let start = Instant::now(rt).ok();
+    let done = batches(rt, alloc, &mut store, subscribers, updates, rounds);
+    let taken = start.and_then(|start| start.elapsed(rt).ok());
+    store.end(rt);
+    done?;
+    Some(u64::try_from(taken?.as_nanos()).ok()? / rounds.max(1))
+}
+
+/// A store with so many subscribers, of whom as many have an O-CSI as the limit allows, and its sessions.
+pub fn filled<R: Wait>(
+    rt: &R,
+    alloc: Global,
+    subscribers: u64,
+    places: usize,
+) -> Option<(Vlr, Vec<Session>)> {
+    if places == 0 || places > 64 {
+        return None;
+    }
+    let (mut store, sessions) = Vlr::open(rt, alloc, places, LIMIT).ok()?;
+    match fill(rt, alloc, &mut store, subscribers) {
+        Some(()) => Some((store, sessions)),
+        None => {
+            store.end(rt);
+            None
+        }
+    }
+}
+
+fn fill<R: Wait>(rt: &R, alloc: Global, store: &mut Vlr, subscribers: u64) -> Option<()> {
+    let inserted = (LIMIT.saturating_sub(subscribers) / 2).min(subscribers);
+    for number in 0..subscribers {
+        let imsi = imsi_of(number)?;
+        store.submit(Update::Register { imsi }).ok()?;
+        if number < inserted {
+            store.submit(insert(alloc, imsi).ok()?).ok()?;
+        }
+        if number % 1000 == 999 {
+            store.publish(rt).ok()?;
+        }
+    }
+    store.publish(rt).ok()?;
+    Some(())
+}
+
+/// So many publications of so many updates, each of a subscriber who is there.
+pub fn batches<R: Wait>(
+    rt: &R,
+    alloc: Global,
+    store: &mut Vlr,
+    subscribers: u64,
+    updates: u64,
+    rounds: u64,
+) -> Option<()> {
+    let mut state: u64 = 2;
+    for _ in 0..rounds {
+        state = submitted(alloc, store, subscribers, updates, state)?;
+        store.publish(rt).ok()?;
+    }
+    Some(())
+}
+
+fn submitted(
+    alloc: Global,
+    store: &mut Vlr,
+    subscribers: u64,
+    updates: u64,
+    state: u64,
+) -> Option<u64> {
+    let mut state = state;
+    for _ in 0..updates {
+        state = next(state);
+        let imsi = imsi_of((state >> 33) % subscribers.max(1))?;
+        store.submit(insert(alloc, imsi).ok()?).ok()?;
+    }
+    Some(state)
+}
