@@ -1,5 +1,5 @@
 use crate::data::{EVENTS, events, imsi_of, insert};
-use crate::publications::{batches, filled};
+use crate::publications::{Concerned, batches, filled};
 use camel_rows::{CallEvent, Decision, Records, Update, decide_in};
 use camel_tbcd::Address;
 use camel_vlr::Session;
@@ -50,11 +50,15 @@ pub fn of_store<R: Clock + Wait + Threads + Sync>(
 ) -> Option<u64> {
     let events = events(alloc, subscribers)?;
     let (mut store, sessions) = filled(rt, alloc, subscribers, readers)?;
+    let concerned = Concerned {
+        subscribers,
+        among: subscribers,
+    };
     let look = |session: Session| -> u64 { looked(rt, session, &events, rounds).unwrap_or(0) };
     let (times, _) = join(
         rt,
         || map_vec(rt, sessions, &look),
-        || batches(rt, alloc, &mut store, subscribers, 10, publications),
+        || batches(rt, alloc, &mut store, &concerned, 10, publications),
     );
     store.end(rt);
     times.ok()?.iter().copied().max()

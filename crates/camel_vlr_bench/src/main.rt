@@ -29,13 +29,17 @@ fn main(rt: HostRuntime) -> ExitCode {
                 number(&words, 5),
             )
         }
-        "publish" => publications::of(
-            &rt,
-            rt.alloc(),
-            subscribers,
-            number(&words, 3),
-            number(&words, 4),
-        ),
+        "publish" => {
+            let among = number(&words, 5);
+            publications::of(
+                &rt,
+                rt.alloc(),
+                subscribers,
+                number(&words, 3),
+                number(&words, 4),
+                among,
+            )
+        }
         _ => None,
     };
     match done {

@@ -15,10 +15,12 @@ pub fn of<R: Clock + Wait>(
     subscribers: u64,
     updates: u64,
     rounds: u64,
+    among: u64,
 ) -> Option<u64> {
     let (mut store, _sessions) = filled(rt, alloc, subscribers, 1)?;
     let start = Instant::now(rt).ok();
-    let done = batches(rt, alloc, &mut store, subscribers, updates, rounds);
+    let concerned = Concerned { subscribers, among };
+    let done = batches(rt, alloc, &mut store, &concerned, updates, rounds);
     let taken = start.and_then(|start| start.elapsed(rt).ok());
     store.end(rt);
     done?;
@@ -61,18 +63,32 @@ fn fill<R: Wait>(rt: &R, alloc: Global, store: &mut Vlr, subscribers: u64) -> Op
     Some(())
 }
 
-/// So many publications of so many updates, each of a subscriber who is there.
+/// Whom updates concern: so many of these subscribers, evenly spread over all of them.
+#[derive(Clone, Copy)]
+pub struct Concerned {
+    pub subscribers: u64,
+    pub among: u64,
+}
+
+impl Concerned {
+    fn one(&self, state: u64) -> u64 {
+        let among = self.among.clamp(1, self.subscribers.max(1));
+        ((state >> 33) % among).saturating_mul(self.subscribers / among)
+    }
+}
+
+/// So many publications of so many updates.
 pub fn batches<R: Wait>(
     rt: &R,
     alloc: Global,
     store: &mut Vlr,
-    subscribers: u64,
+    concerned: &Concerned,
     updates: u64,
     rounds: u64,
 ) -> Option<()> {
     let mut state: u64 = 2;
     for _ in 0..rounds {
-        state = submitted(alloc, store, subscribers, updates, state)?;
+        state = submitted(alloc, store, concerned, updates, state)?;
         store.publish(rt).ok()?;
     }
     Some(())
@@ -81,14 +97,14 @@ pub fn batches<R: Wait>(
 fn submitted(
     alloc: Global,
     store: &mut Vlr,
-    subscribers: u64,
+    concerned: &Concerned,
     updates: u64,
     state: u64,
 ) -> Option<u64> {
     let mut state = state;
     for _ in 0..updates {
         state = next(state);
-        let imsi = imsi_of((state >> 33) % subscribers.max(1))?;
+        let imsi = imsi_of(concerned.one(state))?;
         store.submit(insert(alloc, imsi).ok()?).ok()?;
     }
     Some(state)
