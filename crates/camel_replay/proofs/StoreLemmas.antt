@@ -1,10 +1,13 @@
 -- A store of one thread keeps enough of a history to answer as the history does.
-use Rattle.std.proofs.Common.{◌≡◌, ◌∙◌, ℕ, ◌+◌, ◌<◌, ◌==◌, List, [], ◌∷◌, ◌++◌, length, Option, Some, None, refl, sym, ap, arith}
+use Rattle.std.proofs.Common.{◌≡◌, ◌∙◌, ℕ, ◌+◌, ◌<◌, ◌==◌, Bool, List, [], ◌∷◌, ◌++◌, length, Option, Some, None, refl, sym, ap, arith}
 use Rattle.std.proofs.lemmas.List.{length-append}
 use Rattle.camel_criteria.specs.declared.refusal.Refusal.{Refusal}
 use Rattle.camel_rows.proofs.UpdateLemmas.{AcceptedFrom-push, state_from-append}
 use Rattle.camel_rows.specs.Records.{RecordsData, no_records}
-use Rattle.camel_rows.specs.Update.{after, refusal, state, state_from}
+use Rattle.camel_rows.proofs.StoredCsisLemmas.{AreStored-after, AreStored-empty, same_refusal}
+use Rattle.camel_rows.specs.StoredCsis.{StoredCsisData, csis_after, csis_refusal, no_stored_csis, with_csis}
+use Rattle.camel_rows.specs.Update.{refusal, state, state_from, update_imsi}
+use Rattle.std.specs.FinMap as map
 use Rattle.camel_rows.specs.declared.update.Update.{Update}
 use Rattle.camel_script.specs.Line.{line_text}
 use Rattle.camel_script.specs.declared.record.Record.{Record}
@@ -56,13 +59,31 @@ store_output-store_of limit history (asked ∷ requests) =
     (ap (λ (rest : List ℕ). line_text (line_of limit history asked) ++ rest) (store_output-store_of limit next requests))
 
 -- a store that takes one more update keeps fields that agree
-pub IsSound-take : (limit front : ℕ) (published current next : RecordsData) (pending more : List Update) (update : Update)
-    → IsSound limit front published current pending → refusal current update ≡ None → next ≡ after current update → more ≡ pending ++ update ∷ []
+pub IsSound-take : (limit front : ℕ) (published : RecordsData) (stored next : StoredCsisData) (pending more : List Update) (update : Update)
+    → IsSound limit front published stored pending → csis_refusal (map.get stored (update_imsi update)) update ≡ None
+    → next ≡ with_csis stored (update_imsi update) (csis_after (map.get stored (update_imsi update)) update) → more ≡ pending ++ update ∷ []
     → front + length pending < limit → IsSound limit front published next more
-IsSound-take limit front published current next pending more update sound accepted next_is more_is room =
+IsSound-take limit front published stored next pending more update sound taken next_is more_is room =
     let count : length more ≡ length pending + 1 = rw more_is (length-append pending (update ∷ [])) in
+    let accepted : refusal (state_from published pending) update ≡ None = sym (same_refusal stored (state_from published pending) update sound.are_stored) ∙ taken in
     record {
       few = omega arith;
-      accepted = rw more_is (AcceptedFrom-push published pending update sound.accepted (rw (← sound.current_is) accepted));
-      current_is = rw (more_is, state_from-append published pending (update ∷ []), ← sound.current_is) next_is;
+      accepted = rw more_is (AcceptedFrom-push published pending update sound.accepted accepted);
+      are_stored = rw (more_is, state_from-append published pending (update ∷ []), next_is) (AreStored-after stored (state_from published pending) update sound.are_stored accepted);
     }
+
+-- a store refuses by the stored CSIs and by its limit
+pub store_refusal-csis : (limit front : ℕ) (published : RecordsData) (stored : StoredCsisData) (pending : List Update) (update : Update) (why : Option Refusal) (full : Bool)
+    → IsSound limit front published stored pending → csis_refusal (map.get stored (update_imsi update)) update ≡ why → (front + length pending == limit) ≡ full
+    → store_refusal (record { limit = limit; front = front; published = published; pending = pending }) update ≡ or_full why full
+store_refusal-csis limit front published stored pending update why full sound refused is_full =
+    let same : refusal (state_from published pending) update ≡ why = sym (same_refusal stored (state_from published pending) update sound.are_stored) ∙ refused in
+    rw (same, is_full) refl
+
+-- a store with nothing in it has fields that agree
+pub IsSound-new : (limit : ℕ) → IsSound limit 0 no_records no_stored_csis []
+IsSound-new limit = record {
+  few = omega arith;
+  accepted = tt;
+  are_stored = AreStored-empty;
+}

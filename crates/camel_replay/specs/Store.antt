@@ -1,11 +1,12 @@
 -- What a store of one thread keeps of a history: how many updates are published and the data that they
 -- leave, in place of their list.
-use Rattle.std.specs.Prelude.{◌≡◌, ℕ, ◌+◌, ◌≤◌, ◌==◌, List, [], ◌∷◌, ◌++◌, length, Option, Some, None}
+use Rattle.std.specs.Prelude.{ℕ, ◌+◌, ◌≤◌, ◌==◌, List, [], ◌∷◌, ◌++◌, length, Option, Some, None}
 use Rattle.camel_criteria.specs.Refusal.{refusal_code}
 use Rattle.camel_criteria.specs.declared.refusal.Refusal.{Refusal}
 use Rattle.camel_rows.specs.Decision.{decision}
 use Rattle.camel_rows.specs.Outcome.{outcome_of}
 use Rattle.camel_rows.specs.Records.{RecordsData, no_records}
+use Rattle.camel_rows.specs.StoredCsis.{AreStored, StoredCsisData}
 use Rattle.camel_rows.specs.Update.{AcceptedFrom, refusal, state, state_from}
 use Rattle.camel_rows.specs.declared.event.CallEvent.{CallEvent}
 use Rattle.camel_rows.specs.declared.outcome.Answer.{Answer}
@@ -29,11 +30,11 @@ empty_store limit = record { limit = limit; front = 0; published = no_records; p
 abbrev pub store_of : ℕ → History → StoreData
 store_of limit history = record { limit = limit; front = length history.published; published = state history.published; pending = history.pending }
 
--- the fields of a store agree: the current data are those with the pending updates, which were accepted
-pub record IsSound (limit front : ℕ) (published current : RecordsData) (pending : List Update) : Type 0 where
+-- the fields of a store agree: the pending updates were accepted, and the stored CSIs are those with them too
+pub record IsSound (limit front : ℕ) (published : RecordsData) (stored : StoredCsisData) (pending : List Update) : Type 0 where
   pub few : front + length pending ≤ limit
   pub accepted : AcceptedFrom published pending
-  pub current_is : current ≡ state_from published pending
+  pub are_stored : AreStored stored (state_from published pending)
 
 -- how many updates are accepted
 abbrev pub update_count : StoreData → ℕ

@@ -11,6 +11,7 @@ use crate::write::write_whole;
 use camel_script::{Record, Script, push_line};
 use std::alloc::Global;
 use std::io::{Read, Write};
+use std::mem;
 
 /// The greatest number of records of a script that are read.
 pub const MAX_RECORDS: u64 = 1_000_000;
@@ -52,17 +53,20 @@ pub fn replay<R: Read + Drop, W: Write>(
         Err(refusal) => return Err(fault_at(number, refusal.code())),
     };
     let mut store = Store::new(alloc, limit);
+    let mut text = Vec::new(alloc);
     'records: loop {
         let request = match script.read_record() {
             Ok(Some(request)) => request,
             Ok(None) => break,
             Err(fault) => return Err(fault_at(number, fault.code())),
         };
-        match answer(alloc, &mut store, writer, request) {
+        match answer(alloc, &mut store, writer, &mut text, request) {
             Ok(()) => number += 1,
             Err(code) => return Err(fault_at(number, code)),
         }
     }
+    // The process ends next, and the memory of all records goes with it at once.
+    mem::forget(store);
     match writer.flush() {
         Ok(()) => Ok(()),
         Err(_) => Err(fault_at(number - 1, WRITE_FAULT)),
@@ -78,11 +82,12 @@ fn fault_at(number: u64, code: u16) -> ReplayFault
     }
 }
 
-// Answers a record, and writes its line or a part of it.
+// Answers a record, and writes its line or a part of it. The text is put together in the room of the last line.
 fn answer<W: Write>(
     alloc: Global,
     store: &mut Store,
     writer: &mut W,
+    text: &mut Vec<u8>,
     request: Record,
 ) -> Result<(), u16>
     ensures line { OnOk result (Appends (W.contents writer.old) (W.contents writer.new)
@@ -97,8 +102,8 @@ fn answer<W: Write>(
         Ok(line) => line,
         Err(refusal) => return Err(refusal.code()),
     };
-    let mut text = Vec::new(alloc);
-    if let Err(refusal) = push_line(alloc, &mut text, &line) {
+    text.clear();
+    if let Err(refusal) = push_line(alloc, text, &line) {
         return Err(refusal.code());
     }
     match write_whole(writer, text.as_slice()) {

@@ -1,9 +1,10 @@
 ghost use Rattle.std.specs.Prelude.{◌≡◌, ◌+◌, ◌⊎◌, [], ◌∷◌, ◌++◌, Some, None, IfErr, IfOk, OnErr, OnOk, length};
-ghost use Rattle.camel_rows.specs.Update.{after, refusal};
+ghost use Rattle.camel_rows.specs.StoredCsis.{with_csis};
+ghost use Rattle.camel_rows.specs.Update.{update_imsi};
 ghost use Rattle.camel_replay.specs.Store.{StoreData, empty_store, store_after, store_answer, store_line, store_refusal, update_count};
 
 use camel_criteria::Refusal;
-use camel_rows::{Answer, CallEvent, Outcome, Records, Update};
+use camel_rows::{Answer, CallEvent, Outcome, Records, StoredCsis, Update, WhichCsis};
 use camel_script::{Line, Record};
 use std::alloc::Global;
 use std::collections::VecDeque;
@@ -18,8 +19,8 @@ pub struct Store {
     limit: u64,
     front: u64,
     published: Records,
-    // The data with the pending updates too, by which updates are refused.
-    current: Records,
+    // The CSIs that are stored with the pending updates too, by which updates are refused.
+    stored: StoredCsis,
     pending: VecDeque<Update>,
 }
 
@@ -33,7 +34,7 @@ impl Model for Store {
 
     ghost view = { λ a. record { limit = a.limit; front = a.front; published = a.published; pending = a.pending.items } };
 
-    ghost invariant = { λ a. IsSound a.limit a.front a.published a.current a.pending.items };
+    ghost invariant = { λ a. IsSound a.limit a.front a.published a.stored a.pending.items };
 }
 
 impl Store {
@@ -45,7 +46,7 @@ impl Store {
             limit,
             front: 0,
             published: Records::new(alloc),
-            current: Records::new(alloc),
+            stored: StoredCsis::new(alloc),
             pending: VecDeque::new(alloc),
         }
     }
@@ -87,12 +88,12 @@ impl Store {
         ensures refused { IfErr result (λ why.
             (why ≡ Refusal.OutOfMemory) ⊎ (store_refusal self.old update ≡ Some why)) }
     {
-        self.current.check(&update)?;
+        let csis = self.stored.after(&update)?;
         let count = self.front + self.pending.len() as u64;
         if count == self.limit {
             return Err(Refusal::HistoryFull);
         }
-        take(&mut self.current, &mut self.pending, update)?;
+        take(&mut self.stored, &mut self.pending, update, csis)?;
         Ok(count + 1)
     }
 
@@ -122,28 +123,26 @@ impl Store {
     }
 }
 
-// Applies an update that is not refused, and puts it at the end of the pending ones. An error leaves both
-// as they are.
+// Puts an update at the end of the pending ones, and the CSIs that it leaves in the record of its IMSI. An error
+// leaves both as they are.
 fn take(
-    current: &mut Records,
+    stored: &mut StoredCsis,
     pending: &mut VecDeque<Update>,
     update: Update,
+    csis: Option<WhichCsis>,
 ) -> Result<(), Refusal>
-    requires { refusal current.old update ≡ None }
-    ensures applied { OnOk result (current.new ≡ after current.old update) }
+    ensures put { OnOk result (stored.new ≡ with_csis stored.old (update_imsi update) csis) }
     ensures pushed { OnOk result (pending.new.items ≡ pending.old.items ++ update ∷ []) }
-    ensures unchanged { OnErr result ((current.new ≡ current.old) × (pending.new.items ≡ pending.old.items)) }
+    ensures unchanged { OnErr result ((stored.new ≡ stored.old) × (pending.new.items ≡ pending.old.items)) }
     ensures only { IfErr result (λ why. why ≡ Refusal.OutOfMemory) }
 {
+    let imsi = update.imsi();
     pending.push_back(update)?;
-    if let Some(last) = pending.back() {
-        match current.apply(last) {
-            Ok(()) => {}
-            Err(refusal) => {
-                pending.pop_back();
-                return Err(refusal);
-            }
+    match stored.put(imsi, csis) {
+        Ok(()) => Ok(()),
+        Err(error) => {
+            pending.pop_back();
+            Err(error.into())
         }
     }
-    Ok(())
 }

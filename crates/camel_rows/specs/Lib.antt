@@ -8,6 +8,7 @@ pub mod Outcome
 pub mod Received
 pub mod Records
 pub mod Rows
+pub mod StoredCsis
 pub mod Subscriber
 pub mod TdpRow
 pub mod Update

@@ -8,13 +8,14 @@ use crate::change::Change;
 use crate::o_criteria_set::OCriteriaSet;
 use crate::o_csi::OCsi;
 use camel_criteria::OCriteria;
-use std::alloc::AllocError;
+use std::alloc::{AllocError, Global};
 use std::marker::Model;
 
 // An O-CSI that is stored, with its criteria, if it has some.
 #[derive(Debug, Drop)]
 pub(crate) struct OHalf {
-    csi: OCsi,
+    // Boxed, so that the records of many subscribers lie close together in their table.
+    csi: Box<OCsi>,
     criteria: Option<OCriteriaSet>,
 }
 
@@ -25,12 +26,13 @@ impl Model for OHalf {
 
     ghost Value = { Half OCriteriaData };
 
-    ghost view = { λ a. record { rows = a.csi; entries = unwrap_or a.criteria [] } };
+    ghost view = { λ a. record { rows = a.csi.value; entries = unwrap_or a.criteria [] } };
 }
 
 impl OHalf {
     // What an Insert makes of the half that is stored, where it brings this CSI and these criteria, if any.
     pub(crate) fn inserted(
+        alloc: Global,
         stored: Option<&OHalf>,
         csi: Option<OCsi>,
         criteria: &Option<OCriteriaSet>,
@@ -40,11 +42,11 @@ impl OHalf {
     {
         let csi = match (csi, stored, criteria) {
             (Some(csi), _, _) => csi,
-            (None, Some(half), Some(_)) => half.csi,
+            (None, Some(half), Some(_)) => *half.csi,
             _ => return Ok(Change::Keep),
         };
         Ok(Change::Put(OHalf {
-            csi,
+            csi: Box::new(alloc, csi)?,
             criteria: criteria.clone()?,
         }))
     }
@@ -70,7 +72,7 @@ impl Clone for OHalf {
 
     fn clone(&self) -> Result<OHalf, AllocError> {
         Ok(OHalf {
-            csi: self.csi,
+            csi: self.csi.clone()?,
             criteria: self.criteria.clone()?,
         })
     }

@@ -21,6 +21,7 @@ use std::marker::Model;
 /// Contracts see them as a finite map from IMSIs to records.
 #[derive(Debug, Drop)]
 pub struct Records {
+    alloc: Global,
     table: BTreeMap<Imsi, Subscriber>,
 }
 
@@ -45,6 +46,7 @@ impl Records {
         ensures { result ≡ no_records }
     {
         Records {
+            alloc,
             table: BTreeMap::new(alloc),
         }
     }
@@ -108,8 +110,8 @@ impl Records {
                 t_criteria,
             } => {
                 if let Some(subscriber) = self.get(imsi) {
-                    let o = subscriber.o_inserted(*o, o_criteria)?;
-                    let vt = subscriber.vt_inserted(*vt, t_criteria)?;
+                    let o = subscriber.o_inserted(self.alloc, *o, o_criteria)?;
+                    let vt = subscriber.vt_inserted(self.alloc, *vt, t_criteria)?;
                     self.change(imsi, o, vt);
                 }
             }
@@ -164,6 +166,7 @@ impl Clone for Records {
 
     fn clone(&self) -> Result<Records, AllocError> {
         Ok(Records {
+            alloc: self.alloc,
             table: self.table.clone()?,
         })
     }

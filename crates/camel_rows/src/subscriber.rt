@@ -14,7 +14,7 @@ use crate::t_criteria_set::TCriteriaSet;
 use crate::tdp_row::TdpRow;
 use crate::vt_csi::VtCsi;
 use crate::vt_half::VtHalf;
-use std::alloc::AllocError;
+use std::alloc::{AllocError, Global};
 use std::marker::Model;
 
 /// The record of one subscriber: the O-CSI and the VT-CSI, where they are stored, each with its criteria.
@@ -111,23 +111,25 @@ impl Subscriber {
     // What an Insert makes of the half of the O-CSI.
     pub(crate) fn o_inserted(
         &self,
+        alloc: Global,
         csi: Option<OCsi>,
         criteria: &Option<OCriteriaSet>,
     ) -> Result<Change<OHalf>, AllocError>
         ensures { IfOk result (λ change. changed self.now.o change ≡ half_after self.now.o csi criteria.now) }
     {
-        OHalf::inserted(self.o.as_ref(), csi, criteria)
+        OHalf::inserted(alloc, self.o.as_ref(), csi, criteria)
     }
 
     // What an Insert makes of the half of the VT-CSI.
     pub(crate) fn vt_inserted(
         &self,
+        alloc: Global,
         csi: Option<VtCsi>,
         criteria: &Option<TCriteriaSet>,
     ) -> Result<Change<VtHalf>, AllocError>
         ensures { IfOk result (λ change. changed self.now.vt change ≡ half_after self.now.vt csi criteria.now) }
     {
-        VtHalf::inserted(self.vt.as_ref(), csi, criteria)
+        VtHalf::inserted(alloc, self.vt.as_ref(), csi, criteria)
     }
 
     // Changes both halves.

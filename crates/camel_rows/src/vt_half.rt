@@ -8,13 +8,14 @@ use crate::change::Change;
 use crate::t_criteria_set::TCriteriaSet;
 use crate::vt_csi::VtCsi;
 use camel_criteria::TCriteria;
-use std::alloc::AllocError;
+use std::alloc::{AllocError, Global};
 use std::marker::Model;
 
 // A VT-CSI that is stored, with its criteria, if it has some.
 #[derive(Debug, Drop)]
 pub(crate) struct VtHalf {
-    csi: VtCsi,
+    // Boxed, so that the records of many subscribers lie close together in their table.
+    csi: Box<VtCsi>,
     criteria: Option<TCriteriaSet>,
 }
 
@@ -25,12 +26,13 @@ impl Model for VtHalf {
 
     ghost Value = { Half TCriteriaData };
 
-    ghost view = { λ a. record { rows = a.csi; entries = unwrap_or a.criteria [] } };
+    ghost view = { λ a. record { rows = a.csi.value; entries = unwrap_or a.criteria [] } };
 }
 
 impl VtHalf {
     // What an Insert makes of the half that is stored, where it brings this CSI and these criteria, if any.
     pub(crate) fn inserted(
+        alloc: Global,
         stored: Option<&VtHalf>,
         csi: Option<VtCsi>,
         criteria: &Option<TCriteriaSet>,
@@ -40,11 +42,11 @@ impl VtHalf {
     {
         let csi = match (csi, stored, criteria) {
             (Some(csi), _, _) => csi,
-            (None, Some(half), Some(_)) => half.csi,
+            (None, Some(half), Some(_)) => *half.csi,
             _ => return Ok(Change::Keep),
         };
         Ok(Change::Put(VtHalf {
-            csi,
+            csi: Box::new(alloc, csi)?,
             criteria: criteria.clone()?,
         }))
     }
@@ -70,7 +72,7 @@ impl Clone for VtHalf {
 
     fn clone(&self) -> Result<VtHalf, AllocError> {
         Ok(VtHalf {
-            csi: self.csi,
+            csi: self.csi.clone()?,
             criteria: self.criteria.clone()?,
         })
     }

@@ -1,5 +1,4 @@
 pub mod CsvRecords
 pub mod InTurn
-pub mod LineLemmas
 pub mod ReadRecord
 pub mod TextsLemmas

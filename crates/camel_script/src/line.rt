@@ -1,4 +1,5 @@
-ghost use Rattle.std.specs.Prelude.{◌≡◌, ◌++◌, IfErr, IfOk, OnErr, OnOk, string_bytes};
+ghost use Rattle.std.specs.Prelude.{◌≡◌, ◌++◌, IfErr, IfOk, OnErr, OnOk, codes, string_bytes};
+ghost use Rattle.std.specs.Fmt.{decimal};
 ghost use Rattle.hex.specs.Hex.{encode_lower};
 ghost use Rattle.camel_rows.specs.Outcome.{action_of};
 ghost use Rattle.camel_script.specs.Line.{action_text, decided_text, line_text, reason_text};
@@ -6,7 +7,11 @@ ghost use Rattle.camel_script.specs.Line.{action_text, decided_text, line_text, 
 use camel_criteria::{Handling, Refusal};
 use camel_rows::{Answer, CallAction, Outcome, Reason, on_failure};
 use camel_tbcd::IsdnAddress;
+use itoa::Buffer;
 use std::alloc::{AllocError, Global};
+
+// Room for any line that has not very great numbers, so that its text is put together in one place.
+const LINE_ROOM: usize = 96;
 
 /// A line of output, in the texts of docs/SCRIPT.md.
 #[derive(Clone, Copy, Debug)]
@@ -30,23 +35,34 @@ pub fn push_line(alloc: Global, out: &mut Vec<u8>, line: &Line) -> Result<(), Re
     ensures only { IfErr result (λ why. why ≡ Refusal.OutOfMemory) }
 {
     let text = text_of(alloc, line)?;
-    out.extend_from_slice(text.as_bytes())?;
+    out.extend_from_slice(&text)?;
     Ok(())
 }
 
-fn text_of(alloc: Global, line: &Line) -> Result<String, AllocError>
-    ensures { IfOk result (λ text. string_bytes text ≡ line_text line.now) }
+fn text_of(alloc: Global, line: &Line) -> Result<Vec<u8>, AllocError>
+    ensures { IfOk result (λ text. text.items ≡ line_text line.now) }
 {
     match line {
-        Line::Accepted(number) => format!(in alloc; "accepted {number}\n"),
-        Line::Refused(code) => format!(in alloc; "refused {code}\n"),
-        Line::Published(front) => format!(in alloc; "published {front}\n"),
+        Line::Accepted(number) => numbered_text(alloc, "accepted ", *number),
+        Line::Refused(code) => numbered_text(alloc, "refused ", u64::from(*code)),
+        Line::Published(front) => numbered_text(alloc, "published ", *front),
         Line::Decided(answer) => decided_text(alloc, answer),
     }
 }
 
-fn decided_text(alloc: Global, answer: &Answer) -> Result<String, AllocError>
-    ensures { IfOk result (λ text. string_bytes text ≡ decided_text answer.now.front answer.now.outcome) }
+// A line of a word and a number.
+fn numbered_text(alloc: Global, word: &str, number: u64) -> Result<Vec<u8>, AllocError>
+    ensures { IfOk result (λ text. text.items ≡ word.now ++ decimal number ++ codes "\n") }
+{
+    let mut text = Vec::with_capacity(alloc, LINE_ROOM)?;
+    push_text(&mut text, word)?;
+    push_decimal(&mut text, number)?;
+    push_text(&mut text, "\n")?;
+    Ok(text)
+}
+
+fn decided_text(alloc: Global, answer: &Answer) -> Result<Vec<u8>, AllocError>
+    ensures { IfOk result (λ text. text.items ≡ decided_text answer.now.front answer.now.outcome) }
 {
     match answer.outcome {
         Outcome::Trigger {
@@ -66,12 +82,22 @@ fn trigger_text(
     key: u32,
     scf: IsdnAddress,
     handling: Handling,
-) -> Result<String, AllocError>
-    ensures { IfOk result (λ text. string_bytes text ≡ decided_text front (Outcome.Trigger dp key scf handling)) }
+) -> Result<Vec<u8>, AllocError>
+    ensures { IfOk result (λ text. text.items ≡ decided_text front (Outcome.Trigger dp key scf handling)) }
 {
-    let address = address_text(alloc, &scf)?;
-    let action = action_text(handling);
-    format!(in alloc; "front {front} trigger {dp} {key} {address} {action}\n")
+    let mut text = Vec::with_capacity(alloc, LINE_ROOM)?;
+    push_text(&mut text, "front ")?;
+    push_decimal(&mut text, front)?;
+    push_text(&mut text, " trigger ")?;
+    push_decimal(&mut text, u64::from(dp))?;
+    push_text(&mut text, " ")?;
+    push_decimal(&mut text, u64::from(key))?;
+    push_text(&mut text, " ")?;
+    push_text(&mut text, &address_text(alloc, &scf)?)?;
+    push_text(&mut text, " ")?;
+    push_text(&mut text, action_text(handling))?;
+    push_text(&mut text, "\n")?;
+    Ok(text)
 }
 
 fn address_text(alloc: Global, address: &IsdnAddress) -> Result<String, AllocError>
@@ -80,11 +106,29 @@ fn address_text(alloc: Global, address: &IsdnAddress) -> Result<String, AllocErr
     hex::encode(alloc, address.lend().bytes())
 }
 
-fn no_trigger_text(alloc: Global, front: u64, reason: Reason) -> Result<String, AllocError>
-    ensures { IfOk result (λ text. string_bytes text ≡ decided_text front (Outcome.NoTrigger reason)) }
+fn no_trigger_text(alloc: Global, front: u64, reason: Reason) -> Result<Vec<u8>, AllocError>
+    ensures { IfOk result (λ text. text.items ≡ decided_text front (Outcome.NoTrigger reason)) }
 {
-    let reason = reason_text(reason);
-    format!(in alloc; "front {front} none {reason}\n")
+    let mut text = Vec::with_capacity(alloc, LINE_ROOM)?;
+    push_text(&mut text, "front ")?;
+    push_decimal(&mut text, front)?;
+    push_text(&mut text, " none ")?;
+    push_text(&mut text, reason_text(reason))?;
+    push_text(&mut text, "\n")?;
+    Ok(text)
+}
+
+fn push_text(out: &mut Vec<u8>, text: &str) -> Result<(), AllocError>
+    ensures { OnOk result (out.new.items ≡ out.old.items ++ text.now) }
+{
+    out.extend_from_slice(text.as_bytes())
+}
+
+fn push_decimal(out: &mut Vec<u8>, number: u64) -> Result<(), AllocError>
+    ensures { OnOk result (out.new.items ≡ out.old.items ++ decimal number) }
+{
+    let mut digits = Buffer::new();
+    push_text(out, digits.format(number))
 }
 
 fn action_text(handling: Handling) -> &'static str

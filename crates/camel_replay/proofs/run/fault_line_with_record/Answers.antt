@@ -1,6 +1,6 @@
 use Rattle.std.proofs.Common.{◌≡◌, ℕ, List, IfOk, codes, string_bytes, subst}
 use Rattle.std.specs.Fmt.{decimal}
-use Rattle.camel_script.proofs.LineLemmas.{five_pieces}
+use Rattle.camel_replay.proofs.LineLemmas.{five_pieces}
 use Rattle.camel_replay.proofs.run.fault_line_with_record.Goals as goal
 
 pub returns : goal.returns
