@@ -3,6 +3,7 @@ pub mod Cause
 pub mod Criteria
 pub mod Event
 pub mod Handling
+pub mod ListedNumbers
 pub mod Means
 pub mod Met
 pub mod Refusal

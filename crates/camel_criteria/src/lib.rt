@@ -9,6 +9,7 @@ mod entry_limits;
 mod event;
 mod handling;
 mod laws;
+mod listed_numbers;
 mod met;
 mod number_criterion;
 mod o_criteria;

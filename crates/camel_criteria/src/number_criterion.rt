@@ -6,6 +6,7 @@ ghost use Rattle.camel_criteria.specs.Criteria.{is_length, number_criterion_of};
 ghost use Rattle.camel_criteria.specs.Refusal.{MakesOf};
 
 use crate::criteria::MatchType;
+use crate::listed_numbers::ListedNumbers;
 use crate::refusal::Refusal;
 use camel_tbcd::{Address, IsdnAddress};
 use std::alloc::{AllocError, Global};
@@ -22,16 +23,17 @@ pub const MAX_LENGTHS: usize = 3;
 #[derive(Debug, Drop)]
 pub struct NumberCriterion {
     match_type: MatchType,
-    numbers: Vec<IsdnAddress>,
+    numbers: ListedNumbers,
     lengths: Vec<u8>,
 }
 
 impl Model for NumberCriterion {
     ghost use Rattle.camel_criteria.specs.Criteria.{NumberCriterionData};
+    ghost use Rattle.camel_criteria.specs.ListedNumbers.{listed};
 
     ghost Value = { NumberCriterionData };
 
-    ghost view = { λ a. record { match_type = a.match_type; numbers = a.numbers.items; lengths = a.lengths.items } };
+    ghost view = { λ a. record { match_type = a.match_type; numbers = listed a.numbers; lengths = a.lengths.items } };
 }
 
 impl NumberCriterion {
@@ -57,7 +59,7 @@ impl NumberCriterion {
         }
         Ok(NumberCriterion {
             match_type,
-            numbers: Vec::from_slice(alloc, numbers)?,
+            numbers: ListedNumbers::from_slice(alloc, numbers)?,
             lengths: Vec::from_slice(alloc, lengths)?,
         })
     }
@@ -73,14 +75,14 @@ impl NumberCriterion {
     pub fn numbers(&self) -> &[IsdnAddress]
         ensures { result.now ≡ self.now.numbers }
     {
-        &self.numbers
+        self.numbers.as_slice()
     }
 
     /// The listed number at a place, from 0, borrowed; None from their count on.
     pub fn number(&self, at: usize) -> Option<Address<'_>>
         ensures { option_map octets result ≡ slice_get self.now.numbers at }
     {
-        match self.numbers.get(at) {
+        match self.numbers.as_slice().get(at) {
             Some(number) => Some(number.lend()),
             None => None,
         }
@@ -108,7 +110,7 @@ impl Clone for NumberCriterion {
     fn clone(&self) -> Result<NumberCriterion, AllocError> {
         Ok(NumberCriterion {
             match_type: self.match_type,
-            numbers: self.numbers.clone()?,
+            numbers: self.numbers.copy()?,
             lengths: self.lengths.clone()?,
         })
     }

@@ -83,7 +83,10 @@ fn push_o_entry(alloc: Global, entries: &mut Vec<OCriteria>, item: &[u8]) -> Res
     if part_count(item, ITEM_SEPARATOR) != 6 {
         return Err(Stop::FieldCount);
     }
-    entries.push(o_entry_of_parts(alloc, item)?)?;
+    let entry = o_entry_of_parts(alloc, item)?;
+    // Most lists have one entry, and are kept as they are.
+    entries.reserve_exact(1)?;
+    entries.push(entry)?;
     Ok(())
 }
 
@@ -94,7 +97,9 @@ fn push_t_entry(alloc: Global, entries: &mut Vec<TCriteria>, item: &[u8]) -> Res
     if part_count(item, ITEM_SEPARATOR) != 4 {
         return Err(Stop::FieldCount);
     }
-    entries.push(t_entry_of_parts(alloc, item)?)?;
+    let entry = t_entry_of_parts(alloc, item)?;
+    entries.reserve_exact(1)?;
+    entries.push(entry)?;
     Ok(())
 }
 

@@ -1,0 +1,49 @@
+ghost use Rattle.std.specs.Prelude.{◌≡◌, IfOk};
+ghost use Rattle.camel_criteria.specs.ListedNumbers.{listed};
+
+use camel_tbcd::IsdnAddress;
+use std::alloc::{AllocError, Global};
+
+// The listed numbers of a criterion. One or two, as most criteria have, are kept in place, so that they are read
+// with the criterion; others are kept apart from it.
+#[derive(Debug, Drop)]
+pub(crate) enum ListedNumbers {
+    One([IsdnAddress; 1]),
+    Two([IsdnAddress; 2]),
+    Apart(Vec<IsdnAddress>),
+}
+
+impl ListedNumbers {
+    pub(crate) fn from_slice(
+        alloc: Global,
+        numbers: &[IsdnAddress],
+    ) -> Result<ListedNumbers, AllocError>
+        ensures { IfOk result (λ kept. listed kept ≡ numbers.now) }
+    {
+        match numbers {
+            [first] => Ok(ListedNumbers::One([*first])),
+            [first, second] => Ok(ListedNumbers::Two([*first, *second])),
+            _ => Ok(ListedNumbers::Apart(Vec::from_slice(alloc, numbers)?)),
+        }
+    }
+
+    pub(crate) fn as_slice(&self) -> &[IsdnAddress]
+        ensures { result.now ≡ listed self.now }
+    {
+        match self {
+            ListedNumbers::One(numbers) => numbers,
+            ListedNumbers::Two(numbers) => numbers,
+            ListedNumbers::Apart(numbers) => numbers,
+        }
+    }
+
+    pub(crate) fn copy(&self) -> Result<ListedNumbers, AllocError>
+        ensures { IfOk result (λ copied. listed copied ≡ listed self.now) }
+    {
+        Ok(match self {
+            ListedNumbers::One(numbers) => ListedNumbers::One(*numbers),
+            ListedNumbers::Two(numbers) => ListedNumbers::Two(*numbers),
+            ListedNumbers::Apart(numbers) => ListedNumbers::Apart(numbers.clone()?),
+        })
+    }
+}
