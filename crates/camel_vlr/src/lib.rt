@@ -21,3 +21,6 @@ pub use look::{Look, NoLook};
 pub use receipt::Receipt;
 pub use session::Session;
 pub use store::Vlr;
+
+#[cfg(test)]
+mod tests;
