@@ -1,14 +1,20 @@
 ghost use Rattle.std.specs.Prelude.{◌≡◌, ◌≤◌, All, IfOk, vec_len};
 ghost use Rattle.camel_vlr.specs.Store.{fresh};
 
+mod closing;
+mod limits;
 mod looking;
+mod memory;
+mod refusals;
 
 use crate::{CloseRefused, Session, Vlr};
 use camel_criteria::{BasicService, Handling, MatchType, NumberCriterion, OCriteria, Refusal};
 use camel_rows::{CallEvent, Decision, Lent, OCriteriaSet, OCsi, Reason, Records, TdpRow, Update};
 use camel_tbcd::{Address, AddressFault, CallAddress, Imsi, ImsiFault, IsdnAddress};
 use std::alloc::Global;
+use std::process::Abort;
 use std::sync::Wait;
+use std::test::Fail;
 
 // The gsmSCF address of each row.
 pub const SCF: [u8; 6] = [0x91, 0x94, 0x71, 0x16, 0x00, 0x00];
@@ -277,4 +283,34 @@ pub fn closed<R: Wait>(rt: &R, store: Vlr, session: &mut Session) -> Result<Reco
             Err(why)
         }
     }
+}
+
+// Registers a subscriber, inserts the row, publishes both, and lets the session learn and look.
+pub fn filled<R: Wait + Abort>(
+    rt: &R,
+    store: &mut Vlr,
+    session: &mut Session,
+    imsi: Imsi,
+) -> Result<(), Fail>
+    requires { session.old.store ≡ store.old.store }
+    ensures store { store.new.store ≡ store.old.store }
+    ensures session { session.new.store ≡ session.old.store }
+{
+    let call = call_of(imsi)?;
+    let insert = row_update(imsi)?;
+    assert_eq!(rt; store.submit(Update::Register { imsi }), Ok(1));
+    assert_eq!(rt; store.submit(insert), Ok(2));
+    let receipt = store.publish(rt)?;
+    assert_eq!(rt; receipt.front(), 2);
+    session.learn(receipt);
+    assert_eq!(rt; asked(session, &call), Some((2, Ok((100, None)))));
+    Ok(())
+}
+
+// The row and the entry of a subscriber at detection point 2.
+pub fn held(records: &Records, imsi: &Imsi) -> Option<(Option<RowTold>, Option<Entry>)> {
+    let subscriber = records.get(imsi)?;
+    let row = subscriber.row(2).map(row_told);
+    let entry = subscriber.criteria(2).map(entry_told);
+    Some((row, entry))
 }

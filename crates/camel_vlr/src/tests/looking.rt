@@ -1,7 +1,7 @@
 ghost use Rattle.std.specs.Prelude.{◌≡◌};
 
 use super::{
-    ARMED, LISTED, asked, call_of, closed, criteria_update, imsi_of, lent, opened_with_one,
+    ARMED, LISTED, asked, call_of, closed, criteria_update, filled, imsi_of, lent, opened_with_one,
     opened_with_two, row_update,
 };
 use crate::{Session, Vlr};
@@ -30,12 +30,7 @@ fn decides_by_what_was_published<R: Wait + Abort>(
     let imsi = imsi_of(1)?;
     let call = call_of(imsi)?;
     assert_eq!(rt; asked(session, &call), Some((0, Err(Reason::Unknown))));
-    assert_eq!(rt; store.submit(Update::Register { imsi }), Ok(1));
-    assert_eq!(rt; store.submit(row_update(imsi)?), Ok(2));
-    let receipt = store.publish(rt)?;
-    assert_eq!(rt; receipt.front(), 2);
-    session.learn(receipt);
-    assert_eq!(rt; asked(session, &call), Some((2, Ok((100, None)))));
+    filled(rt, store, session, imsi)?;
     assert_eq!(rt; lent(session, &imsi, 2), Some((2, Some(ARMED), None)));
     assert_eq!(rt; lent(session, &imsi, 4), Some((2, None, None)));
     Ok(())
