@@ -6,6 +6,7 @@ mod limits;
 mod looking;
 mod memory;
 mod refusals;
+mod threads;
 
 use crate::{CloseRefused, Session, Vlr};
 use camel_criteria::{BasicService, Handling, MatchType, NumberCriterion, OCriteria, Refusal};
