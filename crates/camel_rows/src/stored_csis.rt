@@ -1,4 +1,4 @@
-ghost use Rattle.std.specs.Prelude.{◌≡◌, Some, None, IfErr, IfOk, OnErr, OnOk};
+ghost use Rattle.std.specs.Prelude.{◌≡◌, Some, None, IfErr, IfOk, IsSome, OnErr, OnOk};
 ghost use Rattle.std.specs.FinMap as map;
 ghost use Rattle.camel_rows.specs.StoredCsis.{csis_after, csis_refusal, no_stored_csis, with_csis};
 ghost use Rattle.camel_rows.specs.Update.{update_imsi};
@@ -77,7 +77,19 @@ impl StoredCsis {
         }
     }
 
-    fn get(&self, imsi: &Imsi) -> Option<WhichCsis>
+    /// Puts back what stood before a put, where a subscriber has an entry since. It takes no memory.
+    pub fn put_back(&mut self, imsi: &Imsi, before: Option<WhichCsis>)
+        requires { IsSome (map.get self.old imsi.now) }
+        ensures { self.new ≡ with_csis self.old imsi.now before }
+    {
+        match before {
+            Some(csis) => *self.table.get_mut(imsi).unwrap() = csis,
+            None => self.take_out(imsi),
+        }
+    }
+
+    /// The CSIs that are stored in the record of an IMSI; None where there is no record.
+    pub fn get(&self, imsi: &Imsi) -> Option<WhichCsis>
         ensures { result ≡ map.get self.now imsi.now }
     {
         self.table.get(imsi).copied()
@@ -91,7 +103,8 @@ impl StoredCsis {
         Ok(())
     }
 
-    fn take_out(&mut self, imsi: &Imsi)
+    /// Takes the entry of an IMSI out, if there is one. It takes no memory.
+    pub fn take_out(&mut self, imsi: &Imsi)
         ensures { self.new ≡ map.remove self.old imsi.now }
     {
         self.table.remove(imsi);

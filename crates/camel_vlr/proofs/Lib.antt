@@ -1,6 +1,7 @@
 pub mod ChangeLemmas
-pub mod DirectoryLemmas
 pub mod FrontLemmas
 pub mod OwnUpdatesLemmas
 pub mod PublicationLemmas
 pub mod RuleLemmas
+pub mod StoredCsisLemmas
+pub mod SubmissionLemmas

@@ -40,8 +40,8 @@ own_leave imsi m n (update ∷ updates) accepted same =
         let there : map.get m (update_imsi update) ≡ map.get n (update_imsi update) = subst (λ (key : List ℕ). map.get m key ≡ map.get n key) (sym own) same in
         let free : refusal n update ≡ None = sym (same_refusal m n update there) ∙ accepted.0 in
         let next : map.get (after m update) imsi ≡ map.get (after n update) imsi =
-            subst (λ (key : List ℕ). map.get (after m update) key ≡ map.get (after n update) key) own
-                (own_record m update accepted.0 ∙ ap (λ old. record_after old update) there ∙ sym (own_record n update free)) in
+        subst (λ (key : List ℕ). map.get (after m update) key ≡ map.get (after n update) key) own
+        (own_record m update accepted.0 ∙ ap (λ old. record_after old update) there ∙ sym (own_record n update free)) in
         let rest = further (after n update) next in
         record { accepted = rw e (free, rest.accepted); leaves = rw e rest.leaves }
     by_test further false e =

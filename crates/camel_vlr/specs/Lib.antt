@@ -1,5 +1,4 @@
 pub mod Change
-pub mod Directory
 pub mod Fronts
 pub mod OwnUpdates
 pub mod PublishedCopy

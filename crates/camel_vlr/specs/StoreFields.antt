@@ -2,10 +2,10 @@
 use Rattle.std.specs.Prelude.{◌≡◌, ◌≤◌, List, ◌++◌, drop, length}
 use Rattle.left_right.specs.Sides.{view}
 use Rattle.camel_rows.specs.Front.{Extends, IsFront}
+use Rattle.camel_rows.specs.StoredCsis.{AreStored}
 use Rattle.camel_rows.specs.Update.{state}
 use Rattle.camel_rows.specs.declared.update.Update.{Update}
 use Rattle.camel_vlr.specs.Change.{updates_among}
-use Rattle.camel_vlr.specs.Directory.{Lists}
 use Rattle.camel_vlr.specs.PublishedCopy.{IsOfItsFront}
 use Rattle.camel_vlr.specs.Rule.{Knows}
 use Rattle.camel_vlr.specs.Store.{StoreData}
@@ -31,4 +31,4 @@ pub record IsStore (a : Inside) : Type 0 where
   -- the history goes beyond what is published, and not beyond what is pending
   pub within : Extends (published_in a ++ pending_in a) a.history.updates
   pub beyond : Extends a.history.updates (published_in a)
-  pub directory : Lists a.directory (state (published_in a ++ pending_in a))
+  pub directory : AreStored a.directory (state (published_in a ++ pending_in a))

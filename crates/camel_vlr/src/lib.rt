@@ -4,7 +4,6 @@
 
 mod change;
 mod closing;
-mod directory;
 mod look;
 mod publication;
 mod published_copy;

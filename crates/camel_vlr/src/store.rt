@@ -2,7 +2,6 @@ ghost use Rattle.std.specs.Prelude.{◌≡◌, ◌+◌, ◌≤◌, ◌⊎◌, []
 ghost use Rattle.camel_vlr.specs.Store.{accepted, fresh, submission_refusal};
 
 use crate::change::Change;
-use crate::directory::Directory;
 use crate::publication::{StoreWriter, publish_all, record_all, seal};
 use crate::published_copy::PublishedCopy;
 use crate::receipt::Receipt;
@@ -11,7 +10,7 @@ use crate::session::Session;
 use crate::submission::take;
 use camel_criteria::Refusal;
 use camel_history::History;
-use camel_rows::Update;
+use camel_rows::{StoredCsis, Update};
 use core::mem::replace_with;
 use left_right::writer::Writer;
 use std::alloc::Global;
@@ -25,7 +24,8 @@ use std::sync::Wait;
 pub struct Vlr {
     writer: StoreWriter,
     history: History,
-    directory: Directory,
+    // Who has a record by all accepted updates, and which CSIs are stored in it.
+    directory: StoredCsis,
     // How many updates are pending.
     pending: u64,
     limit: u64,
@@ -98,7 +98,7 @@ impl Vlr {
             Ok(()) => Ok(Vlr {
                 writer,
                 history,
-                directory: Directory::new(alloc),
+                directory: StoredCsis::new(alloc),
                 pending: 0,
                 limit,
             }),
@@ -132,12 +132,12 @@ impl Vlr {
         ensures number { IfOk result (λ number. number ≡ length (accepted self.new)) }
         ensures unchanged { OnErr result (self.new ≡ self.old) }
     {
-        let entry = self.directory.entry_after(&update)?;
+        let csis = self.directory.after(&update)?;
         let number = self.writer.published().count + self.pending;
         if number == self.limit {
             return Err(Refusal::HistoryFull);
         }
-        take(&mut self.writer, &mut self.directory, update, entry)?;
+        take(&mut self.writer, &mut self.directory, update, csis)?;
         self.pending += 1;
         Ok(number + 1)
     }

@@ -1,12 +1,12 @@
 use Rattle.std.proofs.Common.{◌≡◌, ◌∙◌, [], ◌++◌, append-nil, ap, drop, refl, subst, sym}
 use Rattle.left_right.specs.Sides.{view}
 use Rattle.camel_history.specs.Beginning.{BeginningData}
+use Rattle.camel_rows.proofs.StoredCsisLemmas.{AreStored-empty}
 use Rattle.camel_rows.specs.Front.{IsFront}
+use Rattle.camel_rows.specs.StoredCsis.{AreStored}
 use Rattle.camel_rows.specs.Update.{state}
-use Rattle.camel_vlr.proofs.DirectoryLemmas.{lists_nobody}
 use Rattle.camel_vlr.proofs.PublicationLemmas.{where_ok}
 use Rattle.camel_vlr.specs.Change.{updates_among}
-use Rattle.camel_vlr.specs.Directory.{Lists}
 use Rattle.camel_vlr.specs.Rule.{Knows}
 use Rattle.camel_vlr.proofs.store.Vlr.empty.Goals as goal
 
@@ -29,5 +29,5 @@ invariant_of-result g c =
       store = sym (ap (λ x. x.store) same);
       within = ([], all ∙ ap (λ x. x.updates) same ∙ sym (append-nil c.new-history.result.updates));
       beyond = ([], sym (ap (λ x. x.updates) same) ∙ sym (append-nil copy.front.updates));
-      directory = subst (Lists c.new-in-Ok-done.result) (sym (ap state (all ∙ published))) (rw c.new-in-Ok-done.ensures lists_nobody);
+      directory = subst (AreStored c.new-in-Ok-done.result) (sym (ap state (all ∙ published))) (rw c.new-in-Ok-done.ensures AreStored-empty);
     }

@@ -2,26 +2,25 @@ use Rattle.std.proofs.Common.{◌≡◌, ◌∙◌, ap, subst, sym, IsSome, Opti
 use Rattle.std.specs.FinMap as map
 use Rattle.std.specs.Option.{option_copied_mut}
 use Rattle.camel_rows.proofs.RecordsTable.{get-entries, insert-entries}
-use Rattle.camel_vlr.specs.declared.directory.StoredHalves.{StoredHalves}
-use Rattle.camel_vlr.proofs.directory.Directory.put_back.Goals as goal
+use Rattle.camel_rows.specs.declared.stored_csis.WhichCsis.{WhichCsis}
+use Rattle.camel_rows.proofs.stored_csis.StoredCsis.put_back.Goals as goal
 
 -- what is lent is there where the entry is
-lent_there : (lent : Option (MutBor StoredHalves)) (stored : Option StoredHalves) → option_copied_mut lent ≡ stored → IsSome stored → IsSome lent
+lent_there : (lent : Option (MutBor WhichCsis)) (stored : Option WhichCsis) → option_copied_mut lent ≡ stored → IsSome stored → IsSome lent
 lent_there None stored e h = subst IsSome (sym e) h
-lent_there (Some halves) stored e h = subst IsSome (sym e) h
+lent_there (Some csis) stored e h = subst IsSome (sym e) h
 
 pub unwrap-requires : goal.unwrap-requires
 unwrap-requires c =
     let stored = c.get_mut.ensures.value ∙ sym (get-entries c.self.inside.table.entries c.args.imsi.now) ∙ ap (λ m. map.get m c.args.imsi.now) c.self.view_is in
     lent_there c.get_mut.result _ stored c.requires
 
-pub returns-in-Some-clause-some : goal.returns-in-Some-clause-some
-returns-in-Some-clause-some c halves is =
+pub returns-in-Some : goal.returns-in-Some
+returns-in-Some c =
     let entries = c.self.inside.table.entries in
     let key = c.args.imsi.now in
     let at_entries = sym (get-entries entries key) ∙ ap (λ m. map.get m key) c.self.view_is in
-    let put = c.in-Some.halves in
-    let same : put ≡ halves = cc (sym c.in-Some.is, is) in
+    let put = c.in-Some.csis in
     let held = c.get_mut.follows.holds put in
     let there = subst IsSome (sym at_entries) c.requires in
-    insert-entries entries (c.get_mut.follows.lender put).entries key put (held.3 there).0 ∙ ap (λ m. map.insert m key put) c.self.view_is ∙ ap (map.insert c.args.self.now key) same
+    rw c.in-Some.is (insert-entries entries (c.get_mut.follows.lender put).entries key put (held.3 there).0 ∙ ap (λ m. map.insert m key put) c.self.view_is)
