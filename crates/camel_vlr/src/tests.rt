@@ -2,6 +2,7 @@ ghost use Rattle.std.specs.Prelude.{◌≡◌, ◌≤◌, All, IfOk, vec_len};
 ghost use Rattle.camel_vlr.specs.Store.{fresh};
 
 mod closing;
+mod integration;
 mod limits;
 mod looking;
 mod memory;
