@@ -10,7 +10,12 @@ use std::thread::{Threads, join, map_vec};
 use std::time::Instant;
 
 /// Nanoseconds of a decision over plain records, in hundredths.
-pub fn over_records<R: Clock>(rt: &R, alloc: Global, subscribers: u64, rounds: u64) -> Option<u64> {
+pub(crate) fn over_records<R: Clock>(
+    rt: &R,
+    alloc: Global,
+    subscribers: u64,
+    rounds: u64,
+) -> Option<u64> {
     let mut records = Records::new(alloc);
     for number in 0..subscribers {
         let imsi = imsi_of(number)?;
@@ -40,7 +45,7 @@ fn decided(records: &Records, events: &[CallEvent]) -> u64 {
 
 /// Nanoseconds of look, decision and leave, in hundredths, with so many sessions in threads of their own, beside a writer that
 /// makes so many publications of ten updates.
-pub fn of_store<R: Clock + Wait + Threads + Sync>(
+pub(crate) fn of_store<R: Clock + Wait + Threads + Sync>(
     rt: &R,
     alloc: Global,
     subscribers: u64,

@@ -9,7 +9,7 @@ use std::time::Instant;
 const LIMIT: u64 = 1_000_000;
 
 /// Nanoseconds of so many submitted updates and their publication.
-pub fn of<R: Clock + Wait>(
+pub(crate) fn of<R: Clock + Wait>(
     rt: &R,
     alloc: Global,
     subscribers: u64,
@@ -28,7 +28,7 @@ pub fn of<R: Clock + Wait>(
 }
 
 /// A store with so many subscribers, of whom as many have an O-CSI as the limit allows, and its sessions.
-pub fn filled<R: Wait>(
+pub(crate) fn filled<R: Wait>(
     rt: &R,
     alloc: Global,
     subscribers: u64,
@@ -65,9 +65,9 @@ fn fill<R: Wait>(rt: &R, alloc: Global, store: &mut Vlr, subscribers: u64) -> Op
 
 /// Whom updates concern: so many of these subscribers, evenly spread over all of them.
 #[derive(Clone, Copy)]
-pub struct Concerned {
-    pub subscribers: u64,
-    pub among: u64,
+pub(crate) struct Concerned {
+    pub(crate) subscribers: u64,
+    pub(crate) among: u64,
 }
 
 impl Concerned {
@@ -78,7 +78,7 @@ impl Concerned {
 }
 
 /// So many publications of so many updates.
-pub fn batches<R: Wait>(
+pub(crate) fn batches<R: Wait>(
     rt: &R,
     alloc: Global,
     store: &mut Vlr,
