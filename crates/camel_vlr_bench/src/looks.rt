@@ -1,5 +1,5 @@
 use crate::data::{EVENTS, events, imsi_of, insert};
-use crate::publications::{Concerned, batches, filled};
+use crate::publications::{Concerned, batches, filled, with_csi};
 use camel_rows::{CallEvent, Decision, Records, Update, decide_in};
 use camel_tbcd::Address;
 use camel_vlr::Session;
@@ -20,7 +20,9 @@ pub(crate) fn over_records<R: Clock>(
     for number in 0..subscribers {
         let imsi = imsi_of(number)?;
         records.apply(&Update::Register { imsi }).ok()?;
-        records.apply(&insert(alloc, imsi).ok()?).ok()?;
+        if number < with_csi(subscribers) {
+            records.apply(&insert(alloc, imsi).ok()?).ok()?;
+        }
     }
     let events = events(alloc, subscribers)?;
     let start = Instant::now(rt).ok()?;

@@ -47,12 +47,16 @@ pub(crate) fn filled<R: Wait>(
     }
 }
 
+/// How many of so many subscribers have an O-CSI: as many as the limit of updates leaves room for.
+pub(crate) fn with_csi(subscribers: u64) -> u64 {
+    (LIMIT.saturating_sub(subscribers) / 2).min(subscribers)
+}
+
 fn fill<R: Wait>(rt: &R, alloc: Global, store: &mut Vlr, subscribers: u64) -> Option<()> {
-    let inserted = (LIMIT.saturating_sub(subscribers) / 2).min(subscribers);
     for number in 0..subscribers {
         let imsi = imsi_of(number)?;
         store.submit(Update::Register { imsi }).ok()?;
-        if number < inserted {
+        if number < with_csi(subscribers) {
             store.submit(insert(alloc, imsi).ok()?).ok()?;
         }
         if number % 1000 == 999 {
