@@ -1,5 +1,5 @@
 use crate::data::{EVENTS, events, imsi_of, insert};
-use crate::publications::{Concerned, batches, filled, with_csi};
+use crate::publications::{Concerned, batches, filled};
 use camel_rows::{CallEvent, Decision, Records, Update, decide_in};
 use camel_tbcd::Address;
 use camel_vlr::Session;
@@ -10,19 +10,12 @@ use std::thread::{Threads, join, map_vec};
 use std::time::Instant;
 
 /// Nanoseconds of a decision over plain records, in hundredths.
-pub(crate) fn over_records<R: Clock>(
-    rt: &R,
-    alloc: Global,
-    subscribers: u64,
-    rounds: u64,
-) -> Option<u64> {
+pub fn over_records<R: Clock>(rt: &R, alloc: Global, subscribers: u64, rounds: u64) -> Option<u64> {
     let mut records = Records::new(alloc);
     for number in 0..subscribers {
         let imsi = imsi_of(number)?;
         records.apply(&Update::Register { imsi }).ok()?;
-        if number < with_csi(subscribers) {
-            records.apply(&insert(alloc, imsi).ok()?).ok()?;
-        }
+        records.apply(&insert(alloc, imsi).ok()?).ok()?;
     }
     let events = events(alloc, subscribers)?;
     let start = Instant::now(rt).ok()?;
@@ -47,7 +40,7 @@ fn decided(records: &Records, events: &[CallEvent]) -> u64 {
 
 /// Nanoseconds of look, decision and leave, in hundredths, with so many sessions in threads of their own, beside a writer that
 /// makes so many publications of ten updates.
-pub(crate) fn of_store<R: Clock + Wait + Threads + Sync>(
+pub fn of_store<R: Clock + Wait + Threads + Sync>(
     rt: &R,
     alloc: Global,
     subscribers: u64,

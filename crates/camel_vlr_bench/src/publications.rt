@@ -9,7 +9,7 @@ use std::time::Instant;
 const LIMIT: u64 = 1_000_000;
 
 /// Nanoseconds of so many submitted updates and their publication.
-pub(crate) fn of<R: Clock + Wait>(
+pub fn of<R: Clock + Wait>(
     rt: &R,
     alloc: Global,
     subscribers: u64,
@@ -28,7 +28,7 @@ pub(crate) fn of<R: Clock + Wait>(
 }
 
 /// A store with so many subscribers, of whom as many have an O-CSI as the limit allows, and its sessions.
-pub(crate) fn filled<R: Wait>(
+pub fn filled<R: Wait>(
     rt: &R,
     alloc: Global,
     subscribers: u64,
@@ -47,16 +47,12 @@ pub(crate) fn filled<R: Wait>(
     }
 }
 
-/// How many of so many subscribers have an O-CSI: as many as the limit of updates leaves room for.
-pub(crate) fn with_csi(subscribers: u64) -> u64 {
-    (LIMIT.saturating_sub(subscribers) / 2).min(subscribers)
-}
-
 fn fill<R: Wait>(rt: &R, alloc: Global, store: &mut Vlr, subscribers: u64) -> Option<()> {
+    let inserted = (LIMIT.saturating_sub(subscribers) / 2).min(subscribers);
     for number in 0..subscribers {
         let imsi = imsi_of(number)?;
         store.submit(Update::Register { imsi }).ok()?;
-        if number < with_csi(subscribers) {
+        if number < inserted {
             store.submit(insert(alloc, imsi).ok()?).ok()?;
         }
         if number % 1000 == 999 {
@@ -69,9 +65,9 @@ fn fill<R: Wait>(rt: &R, alloc: Global, store: &mut Vlr, subscribers: u64) -> Op
 
 /// Whom updates concern: so many of these subscribers, evenly spread over all of them.
 #[derive(Clone, Copy)]
-pub(crate) struct Concerned {
-    pub(crate) subscribers: u64,
-    pub(crate) among: u64,
+pub struct Concerned {
+    pub subscribers: u64,
+    pub among: u64,
 }
 
 impl Concerned {
@@ -82,7 +78,7 @@ impl Concerned {
 }
 
 /// So many publications of so many updates.
-pub(crate) fn batches<R: Wait>(
+pub fn batches<R: Wait>(
     rt: &R,
     alloc: Global,
     store: &mut Vlr,
