@@ -9,7 +9,7 @@ LOG := crates/camel_replay/out/build.log
 # An example, and the limit with which it is replayed.
 EXAMPLES := first-call:1000000 prepaid:1000000 change-of-profile:1000000 refusals:3
 
-.PHONY: program replay examples bench bench-vlr test
+.PHONY: program replay examples bench bench-program bench-vlr count-vlr test
 
 # Proves and builds the program where a source has changed, some minutes the first time.
 program:
@@ -30,9 +30,15 @@ examples: program
 bench: program
 	@bench/run
 
-bench-vlr:
+bench-program:
 	@(cd crates/camel_vlr_bench && mkdir -p out && rt run < /dev/null) > crates/camel_vlr_bench/out/build.log 2>&1
+
+bench-vlr: bench-program
 	@bench/run-vlr
+
+# Needs valgrind.
+count-vlr: bench-program
+	@bench/count-vlr
 
 test:
 	rt ci

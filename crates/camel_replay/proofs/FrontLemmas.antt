@@ -4,14 +4,14 @@ use Rattle.std.proofs.lemmas.Bool.Decides.{nat_tests}
 use Rattle.std.proofs.lemmas.List.{append-nil, length-append}
 use Rattle.camel_criteria.specs.declared.refusal.Refusal.{Refusal}
 use Rattle.camel_rows.proofs.UpdateLemmas.{AcceptedFrom-prefix, AcceptedFrom-push}
-use Rattle.camel_rows.specs.Front.{Extends, IsFront}
+use Rattle.camel_rows.specs.Front.{Extends, IsFront, or_full}
 use Rattle.camel_rows.specs.Records.{no_records}
 use Rattle.camel_rows.specs.Update.{refusal, state}
 use Rattle.camel_rows.specs.declared.update.Update.{Update}
 use Rattle.camel_script.specs.declared.record.Record.{Record}
 use Rattle.camel_script.specs.declared.record.Record.TheVariants as request
 use Rattle.camel_replay.specs.Fronts.{history_from, published_after}
-use Rattle.camel_replay.specs.Output.{History, accepted_updates, history_after, no_history, or_full, why_refused, with_update}
+use Rattle.camel_replay.specs.Output.{History, accepted_updates, history_after, no_history, why_refused, with_update}
 
 -- published and pending updates together are a front
 abbrev AreFront : ℕ → History → Type 0

@@ -3,6 +3,7 @@ use Rattle.std.proofs.Common.{◌≡◌, ◌∙◌, ℕ, ◌+◌, ◌<◌, ◌==
 use Rattle.std.proofs.lemmas.List.{length-append}
 use Rattle.camel_criteria.specs.declared.refusal.Refusal.{Refusal}
 use Rattle.camel_rows.proofs.UpdateLemmas.{AcceptedFrom-push, state_from-append}
+use Rattle.camel_rows.specs.Front.{or_full}
 use Rattle.camel_rows.specs.Records.{RecordsData, no_records}
 use Rattle.camel_rows.proofs.StoredCsisLemmas.{AreStored-after, AreStored-empty, same_refusal}
 use Rattle.camel_rows.specs.StoredCsis.{StoredCsisData, csis_after, csis_refusal, no_stored_csis, with_csis}
@@ -12,7 +13,7 @@ use Rattle.camel_rows.specs.declared.update.Update.{Update}
 use Rattle.camel_script.specs.Line.{line_text}
 use Rattle.camel_script.specs.declared.record.Record.{Record}
 use Rattle.camel_script.specs.declared.record.Record.TheVariants as request
-use Rattle.camel_replay.specs.Output.{History, accepted_updates, history_after, line_of, or_full, output_from, update_line, why_refused, with_update}
+use Rattle.camel_replay.specs.Output.{History, accepted_updates, history_after, line_of, output_from, update_line, why_refused, with_update}
 use Rattle.camel_replay.specs.Store.{IsSound, StoreData, store_after, store_line, store_of, store_refusal, store_with_update}
 
 -- the output of some records, by what a store keeps

@@ -1,10 +1,10 @@
 -- The output that the records of a script give: a line for each, over the updates that are published and
 -- those that are pending (profile 1's own).
-use Rattle.std.specs.Prelude.{ℕ, ◌+◌, ◌==◌, Bool, true, false, List, [], ◌∷◌, ◌++◌, length, Option, Some, None}
+use Rattle.std.specs.Prelude.{ℕ, ◌+◌, ◌==◌, List, [], ◌∷◌, ◌++◌, length, Option, Some, None}
 use Rattle.camel_criteria.specs.Refusal.{refusal_code}
 use Rattle.camel_criteria.specs.declared.refusal.Refusal.{Refusal}
-use Rattle.camel_criteria.specs.declared.refusal.Refusal.TheVariants.{HistoryFull}
 use Rattle.camel_rows.specs.Decision.{decision}
+use Rattle.camel_rows.specs.Front.{or_full}
 use Rattle.camel_rows.specs.Outcome.{outcome_of}
 use Rattle.camel_rows.specs.Update.{refusal, state}
 use Rattle.camel_rows.specs.declared.event.CallEvent.{CallEvent}
@@ -27,12 +27,6 @@ no_history = record { published = []; pending = [] }
 -- the updates of both lists
 abbrev pub accepted_updates : History → List Update
 accepted_updates history = history.published ++ history.pending
-
--- the refusal that the data give, and else that of a store that is full
-abbrev pub or_full : Option Refusal → Bool → Option Refusal
-or_full (Some why) full = Some why
-or_full None true = Some HistoryFull
-or_full None false = None
 
 -- why an update is refused: by the data that all accepted updates leave, or since they are `limit`
 abbrev pub why_refused : ℕ → History → Update → Option Refusal

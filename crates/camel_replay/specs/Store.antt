@@ -4,6 +4,7 @@ use Rattle.std.specs.Prelude.{ℕ, ◌+◌, ◌≤◌, ◌==◌, List, [], ◌�
 use Rattle.camel_criteria.specs.Refusal.{refusal_code}
 use Rattle.camel_criteria.specs.declared.refusal.Refusal.{Refusal}
 use Rattle.camel_rows.specs.Decision.{decision}
+use Rattle.camel_rows.specs.Front.{or_full}
 use Rattle.camel_rows.specs.Outcome.{outcome_of}
 use Rattle.camel_rows.specs.Records.{RecordsData, no_records}
 use Rattle.camel_rows.specs.StoredCsis.{AreStored, StoredCsisData}
@@ -15,7 +16,7 @@ use Rattle.camel_script.specs.declared.line.Line.{Line}
 use Rattle.camel_script.specs.declared.line.Line.TheVariants as line
 use Rattle.camel_script.specs.declared.record.Record.{Record}
 use Rattle.camel_script.specs.declared.record.Record.TheVariants as request
-use Rattle.camel_replay.specs.Output.{History, or_full, update_line}
+use Rattle.camel_replay.specs.Output.{History, update_line}
 
 pub record StoreData : Type 0 where
   pub limit : ℕ

@@ -3,10 +3,11 @@ use Rattle.std.proofs.Common.{◌≡◌, ◌∙◌, ◌==◌, Bool, Option, leng
 use Rattle.std.specs.FinMap as map
 use Rattle.camel_criteria.specs.declared.refusal.Refusal.{Refusal}
 use Rattle.camel_rows.proofs.StoredCsisLemmas.{same_refusal}
+use Rattle.camel_rows.specs.Front.{or_full}
 use Rattle.camel_rows.specs.StoredCsis.{AreStored, StoredCsisData, csis_refusal}
 use Rattle.camel_rows.specs.Update.{refusal, state, update_imsi}
 use Rattle.camel_rows.specs.declared.update.Update.{Update}
-use Rattle.camel_vlr.specs.Store.{StoreData, accepted, or_full, submission_refusal}
+use Rattle.camel_vlr.specs.Store.{StoreData, accepted, submission_refusal}
 
 pub submission_refusal-csis : (store : StoreData) (directory : StoredCsisData) (update : Update) (why : Option Refusal) (full : Bool) → AreStored directory (state (accepted store))
     → csis_refusal (map.get directory (update_imsi update)) update ≡ why → (length (accepted store) == store.store.limit) ≡ full → submission_refusal store update ≡ or_full why full

@@ -1,8 +1,8 @@
 -- The store: what is published, and what is accepted and not yet published.
-use Rattle.std.specs.Prelude.{◌==◌, Bool, List, [], ◌++◌, Option, Some, None, length, if◌then◌else◌}
+use Rattle.std.specs.Prelude.{◌==◌, List, [], ◌++◌, Option, length}
 use Rattle.camel_criteria.specs.declared.refusal.Refusal.{Refusal}
-use Rattle.camel_criteria.specs.declared.refusal.Refusal.TheVariants.{HistoryFull}
 use Rattle.camel_history.specs.Beginning.{StoreId}
+use Rattle.camel_rows.specs.Front.{or_full}
 use Rattle.camel_rows.specs.Update.{refusal, state}
 use Rattle.camel_rows.specs.declared.update.Update.{Update}
 use Rattle.camel_vlr.specs.Session.{SessionData, untold}
@@ -16,12 +16,7 @@ pub record StoreData : Type 0 where
 abbrev pub accepted : StoreData → List Update
 accepted store = store.published ++ store.pending
 
--- the data refuse an update first; else it is refused where the store is full
-abbrev pub or_full : Option Refusal → Bool → Option Refusal
-or_full (Some why) is_full = Some why
-or_full None is_full = if is_full then Some HistoryFull else None
-
--- why an update is not accepted
+-- why an update is not accepted: by the data that all accepted updates leave, or since they are as many as the limit
 abbrev pub submission_refusal : StoreData → Update → Option Refusal
 submission_refusal store update = or_full (refusal (state (accepted store)) update) (length (accepted store) == store.store.limit)
 

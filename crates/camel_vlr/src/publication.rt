@@ -22,9 +22,12 @@ pub(crate) type StoreWriter = Writer<PublishedCopy, Change, View, PublicationRul
 
 // Brings the history to the list of all that is published and pending.
 pub(crate) fn record_all(history: &mut History, writer: &StoreWriter)
-    requires { Extends (writer.now.desk.shown.value.front.updates ++ updates_among (drop writer.now.behind writer.now.log.items)) history.old.updates }
+    requires { Extends
+        (writer.now.desk.shown.value.front.updates ++ updates_among (drop writer.now.behind writer.now.log.items))
+        history.old.updates }
     ensures store { history.new.store ≡ history.old.store }
-    ensures updates { history.new.updates ≡ writer.now.desk.shown.value.front.updates ++ updates_among (drop writer.now.behind writer.now.log.items) }
+    ensures updates { history.new.updates
+        ≡ writer.now.desk.shown.value.front.updates ++ updates_among (drop writer.now.behind writer.now.log.items) }
 {
     let next = history.pen();
     grow_to::<Brand>(history, writer, next);
@@ -41,8 +44,10 @@ fn grow_to<G: Growth>(history: &mut History, _writer: &StoreWriter, next: Pen)
 // Puts the front behind what is pending. Whether there was memory.
 pub(crate) fn seal(writer: &mut StoreWriter, front: &Beginning) -> bool
     ensures desk { writer.new.desk ≡ writer.old.desk }
-    ensures yes { result ≡ true → drop writer.new.behind writer.new.log.items ≡ drop writer.old.behind writer.old.log.items ++ change.Front front.now ∷ [] }
-    ensures no { result ≡ false → drop writer.new.behind writer.new.log.items ≡ drop writer.old.behind writer.old.log.items }
+    ensures yes { result ≡ true → drop writer.new.behind writer.new.log.items
+        ≡ drop writer.old.behind writer.old.log.items ++ change.Front front.now ∷ [] }
+    ensures no { result ≡ false → drop writer.new.behind writer.new.log.items
+        ≡ drop writer.old.behind writer.old.log.items }
 {
     writer.append(Change::Front(front.copy())).is_ok()
 }
@@ -54,14 +59,17 @@ pub(crate) fn publish_all<R: Wait>(
 ) -> (StoreWriter, Result<(), AllocError>)
     requires shown { IsOfItsFront writer.desk.shown.value }
     requires store { with.1.store ≡ writer.desk.shown.value.front.store }
-    requires updates { with.1.updates ≡ writer.desk.shown.value.front.updates ++ updates_among (drop writer.behind writer.log.items) }
+    requires updates { with.1.updates
+        ≡ writer.desk.shown.value.front.updates ++ updates_among (drop writer.behind writer.log.items) }
     requires front { IsFront with.1.store.limit with.1.updates }
     requires limit { with.1.store.limit ≤ 1000000 }
     requires last { (changes : List Change) × (drop writer.behind writer.log.items ≡ changes ++ change.Front with.1 ∷ []) }
     ensures shown { OnOk result.1 (IsOfItsFront result.0.desk.shown.value × (result.0.desk.shown.value.front ≡ with.entry.1)) }
     ensures seat { OnOk result.1 (Knows (view result.0.desk.place) with.entry.1.store with.entry.1.updates) }
     ensures none { OnOk result.1 (drop result.0.behind result.0.log.items ≡ []) }
-    ensures unchanged { OnErr result.1 ((result.0.desk.shown.value ≡ writer.desk.shown.value) × (view result.0.desk.place ≡ view writer.desk.place) × (drop result.0.behind result.0.log.items ≡ drop writer.behind writer.log.items)) }
+    ensures unchanged { OnErr result.1 ((result.0.desk.shown.value ≡ writer.desk.shown.value)
+        × (view result.0.desk.place ≡ view writer.desk.place)
+        × (drop result.0.behind result.0.log.items ≡ drop writer.behind writer.log.items)) }
 {
     writer.publish_as::<Publishing, R>(with.0)
 }

@@ -19,7 +19,8 @@ pub(crate) fn take(
 ) -> Result<(), AllocError>
     ensures desk { writer.new.desk ≡ writer.old.desk }
     ensures pending { MatchResult result
-        (λ _. drop writer.new.behind writer.new.log.items ≡ drop writer.old.behind writer.old.log.items ++ change.Update update ∷ [])
+        (λ _. drop writer.new.behind writer.new.log.items
+            ≡ drop writer.old.behind writer.old.log.items ++ change.Update update ∷ [])
         (λ _. drop writer.new.behind writer.new.log.items ≡ drop writer.old.behind writer.old.log.items) }
     ensures put { OnOk result (directory.new ≡ with_csis directory.old (update_imsi update) csis) }
     ensures unchanged { OnErr result (directory.new ≡ directory.old) }
@@ -45,7 +46,8 @@ fn take_with_entry(
 ) -> Result<(), AllocError>
     ensures desk { writer.new.desk ≡ writer.old.desk }
     ensures pending { MatchResult result
-        (λ _. drop writer.new.behind writer.new.log.items ≡ drop writer.old.behind writer.old.log.items ++ change.Update update ∷ [])
+        (λ _. drop writer.new.behind writer.new.log.items
+            ≡ drop writer.old.behind writer.old.log.items ++ change.Update update ∷ [])
         (λ _. drop writer.new.behind writer.new.log.items ≡ drop writer.old.behind writer.old.log.items) }
     ensures put { OnOk result (directory.new ≡ with_csis directory.old imsi (Some csis)) }
     ensures unchanged { OnErr result (directory.new ≡ directory.old) }
@@ -64,7 +66,8 @@ fn take_with_entry(
 fn append(writer: &mut StoreWriter, update: Update) -> Result<(), AllocError>
     ensures desk { writer.new.desk ≡ writer.old.desk }
     ensures pending { MatchResult result
-        (λ _. drop writer.new.behind writer.new.log.items ≡ drop writer.old.behind writer.old.log.items ++ change.Update update ∷ [])
+        (λ _. drop writer.new.behind writer.new.log.items
+            ≡ drop writer.old.behind writer.old.log.items ++ change.Update update ∷ [])
         (λ _. drop writer.new.behind writer.new.log.items ≡ drop writer.old.behind writer.old.log.items) }
 {
     match writer.append(Change::Update(update)) {

@@ -4,10 +4,10 @@ use camel_tbcd::{CallAddress, Imsi, IsdnAddress};
 use std::alloc::Global;
 
 /// How many events are made; each measurement goes through them again and again.
-pub const EVENTS: u64 = 65536;
+pub(crate) const EVENTS: u64 = 65536;
 
 /// The subscriber with this number.
-pub fn imsi_of(number: u64) -> Option<Imsi> {
+pub(crate) fn imsi_of(number: u64) -> Option<Imsi> {
     let mut digits = [2, 6, 2, 0, 1, 0, 0, 0, 0, 0, 0, 0, 0, 0, 0];
     let mut left = number;
     for digit in digits.iter_mut().rev().take(10) {
@@ -18,7 +18,7 @@ pub fn imsi_of(number: u64) -> Option<Imsi> {
 }
 
 /// A subscriber's insert: a row of detection point 2 with a criterion that the events meet.
-pub fn insert(alloc: Global, imsi: Imsi) -> Result<Update, Refusal> {
+pub(crate) fn insert(alloc: Global, imsi: Imsi) -> Result<Update, Refusal> {
     let Ok(scf) = IsdnAddress::from_bytes(&[0x91, 0x94, 0x71, 0x16]) else {
         return Err(Refusal::UnexpectedDataValue);
     };
@@ -40,7 +40,7 @@ pub fn insert(alloc: Global, imsi: Imsi) -> Result<Update, Refusal> {
 }
 
 /// Calls of subscribers with numbers below this one, in no order.
-pub fn events(alloc: Global, subscribers: u64) -> Option<Vec<CallEvent>> {
+pub(crate) fn events(alloc: Global, subscribers: u64) -> Option<Vec<CallEvent>> {
     let mut events = Vec::new(alloc);
     let mut state: u64 = 1;
     for _ in 0..EVENTS {
@@ -53,7 +53,7 @@ pub fn events(alloc: Global, subscribers: u64) -> Option<Vec<CallEvent>> {
 }
 
 /// The number after this one, of a linear congruential generator.
-pub fn next(state: u64) -> u64 {
+pub(crate) fn next(state: u64) -> u64 {
     state
         .wrapping_mul(6364136223846793005)
         .wrapping_add(1442695040888963407)

@@ -1,5 +1,5 @@
 use crate::data::{EVENTS, events, imsi_of, insert};
-use crate::publications::{Concerned, batches, filled};
+use crate::publications::{Concerned, batches, filled, with_csi};
 use camel_rows::{CallEvent, Decision, Records, Update, decide_in};
 use camel_tbcd::Address;
 use camel_vlr::Session;
@@ -10,12 +10,19 @@ use std::thread::{Threads, join, map_vec};
 use std::time::Instant;
 
 /// Nanoseconds of a decision over plain records, in hundredths.
-pub fn over_records<R: Clock>(rt: &R, alloc: Global, subscribers: u64, rounds: u64) -> Option<u64> {
+pub(crate) fn over_records<R: Clock>(
+    rt: &R,
+    alloc: Global,
+    subscribers: u64,
+    rounds: u64,
+) -> Option<u64> {
     let mut records = Records::new(alloc);
     for number in 0..subscribers {
         let imsi = imsi_of(number)?;
         records.apply(&Update::Register { imsi }).ok()?;
-        records.apply(&insert(alloc, imsi).ok()?).ok()?;
+        if number < with_csi(subscribers) {
+            records.apply(&insert(alloc, imsi).ok()?).ok()?;
+        }
     }
     let events = events(alloc, subscribers)?;
     let start = Instant::now(rt).ok()?;
@@ -39,26 +46,22 @@ fn decided(records: &Records, events: &[CallEvent]) -> u64 {
 }
 
 /// Nanoseconds of look, decision and leave, in hundredths, with so many sessions in threads of their own, beside a writer that
-/// makes so many publications of ten updates.
-pub fn of_store<R: Clock + Wait + Threads + Sync>(
+/// makes so many publications of ten updates of these subscribers.
+pub(crate) fn of_store<R: Clock + Wait + Threads + Sync>(
     rt: &R,
     alloc: Global,
-    subscribers: u64,
+    concerned: &Concerned,
     rounds: u64,
     readers: usize,
     publications: u64,
 ) -> Option<u64> {
-    let events = events(alloc, subscribers)?;
-    let (mut store, sessions) = filled(rt, alloc, subscribers, readers)?;
-    let concerned = Concerned {
-        subscribers,
-        among: subscribers,
-    };
+    let events = events(alloc, concerned.subscribers)?;
+    let (mut store, sessions) = filled(rt, alloc, concerned.subscribers, readers)?;
     let look = |session: Session| -> u64 { looked(rt, session, &events, rounds).unwrap_or(0) };
     let (times, _) = join(
         rt,
         || map_vec(rt, sessions, &look),
-        || batches(rt, alloc, &mut store, &concerned, 10, publications),
+        || batches(rt, alloc, &mut store, concerned, 10, publications),
     );
     store.end(rt);
     times.ok()?.iter().copied().max()

@@ -6,6 +6,7 @@ mod data;
 mod looks;
 mod publications;
 
+use crate::publications::Concerned;
 use std::io;
 use std::process::ExitCode;
 
@@ -20,25 +21,14 @@ fn main(rt: HostRuntime) -> ExitCode {
         "records" => looks::over_records(&rt, rt.alloc(), subscribers, number(&words, 3)),
         "looks" => {
             let readers = number(&words, 4) as usize;
-            looks::of_store(
-                &rt,
-                rt.alloc(),
-                subscribers,
-                number(&words, 3),
-                readers,
-                number(&words, 5),
-            )
+            let concerned = concerned(subscribers, number(&words, 6));
+            let (rounds, publications) = (number(&words, 3), number(&words, 5));
+            looks::of_store(&rt, rt.alloc(), &concerned, rounds, readers, publications)
         }
         "publish" => {
-            let among = number(&words, 5);
-            publications::of(
-                &rt,
-                rt.alloc(),
-                subscribers,
-                number(&words, 3),
-                number(&words, 4),
-                among,
-            )
+            let concerned = concerned(subscribers, number(&words, 5));
+            let (updates, rounds) = (number(&words, 3), number(&words, 4));
+            publications::of(&rt, rt.alloc(), &concerned, updates, rounds)
         }
         _ => None,
     };
@@ -54,6 +44,12 @@ fn main(rt: HostRuntime) -> ExitCode {
 
 fn words(rt: &HostRuntime) -> io::Result<Vec<String>> {
     Ok(std::env::args(rt)?.collect(rt.alloc())?)
+}
+
+// So many of these subscribers; with 0, all of them.
+fn concerned(subscribers: u64, among: u64) -> Concerned {
+    let among = if among == 0 { subscribers } else { among };
+    Concerned { subscribers, among }
 }
 
 // The number that a word is, or 0.

@@ -9,18 +9,16 @@ use std::time::Instant;
 const LIMIT: u64 = 1_000_000;
 
 /// Nanoseconds of so many submitted updates and their publication.
-pub fn of<R: Clock + Wait>(
+pub(crate) fn of<R: Clock + Wait>(
     rt: &R,
     alloc: Global,
-    subscribers: u64,
+    concerned: &Concerned,
     updates: u64,
     rounds: u64,
-    among: u64,
 ) -> Option<u64> {
-    let (mut store, _sessions) = filled(rt, alloc, subscribers, 1)?;
+    let (mut store, _sessions) = filled(rt, alloc, concerned.subscribers, 1)?;
     let start = Instant::now(rt).ok();
-    let concerned = Concerned { subscribers, among };
-    let done = batches(rt, alloc, &mut store, &concerned, updates, rounds);
+    let done = batches(rt, alloc, &mut store, concerned, updates, rounds);
     let taken = start.and_then(|start| start.elapsed(rt).ok());
     store.end(rt);
     done?;
@@ -28,7 +26,7 @@ pub fn of<R: Clock + Wait>(
 }
 
 /// A store with so many subscribers, of whom as many have an O-CSI as the limit allows, and its sessions.
-pub fn filled<R: Wait>(
+pub(crate) fn filled<R: Wait>(
     rt: &R,
     alloc: Global,
     subscribers: u64,
@@ -47,12 +45,16 @@ pub fn filled<R: Wait>(
     }
 }
 
+/// How many of so many subscribers have an O-CSI: as many as the limit of updates leaves room for.
+pub(crate) fn with_csi(subscribers: u64) -> u64 {
+    (LIMIT.saturating_sub(subscribers) / 2).min(subscribers)
+}
+
 fn fill<R: Wait>(rt: &R, alloc: Global, store: &mut Vlr, subscribers: u64) -> Option<()> {
-    let inserted = (LIMIT.saturating_sub(subscribers) / 2).min(subscribers);
     for number in 0..subscribers {
         let imsi = imsi_of(number)?;
         store.submit(Update::Register { imsi }).ok()?;
-        if number < inserted {
+        if number < with_csi(subscribers) {
             store.submit(insert(alloc, imsi).ok()?).ok()?;
         }
         if number % 1000 == 999 {
@@ -65,9 +67,9 @@ fn fill<R: Wait>(rt: &R, alloc: Global, store: &mut Vlr, subscribers: u64) -> Op
 
 /// Whom updates concern: so many of these subscribers, evenly spread over all of them.
 #[derive(Clone, Copy)]
-pub struct Concerned {
-    pub subscribers: u64,
-    pub among: u64,
+pub(crate) struct Concerned {
+    pub(crate) subscribers: u64,
+    pub(crate) among: u64,
 }
 
 impl Concerned {
@@ -78,7 +80,7 @@ impl Concerned {
 }
 
 /// So many publications of so many updates.
-pub fn batches<R: Wait>(
+pub(crate) fn batches<R: Wait>(
     rt: &R,
     alloc: Global,
     store: &mut Vlr,
