@@ -1,8 +1,9 @@
 -- The options of the command line, as the crate `clap` reads them.
 use Rattle.std.specs.Prelude.{◌≡◌, ℕ, ◌≤◌, List, [], ◌∷◌, Option, Some, codes}
 use Rattle.std.specs.Str.Parse.{IsNumeral, digits_value, without_leading_plus}
-use Rattle.clap.specs.Words.{App, Rule, Text, first_of, first_value, found_of, matches_of, new_app, new_rule, with_rule}
+use Rattle.clap.specs.Words.{App, IsAmong, Rule, Text, fault_of, first_of, first_value, found_of, matches_of, new_app, new_rule, with_rule}
 use Rattle.clap.specs.declared.builder.value_parser.ValueParser.TheVariants.{Unsigned}
+use Rattle.clap.specs.declared.error.kind.ErrorKind.TheVariants.{DisplayHelp}
 use Rattle.clap.specs.declared.parser.matches.ArgMatches.{ArgMatches}
 
 -- the option `--limit` is a number from 1 to 1000000, and 1000000 where it is not given
@@ -31,6 +32,10 @@ pub record IsLimit (text : Text) (limit : ℕ) : Type 0 where
 -- the limit of these words
 abbrev pub LimitOf : List Text → ℕ → Type 0
 LimitOf words limit = (text : Text) × (limit_text words ≡ Some text) × IsLimit text limit
+
+-- these words ask for the help text: `clap` answers them by it
+abbrev pub AsksForHelp : List Text → Type 0
+AsksForHelp words = IsAmong DisplayHelp (fault_of the_program words)
 
 -- the limit that matches hold
 abbrev pub HoldsLimit : ArgMatches → ℕ → Type 0

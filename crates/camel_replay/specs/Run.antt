@@ -2,7 +2,7 @@
 -- standard output and standard error held before and hold after it, where these are known.
 use Rattle.std.specs.Prelude.{◌≡◌, ◌≢◌, ◌⊎◌, ℕ, List, Option, None, IfSome, true}
 use Rattle.camel_script.specs.Script.{script}
-use Rattle.camel_replay.specs.CommandLine.{LimitOf}
+use Rattle.camel_replay.specs.CommandLine.{AsksForHelp, LimitOf}
 use Rattle.camel_replay.specs.FaultLine.{fault_line, fault_line_at}
 use Rattle.camel_replay.specs.ReplayFault.{is_replay_code}
 use Rattle.camel_replay.specs.Written.{AppendsPart, Stopped, WroteAll}
@@ -17,7 +17,7 @@ pub record Replays (limit : ℕ) (bytes old_out new_out old_err new_err : Option
   pub stopped : status ≢ 0 → ((stop : ReplayFault) × (is_replay_code stop.code ≡ true) × AppendsPart old_err new_err (fault_line stop)
       × IfSome bytes (λ known. Stopped old_out new_out limit (script known 1000000) stop))
 
--- a rejected command line writes nothing to standard output, and a request for help nothing to standard error
+-- a rejected command line writes nothing to standard output, and an answered request for help nothing to standard error
 abbrev pub Rejects : Option (List ℕ) → Option (List ℕ) → ℕ → Type 0
 Rejects old_out new_out status = (status ≡ 2) × (new_out ≡ old_out)
 
@@ -32,4 +32,4 @@ LacksMemory old_out new_out old_err new_err status =
 abbrev pub Runs : List (List ℕ) → Option (List ℕ) → Option (List ℕ) → Option (List ℕ) → Option (List ℕ) → Option (List ℕ) → ℕ → Type 0
 Runs words bytes old_out new_out old_err new_err status =
     ((limit : ℕ) × LimitOf words limit × Replays limit bytes old_out new_out old_err new_err status)
-    ⊎ (Rejects old_out new_out status ⊎ (Helps old_err new_err status ⊎ LacksMemory old_out new_out old_err new_err status))
+    ⊎ (Rejects old_out new_out status ⊎ ((AsksForHelp words × Helps old_err new_err status) ⊎ LacksMemory old_out new_out old_err new_err status))

@@ -1,6 +1,7 @@
-ghost use Rattle.std.specs.Prelude.{◌≡◌, IfOk, IfSome, map, string_bytes};
-ghost use Rattle.clap.specs.Words.{app_of};
-ghost use Rattle.camel_replay.specs.CommandLine.{HoldsLimit, LimitOf, the_program};
+ghost use Rattle.std.specs.Prelude.{◌≡◌, IfErr, IfOk, IfSome, map, string_bytes};
+ghost use Rattle.clap.specs.Words.{app_of, kind_of};
+ghost use Rattle.clap.specs.declared.error.kind.ErrorKind.TheVariants.{DisplayHelp, OutOfMemory};
+ghost use Rattle.camel_replay.specs.CommandLine.{AsksForHelp, HoldsLimit, LimitOf, the_program};
 
 use crate::options::{MAX_LIMIT, Options};
 use clap::builder::ValueParser;
@@ -12,7 +13,9 @@ use std::alloc::Global;
 ///
 /// The error is that of `clap`: a mistake in the words, the request for help, or want of memory.
 pub fn options(alloc: Global, words: &[String]) -> Result<Options, Error>
-    ensures { IfOk result (λ options. LimitOf (map string_bytes words.now) options.limit) }
+    ensures limit { IfOk result (λ options. LimitOf (map string_bytes words.now) options.limit) }
+    ensures help { IfErr result (λ error.
+        kind_of error ≡ DisplayHelp → AsksForHelp (map string_bytes words.now)) }
 {
     let mut command = command(alloc)?;
     let matches = command.try_get_matches_from_mut(words)?;
@@ -24,7 +27,8 @@ pub fn options(alloc: Global, words: &[String]) -> Result<Options, Error>
 }
 
 fn command<'a>(alloc: Global) -> Result<Command<'a>, Error>
-    ensures { IfOk result (λ command. app_of command ≡ the_program) }
+    ensures program { IfOk result (λ command. app_of command ≡ the_program) }
+    ensures only { IfErr result (λ error. kind_of error ≡ OutOfMemory) }
 {
     let limit = Arg::new(alloc, "limit")
         .long("limit")

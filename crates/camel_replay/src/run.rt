@@ -1,4 +1,6 @@
 ghost use Rattle.std.specs.Prelude.{◌≡◌, ◌⊎◌, None, Some, IfOk, map, string_bytes};
+ghost use Rattle.clap.specs.Words.{kind_of};
+ghost use Rattle.clap.specs.declared.error.kind.ErrorKind.TheVariants.{DisplayHelp, OutOfMemory};
 ghost use Rattle.camel_replay.specs.FaultLine.{fault_line, fault_line_at};
 ghost use Rattle.camel_replay.specs.Run.{Helps, LacksMemory, Rejects, Replays, Runs};
 ghost use Rattle.camel_replay.specs.Written.{AppendsPart};
@@ -62,8 +64,9 @@ fn run_replay<R: Read + Drop, W: Write, E: Write>(
 // Tells why the command line gave no options.
 fn tell<W: Write, E: Write>(alloc: Global, error: &clap::Error, out: &mut W, err: &mut E) -> u8
     ensures { Rejects (W.contents out.old) (W.contents out.new) result
-        ⊎ (Helps (E.contents err.old) (E.contents err.new) result
-        ⊎ LacksMemory (W.contents out.old) (W.contents out.new) (E.contents err.old) (E.contents err.new) result) }
+        ⊎ (((kind_of error.now ≡ DisplayHelp) × Helps (E.contents err.old) (E.contents err.new) result)
+        ⊎ ((kind_of error.now ≡ OutOfMemory)
+        × LacksMemory (W.contents out.old) (W.contents out.new) (E.contents err.old) (E.contents err.new) result)) }
 {
     match error.kind() {
         ErrorKind::DisplayHelp => {
