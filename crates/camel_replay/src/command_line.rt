@@ -97,7 +97,8 @@ The lines:
   front F none REASON                 unknown, no-csi, not-armed, emergency or criteria
 
 A fault ends the run and is told on standard error: 202 word, 203 count of fields or parts, 204 hexadecimal digits,
-205 number, 206 the input could not be read, 207 too many records, 208 the output could not be written, 102 memory.
+205 IMSI or number, 206 the input could not be read, 207 too many records, 208 the output could not be written,
+102 memory.
 
 Status: 0 without a fault; 1 after a fault, which is told on standard error with the number of its record;
 2 where the command line is rejected.";

@@ -1,6 +1,8 @@
 mod command_line;
 mod faults;
+mod records;
 mod scripts;
+mod steps;
 
 use crate::run::run;
 use std::alloc::Global;

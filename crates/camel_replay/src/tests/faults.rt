@@ -5,48 +5,52 @@ use std::io;
 use std::io::{ErrorKind, Read, Write};
 use std::test::Fail;
 
-// Where a script ends in its midst, by the greatest count of octets that end so: what was written, and the fault.
+// Where a script ends in its midst, by the greatest count of octets that end so: what was written, and the fault line.
 const ENDS: [(usize, &str, &str); 21] = [
     (0, "", ""),
-    (7, "", "record 1: fault 202"),
-    (8, "", "record 1: fault 203"),
-    (13, "", "record 1: fault 205"),
+    (7, "", "camel_replay: record 1: fault 202\n"),
+    (8, "", "camel_replay: record 1: fault 203\n"),
+    (13, "", "camel_replay: record 1: fault 205\n"),
     (25, "accepted 1\n", ""),
-    (30, "accepted 1\n", "record 2: fault 202"),
-    (31, "accepted 1\n", "record 2: fault 203"),
-    (36, "accepted 1\n", "record 2: fault 205"),
+    (30, "accepted 1\n", "camel_replay: record 2: fault 202\n"),
+    (31, "accepted 1\n", "camel_replay: record 2: fault 203\n"),
+    (36, "accepted 1\n", "camel_replay: record 2: fault 205\n"),
     (46, "accepted 1\nrefused 5\n", ""),
     (47, "accepted 1\naccepted 2\n", ""),
-    (48, "accepted 1\n", "record 2: fault 202"),
-    (68, "accepted 1\n", "record 2: fault 203"),
-    (69, "accepted 1\n", "record 2: fault 205"),
+    (48, "accepted 1\n", "camel_replay: record 2: fault 202\n"),
+    (68, "accepted 1\n", "camel_replay: record 2: fault 203\n"),
+    (69, "accepted 1\n", "camel_replay: record 2: fault 205\n"),
     (71, "accepted 1\naccepted 2\n", ""),
-    (77, "accepted 1\naccepted 2\n", "record 3: fault 202"),
+    (
+        77,
+        "accepted 1\naccepted 2\n",
+        "camel_replay: record 3: fault 202\n",
+    ),
     (79, "accepted 1\naccepted 2\npublished 2\n", ""),
     (
         82,
         "accepted 1\naccepted 2\npublished 2\n",
-        "record 4: fault 202",
+        "camel_replay: record 4: fault 202\n",
     ),
     (
         83,
         "accepted 1\naccepted 2\npublished 2\n",
-        "record 4: fault 203",
+        "camel_replay: record 4: fault 203\n",
     ),
     (
         84,
         "accepted 1\naccepted 2\npublished 2\n",
-        "record 4: fault 202",
+        "camel_replay: record 4: fault 202\n",
     ),
     (
         114,
         "accepted 1\naccepted 2\npublished 2\n",
-        "record 4: fault 203",
+        "camel_replay: record 4: fault 203\n",
     ),
     (
         115,
         "accepted 1\naccepted 2\npublished 2\n",
-        "record 4: fault 202",
+        "camel_replay: record 4: fault 202\n",
     ),
 ];
 
@@ -64,9 +68,7 @@ fn answers_each_beginning_of_a_script(rt: HostRuntime) -> Result<(), Fail> {
         let script = FIRST_CALL.as_bytes().get(..count).unwrap_or_default();
         let status = run(rt.alloc(), &words, script, &mut out, &mut err);
         assert_eq!(rt; out.as_slice(), output.as_bytes(), "{count} octets");
-        let told = str::from_utf8(&err).unwrap_or("");
-        let line = told.strip_prefix("camel_replay: ").unwrap_or(told);
-        assert_eq!(rt; line.trim_end(), fault, "{count} octets");
+        assert_eq!(rt; err.as_slice(), fault.as_bytes(), "{count} octets");
         assert_eq!(rt; status, u8::from(!fault.is_empty()), "{count} octets");
     }
     Ok(())

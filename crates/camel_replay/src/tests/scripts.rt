@@ -170,11 +170,24 @@ fn decides_over_what_is_published(rt: HostRuntime) -> Result<(), Fail> {
             (call, "front 2 none criteria"),
             ("insert,A,o:2:101:S:0", "accepted 3"),
             (call, "front 2 none criteria"),
-            ("register,B", "accepted 4"),
-            ("call,2,B,t11,912143,n", "front 2 none unknown"),
-            ("publish", "published 4"),
-            (call, "front 4 trigger 2 101 S continue"),
-            ("call,2,B,t11,912143,n", "front 4 none no-csi"),
+            ("publish", "published 3"),
+            (call, "front 3 trigger 2 101 S continue"),
+        ],
+    )
+}
+
+#[test]
+fn knows_a_subscriber_once_published(rt: HostRuntime) -> Result<(), Fail> {
+    let call = "call,2,B,t11,912143,n";
+    check_records(
+        &rt,
+        rt.alloc(),
+        "o:2:100:S:0",
+        &[
+            ("register,B", "accepted 3"),
+            (call, "front 2 none unknown"),
+            ("publish", "published 3"),
+            (call, "front 3 none no-csi"),
         ],
     )
 }

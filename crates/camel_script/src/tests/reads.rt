@@ -1,7 +1,9 @@
 use super::{Given, gives, next};
 use crate::Script;
+use std::alloc::Global;
 use std::io;
 use std::io::{ErrorKind, Read};
+use std::process::Abort;
 use std::test::Fail;
 
 // Line ends, quotes, empty lines and a byte order mark are those of CSV.
@@ -103,32 +105,45 @@ impl Read for FailsOnce<'_> {
     }
 }
 
-// The first answer that is no record, among three.
+// The first answer that is no record, among five.
 fn first_without_record<R: Read>(script: &mut Script<R>) -> Option<Given> {
-    for _ in 0..3u8 {
+    for _ in 0..5u8 {
         match next(script) {
-            Given::Register | Given::Publish => {}
+            Given::Register | Given::Insert | Given::Publish | Given::Call => {}
             answer => return Some(answer),
         }
     }
     None
 }
 
-// The call after the last octet tells of the end, and it may fail too.
-#[test]
-fn answers_a_failed_read_for_good(rt: HostRuntime) -> Result<(), Fail> {
-    let octets = b"register,262010000000001\r\n\"publish\"".as_slice();
+// Whichever read of the script fails, the one after its last octet too.
+fn check_each_failed_read(rt: &impl Abort, alloc: Global, octets: &[u8]) -> Result<(), Fail> {
     for (calls_before, _) in (0..).zip(0..=octets.len()) {
         let reader = FailsOnce {
             octets,
             calls_before,
         };
-        let mut script = Script::new(rt.alloc(), reader, 9)?;
+        let mut script = Script::new(alloc, reader, 9)?;
         let failed = first_without_record(&mut script);
         assert_eq!(rt; failed, Some(Given::Fault(206)), "{calls_before}");
-        gives(&rt, &mut script, &[Given::Fault(209); 3]);
+        gives(rt, &mut script, &[Given::Fault(209); 3]);
     }
     Ok(())
+}
+
+#[test]
+fn answers_a_failed_read_for_good(rt: HostRuntime) -> Result<(), Fail> {
+    let octets = b"register,262010000000001\r\n\"publish\"".as_slice();
+    check_each_failed_read(&rt, rt.alloc(), octets)
+}
+
+const FIRST_CALL: &str =
+    "register,262010000000001\ninsert,262010000000001,o:2:100:919471160000:0\npublish\ncall,2,262010000000001,t11,91214365,n\n";
+
+#[test]
+fn answers_a_failed_read_of_each_record_for_good(rt: HostRuntime) -> Result<(), Fail> {
+    assert_eq!(rt; FIRST_CALL.len(), 117);
+    check_each_failed_read(&rt, rt.alloc(), FIRST_CALL.as_bytes())
 }
 
 // After exactly so many records one more read is made, and it may fail.
