@@ -77,7 +77,7 @@ fn writes_each_line_before_the_next_record_is_read(rt: HostRuntime) -> Result<()
     Ok(())
 }
 
-// The reader tells of another count.
+// A writer that does not tell its count: the reader then fails at the second record.
 #[test]
 fn fails_where_a_line_is_not_written(rt: HostRuntime) {
     let written = Cell::new(0);
