@@ -267,7 +267,7 @@ fn lent_once(
     Some((front, row, entry))
 }
 
-// The records that a store leaves. It is closed again where its session got no look.
+// The records that a store leaves. It is closed again where its session got no look, and for no other reason.
 pub fn closed<R: Wait>(rt: &R, store: Vlr, session: &mut Session) -> Result<Records, Refusal>
     requires { session.old.store ≡ store.store }
 {
@@ -275,7 +275,16 @@ pub fn closed<R: Wait>(rt: &R, store: Vlr, session: &mut Session) -> Result<Reco
     for _ in 1..TURNS {
         match left.close(rt, session) {
             Ok(records) => return Ok(records),
-            Err(CloseRefused { why: _, store }) => left = store,
+            Err(
+                CloseRefused {
+                    why: Refusal::NoGuard,
+                    store,
+                },
+            ) => left = store,
+            Err(CloseRefused { why, store }) => {
+                store.end(rt);
+                return Err(why);
+            }
         }
     }
     match left.close(rt, session) {

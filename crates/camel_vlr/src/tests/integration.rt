@@ -11,8 +11,10 @@ use std::test::Fail;
 use std::thread;
 use std::thread::Threads;
 
-// How many calls the call-control loop takes, and how many updates the writer loop takes.
+// How many calls the call-control loop takes, how many looks it may ask for, and how many updates the writer loop takes.
 const CALLS: usize = 1000;
+
+const LOOKS: usize = 100_000;
 
 const UPDATES: usize = 100;
 
@@ -29,7 +31,7 @@ fn writer_loop<R: Wait>(rt: &R, store: &mut Vlr, imsi: Imsi) -> Result<Receipt, 
 }
 
 // The call-control loop has a session to itself. It takes no lock and does not wait for the writer. It gives the session
-// back, and whether each call was given its service.
+// back, and whether each call was given its service. A call that got no look is tried again.
 fn call_loop(session: Session, told: Receipt, call: &CallEvent) -> (Session, bool)
     requires { told.store ≡ session.store }
     ensures { result.0.store ≡ session.store }
@@ -37,14 +39,19 @@ fn call_loop(session: Session, told: Receipt, call: &CallEvent) -> (Session, boo
     let mut session = session;
     // From here on each look shows at least what the receipt tells of.
     session.learn(told);
-    let mut are_served = true;
-    for _ in 0..CALLS {
-        if let Some(Outcome::NoTrigger(_)) = outcome_of(&mut session, call) {
-            are_served = false;
+    let mut served: usize = 0;
+    for _ in 0..LOOKS {
+        match outcome_of(&mut session, call) {
+            Some(Outcome::Trigger { .. }) => served = served.saturating_add(1),
+            Some(Outcome::NoTrigger(_)) => return (session, false),
+            None => {}
+        }
+        if served == CALLS {
+            return (session, true);
         }
         thread::yield_now();
     }
-    (session, are_served)
+    (session, false)
 }
 
 // One call: a look, the decision, and what is kept of it when the look is left.
@@ -86,7 +93,7 @@ fn switch<R: Threads + Wait + Abort + Sync>(
             ensures { IfOk result (λ receipt. receipt.store ≡ store.entry.now.store) }
         { writer_loop(rt, store, imsi) },
     );
-    // No call was decided by the empty store.
+    // Each call was decided, and none by the empty store.
     assert!(rt; are_served);
 
     // A receipt that comes back with the writer's result tells the session of all that was published.

@@ -1,7 +1,7 @@
 ghost use Rattle.std.specs.Prelude.{◌≡◌, IfOk};
 ghost use Rattle.camel_vlr.specs.Store.{fresh};
 
-use super::{asked, call_of, imsi_of, opened, opened_with_one, row_update};
+use super::{ARMED, asked, call_of, imsi_of, lent, opened, opened_with_one, row_update};
 use crate::{Receipt, Session, Vlr};
 use camel_criteria::Refusal;
 use camel_history::Beginning;
@@ -29,9 +29,9 @@ fn data_refuse_before_the_limit<R: Wait + Abort>(
 {
     let (first, second, third) = (imsi_of(1)?, imsi_of(2)?, imsi_of(3)?);
     let what = Withdrawal {
-        o: true,
+        o: false,
         vt: false,
-        everything: false,
+        everything: true,
     };
     assert_eq!(rt; store.submit(Update::Register { imsi: first }), Ok(1));
     assert_eq!(rt; store.submit(Update::Register { imsi: second }), Ok(2));
@@ -45,6 +45,7 @@ fn data_refuse_before_the_limit<R: Wait + Abort>(
     session.learn(receipt);
     let call = call_of(first)?;
     assert_eq!(rt; asked(session, &call), Some((3, Ok((100, None)))));
+    assert_eq!(rt; lent(session, &first, 2), Some((3, Some(ARMED), None)));
     Ok(())
 }
 

@@ -81,6 +81,10 @@ fn pending_is_not_seen<R: Wait + Abort>(
     let listed = Some((3, Ok((100, Some(LISTED)))));
     assert_eq!(rt; asked(first, &call), listed);
     assert_eq!(rt; asked(second, &call), listed);
+    let both = Some((3, Some(ARMED), Some(LISTED)));
+    assert_eq!(rt; lent(first, &imsi, 2), both);
+    assert_eq!(rt; lent(second, &imsi, 2), both);
+    assert_eq!(rt; lent(first, &imsi, 4), Some((3, None, None)));
     Ok(())
 }
 

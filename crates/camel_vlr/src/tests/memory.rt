@@ -286,3 +286,49 @@ fn a_cancel_that_got_no_memory_leaves_the_entry(rt: HostRuntime) -> Result<(), F
     store.end(&rt);
     done
 }
+
+fn submits_before_the_repeat<R: Wait + Abort>(
+    rt: &R,
+    alloc: Global,
+    store: &mut Vlr,
+    session: &mut Session,
+) -> Result<(), Fail>
+    requires { session.old.store ≡ store.old.store }
+{
+    let (first, second) = (imsi_of(1)?, imsi_of(2)?);
+    let call = call_of(first)?;
+    let register = submitted(rt, alloc, store, session, &call, first, Kind::Register);
+    assert_eq!(rt; register, Ok(1));
+    match store.publish(rt) {
+        Err(why) => {
+            assert_eq!(rt; why, Refusal::OutOfMemory);
+            let unknown = Some((0, Err(Reason::Unknown)));
+            assert_eq!(rt; seen(store, session, &call), (0, 1, unknown));
+        }
+        Ok(receipt) => {
+            assert_eq!(rt; receipt.front(), 1);
+            assert_eq!(rt; (store.published(), store.pending()), (1, 0));
+        }
+    }
+    // The next update comes behind what is pending, and the same publication is asked for again.
+    let register = submitted(rt, alloc, store, session, &call, second, Kind::Register);
+    assert_eq!(rt; register, Ok(2));
+    let receipt = published(rt, store, session, &call)?;
+    assert_eq!(rt; receipt.front(), 2);
+    assert_eq!(rt; (store.published(), store.pending()), (2, 0));
+    session.learn(receipt);
+    let both = Some((2, Err(Reason::NoCsi)));
+    assert_eq!(rt; asked(session, &call), both);
+    assert_eq!(rt; asked(session, &call_of(second)?), both);
+    Ok(())
+}
+
+#[test]
+fn an_update_may_come_before_a_refused_publication_is_made_again(
+    rt: HostRuntime,
+) -> Result<(), Fail> {
+    let (mut store, mut session) = opened_again(&rt, rt.alloc())?;
+    let done = submits_before_the_repeat(&rt, rt.alloc(), &mut store, &mut session);
+    store.end(&rt);
+    done
+}

@@ -84,6 +84,15 @@ fn sees_both_until(session: &mut Session, has_published: &AtomicBool) -> bool {
     false
 }
 
+fn waits_for(is_so: &AtomicBool) {
+    for _ in 0..u64::MAX {
+        if is_so.load(Ordering::SeqCst) {
+            return;
+        }
+        thread::yield_now();
+    }
+}
+
 // Publishes where the look is held.
 fn publishes<R: Wait>(
     rt: &R,
@@ -91,12 +100,7 @@ fn publishes<R: Wait>(
     holds: &AtomicBool,
     has_published: &AtomicBool,
 ) -> Option<u64> {
-    for _ in 0..u64::MAX {
-        if holds.load(Ordering::SeqCst) {
-            break;
-        }
-        thread::yield_now();
-    }
+    waits_for(holds);
     let published = store.publish(rt);
     has_published.store(true, Ordering::SeqCst);
     match published {
@@ -203,16 +207,21 @@ fn outcomes_of(
     Ok(outcomes)
 }
 
-// Submits the updates of a seed and publishes after each.
+// Submits the updates of a seed and publishes after each. Halfway it waits until a session has had a look at a front
+// between the first and the last one.
 fn writes<R: Wait>(
     rt: &R,
     alloc: Global,
     store: &mut Vlr,
     imsis: &Three<Imsi>,
     seed: u64,
+    has_looked: &AtomicBool,
 ) -> Result<(), Refusal> {
     let mut number = seed;
-    for _ in 0..ROUNDS {
+    for round in 0..ROUNDS {
+        if round == ROUNDS / 2 {
+            waits_for(has_looked);
+        }
         number = next_of(number);
         match store.submit(update_of(alloc, imsis, number)?) {
             Ok(_) | Err(Refusal::UnidentifiedSubscriber) => {}
@@ -223,14 +232,29 @@ fn writes<R: Wait>(
     Ok(())
 }
 
+// The same, after which the writer waits for no look of this session.
+fn reads(
+    session: Session,
+    calls: &Three<CallEvent>,
+    outcomes: &[Three<Told>],
+    has_looked: &AtomicBool,
+    has_ended: &AtomicBool,
+) -> bool {
+    let are_right = reads_until(session, calls, outcomes, has_looked, has_ended);
+    has_looked.store(true, Ordering::SeqCst);
+    are_right
+}
+
 // Whether what a session sees at each front is what the list says, and no front goes back. It looks until the writer has
 // ended, and then once more: the front is the last one.
-fn reads(
+fn reads_until(
     mut session: Session,
     calls: &Three<CallEvent>,
     outcomes: &[Three<Told>],
+    has_looked: &AtomicBool,
     has_ended: &AtomicBool,
 ) -> bool {
+    let longest = outcomes.len().saturating_sub(1);
     let mut last = 0;
     for turn in 0..u64::MAX {
         let is_last = has_ended.load(Ordering::SeqCst);
@@ -245,17 +269,27 @@ fn reads(
                     return false;
                 }
                 last = front;
+                if is_between(front, longest) {
+                    has_looked.store(true, Ordering::SeqCst);
+                }
             }
             None => {}
         }
         if is_last {
             return match asked(&mut session, call) {
-                Some((front, _)) => usize::try_from(front) == Ok(outcomes.len().saturating_sub(1)),
+                Some((front, _)) => usize::try_from(front) == Ok(longest),
                 None => false,
             };
         }
     }
     false
+}
+
+fn is_between(front: u64, longest: usize) -> bool {
+    let Ok(front) = usize::try_from(front) else {
+        return false;
+    };
+    0 < front && front < longest
 }
 
 fn wanted_at(outcomes: &[Three<Told>], front: u64, at: usize) -> Option<Told> {
@@ -273,17 +307,17 @@ fn check_seed<R: Threads + Wait + Abort + Sync>(
     seed: u64,
 ) -> Result<(), Fail> {
     let outcomes = outcomes_of(alloc, imsis, calls, seed)?;
-    let has_ended = AtomicBool::new(false);
+    let (has_looked, has_ended) = (AtomicBool::new(false), AtomicBool::new(false));
     let (mut store, first, second) = opened_with_two(rt, alloc, 1000)?;
     let (are_right, written) = thread::join(
         rt,
         || thread::join(
             rt,
-            || reads(first, calls, &outcomes, &has_ended),
-            || reads(second, calls, &outcomes, &has_ended),
+            || reads(first, calls, &outcomes, &has_looked, &has_ended),
+            || reads(second, calls, &outcomes, &has_looked, &has_ended),
         ),
         || {
-            let written = writes(rt, alloc, &mut store, imsis, seed);
+            let written = writes(rt, alloc, &mut store, imsis, seed, &has_looked);
             has_ended.store(true, Ordering::SeqCst);
             written
         },
