@@ -20,7 +20,7 @@ pub(crate) fn take(
     ensures desk { writer.new.desk ≡ writer.old.desk }
     ensures pending { MatchResult result
         (λ _. drop writer.new.behind writer.new.log.items
-            ≡ drop writer.old.behind writer.old.log.items ++ change.Update update ∷ [])
+        ≡ drop writer.old.behind writer.old.log.items ++ change.Update update ∷ [])
         (λ _. drop writer.new.behind writer.new.log.items ≡ drop writer.old.behind writer.old.log.items) }
     ensures put { OnOk result (directory.new ≡ with_csis directory.old (update_imsi update) csis) }
     ensures unchanged { OnErr result (directory.new ≡ directory.old) }
@@ -47,7 +47,7 @@ fn take_with_entry(
     ensures desk { writer.new.desk ≡ writer.old.desk }
     ensures pending { MatchResult result
         (λ _. drop writer.new.behind writer.new.log.items
-            ≡ drop writer.old.behind writer.old.log.items ++ change.Update update ∷ [])
+        ≡ drop writer.old.behind writer.old.log.items ++ change.Update update ∷ [])
         (λ _. drop writer.new.behind writer.new.log.items ≡ drop writer.old.behind writer.old.log.items) }
     ensures put { OnOk result (directory.new ≡ with_csis directory.old imsi (Some csis)) }
     ensures unchanged { OnErr result (directory.new ≡ directory.old) }
@@ -67,7 +67,7 @@ fn append(writer: &mut StoreWriter, update: Update) -> Result<(), AllocError>
     ensures desk { writer.new.desk ≡ writer.old.desk }
     ensures pending { MatchResult result
         (λ _. drop writer.new.behind writer.new.log.items
-            ≡ drop writer.old.behind writer.old.log.items ++ change.Update update ∷ [])
+        ≡ drop writer.old.behind writer.old.log.items ++ change.Update update ∷ [])
         (λ _. drop writer.new.behind writer.new.log.items ≡ drop writer.old.behind writer.old.log.items) }
 {
     match writer.append(Change::Update(update)) {

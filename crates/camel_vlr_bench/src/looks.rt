@@ -45,8 +45,8 @@ fn decided(records: &Records, events: &[CallEvent]) -> u64 {
     triggers
 }
 
-/// Nanoseconds of look, decision and leave, in hundredths, with so many sessions in threads of their own, beside a writer that
-/// makes so many publications of ten updates of these subscribers.
+/// Nanoseconds of look, decision and leave, in hundredths, with so many sessions in threads of their own, beside a
+/// writer that makes so many publications of ten updates of these subscribers.
 pub(crate) fn of_store<R: Clock + Wait + Threads + Sync>(
     rt: &R,
     alloc: Global,

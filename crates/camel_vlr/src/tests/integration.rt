@@ -11,7 +11,7 @@ use std::test::Fail;
 use std::thread;
 use std::thread::Threads;
 
-// How many calls the call-control loop takes, how many looks it may ask for, and how many updates the writer loop takes.
+// How many calls the call-control loop takes, how many looks it may ask for, and how many updates the writer takes.
 const CALLS: usize = 1000;
 
 const LOOKS: usize = 100_000;
@@ -30,8 +30,8 @@ fn writer_loop<R: Wait>(rt: &R, store: &mut Vlr, imsi: Imsi) -> Result<Receipt, 
     Ok(store.receipt())
 }
 
-// The call-control loop has a session to itself. It takes no lock and does not wait for the writer. It gives the session
-// back, and whether each call was given its service. A call that got no look is tried again.
+// The call-control loop has a session to itself. It takes no lock and does not wait for the writer. It gives the
+// session back, and whether each call was given its service. A call that got no look is tried again.
 fn call_loop(session: Session, told: Receipt, call: &CallEvent) -> (Session, bool)
     requires { told.store ≡ session.store }
     ensures { result.0.store ≡ session.store }

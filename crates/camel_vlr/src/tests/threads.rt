@@ -245,8 +245,8 @@ fn reads(
     are_right
 }
 
-// Whether what a session sees at each front is what the list says, and no front goes back. It looks until the writer has
-// ended, and then once more: the front is the last one.
+// Whether what a session sees at each front is what the list says, and no front goes back. It looks until the writer
+// has ended, and then once more: the front is the last one.
 fn reads_until(
     mut session: Session,
     calls: &Three<CallEvent>,
