@@ -28,6 +28,3 @@ pub use number_criterion::{MAX_LENGTHS, MAX_NUMBERS, NumberCriterion};
 pub use o_criteria::OCriteria;
 pub use refusal::Refusal;
 pub use t_criteria::TCriteria;
-
-#[cfg(test)]
-mod tests;

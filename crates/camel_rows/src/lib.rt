@@ -40,6 +40,3 @@ pub use t_criteria_set::TCriteriaSet;
 pub use tdp_row::{MAX_SERVICE_KEY, TdpRow};
 pub use update::{Update, Withdrawal};
 pub use vt_csi::VtCsi;
-
-#[cfg(test)]
-mod tests;

@@ -19,6 +19,3 @@ pub use line::{Line, push_line};
 pub use record::Record;
 pub use script::Script;
 pub use script_fault::ScriptFault;
-
-#[cfg(test)]
-mod tests;

@@ -18,6 +18,3 @@ pub use imsi::{
     Imsi, ImsiFault, MAX_IMSI_DIGITS, MAX_IMSI_OCTETS, MIN_IMSI_DIGITS, MIN_IMSI_OCTETS,
 };
 pub use isdn_address::{IsdnAddress, MAX_ISDN_ADDRESS_LENGTH};
-
-#[cfg(test)]
-mod tests;

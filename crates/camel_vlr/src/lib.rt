@@ -20,6 +20,3 @@ pub use look::{Look, NoLook};
 pub use receipt::Receipt;
 pub use session::Session;
 pub use store::Vlr;
-
-#[cfg(test)]
-mod tests;

@@ -1,0 +1,413 @@
+mod agreement;
+mod basic_services;
+mod plain;
+mod random;
+
+use camel_criteria::{
+    BasicService, CallType, Cause, Handling, MatchType, NumberCriterion, OCriteria, OEvent,
+    Refusal, TCriteria, TEvent, criteria_mean, o_met, t_met,
+};
+use camel_tbcd::{Address, IsdnAddress};
+use std::alloc::{AllocError, AllocFailed, Global};
+use std::error::Error;
+use std::process::Abort;
+use std::test::Fail;
+
+// By TS 29.002 values 2 to 31 are treated as continue, and values above 31 as release.
+#[test]
+fn reads_each_received_handling(rt: HostRuntime) {
+    for (received, wanted) in [
+        (0, Handling::Continue),
+        (1, Handling::Release),
+        (2, Handling::Continue),
+        (31, Handling::Continue),
+        (32, Handling::Release),
+        (u32::MAX, Handling::Release),
+    ] {
+        assert_eq!(rt; Handling::of_received(received), wanted, "at {received}");
+    }
+}
+
+// By TS 29.002 teleservice 12 hexadecimal is the emergency call, and 11 hexadecimal telephony.
+#[test]
+fn knows_emergency_calls(rt: HostRuntime) {
+    for (service, wanted) in [
+        (BasicService::Tele(0x12), true),
+        (BasicService::Tele(0x11), false),
+        (BasicService::Bearer(0x12), false),
+    ] {
+        assert_eq!(rt; service.is_emergency(), wanted, "{service:?}");
+    }
+}
+
+fn text_of<E: Error>(alloc: Global, error: &E) -> Result<String, AllocError> {
+    format!(in alloc; "{error}")
+}
+
+#[test]
+fn numbers_and_prints_each_refusal(rt: HostRuntime) -> Result<(), Fail> {
+    for (refusal, code, text) in [
+        (
+            Refusal::UnidentifiedSubscriber,
+            5,
+            "there is no record of the subscriber",
+        ),
+        (Refusal::DataMissing, 35, "data that are needed are missing"),
+        (
+            Refusal::UnexpectedDataValue,
+            36,
+            "a value, a count or a repeated item is not allowed",
+        ),
+        (
+            Refusal::HistoryFull,
+            101,
+            "the store has taken as many updates as it may",
+        ),
+        (Refusal::OutOfMemory, 102, "out of memory"),
+        (
+            Refusal::NoPlace,
+            103,
+            "there is no place for a further reader",
+        ),
+        (Refusal::NoGuard, 104, "the reader was given no guard"),
+    ] {
+        assert_eq!(rt; refusal.code(), code, "{text}");
+        assert_eq!(rt; text_of(rt.alloc(), &refusal)?.as_str(), text);
+    }
+    Ok(())
+}
+
+// What `?` makes of an error, through the bound alone.
+fn refusal_from<E>(error: E) -> Result<(), Refusal>
+where
+    Refusal: From<E>,
+{
+    Err(error)?
+}
+
+#[test]
+fn takes_want_of_memory_as_its_refusal(rt: HostRuntime) {
+    let no_room = AllocFailed { value: 7u8 };
+    assert_eq!(rt; refusal_from(AllocError), Err(Refusal::OutOfMemory));
+    assert_eq!(rt; refusal_from(no_room), Err(Refusal::OutOfMemory));
+}
+
+#[test]
+fn takes_causes_to_127(rt: HostRuntime) {
+    for (value, wanted) in [
+        (0, Some(0)),
+        (17, Some(17)),
+        (127, Some(127)),
+        (128, None),
+        (255, None),
+    ] {
+        assert_eq!(rt;
+            Cause::new(value).map(|cause| cause.value()),
+            wanted,
+            "of {value}"
+        );
+    }
+}
+
+#[test]
+fn takes_a_number_criterion_by_its_counts_and_lengths(rt: HostRuntime) -> Result<(), Fail> {
+    let number = IsdnAddress::from_bytes(&[0x91, 0x21, 0xf3])?;
+    let many = [number; 11];
+    let cases: [(usize, &[u8], Option<Refusal>); 10] = [
+        (0, &[], Some(Refusal::DataMissing)),
+        (0, &[1], None),
+        (1, &[], None),
+        (10, &[], None),
+        (11, &[], Some(Refusal::UnexpectedDataValue)),
+        (0, &[1, 2, 15], None),
+        (0, &[1, 2, 3, 4], Some(Refusal::UnexpectedDataValue)),
+        (0, &[0], Some(Refusal::UnexpectedDataValue)),
+        (0, &[15, 16], Some(Refusal::UnexpectedDataValue)),
+        (10, &[15, 15, 1], None),
+    ];
+    for (count, lengths, wanted) in cases {
+        let numbers = many.get(..count).ok_or("more than were written")?;
+        let made = NumberCriterion::new(rt.alloc(), MatchType::Enabling, numbers, lengths);
+        assert_eq!(rt; made.err(), wanted, "{count} numbers and {lengths:?}");
+    }
+    Ok(())
+}
+
+// No two octets of these numbers are alike after the first, so that a lost or moved one shows.
+const NUMBERS: [[u8; 3]; 2] = [[0x91, 0x21, 0x43], [0xa1, 0x65, 0xf7]];
+
+fn number_criterion(alloc: Global, match_type: MatchType) -> Result<NumberCriterion, Fail> {
+    let numbers = [
+        IsdnAddress::from_bytes(&NUMBERS[0])?,
+        IsdnAddress::from_bytes(&NUMBERS[1])?,
+    ];
+    Ok(NumberCriterion::new(alloc, match_type, &numbers, &[7, 3])?)
+}
+
+fn check_number_criterion(
+    rt: &impl Abort,
+    criterion: &NumberCriterion,
+    match_type: MatchType,
+) -> Result<(), Fail> {
+    assert_eq!(rt; criterion.match_type(), match_type);
+    assert_eq!(rt; criterion.numbers().len(), 2);
+    for at in 0..2 {
+        let octets: &[u8] = &NUMBERS[at];
+        let kept = criterion.numbers().get(at).ok_or("too few numbers")?;
+        assert_eq!(rt; kept.lend().bytes(), octets);
+        let lent = criterion.number(at).ok_or("too few numbers")?;
+        assert_eq!(rt; lent.bytes(), octets);
+    }
+    assert!(rt; criterion.number(2).is_none());
+    assert_eq!(rt; criterion.lengths(), [7, 3].as_slice());
+    Ok(())
+}
+
+#[test]
+fn reads_and_copies_a_number_criterion(rt: HostRuntime) -> Result<(), Fail> {
+    for match_type in [MatchType::Inhibiting, MatchType::Enabling] {
+        let criterion = number_criterion(rt.alloc(), match_type)?;
+        check_number_criterion(&rt, &criterion, match_type)?;
+        check_number_criterion(&rt, &criterion.clone()?, match_type)?;
+    }
+    Ok(())
+}
+
+const CODES: [BasicService; 6] = [BasicService::Tele(0x11); 6];
+
+// At detection point 2 of an originating call and 12 of a terminating one no call is released yet.
+#[test]
+fn takes_an_entry_by_its_counts_and_causes(rt: HostRuntime) -> Result<(), Fail> {
+    let wrong = Some(Refusal::UnexpectedDataValue);
+    let cases: [(u8, usize, &[u8], Option<Refusal>, Option<Refusal>); 13] = [
+        (4, 0, &[], None, None),
+        (4, 5, &[], None, None),
+        (4, 6, &[], wrong, wrong),
+        (4, 0, &[1, 2, 3, 4, 5], None, None),
+        (4, 0, &[1, 2, 3, 4, 5, 6], wrong, wrong),
+        (4, 0, &[127], None, None),
+        (4, 0, &[1, 128], wrong, wrong),
+        (2, 5, &[], None, None),
+        (2, 0, &[17], wrong, None),
+        (2, 0, &[128], wrong, wrong),
+        (12, 5, &[], None, None),
+        (12, 0, &[17], None, wrong),
+        (13, 0, &[17], None, None),
+    ];
+    for (dp, count, causes, of_o, of_t) in cases {
+        let codes = CODES.get(..count).ok_or("more than were written")?;
+        let made = OCriteria::new(rt.alloc(), dp, None, codes, None, causes);
+        assert_eq!(rt;
+            made.err(),
+            of_o,
+            "O-CSI at {dp}, {count} codes, {causes:?}"
+        );
+        let made = TCriteria::new(rt.alloc(), dp, codes, causes);
+        assert_eq!(rt;
+            made.err(),
+            of_t,
+            "VT-CSI at {dp}, {count} codes, {causes:?}"
+        );
+    }
+    Ok(())
+}
+
+const TWO_CODES: [BasicService; 2] = [BasicService::Tele(0x10), BasicService::Bearer(0x18)];
+
+fn check_o_entry(rt: &impl Abort, entry: &OCriteria) -> Result<(), Fail> {
+    assert_eq!(rt; entry.dp(), 4);
+    let number = entry.number().ok_or("no number criterion")?;
+    check_number_criterion(rt, number, MatchType::Inhibiting)?;
+    assert_eq!(rt; entry.basic(), TWO_CODES.as_slice());
+    assert_eq!(rt; entry.call_type(), Some(CallType::Forwarded));
+    assert_eq!(rt; entry.causes(), [18, 17].as_slice());
+    Ok(())
+}
+
+#[test]
+fn reads_and_copies_entries(rt: HostRuntime) -> Result<(), Fail> {
+    let number = number_criterion(rt.alloc(), MatchType::Inhibiting)?;
+    let call_type = Some(CallType::Forwarded);
+    let entry = OCriteria::new(
+        rt.alloc(),
+        4,
+        Some(number),
+        &TWO_CODES,
+        call_type,
+        &[18, 17],
+    )?;
+    check_o_entry(&rt, &entry)?;
+    check_o_entry(&rt, &entry.clone()?)?;
+
+    let bare = OCriteria::new(rt.alloc(), 2, None, &[], None, &[])?;
+    assert_eq!(rt; bare.dp(), 2);
+    assert!(rt; bare.number().is_none());
+    assert!(rt; bare.basic().is_empty());
+    assert_eq!(rt; bare.call_type(), None);
+    assert!(rt; bare.causes().is_empty());
+
+    let entry = TCriteria::new(rt.alloc(), 13, &TWO_CODES, &[18, 17])?;
+    let copy = entry.clone()?;
+    for entry in [&entry, &copy] {
+        assert_eq!(rt; entry.dp(), 13);
+        assert_eq!(rt; entry.basic(), TWO_CODES.as_slice());
+        assert_eq!(rt; entry.causes(), [18, 17].as_slice());
+    }
+    Ok(())
+}
+
+fn of_telephony<'a>(destination: Address<'a>, cause: Option<Cause>) -> OEvent<'a> {
+    OEvent {
+        destination,
+        basic: BasicService::Tele(0x11),
+        forwarded: false,
+        cause,
+    }
+}
+
+// By TS 23.078 a listed number matches a destination of its nature that begins with its digits. Bit 8 of
+// octet 1 and the numbering plan are not compared.
+#[test]
+fn meets_a_number_criterion(rt: HostRuntime) -> Result<(), Fail> {
+    criteria_mean();
+    let three_digits = IsdnAddress::from_bytes(&[0x91, 0x21, 0xf3])?;
+    let four_digits = IsdnAddress::from_bytes(&[0x91, 0x21, 0x43])?;
+    let no_digits = IsdnAddress::from_bytes(&[0x91])?;
+    let others = IsdnAddress::from_bytes(&[0x91, 0x55])?;
+    let national = IsdnAddress::from_bytes(&[0xa1, 0x21, 0xf3])?;
+    let national_four = IsdnAddress::from_bytes(&[0xa1, 0x21, 0x43])?;
+    let without_bit_8 = IsdnAddress::from_bytes(&[0x11, 0x21, 0xf3])?;
+    let of_plan_8 = IsdnAddress::from_bytes(&[0x98, 0x21, 0xf3])?;
+    let enabling = MatchType::Enabling;
+    let inhibiting = MatchType::Inhibiting;
+    let cases: [(MatchType, &[IsdnAddress], &[u8], &[u8], bool); 16] = [
+        (enabling, &[three_digits], &[], &[0x91, 0x21, 0x43], true),
+        (enabling, &[four_digits], &[], &[0x91, 0x21, 0xf3], false),
+        (enabling, &[national_four], &[], &[0x91, 0x21, 0xf3], false),
+        (enabling, &[national], &[], &[0x91, 0x21, 0x43], false),
+        (enabling, &[no_digits], &[], &[0x91, 0x21, 0x43], true),
+        (enabling, &[no_digits], &[], &[0x91], true),
+        (enabling, &[no_digits], &[], &[0xa1, 0x21, 0x43], false),
+        (enabling, &[without_bit_8], &[], &[0x91, 0x21, 0x43], true),
+        (enabling, &[of_plan_8], &[], &[0x91, 0x21, 0x43], true),
+        (
+            enabling,
+            &[others, three_digits],
+            &[],
+            &[0x91, 0x21, 0x43],
+            true,
+        ),
+        (enabling, &[], &[4], &[0x91, 0xf1, 0x43], false),
+        (enabling, &[], &[4], &[0x91, 0x21, 0x43], true),
+        (enabling, &[others], &[4], &[0x91, 0x21, 0x43], true),
+        (
+            inhibiting,
+            &[others, three_digits],
+            &[],
+            &[0x91, 0x21, 0x43],
+            false,
+        ),
+        (
+            inhibiting,
+            &[others, three_digits],
+            &[],
+            &[0x91, 0x99, 0x99],
+            true,
+        ),
+        (inhibiting, &[others], &[4], &[0x91, 0x99, 0x99], false),
+    ];
+    for (match_type, listed, lengths, destination, wanted) in cases {
+        let number = NumberCriterion::new(rt.alloc(), match_type, listed, lengths)?;
+        let entry = OCriteria::new(rt.alloc(), 2, Some(number), &[], None, &[])?;
+        let event = of_telephony(Address::new(destination)?, None);
+        assert_eq!(rt; o_met(&entry, &event), wanted, "{entry:?} and {event:?}");
+    }
+    Ok(())
+}
+
+#[test]
+fn meets_an_entry_of_the_o_csi_by_each_criterion(rt: HostRuntime) -> Result<(), Fail> {
+    let speech: &[BasicService] = &[BasicService::Tele(0x10)];
+    let forwarded = Some(CallType::Forwarded);
+    let not_forwarded = Some(CallType::NotForwarded);
+    let cases: [(
+        &[BasicService],
+        Option<CallType>,
+        &[u8],
+        u8,
+        bool,
+        Option<u8>,
+        bool,
+    ); 14] = [
+        (&[], None, &[], 0x11, false, None, true),
+        (&[], None, &[], 0x62, true, Some(17), true),
+        (speech, None, &[], 0x11, false, None, true),
+        (speech, None, &[], 0x62, false, None, false),
+        (&[], forwarded, &[], 0x11, true, None, true),
+        (&[], forwarded, &[], 0x11, false, None, false),
+        (&[], not_forwarded, &[], 0x11, false, None, true),
+        (&[], not_forwarded, &[], 0x11, true, None, false),
+        (&[], None, &[17, 18], 0x11, false, Some(17), true),
+        (&[], None, &[17, 18], 0x11, false, Some(18), true),
+        (&[], None, &[17, 18], 0x11, false, Some(19), false),
+        (&[], None, &[17, 18], 0x11, false, None, false),
+        (speech, forwarded, &[17], 0x12, true, Some(17), true),
+        (speech, forwarded, &[17], 0x12, true, Some(18), false),
+    ];
+    for (codes, call_type, causes, code, forwarded, cause, wanted) in cases {
+        let entry = OCriteria::new(rt.alloc(), 4, None, codes, call_type, causes)?;
+        let event = OEvent {
+            destination: Address::new(&[0x91, 0x21, 0x43])?,
+            basic: BasicService::Tele(code),
+            forwarded,
+            cause: cause.and_then(Cause::new),
+        };
+        assert_eq!(rt; o_met(&entry, &event), wanted, "{entry:?} and {event:?}");
+    }
+    Ok(())
+}
+
+#[test]
+fn asks_for_the_number_and_the_cause(rt: HostRuntime) -> Result<(), Fail> {
+    for (destination, cause, wanted) in [
+        ([0x91, 0x21, 0x43], 17, true),
+        ([0x91, 0x21, 0x43], 18, false),
+        ([0x91, 0x99, 0x99], 17, false),
+        ([0x91, 0x99, 0x99], 18, false),
+    ] {
+        let listed = [IsdnAddress::from_bytes(&[0x91, 0x21, 0xf3])?];
+        let number = NumberCriterion::new(rt.alloc(), MatchType::Enabling, &listed, &[])?;
+        let entry = OCriteria::new(rt.alloc(), 4, Some(number), &[], None, &[17])?;
+        let event = of_telephony(Address::new(&destination)?, Cause::new(cause));
+        assert_eq!(rt;
+            o_met(&entry, &event),
+            wanted,
+            "{destination:?} and {cause}"
+        );
+    }
+    Ok(())
+}
+
+#[test]
+fn meets_an_entry_of_the_vt_csi_by_each_criterion(rt: HostRuntime) -> Result<(), Fail> {
+    let facsimile: &[BasicService] = &[BasicService::Tele(0x60)];
+    let cases: [(&[BasicService], &[u8], u8, Option<u8>, bool); 8] = [
+        (&[], &[], 0x11, None, true),
+        (facsimile, &[17], 0x62, Some(17), true),
+        (facsimile, &[17], 0x11, Some(17), false),
+        (facsimile, &[17], 0x62, Some(18), false),
+        (facsimile, &[17], 0x62, None, false),
+        (facsimile, &[], 0x62, None, true),
+        (facsimile, &[], 0x64, None, false),
+        (&[], &[17], 0x11, Some(17), true),
+    ];
+    for (codes, causes, code, cause, wanted) in cases {
+        let entry = TCriteria::new(rt.alloc(), 13, codes, causes)?;
+        let event = TEvent {
+            basic: BasicService::Tele(code),
+            cause: cause.and_then(Cause::new),
+        };
+        assert_eq!(rt; t_met(&entry, &event), wanted, "{entry:?} and {event:?}");
+    }
+    Ok(())
+}

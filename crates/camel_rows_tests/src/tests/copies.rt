@@ -1,0 +1,184 @@
+use super::{
+    BARE, Items, NOTHING, ONE_ROW, PlainNumber, PlainO, base, halves_in, imsi_of, insert, mark_of,
+    marked_insert, one_number,
+};
+use camel_criteria::{MatchType, Refusal};
+use camel_rows::{Lent, Records, Update, Withdrawal};
+use camel_tbcd::Imsi;
+use std::process::Abort;
+use std::test::Fail;
+
+// Three items of a list by their places, each as its detection point and its service key or its mark.
+type Places = [Option<(u8, u32)>; 3];
+
+// What an update holds: the number of its kind, its subscriber, what it withdraws, and what it brings: the O-CSI, its
+// criteria, the VT-CSI and its criteria.
+type Held = (u8, Imsi, Option<Withdrawal>, [Option<Places>; 4]);
+
+fn held_by(update: &Update) -> Held {
+    match update {
+        Update::Register { imsi } => (1, *imsi, None, [None; 4]),
+        Update::Insert { imsi, .. } => (2, *imsi, None, brought_by(update)),
+        Update::Delete { imsi, what } => (3, *imsi, Some(*what), [None; 4]),
+        Update::Cancel { imsi } => (4, *imsi, None, [None; 4]),
+    }
+}
+
+fn brought_by(update: &Update) -> [Option<Places>; 4] {
+    let Update::Insert {
+        o,
+        o_criteria,
+        vt,
+        t_criteria,
+        ..
+    } = update
+    else {
+        return [None; 4];
+    };
+    let rows = o.as_ref().map(|csi| {
+        [0, 1, 2].map(|at| csi.get(at).map(|row| (row.dp(), row.key())))
+    });
+    let entries = o_criteria.as_ref().map(|set| {
+        [0, 1, 2].map(|at| set.get(at).map(|entry| (
+            entry.dp(),
+            number_of_mark(mark_of(entry.basic())),
+        )))
+    });
+    let vt_rows = vt.as_ref().map(|csi| {
+        [0, 1, 2].map(|at| csi.get(at).map(|row| (row.dp(), row.key())))
+    });
+    let vt_entries = t_criteria.as_ref().map(|set| {
+        [0, 1, 2].map(|at| set.get(at).map(|entry| (
+            entry.dp(),
+            number_of_mark(mark_of(entry.basic())),
+        )))
+    });
+    [rows, entries, vt_rows, vt_entries]
+}
+
+fn number_of_mark(mark: Option<u8>) -> u32 {
+    mark.map_or(u32::MAX, u32::from)
+}
+
+fn check_copy(rt: &impl Abort, update: &Update, wanted: Held) -> Result<(), Refusal> {
+    assert_eq!(rt; held_by(update), wanted);
+    let copied = update.copy()?;
+    assert_eq!(rt; held_by(&copied), wanted);
+    assert_eq!(rt; copied.imsi(), wanted.1);
+    Ok(())
+}
+
+#[test]
+fn a_copy_of_a_register_a_delete_or_a_cancel_holds_the_same(rt: HostRuntime) -> Result<(), Fail> {
+    let imsi = imsi_of(1)?;
+    let other = imsi_of(2)?;
+    let what = Withdrawal {
+        o: false,
+        vt: true,
+        everything: false,
+    };
+    check_copy(&rt, &Update::Register { imsi }, (1, imsi, None, [None; 4]))?;
+    check_copy(
+        &rt,
+        &Update::Cancel { imsi: other },
+        (4, other, None, [None; 4]),
+    )?;
+    check_copy(
+        &rt,
+        &Update::Delete { imsi, what },
+        (3, imsi, Some(what), [None; 4]),
+    )?;
+    Ok(())
+}
+
+#[test]
+fn a_copy_of_an_insert_holds_the_same(rt: HostRuntime) -> Result<(), Fail> {
+    let imsi = imsi_of(1)?;
+    let one = |dp, number| Some([Some((dp, number)), None, None]);
+    let ignored = Some([None; 3]);
+    for (brought, wanted) in [
+        ([None; 4], [None; 4]),
+        (
+            [Some(1), None, None, Some(4)],
+            [one(2, 1), None, None, one(12, 4)],
+        ),
+        (
+            [Some(1), Some(2), Some(3), Some(4)],
+            [one(2, 1), one(2, 2), one(12, 3), one(12, 4)],
+        ),
+        (
+            [None, Some(2), Some(3), None],
+            [None, one(2, 2), one(12, 3), None],
+        ),
+        ([Some(0), Some(0), Some(0), Some(0)], [ignored; 4]),
+    ] {
+        let update = marked_insert(rt.alloc(), imsi, brought)?;
+        check_copy(&rt, &update, (2, imsi, None, wanted))?;
+    }
+    Ok(())
+}
+
+#[test]
+fn a_copy_of_records_holds_the_same_and_stands_alone(rt: HostRuntime) -> Result<(), Fail> {
+    let (first, second, third) = (imsi_of(1)?, imsi_of(2)?, imsi_of(3)?);
+    let mut records = base(rt.alloc(), &NOTHING)?;
+    records.apply(&Update::Register { imsi: second })?;
+    let brought = [Some(1), Some(2), Some(3), Some(4)];
+    let update = marked_insert(rt.alloc(), first, brought)?;
+    records.apply(&update)?;
+    let mut copied = records.copy()?;
+    let full = Some((Some((Some(1), Some(2))), Some((Some(3), Some(4)))));
+    for (imsi, wanted) in [(first, full), (second, Some((None, None))), (third, None)] {
+        assert_eq!(rt; halves_in(&records, &imsi), wanted);
+        assert_eq!(rt; halves_in(&copied, &imsi), wanted);
+    }
+    copied.apply(&Update::Cancel { imsi: first })?;
+    assert!(rt; copied.get(&first).is_none());
+    assert_eq!(rt; halves_in(&records, &first), full);
+    Ok(())
+}
+
+// The digits of the listed numbers of the entry at detection point 2, where there is a row and such an entry.
+fn listed_digits(records: &Records, imsi: &Imsi) -> Option<(usize, [Option<u8>; 4])> {
+    let subscriber = records.get(imsi)?;
+    subscriber.row(2)?;
+    match subscriber.criteria(2)? {
+        Lent::O(entry) => {
+            let criterion = entry.number()?;
+            let number = criterion.number(0)?;
+            let digits = number.digits();
+            Some((
+                criterion.numbers().len(),
+                [0, 1, 2, 3].map(|at| digits.get(at)),
+            ))
+        }
+        Lent::T(_) => None,
+    }
+}
+
+#[test]
+fn a_copied_insert_stands_with_its_listed_number(rt: HostRuntime) -> Result<(), Fail> {
+    let imsi = imsi_of(1)?;
+    let numbers = one_number(&[0x91, 0x21, 0xf3])?;
+    let entry = PlainO {
+        number: Some(PlainNumber(MatchType::Enabling, numbers, None)),
+        ..BARE
+    };
+    let items = Items {
+        o_criteria: [Some(entry), None],
+        ..ONE_ROW
+    };
+    let update = insert(rt.alloc(), imsi, &items)?;
+    let mut records = Records::new(rt.alloc());
+    let unknown = Err(Refusal::UnidentifiedSubscriber);
+    assert_eq!(rt; records.apply(&update), unknown);
+    assert!(rt; records.get(&imsi).is_none());
+    records.apply(&Update::Register { imsi })?;
+    let copied = update.copy()?;
+    records.apply(&copied)?;
+    let wanted = Some((1, [Some(1), Some(2), Some(3), None]));
+    assert_eq!(rt; listed_digits(&records, &imsi), wanted);
+    let copied = records.copy()?;
+    assert_eq!(rt; listed_digits(&copied, &imsi), wanted);
+    Ok(())
+}

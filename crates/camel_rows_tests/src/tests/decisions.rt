@@ -1,0 +1,194 @@
+use super::{
+    BARE, CONTINUE, DESTINATION, EMERGENCY, FACSIMILE, Items, NOTHING, ONE_ROW, PlainO, PlainRow,
+    PlainT, RELEASE, TELEPHONY, base, call_at, check_calls, imsi_of, insert, lent_at, told,
+};
+use camel_criteria::{BasicService, Handling};
+use camel_rows::{
+    BUSY, COLLECTED_INFO, NO_ANSWER, ROUTE_SELECT_FAILURE, Reason, Records, TERMINATING_ATTEMPT,
+    Update, decisions_mean, on_failure,
+};
+use std::test::Fail;
+
+#[test]
+fn each_row_says_what_is_done_where_its_service_fails(rt: HostRuntime) -> Result<(), Fail> {
+    let items = Items {
+        o: [Some(PlainRow(2, 1, 2)), Some(PlainRow(4, 2, 31)), None],
+        vt: [Some(PlainRow(12, 3, 32)), None, None],
+        ..NOTHING
+    };
+    let records = base(rt.alloc(), &items)?;
+    check_calls(
+        &rt,
+        &records,
+        &[
+            (2, TELEPHONY, 0, Ok((2, 1, CONTINUE))),
+            (4, TELEPHONY, 3, Ok((4, 2, CONTINUE))),
+            (12, TELEPHONY, 0, Ok((12, 3, RELEASE))),
+        ],
+    )
+}
+
+// A row of each detection point of the VT-CSI.
+const VT_ROWS: [Option<PlainRow>; 3] = [
+    Some(PlainRow(12, 300, 0)),
+    Some(PlainRow(13, 301, 1)),
+    Some(PlainRow(14, 302, 0)),
+];
+
+#[test]
+fn calls_to_a_subscriber_are_decided_by_the_vt_csi(rt: HostRuntime) -> Result<(), Fail> {
+    let facsimile = PlainT(13, Some(BasicService::Tele(0x60)), Some(17));
+    let items = Items {
+        vt: VT_ROWS,
+        t_criteria: [Some(facsimile), Some(PlainT(14, None, Some(19)))],
+        ..NOTHING
+    };
+    let records = base(rt.alloc(), &items)?;
+    let bearer = BasicService::Bearer(0x11);
+    check_calls(
+        &rt,
+        &records,
+        &[
+            (12, TELEPHONY, 0, Ok((12, 300, CONTINUE))),
+            (13, FACSIMILE, 17, Ok((13, 301, RELEASE))),
+            (13, TELEPHONY, 17, Err(Reason::Criteria)),
+            (14, bearer, 19, Ok((14, 302, CONTINUE))),
+            (14, bearer, 18, Err(Reason::Criteria)),
+            (12, EMERGENCY, 0, Err(Reason::Emergency)),
+            (2, TELEPHONY, 0, Err(Reason::NoCsi)),
+        ],
+    )
+}
+
+fn asking_for_facsimile() -> PlainO {
+    PlainO {
+        basic: Some(FACSIMILE),
+        ..BARE
+    }
+}
+
+// An emergency call that doesn't meet the criteria either, at each step with one reason less.
+#[test]
+fn the_first_reason_is_answered(rt: HostRuntime) -> Result<(), Fail> {
+    decisions_mean();
+    let imsi = imsi_of(1)?;
+    let armed = Items {
+        o_criteria: [Some(asking_for_facsimile()), None],
+        ..ONE_ROW
+    };
+    let unarmed = Items {
+        o: [Some(PlainRow(4, 200, 0)), None, None],
+        o_criteria: [Some(asking_for_facsimile()), None],
+        ..NOTHING
+    };
+    let mut records = Records::new(rt.alloc());
+    check_calls(&rt, &records, &[(2, EMERGENCY, 0, Err(Reason::Unknown))])?;
+    records.apply(&Update::Register { imsi })?;
+    check_calls(&rt, &records, &[(2, EMERGENCY, 0, Err(Reason::NoCsi))])?;
+    let update = insert(rt.alloc(), imsi, &unarmed)?;
+    records.apply(&update)?;
+    check_calls(&rt, &records, &[(2, EMERGENCY, 0, Err(Reason::NotArmed))])?;
+    let update = insert(rt.alloc(), imsi, &armed)?;
+    records.apply(&update)?;
+    check_calls(
+        &rt,
+        &records,
+        &[
+            (2, EMERGENCY, 0, Err(Reason::Emergency)),
+            (2, TELEPHONY, 0, Err(Reason::Criteria)),
+            (2, FACSIMILE, 0, Ok((2, 100, CONTINUE))),
+        ],
+    )
+}
+
+#[test]
+fn the_first_reason_is_answered_of_a_call_to_a_subscriber(rt: HostRuntime) -> Result<(), Fail> {
+    let imsi = imsi_of(1)?;
+    let facsimile = Some(PlainT(13, Some(FACSIMILE), None));
+    let armed = Items {
+        vt: [Some(PlainRow(13, 301, 0)), None, None],
+        t_criteria: [facsimile, None],
+        ..NOTHING
+    };
+    let unarmed = Items {
+        vt: [Some(PlainRow(14, 302, 0)), None, None],
+        t_criteria: [facsimile, None],
+        ..NOTHING
+    };
+    let mut records = Records::new(rt.alloc());
+    check_calls(&rt, &records, &[(13, EMERGENCY, 17, Err(Reason::Unknown))])?;
+    records.apply(&Update::Register { imsi })?;
+    check_calls(&rt, &records, &[(13, EMERGENCY, 17, Err(Reason::NoCsi))])?;
+    let update = insert(rt.alloc(), imsi, &unarmed)?;
+    records.apply(&update)?;
+    check_calls(&rt, &records, &[(13, EMERGENCY, 17, Err(Reason::NotArmed))])?;
+    let update = insert(rt.alloc(), imsi, &armed)?;
+    records.apply(&update)?;
+    check_calls(
+        &rt,
+        &records,
+        &[
+            (13, EMERGENCY, 17, Err(Reason::Emergency)),
+            (13, TELEPHONY, 17, Err(Reason::Criteria)),
+            (13, FACSIMILE, 17, Ok((13, 301, CONTINUE))),
+        ],
+    )
+}
+
+#[test]
+fn a_call_is_decided_by_the_record_of_its_own_subscriber(rt: HostRuntime) -> Result<(), Fail> {
+    let mut records = base(rt.alloc(), &ONE_ROW)?;
+    let other = imsi_of(2)?;
+    records.apply(&Update::Register { imsi: other })?;
+    for (imsi, wanted) in [
+        (imsi_of(1)?, Ok((2, 100, CONTINUE))),
+        (other, Err(Reason::NoCsi)),
+        (imsi_of(3)?, Err(Reason::Unknown)),
+    ] {
+        let call = call_at(2, imsi, TELEPHONY, &DESTINATION, 0)?;
+        assert_eq!(rt; told(&rt, &records, &call), wanted, "{imsi:?}");
+    }
+    Ok(())
+}
+
+// Entries stand in another order than their rows, and each covers telephony.
+#[test]
+fn a_trigger_lends_the_row_and_the_entry_of_its_detection_point(
+    rt: HostRuntime,
+) -> Result<(), Fail> {
+    let speech = Some(BasicService::Tele(0x10));
+    let all = Some(BasicService::Tele(0x00));
+    let at_2 = PlainO { basic: all, ..BARE };
+    let at_4 = PlainO {
+        dp: 4,
+        basic: speech,
+        ..BARE
+    };
+    let items = Items {
+        o: [Some(PlainRow(2, 100, 0)), Some(PlainRow(4, 200, 0)), None],
+        o_criteria: [Some(at_4), Some(at_2)],
+        vt: VT_ROWS,
+        t_criteria: [
+            Some(PlainT(13, speech, Some(17))),
+            Some(PlainT(12, all, None)),
+        ],
+    };
+    let records = base(rt.alloc(), &items)?;
+    for (dp, key, entry) in [
+        (COLLECTED_INFO, 100, Some(('o', 2, Some(0x00)))),
+        (ROUTE_SELECT_FAILURE, 200, Some(('o', 4, Some(0x10)))),
+        (TERMINATING_ATTEMPT, 300, Some(('t', 12, Some(0x00)))),
+        (BUSY, 301, Some(('t', 13, Some(0x10)))),
+        (NO_ANSWER, 302, None),
+    ] {
+        let call = call_at(dp, imsi_of(1)?, TELEPHONY, &DESTINATION, 17)?;
+        assert_eq!(rt; lent_at(&rt, &records, &call), Ok((key, entry)), "at {dp}");
+    }
+    Ok(())
+}
+
+#[test]
+fn the_default_call_handling_is_the_action_of_its_name(rt: HostRuntime) {
+    assert_eq!(rt; on_failure(Handling::Continue), CONTINUE);
+    assert_eq!(rt; on_failure(Handling::Release), RELEASE);
+}

@@ -1,0 +1,327 @@
+ghost use Rattle.std.specs.Prelude.{◌≡◌, ◌≤◌, All, IfOk, vec_len};
+ghost use Rattle.camel_vlr.specs.Store.{fresh};
+
+mod closing;
+mod integration;
+mod limits;
+mod looking;
+mod memory;
+mod refusals;
+mod threads;
+
+use camel_criteria::{BasicService, Handling, MatchType, NumberCriterion, OCriteria, Refusal};
+use camel_rows::{CallEvent, Decision, Lent, OCriteriaSet, OCsi, Reason, Records, TdpRow, Update};
+use camel_tbcd::{Address, AddressFault, CallAddress, Imsi, ImsiFault, IsdnAddress};
+use camel_vlr::{CloseRefused, Session, Vlr};
+use std::alloc::Global;
+use std::process::Abort;
+use std::sync::Wait;
+use std::test::Fail;
+
+// The gsmSCF address of each row.
+pub const SCF: [u8; 6] = [0x91, 0x94, 0x71, 0x16, 0x00, 0x00];
+
+// How often a call is made again that was answered by no place, no guard or no look.
+pub const TURNS: usize = 100;
+
+// The subscriber whose last digit this is.
+pub fn imsi_of(last: u8) -> Result<Imsi, ImsiFault> {
+    Imsi::from_digits(&[2, 6, 2, 0, 1, 0, 0, 0, 0, 0, 0, 0, 0, 0, last])
+}
+
+// A call of a subscriber to the digits 1 2 3 4.
+pub fn call_of(imsi: Imsi) -> Result<CallEvent, AddressFault> {
+    Ok(CallEvent::CollectedInfo {
+        imsi,
+        destination: CallAddress::from_bytes(&[0x91, 0x21, 0x43])?,
+        basic: BasicService::Tele(0x11),
+        forwarded: false,
+    })
+}
+
+fn number_of(octets: &[u8]) -> Result<IsdnAddress, Refusal> {
+    IsdnAddress::from_bytes(octets).map_err(|_| Refusal::UnexpectedDataValue)
+}
+
+// An O-CSI with one row, of detection point 2.
+fn one_row() -> Result<OCsi, Refusal> {
+    let row = TdpRow::new(2, 100, number_of(&SCF)?, Handling::Continue)?;
+    OCsi::new(&[row])
+}
+
+// One entry, of detection point 2, which lists the digits 1 2 3.
+fn one_entry(alloc: Global) -> Result<OCriteriaSet, Refusal> {
+    let number = number_of(&[0x91, 0x21, 0xf3])?;
+    let criterion = NumberCriterion::new(alloc, MatchType::Enabling, &[number], &[])?;
+    let entry = OCriteria::new(alloc, 2, Some(criterion), &[], None, &[])?;
+    let mut entries = Vec::new(alloc);
+    entries.push(entry)?;
+    OCriteriaSet::new(entries)
+}
+
+// The Insert of the row.
+pub fn row_update(imsi: Imsi) -> Result<Update, Refusal> {
+    Ok(Update::Insert {
+        imsi,
+        o: Some(one_row()?),
+        o_criteria: None,
+        vt: None,
+        t_criteria: None,
+    })
+}
+
+// The Insert of the row and the entry.
+pub fn criteria_update(alloc: Global, imsi: Imsi) -> Result<Update, Refusal> {
+    Ok(Update::Insert {
+        imsi,
+        o: Some(one_row()?),
+        o_criteria: Some(one_entry(alloc)?),
+        vt: None,
+        t_criteria: None,
+    })
+}
+
+// The Insert of the entry alone.
+pub fn entry_update(alloc: Global, imsi: Imsi) -> Result<Update, Refusal> {
+    Ok(Update::Insert {
+        imsi,
+        o: None,
+        o_criteria: Some(one_entry(alloc)?),
+        vt: None,
+        t_criteria: None,
+    })
+}
+
+// A lent entry: its detection point, how many numbers it lists, and the digits of the first; or that it is one of the
+// VT-CSI.
+#[derive(Clone, Copy, Debug, PartialEq, Eq)]
+pub enum Entry {
+    O(u8, usize, [Option<u8>; 4]),
+    T,
+}
+
+// The one entry of these tests.
+pub const LISTED: Entry = Entry::O(2, 1, [Some(1), Some(2), Some(3), None]);
+
+// What is told of a call: the service key and the lent entry, or the reason.
+pub type Told = Result<(u32, Option<Entry>), Reason>;
+
+pub fn entry_told(lent: Lent) -> Entry {
+    match lent {
+        Lent::O(entry) => {
+            let Some(criterion) = entry.number() else {
+                return Entry::O(entry.dp(), 0, [None; 4]);
+            };
+            let Some(number) = criterion.number(0) else {
+                return Entry::O(entry.dp(), 0, [None; 4]);
+            };
+            let digits = number.digits();
+            Entry::O(
+                entry.dp(),
+                criterion.numbers().len(),
+                [0, 1, 2, 3].map(|at| digits.get(at)),
+            )
+        }
+        Lent::T(_) => Entry::T,
+    }
+}
+
+pub fn told(decision: &Decision) -> Told {
+    match decision {
+        Decision::Trigger { row, criteria } => Ok((row.key(), criteria.map(entry_told))),
+        Decision::NoTrigger(reason) => Err(*reason),
+    }
+}
+
+// A row: its detection point and service key, whether it has the one gsmSCF address, and its default call handling.
+pub type RowTold = (u8, u32, bool, Handling);
+
+pub fn row_told(row: &TdpRow) -> RowTold {
+    let is_there = row.scf().bytes() == SCF.as_slice();
+    (row.dp(), row.key(), is_there, row.handling())
+}
+
+// The one row of these tests.
+pub const ARMED: RowTold = (2, 100, true, Handling::Continue);
+
+// A store with so many sessions.
+pub fn opened<R: Wait>(
+    rt: &R,
+    alloc: Global,
+    places: usize,
+    limit: u64,
+) -> Result<(Vlr, Vec<Session>), Refusal>
+    requires places { (1 ≤ places) × (places ≤ 64) }
+    requires limit { (1 ≤ limit) × (limit ≤ 1000000) }
+    ensures places { IfOk result (λ r. vec_len r.1 ≡ places) }
+    ensures sessions { IfOk result (λ r. All (λ s. s ≡ fresh r.0.store) r.1.items) }
+{
+    for _ in 1..TURNS {
+        match Vlr::open(rt, alloc, places, limit) {
+            Err(Refusal::NoPlace) => {}
+            opened => return opened,
+        }
+    }
+    Vlr::open(rt, alloc, places, limit)
+}
+
+// A store with one session.
+pub fn opened_with_one<R: Wait>(
+    rt: &R,
+    alloc: Global,
+    limit: u64,
+) -> Result<(Vlr, Session), Refusal>
+    requires limit { (1 ≤ limit) × (limit ≤ 1000000) }
+    ensures session { IfOk result (λ r. r.1 ≡ fresh r.0.store) }
+{
+    let (store, mut sessions) = opened(rt, alloc, 1, limit)?;
+    let Some(session) = sessions.pop() else {
+        store.end(rt);
+        return Err(Refusal::NoPlace);
+    };
+    Ok((store, session))
+}
+
+// A store with two sessions.
+pub fn opened_with_two<R: Wait>(
+    rt: &R,
+    alloc: Global,
+    limit: u64,
+) -> Result<(Vlr, Session, Session), Refusal>
+    requires limit { (1 ≤ limit) × (limit ≤ 1000000) }
+    ensures first { IfOk result (λ r. r.1 ≡ fresh r.0.store) }
+    ensures second { IfOk result (λ r. r.2 ≡ fresh r.0.store) }
+{
+    let (store, mut sessions) = opened(rt, alloc, 2, limit)?;
+    let Some(second) = sessions.pop() else {
+        store.end(rt);
+        return Err(Refusal::NoPlace);
+    };
+    let Some(first) = sessions.pop() else {
+        store.end(rt);
+        return Err(Refusal::NoPlace);
+    };
+    Ok((store, first, second))
+}
+
+// The front of one look, and what is told of the call there.
+pub fn asked_once(session: &mut Session, call: &CallEvent) -> Option<(u64, Told)>
+    ensures store { session.new.store ≡ session.old.store }
+{
+    let Ok(look) = session.look() else {
+        return None;
+    };
+    // The check of a lent event needs this type named: docs/DECISIONS.md says why.
+    let _: Option<Address> = None;
+    let event = call.lend();
+    let told = told(&look.decide(&event));
+    let front = look.front();
+    look.leave();
+    Some((front, told))
+}
+
+// The same, and again where there was no look.
+pub fn asked(session: &mut Session, call: &CallEvent) -> Option<(u64, Told)>
+    ensures store { session.new.store ≡ session.old.store }
+{
+    for _ in 1..TURNS {
+        let answered = asked_once(session, call);
+        if answered.is_some() {
+            return answered;
+        }
+    }
+    asked_once(session, call)
+}
+
+// The front of a look, and the row and the entry of a subscriber at a detection point there.
+pub fn lent(
+    session: &mut Session,
+    imsi: &Imsi,
+    dp: u8,
+) -> Option<(u64, Option<RowTold>, Option<Entry>)>
+    ensures store { session.new.store ≡ session.old.store }
+{
+    for _ in 1..TURNS {
+        let shown = lent_once(session, imsi, dp);
+        if shown.is_some() {
+            return shown;
+        }
+    }
+    lent_once(session, imsi, dp)
+}
+
+fn lent_once(
+    session: &mut Session,
+    imsi: &Imsi,
+    dp: u8,
+) -> Option<(u64, Option<RowTold>, Option<Entry>)>
+    ensures store { session.new.store ≡ session.old.store }
+{
+    let Ok(look) = session.look() else {
+        return None;
+    };
+    let row = look.row(imsi, dp).map(row_told);
+    let entry = look.criteria(imsi, dp).map(entry_told);
+    let front = look.front();
+    look.leave();
+    Some((front, row, entry))
+}
+
+// The records that a store leaves. It is closed again where its session got no look, and for no other reason.
+pub fn closed<R: Wait>(rt: &R, store: Vlr, session: &mut Session) -> Result<Records, Refusal>
+    requires { session.old.store ≡ store.store }
+{
+    let mut left = store;
+    for _ in 1..TURNS {
+        match left.close(rt, session) {
+            Ok(records) => return Ok(records),
+            Err(
+                CloseRefused {
+                    why: Refusal::NoGuard,
+                    store,
+                },
+            ) => left = store,
+            Err(CloseRefused { why, store }) => {
+                store.end(rt);
+                return Err(why);
+            }
+        }
+    }
+    match left.close(rt, session) {
+        Ok(records) => Ok(records),
+        Err(CloseRefused { why, store }) => {
+            store.end(rt);
+            Err(why)
+        }
+    }
+}
+
+// Registers a subscriber, inserts the row, publishes both, and lets the session learn and look.
+pub fn filled<R: Wait + Abort>(
+    rt: &R,
+    store: &mut Vlr,
+    session: &mut Session,
+    imsi: Imsi,
+) -> Result<(), Fail>
+    requires { session.old.store ≡ store.old.store }
+    ensures store { store.new.store ≡ store.old.store }
+    ensures session { session.new.store ≡ session.old.store }
+{
+    let call = call_of(imsi)?;
+    let insert = row_update(imsi)?;
+    assert_eq!(rt; store.submit(Update::Register { imsi }), Ok(1));
+    assert_eq!(rt; store.submit(insert), Ok(2));
+    let receipt = store.publish(rt)?;
+    assert_eq!(rt; receipt.front(), 2);
+    session.learn(receipt);
+    assert_eq!(rt; asked(session, &call), Some((2, Ok((100, None)))));
+    Ok(())
+}
+
+// The row and the entry of a subscriber at detection point 2.
+pub fn held(records: &Records, imsi: &Imsi) -> Option<(Option<RowTold>, Option<Entry>)> {
+    let subscriber = records.get(imsi)?;
+    let row = subscriber.row(2).map(row_told);
+    let entry = subscriber.criteria(2).map(entry_told);
+    Some((row, entry))
+}

@@ -1,0 +1,108 @@
+ghost use Rattle.std.specs.Prelude.{◌≡◌};
+
+use super::{
+    ARMED, LISTED, asked_once, call_of, closed, criteria_update, filled, held, imsi_of,
+    opened_with_one,
+};
+use camel_rows::Update;
+use camel_tbcd::Imsi;
+use camel_vlr::{Session, Vlr};
+use std::alloc::Global;
+use std::process::Abort;
+use std::sync::Wait;
+use std::test::Fail;
+
+// A session whose store is ended has no look, or one at the last front.
+fn check_last_look<R: Abort>(rt: &R, session: &mut Session, imsi: Imsi) -> Result<(), Fail> {
+    if let Some(last) = asked_once(session, &call_of(imsi)?) {
+        assert_eq!(rt; last, (2, Ok((100, None))));
+    }
+    Ok(())
+}
+
+// The row is published, and the end of its subscriber is pending.
+fn with_pending_cancel<R: Wait + Abort>(
+    rt: &R,
+    store: &mut Vlr,
+    session: &mut Session,
+    imsi: Imsi,
+) -> Result<(), Fail>
+    requires { session.old.store ≡ store.old.store }
+    ensures store { store.new.store ≡ store.old.store }
+    ensures session { session.new.store ≡ session.old.store }
+{
+    filled(rt, store, session, imsi)?;
+    assert_eq!(rt; store.submit(Update::Cancel { imsi }), Ok(3));
+    Ok(())
+}
+
+#[test]
+fn closing_gives_the_published_records_and_drops_what_is_pending(
+    rt: HostRuntime,
+) -> Result<(), Fail> {
+    let imsi = imsi_of(1)?;
+    let (mut store, mut session) = opened_with_one(&rt, rt.alloc(), 10)?;
+    match with_pending_cancel(&rt, &mut store, &mut session, imsi) {
+        Ok(()) => {}
+        Err(fail) => {
+            store.end(&rt);
+            return Err(fail);
+        }
+    }
+    let records = closed(&rt, store, &mut session)?;
+    assert_eq!(rt; held(&records, &imsi), Some((Some(ARMED), None)));
+    check_last_look(&rt, &mut session, imsi)
+}
+
+#[test]
+fn a_session_outlives_its_ended_store(rt: HostRuntime) -> Result<(), Fail> {
+    let imsi = imsi_of(1)?;
+    let (mut store, mut session) = opened_with_one(&rt, rt.alloc(), 10)?;
+    let done = with_pending_cancel(&rt, &mut store, &mut session, imsi);
+    store.end(&rt);
+    done?;
+    check_last_look(&rt, &mut session, imsi)
+}
+
+// One subscriber has the row, and the next one the row and the entry.
+fn with_two_kinds<R: Wait + Abort>(
+    rt: &R,
+    alloc: Global,
+    store: &mut Vlr,
+    session: &mut Session,
+) -> Result<(), Fail>
+    requires { session.old.store ≡ store.old.store }
+    ensures store { store.new.store ≡ store.old.store }
+    ensures session { session.new.store ≡ session.old.store }
+{
+    let imsi = imsi_of(2)?;
+    let insert = criteria_update(alloc, imsi)?;
+    filled(rt, store, session, imsi_of(1)?)?;
+    assert_eq!(rt; store.submit(Update::Register { imsi }), Ok(3));
+    assert_eq!(rt; store.submit(insert), Ok(4));
+    assert_eq!(rt; store.publish(rt)?.front(), 4);
+    Ok(())
+}
+
+#[test]
+fn a_copy_of_closed_records_lends_the_same(rt: HostRuntime) -> Result<(), Fail> {
+    let (mut store, mut session) = opened_with_one(&rt, rt.alloc(), 10)?;
+    match with_two_kinds(&rt, rt.alloc(), &mut store, &mut session) {
+        Ok(()) => {}
+        Err(fail) => {
+            store.end(&rt);
+            return Err(fail);
+        }
+    }
+    let records = closed(&rt, store, &mut session)?;
+    let copied = records.copy()?;
+    for (imsi, wanted) in [
+        (imsi_of(1)?, Some((Some(ARMED), None))),
+        (imsi_of(2)?, Some((Some(ARMED), Some(LISTED)))),
+        (imsi_of(3)?, None),
+    ] {
+        assert_eq!(rt; held(&records, &imsi), wanted);
+        assert_eq!(rt; held(&copied, &imsi), wanted);
+    }
+    Ok(())
+}

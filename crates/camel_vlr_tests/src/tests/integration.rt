@@ -1,0 +1,114 @@
+ghost use Rattle.std.specs.Prelude.{◌≡◌, IfOk};
+
+use super::{asked, call_of, imsi_of, opened_with_one, row_update};
+use camel_criteria::Refusal;
+use camel_rows::{CallEvent, Outcome, Update};
+use camel_tbcd::{Address, Imsi};
+use camel_vlr::{Receipt, Session, Vlr};
+use std::process::Abort;
+use std::sync::Wait;
+use std::test::Fail;
+use std::thread;
+use std::thread::Threads;
+
+// How many calls the call-control loop takes, how many looks it may ask for, and how many updates the writer takes.
+const CALLS: usize = 1000;
+
+const LOOKS: usize = 100_000;
+
+const UPDATES: usize = 100;
+
+// The writer loop has the store to itself. It takes an update, publishes, and only then answers the home location
+// register. Its last receipt tells of all that it published.
+fn writer_loop<R: Wait>(rt: &R, store: &mut Vlr, imsi: Imsi) -> Result<Receipt, Refusal>
+    ensures { IfOk result (λ receipt. receipt.store ≡ store.old.store) }
+{
+    for _ in 0..UPDATES {
+        store.submit(row_update(imsi)?)?;
+        store.publish(rt)?;
+    }
+    Ok(store.receipt())
+}
+
+// The call-control loop has a session to itself. It takes no lock and does not wait for the writer. It gives the
+// session back, and whether each call was given its service. A call that got no look is tried again.
+fn call_loop(session: Session, told: Receipt, call: &CallEvent) -> (Session, bool)
+    requires { told.store ≡ session.store }
+    ensures { result.0.store ≡ session.store }
+{
+    let mut session = session;
+    // From here on each look shows at least what the receipt tells of.
+    session.learn(told);
+    let mut served: usize = 0;
+    for _ in 0..LOOKS {
+        match outcome_of(&mut session, call) {
+            Some(Outcome::Trigger { .. }) => served = served.saturating_add(1),
+            Some(Outcome::NoTrigger(_)) => return (session, false),
+            None => {}
+        }
+        if served == CALLS {
+            return (session, true);
+        }
+        thread::yield_now();
+    }
+    (session, false)
+}
+
+// One call: a look, the decision, and what is kept of it when the look is left.
+fn outcome_of(session: &mut Session, call: &CallEvent) -> Option<Outcome>
+    ensures { session.new.store ≡ session.old.store }
+{
+    // The check of a lent event needs this type named: docs/DECISIONS.md says why.
+    let _: Option<Address> = None;
+    let Ok(look) = session.look() else {
+        // The store was ended: the call goes on without a service.
+        return None;
+    };
+    let event = call.lend();
+    let outcome = Outcome::of(&look.decide(&event));
+    look.leave();
+    Some(outcome)
+}
+
+// The subscriber's data are published before the first call is taken: the receipt says so.
+fn switch<R: Threads + Wait + Abort + Sync>(
+    rt: &R,
+    store: &mut Vlr,
+    session: Session,
+) -> Result<(), Fail>
+    requires { session.store ≡ store.old.store }
+{
+    let imsi = imsi_of(1)?;
+    let call = call_of(imsi)?;
+    store.submit(Update::Register { imsi })?;
+    store.submit(row_update(imsi)?)?;
+    let told = store.publish(rt)?;
+    let ((session, are_served), written) = thread::join(
+        rt,
+        move || -> (Session, bool)
+            requires { told.store ≡ session.store }
+            ensures { result.0.store ≡ session.store }
+        { call_loop(session, told, &call) },
+        || -> Result<Receipt, Refusal>
+            ensures { IfOk result (λ receipt. receipt.store ≡ store.entry.now.store) }
+        { writer_loop(rt, store, imsi) },
+    );
+    // Each call was decided, and none by the empty store.
+    assert!(rt; are_served);
+
+    // A receipt that comes back with the writer's result tells the session of all that was published.
+    let mut session = session;
+    let receipt = written?;
+    assert_eq!(rt; receipt.front(), 102);
+    session.learn(receipt);
+    assert_eq!(rt; asked(&mut session, &call), Some((102, Ok((100, None)))));
+    Ok(())
+}
+
+#[test]
+fn a_switch_uses_the_store(rt: HostRuntime) -> Result<(), Fail> {
+    let (mut store, session) = opened_with_one(&rt, rt.alloc(), 1000)?;
+    let done = switch(&rt, &mut store, session);
+    store.end(&rt);
+    done
+}

@@ -1,0 +1,334 @@
+ghost use Rattle.std.specs.Prelude.{◌≡◌, IfOk};
+ghost use Rattle.camel_vlr.specs.Store.{fresh};
+
+use super::{
+    ARMED, LISTED, TURNS, Told, asked, call_of, criteria_update, entry_update, held, imsi_of,
+    opened_with_one, row_update,
+};
+use camel_criteria::Refusal;
+use camel_rows::{CallEvent, Reason, Records, Update};
+use camel_tbcd::Imsi;
+use camel_vlr::{CloseRefused, Receipt, Session, Vlr};
+use std::alloc::Global;
+use std::process::Abort;
+use std::sync::Wait;
+use std::test::Fail;
+
+// These tests also pass where any one request for memory is refused: each call that answers so is made again.
+
+// The updates that are submitted here.
+#[derive(Clone, Copy, Debug)]
+enum Kind {
+    Register,
+    Row,
+    Criteria,
+    Entry,
+    Cancel,
+}
+
+fn update_once(alloc: Global, imsi: Imsi, kind: Kind) -> Result<Update, Refusal> {
+    match kind {
+        Kind::Register => Ok(Update::Register { imsi }),
+        Kind::Row => row_update(imsi),
+        Kind::Criteria => criteria_update(alloc, imsi),
+        Kind::Entry => entry_update(alloc, imsi),
+        Kind::Cancel => Ok(Update::Cancel { imsi }),
+    }
+}
+
+fn update_of(alloc: Global, imsi: Imsi, kind: Kind) -> Result<Update, Refusal> {
+    for _ in 1..TURNS {
+        match update_once(alloc, imsi, kind) {
+            Err(Refusal::OutOfMemory) => {}
+            made => return made,
+        }
+    }
+    update_once(alloc, imsi, kind)
+}
+
+// A store with one session. After a refusal nothing remains.
+fn opened_again<R: Wait>(rt: &R, alloc: Global) -> Result<(Vlr, Session), Refusal>
+    ensures { IfOk result (λ r. r.1 ≡ fresh r.0.store) }
+{
+    for _ in 1..TURNS {
+        match opened_with_one(rt, alloc, 10) {
+            Err(Refusal::OutOfMemory) => {}
+            opened => return opened,
+        }
+    }
+    opened_with_one(rt, alloc, 10)
+}
+
+// What callers see of a store: how many updates are published and pending, and what a look shows.
+type Seen = (u64, u64, Option<(u64, Told)>);
+
+fn seen(store: &Vlr, session: &mut Session, call: &CallEvent) -> Seen
+    ensures { session.new.store ≡ session.old.store }
+{
+    (store.published(), store.pending(), asked(session, call))
+}
+
+// Submits an update, and again where memory was refused, after which all is as before.
+fn submitted<R: Abort>(
+    rt: &R,
+    alloc: Global,
+    store: &mut Vlr,
+    session: &mut Session,
+    call: &CallEvent,
+    imsi: Imsi,
+    kind: Kind,
+) -> Result<u64, Refusal>
+    ensures store { store.new.store ≡ store.old.store }
+    ensures session { session.new.store ≡ session.old.store }
+{
+    let before = seen(store, session, call);
+    for _ in 1..TURNS {
+        let update = update_of(alloc, imsi, kind)?;
+        match store.submit(update) {
+            Err(Refusal::OutOfMemory) => {
+                assert_eq!(rt; seen(store, session, call), before);
+            }
+            answered => return answered,
+        }
+    }
+    Err(Refusal::OutOfMemory)
+}
+
+// Publishes, and again where memory was refused, after which all is pending as before.
+fn published<R: Wait + Abort>(
+    rt: &R,
+    store: &mut Vlr,
+    session: &mut Session,
+    call: &CallEvent,
+) -> Result<Receipt, Refusal>
+    ensures store { store.new.store ≡ store.old.store }
+    ensures session { session.new.store ≡ session.old.store }
+    ensures receipt { IfOk result (λ receipt. receipt.store ≡ store.new.store) }
+{
+    let before = seen(store, session, call);
+    for _ in 1..TURNS {
+        match store.publish(rt) {
+            Err(_) => {
+                assert_eq!(rt; seen(store, session, call), before);
+            }
+            Ok(receipt) => return Ok(receipt),
+        }
+    }
+    Err(Refusal::OutOfMemory)
+}
+
+// Closes the store, and again where memory or a guard was refused, after which the store is as before.
+fn closed_again<R: Wait + Abort>(
+    rt: &R,
+    store: Vlr,
+    session: &mut Session,
+    call: &CallEvent,
+) -> Result<Records, Refusal>
+    requires { session.old.store ≡ store.store }
+{
+    let mut left = store;
+    let before = seen(&left, session, call);
+    for _ in 1..TURNS {
+        match left.close(rt, session) {
+            Ok(records) => return Ok(records),
+            Err(CloseRefused { why: _, store }) => {
+                left = store;
+                assert_eq!(rt; seen(&left, session, call), before);
+            }
+        }
+    }
+    left.end(rt);
+    Err(Refusal::OutOfMemory)
+}
+
+fn each_call_before_the_end<R: Wait + Abort>(
+    rt: &R,
+    alloc: Global,
+    store: &mut Vlr,
+    session: &mut Session,
+) -> Result<(), Fail>
+    requires { session.old.store ≡ store.old.store }
+    ensures store { store.new.store ≡ store.old.store }
+    ensures session { session.new.store ≡ session.old.store }
+{
+    let imsi = imsi_of(1)?;
+    let call = call_of(imsi)?;
+    let unknown = Err(Reason::Unknown);
+    assert_eq!(rt; seen(store, session, &call), (0, 0, Some((0, unknown))));
+    let first = submitted(rt, alloc, store, session, &call, imsi, Kind::Register);
+    assert_eq!(rt; first, Ok(1));
+    assert_eq!(rt; seen(store, session, &call), (0, 1, Some((0, unknown))));
+    let second = submitted(rt, alloc, store, session, &call, imsi, Kind::Criteria);
+    assert_eq!(rt; second, Ok(2));
+    assert_eq!(rt; seen(store, session, &call), (0, 2, Some((0, unknown))));
+    let receipt = published(rt, store, session, &call)?;
+    assert_eq!(rt; receipt.front(), 2);
+    session.learn(receipt);
+    let listed = Ok((100, Some(LISTED)));
+    assert_eq!(rt; seen(store, session, &call), (2, 0, Some((2, listed))));
+    Ok(())
+}
+
+#[test]
+fn each_call_may_be_made_again_after_want_of_memory(rt: HostRuntime) -> Result<(), Fail> {
+    let imsi = imsi_of(1)?;
+    let call = call_of(imsi)?;
+    let (mut store, mut session) = opened_again(&rt, rt.alloc())?;
+    match each_call_before_the_end(&rt, rt.alloc(), &mut store, &mut session) {
+        Ok(()) => {}
+        Err(fail) => {
+            store.end(&rt);
+            return Err(fail);
+        }
+    }
+    let records = closed_again(&rt, store, &mut session, &call)?;
+    assert_eq!(rt; held(&records, &imsi), Some((Some(ARMED), Some(LISTED))));
+    assert_eq!(rt; held(&records, &imsi_of(2)?), None);
+    Ok(())
+}
+
+// The row of a subscriber is published, and sent again, so that the list of changes has no room for the next one.
+fn with_row<R: Wait + Abort>(
+    rt: &R,
+    alloc: Global,
+    store: &mut Vlr,
+    session: &mut Session,
+    imsi: Imsi,
+) -> Result<(), Fail>
+    requires { session.old.store ≡ store.old.store }
+    ensures store { store.new.store ≡ store.old.store }
+    ensures session { session.new.store ≡ session.old.store }
+{
+    let call = call_of(imsi)?;
+    let first = submitted(rt, alloc, store, session, &call, imsi, Kind::Register);
+    assert_eq!(rt; first, Ok(1));
+    let second = submitted(rt, alloc, store, session, &call, imsi, Kind::Row);
+    assert_eq!(rt; second, Ok(2));
+    let receipt = published(rt, store, session, &call)?;
+    session.learn(receipt);
+    assert_eq!(rt;
+        seen(store, session, &call),
+        (2, 0, Some((2, Ok((100, None)))))
+    );
+    let third = submitted(rt, alloc, store, session, &call, imsi, Kind::Row);
+    assert_eq!(rt; third, Ok(3));
+    Ok(())
+}
+
+fn register_leaves_no_entry<R: Wait + Abort>(
+    rt: &R,
+    alloc: Global,
+    store: &mut Vlr,
+    session: &mut Session,
+) -> Result<(), Fail>
+    requires { session.old.store ≡ store.old.store }
+{
+    with_row(rt, alloc, store, session, imsi_of(1)?)?;
+    let imsi = imsi_of(2)?;
+    match store.submit(Update::Register { imsi }) {
+        Err(Refusal::OutOfMemory) => {
+            assert_eq!(rt; (store.published(), store.pending()), (2, 1));
+            let unknown = Err(Refusal::UnidentifiedSubscriber);
+            assert_eq!(rt; store.submit(row_update(imsi)?), unknown);
+            assert_eq!(rt; store.submit(Update::Register { imsi }), Ok(4));
+        }
+        answered => assert_eq!(rt; answered, Ok(4)),
+    }
+    let call = call_of(imsi)?;
+    let insert = submitted(rt, alloc, store, session, &call, imsi, Kind::Row);
+    assert_eq!(rt; insert, Ok(5));
+    Ok(())
+}
+
+#[test]
+fn a_register_that_got_no_memory_leaves_no_entry(rt: HostRuntime) -> Result<(), Fail> {
+    let (mut store, mut session) = opened_again(&rt, rt.alloc())?;
+    let done = register_leaves_no_entry(&rt, rt.alloc(), &mut store, &mut session);
+    store.end(&rt);
+    done
+}
+
+fn cancel_leaves_the_entry<R: Wait + Abort>(
+    rt: &R,
+    alloc: Global,
+    store: &mut Vlr,
+    session: &mut Session,
+) -> Result<(), Fail>
+    requires { session.old.store ≡ store.old.store }
+{
+    let imsi = imsi_of(1)?;
+    let call = call_of(imsi)?;
+    with_row(rt, alloc, store, session, imsi)?;
+    // Criteria alone come next: after a refused Cancel they are taken, and else not.
+    let (entry, wanted) = match store.submit(Update::Cancel { imsi }) {
+        Err(Refusal::OutOfMemory) => {
+            assert_eq!(rt; (store.published(), store.pending()), (2, 1));
+            (Ok(4), Some((4, Ok((100, Some(LISTED))))))
+        }
+        answered => {
+            assert_eq!(rt; answered, Ok(4));
+            let unknown = Err(Refusal::UnidentifiedSubscriber);
+            (unknown, Some((4, Err(Reason::Unknown))))
+        }
+    };
+    let answered = submitted(rt, alloc, store, session, &call, imsi, Kind::Entry);
+    assert_eq!(rt; answered, entry);
+    let receipt = published(rt, store, session, &call)?;
+    session.learn(receipt);
+    assert_eq!(rt; asked(session, &call), wanted);
+    Ok(())
+}
+
+#[test]
+fn a_cancel_that_got_no_memory_leaves_the_entry(rt: HostRuntime) -> Result<(), Fail> {
+    let (mut store, mut session) = opened_again(&rt, rt.alloc())?;
+    let done = cancel_leaves_the_entry(&rt, rt.alloc(), &mut store, &mut session);
+    store.end(&rt);
+    done
+}
+
+fn submits_before_the_repeat<R: Wait + Abort>(
+    rt: &R,
+    alloc: Global,
+    store: &mut Vlr,
+    session: &mut Session,
+) -> Result<(), Fail>
+    requires { session.old.store ≡ store.old.store }
+{
+    let (first, second) = (imsi_of(1)?, imsi_of(2)?);
+    let call = call_of(first)?;
+    let register = submitted(rt, alloc, store, session, &call, first, Kind::Register);
+    assert_eq!(rt; register, Ok(1));
+    match store.publish(rt) {
+        Err(why) => {
+            assert_eq!(rt; why, Refusal::OutOfMemory);
+            let unknown = Some((0, Err(Reason::Unknown)));
+            assert_eq!(rt; seen(store, session, &call), (0, 1, unknown));
+        }
+        Ok(receipt) => {
+            assert_eq!(rt; receipt.front(), 1);
+            assert_eq!(rt; (store.published(), store.pending()), (1, 0));
+        }
+    }
+    // The next update comes behind what is pending, and the same publication is asked for again.
+    let register = submitted(rt, alloc, store, session, &call, second, Kind::Register);
+    assert_eq!(rt; register, Ok(2));
+    let receipt = published(rt, store, session, &call)?;
+    assert_eq!(rt; receipt.front(), 2);
+    assert_eq!(rt; (store.published(), store.pending()), (2, 0));
+    session.learn(receipt);
+    let both = Some((2, Err(Reason::NoCsi)));
+    assert_eq!(rt; asked(session, &call), both);
+    assert_eq!(rt; asked(session, &call_of(second)?), both);
+    Ok(())
+}
+
+#[test]
+fn an_update_may_come_before_a_refused_publication_is_made_again(
+    rt: HostRuntime,
+) -> Result<(), Fail> {
+    let (mut store, mut session) = opened_again(&rt, rt.alloc())?;
+    let done = submits_before_the_repeat(&rt, rt.alloc(), &mut store, &mut session);
+    store.end(&rt);
+    done
+}

@@ -1,0 +1,339 @@
+use super::{
+    TURNS, Told, asked, asked_once, call_of, criteria_update, imsi_of, opened_with_two, row_update,
+    told,
+};
+use camel_criteria::Refusal;
+use camel_rows::{CallEvent, Records, Update, Withdrawal, decide_in};
+use camel_tbcd::{Address, Imsi};
+use camel_vlr::{Session, Vlr};
+use std::alloc::Global;
+use std::process::Abort;
+use std::sync::Wait;
+use std::sync::atomic::{AtomicBool, Ordering};
+use std::test::Fail;
+use std::thread;
+use std::thread::Threads;
+
+// How many looks are made at most for a publication to be seen.
+const MOST_LOOKS: usize = 100_000;
+
+// Whether a session sees the front before a publication of two updates, or the one after it, and nothing else. It looks
+// until a front is the one after it.
+fn sees_both_at_once(session: &mut Session) -> bool {
+    for _ in 0..MOST_LOOKS {
+        match front_of(session) {
+            Some(2) => return true,
+            Some(0) | None => thread::yield_now(),
+            Some(_) => return false,
+        }
+    }
+    true
+}
+
+fn front_of(session: &mut Session) -> Option<u64> {
+    let Ok(look) = session.look() else {
+        return None;
+    };
+    let front = look.front();
+    look.leave();
+    Some(front)
+}
+
+// One session holds a look of the front before the publication, until the other one sees the front after it. Whether
+// each front is one of these two.
+fn watches(
+    mut first: Session,
+    mut second: Session,
+    holds: &AtomicBool,
+    has_published: &AtomicBool,
+) -> bool {
+    for _ in 0..TURNS {
+        if let Some(are_both) = watches_once(&mut first, &mut second, holds) {
+            return are_both && sees_both_until(&mut second, has_published);
+        }
+    }
+    holds.store(true, Ordering::SeqCst);
+    false
+}
+
+fn watches_once(first: &mut Session, second: &mut Session, holds: &AtomicBool) -> Option<bool> {
+    let Ok(look) = first.look() else {
+        return None;
+    };
+    let front = look.front();
+    holds.store(true, Ordering::SeqCst);
+    let are_both = sees_both_at_once(second);
+    let after = look.front();
+    look.leave();
+    Some(are_both && front == 0 && after == 0)
+}
+
+// The same until the publication has returned, and once more.
+fn sees_both_until(session: &mut Session, has_published: &AtomicBool) -> bool {
+    for _ in 0..u64::MAX {
+        let is_last = has_published.load(Ordering::SeqCst);
+        match front_of(session) {
+            Some(0) | Some(2) | None => {}
+            Some(_) => return false,
+        }
+        if is_last {
+            return true;
+        }
+        thread::yield_now();
+    }
+    false
+}
+
+fn waits_for(is_so: &AtomicBool) {
+    for _ in 0..u64::MAX {
+        if is_so.load(Ordering::SeqCst) {
+            return;
+        }
+        thread::yield_now();
+    }
+}
+
+// Publishes where the look is held.
+fn publishes<R: Wait>(
+    rt: &R,
+    store: &mut Vlr,
+    holds: &AtomicBool,
+    has_published: &AtomicBool,
+) -> Option<u64> {
+    waits_for(holds);
+    let published = store.publish(rt);
+    has_published.store(true, Ordering::SeqCst);
+    match published {
+        Ok(receipt) => Some(receipt.front()),
+        Err(_) => None,
+    }
+}
+
+fn submitted(store: &mut Vlr, imsis: &[Imsi]) -> Result<(), Refusal> {
+    for imsi in imsis {
+        store.submit(Update::Register { imsi: *imsi })?;
+    }
+    Ok(())
+}
+
+#[test]
+fn a_publication_is_seen_whole(rt: HostRuntime) -> Result<(), Fail> {
+    let imsis = [imsi_of(1)?, imsi_of(2)?];
+    let (holds, has_published) = (AtomicBool::new(false), AtomicBool::new(false));
+    let (mut store, first, second) = opened_with_two(&rt, rt.alloc(), 10)?;
+    let sent = submitted(&mut store, &imsis);
+    let (are_whole, front) = thread::join(
+        &rt,
+        || watches(first, second, &holds, &has_published),
+        || publishes(&rt, &mut store, &holds, &has_published),
+    );
+    store.end(&rt);
+    assert_eq!(rt; sent, Ok(()));
+    assert_eq!(rt; (are_whole, front), (true, Some(2)));
+    Ok(())
+}
+
+// The subscribers of the updates below.
+type Three<T> = [T; 3];
+
+// What stands after each count of accepted updates: what is told of a call of each subscriber.
+type Outcomes = Vec<Three<Told>>;
+
+const ROUNDS: usize = 1000;
+
+// The next of the numbers that a seed begins.
+fn next_of(number: u64) -> u64 {
+    number
+        .wrapping_mul(6_364_136_223_846_793_005)
+        .wrapping_add(1_442_695_040_888_963_407)
+}
+
+// The update that a number stands for.
+fn update_of(alloc: Global, imsis: &Three<Imsi>, number: u64) -> Result<Update, Refusal> {
+    let imsi = match (number >> 33) % 3 {
+        0 => imsis[0],
+        1 => imsis[1],
+        _ => imsis[2],
+    };
+    match (number >> 40) % 5 {
+        0 => Ok(Update::Register { imsi }),
+        1 => row_update(imsi),
+        2 => criteria_update(alloc, imsi),
+        3 => Ok(Update::Delete {
+            imsi,
+            what: Withdrawal {
+                o: true,
+                vt: false,
+                everything: false,
+            },
+        }),
+        _ => Ok(Update::Cancel { imsi }),
+    }
+}
+
+fn told_in(records: &Records, call: &CallEvent) -> Told {
+    // The check of a lent event needs this type named: docs/DECISIONS.md says why.
+    let _: Option<Address> = None;
+    let event = call.lend();
+    told(&decide_in(records, &event))
+}
+
+fn all_told(records: &Records, calls: &Three<CallEvent>) -> Three<Told> {
+    [
+        told_in(records, &calls[0]),
+        told_in(records, &calls[1]),
+        told_in(records, &calls[2]),
+    ]
+}
+
+// What each front tells, by plain records to which the updates are applied one by one.
+fn outcomes_of(
+    alloc: Global,
+    imsis: &Three<Imsi>,
+    calls: &Three<CallEvent>,
+    seed: u64,
+) -> Result<Outcomes, Refusal> {
+    let mut records = Records::new(alloc);
+    let mut outcomes = Vec::new(alloc);
+    outcomes.push(all_told(&records, calls))?;
+    let mut number = seed;
+    for _ in 0..ROUNDS {
+        number = next_of(number);
+        let update = update_of(alloc, imsis, number)?;
+        if records.apply(&update).is_ok() {
+            outcomes.push(all_told(&records, calls))?;
+        }
+    }
+    Ok(outcomes)
+}
+
+// Submits the updates of a seed and publishes after each. Halfway it waits until a session has had a look at a front
+// between the first and the last one.
+fn writes<R: Wait>(
+    rt: &R,
+    alloc: Global,
+    store: &mut Vlr,
+    imsis: &Three<Imsi>,
+    seed: u64,
+    has_looked: &AtomicBool,
+) -> Result<(), Refusal> {
+    let mut number = seed;
+    for round in 0..ROUNDS {
+        if round == ROUNDS / 2 {
+            waits_for(has_looked);
+        }
+        number = next_of(number);
+        match store.submit(update_of(alloc, imsis, number)?) {
+            Ok(_) | Err(Refusal::UnidentifiedSubscriber) => {}
+            Err(why) => return Err(why),
+        }
+        store.publish(rt)?;
+    }
+    Ok(())
+}
+
+// The same, after which the writer waits for no look of this session.
+fn reads(
+    session: Session,
+    calls: &Three<CallEvent>,
+    outcomes: &[Three<Told>],
+    has_looked: &AtomicBool,
+    has_ended: &AtomicBool,
+) -> bool {
+    let are_right = reads_until(session, calls, outcomes, has_looked, has_ended);
+    has_looked.store(true, Ordering::SeqCst);
+    are_right
+}
+
+// Whether what a session sees at each front is what the list says, and no front goes back. It looks until the writer
+// has ended, and then once more: the front is the last one.
+fn reads_until(
+    mut session: Session,
+    calls: &Three<CallEvent>,
+    outcomes: &[Three<Told>],
+    has_looked: &AtomicBool,
+    has_ended: &AtomicBool,
+) -> bool {
+    let longest = outcomes.len().saturating_sub(1);
+    let mut last = 0;
+    for turn in 0..u64::MAX {
+        let is_last = has_ended.load(Ordering::SeqCst);
+        let (call, at) = match turn % 3 {
+            0 => (&calls[0], 0),
+            1 => (&calls[1], 1),
+            _ => (&calls[2], 2),
+        };
+        match asked_once(&mut session, call) {
+            Some((front, told)) => {
+                if front < last || wanted_at(outcomes, front, at) != Some(told) {
+                    return false;
+                }
+                last = front;
+                if is_between(front, longest) {
+                    has_looked.store(true, Ordering::SeqCst);
+                }
+            }
+            None => {}
+        }
+        if is_last {
+            return match asked(&mut session, call) {
+                Some((front, _)) => usize::try_from(front) == Ok(longest),
+                None => false,
+            };
+        }
+    }
+    false
+}
+
+fn is_between(front: u64, longest: usize) -> bool {
+    let Ok(front) = usize::try_from(front) else {
+        return false;
+    };
+    0 < front && front < longest
+}
+
+fn wanted_at(outcomes: &[Three<Told>], front: u64, at: usize) -> Option<Told> {
+    let Ok(front) = usize::try_from(front) else {
+        return None;
+    };
+    outcomes.get(front)?.get(at).copied()
+}
+
+fn check_seed<R: Threads + Wait + Abort + Sync>(
+    rt: &R,
+    alloc: Global,
+    imsis: &Three<Imsi>,
+    calls: &Three<CallEvent>,
+    seed: u64,
+) -> Result<(), Fail> {
+    let outcomes = outcomes_of(alloc, imsis, calls, seed)?;
+    let (has_looked, has_ended) = (AtomicBool::new(false), AtomicBool::new(false));
+    let (mut store, first, second) = opened_with_two(rt, alloc, 1000)?;
+    let (are_right, written) = thread::join(
+        rt,
+        || thread::join(
+            rt,
+            || reads(first, calls, &outcomes, &has_looked, &has_ended),
+            || reads(second, calls, &outcomes, &has_looked, &has_ended),
+        ),
+        || {
+            let written = writes(rt, alloc, &mut store, imsis, seed, &has_looked);
+            has_ended.store(true, Ordering::SeqCst);
+            written
+        },
+    );
+    store.end(rt);
+    assert_eq!(rt; written, Ok(()), "of seed {seed}");
+    assert_eq!(rt; are_right, (true, true), "of seed {seed}");
+    Ok(())
+}
+
+#[test]
+fn each_front_decides_as_its_updates_do_in_two_threads(rt: HostRuntime) -> Result<(), Fail> {
+    let imsis = [imsi_of(1)?, imsi_of(2)?, imsi_of(3)?];
+    let calls = [call_of(imsis[0])?, call_of(imsis[1])?, call_of(imsis[2])?];
+    for seed in 1..=20 {
+        check_seed(&rt, rt.alloc(), &imsis, &calls, seed)?;
+    }
+    Ok(())
+}
