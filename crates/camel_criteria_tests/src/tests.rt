@@ -265,62 +265,77 @@ fn of_telephony<'a>(destination: Address<'a>, cause: Option<Cause>) -> OEvent<'a
     }
 }
 
+// The octets of listed numbers.
+const THREE_DIGITS: &[u8] = &[0x91, 0x21, 0xf3];
+
+const FOUR_DIGITS: &[u8] = &[0x91, 0x21, 0x43];
+
+const NO_DIGITS: &[u8] = &[0x91];
+
+const OTHERS: &[u8] = &[0x91, 0x55];
+
+const NATIONAL: &[u8] = &[0xa1, 0x21, 0xf3];
+
+const NATIONAL_FOUR: &[u8] = &[0xa1, 0x21, 0x43];
+
+const WITHOUT_BIT_8: &[u8] = &[0x11, 0x21, 0xf3];
+
+const OF_PLAN_8: &[u8] = &[0x98, 0x21, 0xf3];
+
+// The listed numbers and lengths of a criterion, a destination, and whether they enable it.
+type NumberCase = (&'static [&'static [u8]], &'static [u8], &'static [u8], bool);
+
 // By TS 23.078 a listed number matches a destination of its nature that begins with its digits. Bit 8 of
 // octet 1 and the numbering plan are not compared.
+const ENABLING: [NumberCase; 13] = [
+    (&[THREE_DIGITS], &[], &[0x91, 0x21, 0x43], true),
+    (&[FOUR_DIGITS], &[], &[0x91, 0x21, 0xf3], false),
+    (&[NATIONAL_FOUR], &[], &[0x91, 0x21, 0xf3], false),
+    (&[NATIONAL], &[], &[0x91, 0x21, 0x43], false),
+    (&[NO_DIGITS], &[], &[0x91, 0x21, 0x43], true),
+    (&[NO_DIGITS], &[], &[0x91], true),
+    (&[NO_DIGITS], &[], &[0xa1, 0x21, 0x43], false),
+    (&[WITHOUT_BIT_8], &[], &[0x91, 0x21, 0x43], true),
+    (&[OF_PLAN_8], &[], &[0x91, 0x21, 0x43], true),
+    (&[OTHERS, THREE_DIGITS], &[], &[0x91, 0x21, 0x43], true),
+    (&[], &[4], &[0x91, 0xf1, 0x43], false),
+    (&[], &[4], &[0x91, 0x21, 0x43], true),
+    (&[OTHERS], &[4], &[0x91, 0x21, 0x43], true),
+];
+
+// The same, and whether an inhibiting criterion is met.
+const INHIBITING: [NumberCase; 3] = [
+    (&[OTHERS, THREE_DIGITS], &[], &[0x91, 0x21, 0x43], false),
+    (&[OTHERS, THREE_DIGITS], &[], &[0x91, 0x99, 0x99], true),
+    (&[OTHERS], &[4], &[0x91, 0x99, 0x99], false),
+];
+
+fn check_number_case(
+    rt: &impl Abort,
+    alloc: Global,
+    match_type: MatchType,
+    case: NumberCase,
+) -> Result<(), Fail> {
+    let (listed, lengths, destination, wanted) = case;
+    let mut numbers = Vec::new(alloc);
+    for octets in listed {
+        numbers.push(IsdnAddress::from_bytes(octets)?)?;
+    }
+    let number = NumberCriterion::new(alloc, match_type, &numbers, lengths)?;
+    let entry = OCriteria::new(alloc, 2, Some(number), &[], None, &[])?;
+    let event = of_telephony(Address::new(destination)?, None);
+    assert_eq!(rt; o_met(&entry, &event), wanted, "{entry:?} and {event:?}");
+    Ok(())
+}
+
 #[test]
 fn meets_a_number_criterion(rt: HostRuntime) -> Result<(), Fail> {
     criteria_mean();
-    let three_digits = IsdnAddress::from_bytes(&[0x91, 0x21, 0xf3])?;
-    let four_digits = IsdnAddress::from_bytes(&[0x91, 0x21, 0x43])?;
-    let no_digits = IsdnAddress::from_bytes(&[0x91])?;
-    let others = IsdnAddress::from_bytes(&[0x91, 0x55])?;
-    let national = IsdnAddress::from_bytes(&[0xa1, 0x21, 0xf3])?;
-    let national_four = IsdnAddress::from_bytes(&[0xa1, 0x21, 0x43])?;
-    let without_bit_8 = IsdnAddress::from_bytes(&[0x11, 0x21, 0xf3])?;
-    let of_plan_8 = IsdnAddress::from_bytes(&[0x98, 0x21, 0xf3])?;
-    let enabling = MatchType::Enabling;
-    let inhibiting = MatchType::Inhibiting;
-    let cases: [(MatchType, &[IsdnAddress], &[u8], &[u8], bool); 16] = [
-        (enabling, &[three_digits], &[], &[0x91, 0x21, 0x43], true),
-        (enabling, &[four_digits], &[], &[0x91, 0x21, 0xf3], false),
-        (enabling, &[national_four], &[], &[0x91, 0x21, 0xf3], false),
-        (enabling, &[national], &[], &[0x91, 0x21, 0x43], false),
-        (enabling, &[no_digits], &[], &[0x91, 0x21, 0x43], true),
-        (enabling, &[no_digits], &[], &[0x91], true),
-        (enabling, &[no_digits], &[], &[0xa1, 0x21, 0x43], false),
-        (enabling, &[without_bit_8], &[], &[0x91, 0x21, 0x43], true),
-        (enabling, &[of_plan_8], &[], &[0x91, 0x21, 0x43], true),
-        (
-            enabling,
-            &[others, three_digits],
-            &[],
-            &[0x91, 0x21, 0x43],
-            true,
-        ),
-        (enabling, &[], &[4], &[0x91, 0xf1, 0x43], false),
-        (enabling, &[], &[4], &[0x91, 0x21, 0x43], true),
-        (enabling, &[others], &[4], &[0x91, 0x21, 0x43], true),
-        (
-            inhibiting,
-            &[others, three_digits],
-            &[],
-            &[0x91, 0x21, 0x43],
-            false,
-        ),
-        (
-            inhibiting,
-            &[others, three_digits],
-            &[],
-            &[0x91, 0x99, 0x99],
-            true,
-        ),
-        (inhibiting, &[others], &[4], &[0x91, 0x99, 0x99], false),
-    ];
-    for (match_type, listed, lengths, destination, wanted) in cases {
-        let number = NumberCriterion::new(rt.alloc(), match_type, listed, lengths)?;
-        let entry = OCriteria::new(rt.alloc(), 2, Some(number), &[], None, &[])?;
-        let event = of_telephony(Address::new(destination)?, None);
-        assert_eq!(rt; o_met(&entry, &event), wanted, "{entry:?} and {event:?}");
+    for case in ENABLING {
+        check_number_case(&rt, rt.alloc(), MatchType::Enabling, case)?;
+    }
+    for case in INHIBITING {
+        check_number_case(&rt, rt.alloc(), MatchType::Inhibiting, case)?;
     }
     Ok(())
 }

@@ -1,6 +1,7 @@
 use super::{LISTED, asked, call_of, entry_update, imsi_of, opened_with_one, row_update};
 use camel_criteria::Refusal;
 use camel_rows::{Update, Withdrawal};
+use camel_tbcd::Imsi;
 use camel_vlr::{Session, Vlr};
 use std::alloc::Global;
 use std::process::Abort;
@@ -15,6 +16,34 @@ fn a_refused_update_is_as_if_it_had_not_been_sent(rt: HostRuntime) -> Result<(),
     done
 }
 
+// What is sent of the one subscriber.
+#[derive(Clone, Copy, Debug)]
+enum Sent {
+    Register,
+    Row,
+    Entry,
+    DeleteO,
+    Cancel,
+}
+
+fn update_of(alloc: Global, imsi: Imsi, sent: Sent) -> Result<Update, Refusal> {
+    match sent {
+        Sent::Register => Ok(Update::Register { imsi }),
+        Sent::Row => row_update(imsi),
+        Sent::Entry => entry_update(alloc, imsi),
+        Sent::DeleteO => Ok(Update::Delete {
+            imsi,
+            what: Withdrawal {
+                o: true,
+                vt: false,
+                everything: false,
+            },
+        }),
+        Sent::Cancel => Ok(Update::Cancel { imsi }),
+    }
+}
+
+// No refused update makes a record, or a CSI in it, and none is counted.
 fn refused_is_as_if_not_sent<R: Wait + Abort>(
     rt: &R,
     alloc: Global,
@@ -22,34 +51,29 @@ fn refused_is_as_if_not_sent<R: Wait + Abort>(
     session: &mut Session,
 ) -> Result<(), Fail> {
     let imsi = imsi_of(1)?;
-    let what = Withdrawal {
-        o: true,
-        vt: false,
-        everything: false,
-    };
     let unknown = Err(Refusal::UnidentifiedSubscriber);
     let missing = Err(Refusal::DataMissing);
-    for update in [
-        row_update(imsi)?,
-        entry_update(alloc, imsi)?,
-        Update::Delete { imsi, what },
+    for (sent, wanted) in [
+        (Sent::Row, unknown),
+        (Sent::Entry, unknown),
+        (Sent::DeleteO, unknown),
+        (Sent::Register, Ok(1)),
+        (Sent::Entry, missing),
+        (Sent::Entry, missing),
+        (Sent::Row, Ok(2)),
+        (Sent::Entry, Ok(3)),
+        (Sent::DeleteO, Ok(4)),
+        (Sent::Entry, missing),
+        (Sent::Row, Ok(5)),
+        (Sent::Cancel, Ok(6)),
+        (Sent::Row, unknown),
+        (Sent::Register, Ok(7)),
+        (Sent::Row, Ok(8)),
+        (Sent::Entry, Ok(9)),
     ] {
-        assert_eq!(rt; store.submit(update), unknown);
+        let update = update_of(alloc, imsi, sent)?;
+        assert_eq!(rt; store.submit(update), wanted, "{sent:?}");
     }
-    // No refused update made a record, or a CSI in it.
-    assert_eq!(rt; store.submit(Update::Register { imsi }), Ok(1));
-    assert_eq!(rt; store.submit(entry_update(alloc, imsi)?), missing);
-    assert_eq!(rt; store.submit(entry_update(alloc, imsi)?), missing);
-    assert_eq!(rt; store.submit(row_update(imsi)?), Ok(2));
-    assert_eq!(rt; store.submit(entry_update(alloc, imsi)?), Ok(3));
-    assert_eq!(rt; store.submit(Update::Delete { imsi, what }), Ok(4));
-    assert_eq!(rt; store.submit(entry_update(alloc, imsi)?), missing);
-    assert_eq!(rt; store.submit(row_update(imsi)?), Ok(5));
-    assert_eq!(rt; store.submit(Update::Cancel { imsi }), Ok(6));
-    assert_eq!(rt; store.submit(row_update(imsi)?), unknown);
-    assert_eq!(rt; store.submit(Update::Register { imsi }), Ok(7));
-    assert_eq!(rt; store.submit(row_update(imsi)?), Ok(8));
-    assert_eq!(rt; store.submit(entry_update(alloc, imsi)?), Ok(9));
     assert_eq!(rt; (store.published(), store.pending()), (0, 9));
     assert_eq!(rt; store.publish(rt)?.front(), 9);
     let call = call_of(imsi)?;
