@@ -282,11 +282,11 @@ const WITHOUT_BIT_8: &[u8] = &[0x11, 0x21, 0xf3];
 
 const OF_PLAN_8: &[u8] = &[0x98, 0x21, 0xf3];
 
-// The listed numbers and lengths of a criterion, a destination, and whether they enable it.
+// The listed numbers and the lengths of a criterion, a destination, and whether a call to it meets the criterion.
 type NumberCase = (&'static [&'static [u8]], &'static [u8], &'static [u8], bool);
 
-// By TS 23.078 a listed number matches a destination of its nature that begins with its digits. Bit 8 of
-// octet 1 and the numbering plan are not compared.
+// Enabling criteria. By TS 23.078 a listed number matches a destination of its nature that begins with its
+// digits. Bit 8 of octet 1 and the numbering plan are not compared.
 const ENABLING: [NumberCase; 13] = [
     (&[THREE_DIGITS], &[], &[0x91, 0x21, 0x43], true),
     (&[FOUR_DIGITS], &[], &[0x91, 0x21, 0xf3], false),
@@ -303,7 +303,7 @@ const ENABLING: [NumberCase; 13] = [
     (&[OTHERS], &[4], &[0x91, 0x21, 0x43], true),
 ];
 
-// The same, and whether an inhibiting criterion is met.
+// Inhibiting criteria.
 const INHIBITING: [NumberCase; 3] = [
     (&[OTHERS, THREE_DIGITS], &[], &[0x91, 0x21, 0x43], false),
     (&[OTHERS, THREE_DIGITS], &[], &[0x91, 0x99, 0x99], true),

@@ -19,49 +19,49 @@ use std::process::Abort;
 use std::test::Fail;
 
 // The gsmSCF address of each row.
-pub const SCF: [u8; 6] = [0x91, 0x94, 0x71, 0x16, 0x00, 0x00];
+const SCF: [u8; 6] = [0x91, 0x94, 0x71, 0x16, 0x00, 0x00];
 
 // The destination of each call that does not say another: the digits 1 2 3 4.
-pub const DESTINATION: [u8; 3] = [0x91, 0x21, 0x43];
+const DESTINATION: [u8; 3] = [0x91, 0x21, 0x43];
 
-pub const TELEPHONY: BasicService = BasicService::Tele(0x11);
+const TELEPHONY: BasicService = BasicService::Tele(0x11);
 
-pub const EMERGENCY: BasicService = BasicService::Tele(0x12);
+const EMERGENCY: BasicService = BasicService::Tele(0x12);
 
-pub const FACSIMILE: BasicService = BasicService::Tele(0x62);
+const FACSIMILE: BasicService = BasicService::Tele(0x62);
 
-pub const CONTINUE: CallAction = CallAction::Continue;
+const CONTINUE: CallAction = CallAction::Continue;
 
-pub const RELEASE: CallAction = CallAction::Release;
+const RELEASE: CallAction = CallAction::Release;
 
 // The subscriber whose last digit this is.
-pub fn imsi_of(last: u8) -> Result<Imsi, ImsiFault> {
+fn imsi_of(last: u8) -> Result<Imsi, ImsiFault> {
     Imsi::from_digits(&[2, 6, 2, 0, 1, 0, 0, 0, 0, 0, 0, 0, 0, 0, last])
 }
 
 // A TDP row: its detection point, its service key, and its default call handling as received.
 #[derive(Clone, Copy, Debug)]
-pub struct PlainRow(pub u8, pub u32, pub u32);
+struct PlainRow(u8, u32, u32);
 
 // Up to eleven listed numbers.
-pub type Numbers = [Option<IsdnAddress>; 11];
+type Numbers = [Option<IsdnAddress>; 11];
 
 // A destination number criterion: its match type, its numbers and its length.
 #[derive(Clone, Copy, Debug)]
-pub struct PlainNumber(pub MatchType, pub Numbers, pub Option<u8>);
+struct PlainNumber(MatchType, Numbers, Option<u8>);
 
 // An entry of the criteria of the O-CSI.
 #[derive(Clone, Copy, Debug)]
-pub struct PlainO {
-    pub dp: u8,
-    pub number: Option<PlainNumber>,
-    pub basic: Option<BasicService>,
-    pub call_type: Option<CallType>,
-    pub causes: [Option<u8>; 2],
+struct PlainO {
+    dp: u8,
+    number: Option<PlainNumber>,
+    basic: Option<BasicService>,
+    call_type: Option<CallType>,
+    causes: [Option<u8>; 2],
 }
 
 // An entry without criteria.
-pub const BARE: PlainO = PlainO {
+const BARE: PlainO = PlainO {
     dp: 2,
     number: None,
     basic: None,
@@ -71,44 +71,44 @@ pub const BARE: PlainO = PlainO {
 
 // An entry of the criteria of the VT-CSI: its detection point, its code and its cause.
 #[derive(Clone, Copy, Debug)]
-pub struct PlainT(pub u8, pub Option<BasicService>, pub Option<u8>);
+struct PlainT(u8, Option<BasicService>, Option<u8>);
 
 // What an Insert brings. A list without items is an omitted one.
 #[derive(Clone, Copy, Debug)]
-pub struct Items {
-    pub o: [Option<PlainRow>; 3],
-    pub o_criteria: [Option<PlainO>; 2],
-    pub vt: [Option<PlainRow>; 3],
-    pub t_criteria: [Option<PlainT>; 2],
+struct Items {
+    o: [Option<PlainRow>; 3],
+    o_criteria: [Option<PlainO>; 2],
+    vt: [Option<PlainRow>; 3],
+    t_criteria: [Option<PlainT>; 2],
 }
 
-pub const NOTHING: Items = Items {
+const NOTHING: Items = Items {
     o: [None; 3],
     o_criteria: [None; 2],
     vt: [None; 3],
     t_criteria: [None; 2],
 };
 
-pub const ONE_ROW: Items = Items {
+const ONE_ROW: Items = Items {
     o: [Some(PlainRow(2, 100, 0)), None, None],
     ..NOTHING
 };
 
-pub fn number_of(octets: &[u8]) -> Result<IsdnAddress, Refusal> {
+fn number_of(octets: &[u8]) -> Result<IsdnAddress, Refusal> {
     IsdnAddress::from_bytes(octets).map_err(|_| Refusal::UnexpectedDataValue)
 }
 
-pub fn one_number(octets: &[u8]) -> Result<Numbers, Refusal> {
+fn one_number(octets: &[u8]) -> Result<Numbers, Refusal> {
     let mut numbers = [None; 11];
     numbers[0] = Some(number_of(octets)?);
     Ok(numbers)
 }
 
-pub fn row_of(row: PlainRow) -> Result<TdpRow, Refusal> {
+fn row_of(row: PlainRow) -> Result<TdpRow, Refusal> {
     TdpRow::new(row.0, row.1, number_of(&SCF)?, Handling::of_received(row.2))
 }
 
-pub fn rows_of(alloc: Global, plain: &[Option<PlainRow>]) -> Result<Vec<TdpRow>, Refusal> {
+fn rows_of(alloc: Global, plain: &[Option<PlainRow>]) -> Result<Vec<TdpRow>, Refusal> {
     let mut rows = Vec::new(alloc);
     for row in plain {
         if let Some(row) = row {
@@ -150,7 +150,7 @@ fn o_entry_of(alloc: Global, plain: &PlainO) -> Result<OCriteria, Refusal> {
     )
 }
 
-pub fn o_entries_of(alloc: Global, plain: &[Option<PlainO>]) -> Result<Vec<OCriteria>, Refusal> {
+fn o_entries_of(alloc: Global, plain: &[Option<PlainO>]) -> Result<Vec<OCriteria>, Refusal> {
     let mut entries = Vec::new(alloc);
     for entry in plain {
         if let Some(entry) = entry {
@@ -160,7 +160,7 @@ pub fn o_entries_of(alloc: Global, plain: &[Option<PlainO>]) -> Result<Vec<OCrit
     Ok(entries)
 }
 
-pub fn t_entries_of(alloc: Global, plain: &[Option<PlainT>]) -> Result<Vec<TCriteria>, Refusal> {
+fn t_entries_of(alloc: Global, plain: &[Option<PlainT>]) -> Result<Vec<TCriteria>, Refusal> {
     let mut entries = Vec::new(alloc);
     for entry in plain {
         if let Some(PlainT(dp, basic, cause)) = entry {
@@ -171,7 +171,7 @@ pub fn t_entries_of(alloc: Global, plain: &[Option<PlainT>]) -> Result<Vec<TCrit
 }
 
 // The Insert that brings these items, or why they are refused: rows and entries first, and then their lists.
-pub fn insert(alloc: Global, imsi: Imsi, items: &Items) -> Result<Update, Refusal> {
+fn insert(alloc: Global, imsi: Imsi, items: &Items) -> Result<Update, Refusal> {
     let o = rows_of(alloc, &items.o)?;
     let o_criteria = o_entries_of(alloc, &items.o_criteria)?;
     let vt = rows_of(alloc, &items.vt)?;
@@ -202,7 +202,7 @@ pub fn insert(alloc: Global, imsi: Imsi, items: &Items) -> Result<Update, Refusa
 }
 
 // The records of the subscriber 1, who registered and was sent these items.
-pub fn base(alloc: Global, items: &Items) -> Result<Records, Fail> {
+fn base(alloc: Global, items: &Items) -> Result<Records, Fail> {
     let imsi = imsi_of(1)?;
     let update = insert(alloc, imsi, items)?;
     let mut records = Records::new(alloc);
@@ -213,7 +213,7 @@ pub fn base(alloc: Global, items: &Items) -> Result<Records, Fail> {
 
 // An event of a call that is not forwarded. The destination and the cause count where the detection point has
 // them.
-pub fn call_at(
+fn call_at(
     dp: u8,
     imsi: Imsi,
     basic: BasicService,
@@ -245,10 +245,10 @@ pub fn call_at(
 
 // What is told of an event: the detection point, the service key and what is done on failure, or the
 // reason.
-pub type Told = Result<(u8, u32, CallAction), Reason>;
+type Told = Result<(u8, u32, CallAction), Reason>;
 
 // What is told of an event. Each service is at the one gsmSCF address.
-pub fn told(rt: &impl Abort, records: &Records, call: &CallEvent) -> Told {
+fn told(rt: &impl Abort, records: &Records, call: &CallEvent) -> Told {
     let event = call.lend();
     match Outcome::of(&decide_in(records, &event)) {
         Outcome::Trigger {
@@ -265,14 +265,14 @@ pub fn told(rt: &impl Abort, records: &Records, call: &CallEvent) -> Told {
 }
 
 // The mark of an entry of these tests: the octet of its first code.
-pub fn mark_of(codes: &[BasicService]) -> Option<u8> {
+fn mark_of(codes: &[BasicService]) -> Option<u8> {
     match codes.first()? {
         BasicService::Tele(octet) | BasicService::Bearer(octet) => Some(*octet),
     }
 }
 
 // Where an entry belongs, to the O-CSI or to the VT-CSI, with its detection point and its mark.
-pub fn entry_told(entry: Lent) -> (char, u8, Option<u8>) {
+fn entry_told(entry: Lent) -> (char, u8, Option<u8>) {
     match entry {
         Lent::O(entry) => ('o', entry.dp(), mark_of(entry.basic())),
         Lent::T(entry) => ('t', entry.dp(), mark_of(entry.basic())),
@@ -280,15 +280,15 @@ pub fn entry_told(entry: Lent) -> (char, u8, Option<u8>) {
 }
 
 // The service key of the row of a detection point, and the entry there.
-pub fn held_at(subscriber: &Subscriber, dp: u8) -> (Option<u32>, Option<(char, u8, Option<u8>)>) {
+fn held_at(subscriber: &Subscriber, dp: u8) -> (Option<u32>, Option<(char, u8, Option<u8>)>) {
     let key = subscriber.row(dp).map(|row| row.key());
     (key, subscriber.criteria(dp).map(entry_told))
 }
 
 // A call of the subscriber 1, by its detection point, basic service and cause, and what is told of it.
-pub type Call = (u8, BasicService, u8, Told);
+type Call = (u8, BasicService, u8, Told);
 
-pub fn check_calls(rt: &impl Abort, records: &Records, calls: &[Call]) -> Result<(), Fail> {
+fn check_calls(rt: &impl Abort, records: &Records, calls: &[Call]) -> Result<(), Fail> {
     let imsi = imsi_of(1)?;
     for (dp, basic, cause, wanted) in calls {
         let call = call_at(*dp, imsi, *basic, &DESTINATION, *cause)?;
@@ -298,9 +298,9 @@ pub fn check_calls(rt: &impl Abort, records: &Records, calls: &[Call]) -> Result
 }
 
 // The service key and the entry that a decision lends, or the reason.
-pub type LentData = Result<(u32, Option<(char, u8, Option<u8>)>), Reason>;
+type LentData = Result<(u32, Option<(char, u8, Option<u8>)>), Reason>;
 
-pub fn lent_at(rt: &impl Abort, records: &Records, call: &CallEvent) -> LentData {
+fn lent_at(rt: &impl Abort, records: &Records, call: &CallEvent) -> LentData {
     let event = call.lend();
     match decide_in(records, &event) {
         Decision::Trigger { row, criteria } => {
@@ -312,10 +312,10 @@ pub fn lent_at(rt: &impl Abort, records: &Records, call: &CallEvent) -> LentData
 }
 
 // A half where it is stored: the service key and the mark of the entry of one of its detection points.
-pub type Half = Option<(Option<u32>, Option<u8>)>;
+type Half = Option<(Option<u32>, Option<u8>)>;
 
 // Both halves of a record, that of the O-CSI at detection point 2 and that of the VT-CSI at 12.
-pub fn halves_in(records: &Records, imsi: &Imsi) -> Option<(Half, Half)> {
+fn halves_in(records: &Records, imsi: &Imsi) -> Option<(Half, Half)> {
     let subscriber = records.get(imsi)?;
     Some((
         subscriber.o().map(|_| half_at(subscriber, 2)),
@@ -330,11 +330,7 @@ fn half_at(subscriber: &Subscriber, dp: u8) -> (Option<u32>, Option<u8>) {
 
 // The Insert of an O-CSI, its criteria, a VT-CSI and its criteria, where they are told. Each has one item: a row
 // at detection point 2 or 12 with this service key, or an entry there with this mark. 0 is an ignored item.
-pub fn marked_insert(
-    alloc: Global,
-    imsi: Imsi,
-    brought: [Option<u8>; 4],
-) -> Result<Update, Refusal> {
+fn marked_insert(alloc: Global, imsi: Imsi, brought: [Option<u8>; 4]) -> Result<Update, Refusal> {
     let [o, o_mark, vt, t_mark] = brought;
     let o_entry = o_mark.map(|mark| PlainO {
         dp: point_of(mark, 2),

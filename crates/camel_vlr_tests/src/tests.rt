@@ -10,7 +10,9 @@ mod refusals;
 mod threads;
 
 use camel_criteria::{BasicService, Handling, MatchType, NumberCriterion, OCriteria, Refusal};
-use camel_rows::{CallEvent, Decision, Lent, OCriteriaSet, OCsi, Reason, Records, TdpRow, Update};
+use camel_rows::{
+    CallEvent, Decision, Lent, OCriteriaSet, OCsi, Reason, Records, TdpRow, Update, Withdrawal,
+};
 use camel_tbcd::{Address, AddressFault, CallAddress, Imsi, ImsiFault, IsdnAddress};
 use camel_vlr::{CloseRefused, Session, Vlr};
 use std::alloc::Global;
@@ -19,18 +21,18 @@ use std::sync::Wait;
 use std::test::Fail;
 
 // The gsmSCF address of each row.
-pub const SCF: [u8; 6] = [0x91, 0x94, 0x71, 0x16, 0x00, 0x00];
+const SCF: [u8; 6] = [0x91, 0x94, 0x71, 0x16, 0x00, 0x00];
 
 // How often a call is made again that was answered by no place, no guard or no look.
-pub const TURNS: usize = 100;
+const TURNS: usize = 100;
 
 // The subscriber whose last digit this is.
-pub fn imsi_of(last: u8) -> Result<Imsi, ImsiFault> {
+fn imsi_of(last: u8) -> Result<Imsi, ImsiFault> {
     Imsi::from_digits(&[2, 6, 2, 0, 1, 0, 0, 0, 0, 0, 0, 0, 0, 0, last])
 }
 
 // A call of a subscriber to the digits 1 2 3 4.
-pub fn call_of(imsi: Imsi) -> Result<CallEvent, AddressFault> {
+fn call_of(imsi: Imsi) -> Result<CallEvent, AddressFault> {
     Ok(CallEvent::CollectedInfo {
         imsi,
         destination: CallAddress::from_bytes(&[0x91, 0x21, 0x43])?,
@@ -60,7 +62,7 @@ fn one_entry(alloc: Global) -> Result<OCriteriaSet, Refusal> {
 }
 
 // The Insert of the row.
-pub fn row_update(imsi: Imsi) -> Result<Update, Refusal> {
+fn row_update(imsi: Imsi) -> Result<Update, Refusal> {
     Ok(Update::Insert {
         imsi,
         o: Some(one_row()?),
@@ -71,7 +73,7 @@ pub fn row_update(imsi: Imsi) -> Result<Update, Refusal> {
 }
 
 // The Insert of the row and the entry.
-pub fn criteria_update(alloc: Global, imsi: Imsi) -> Result<Update, Refusal> {
+fn criteria_update(alloc: Global, imsi: Imsi) -> Result<Update, Refusal> {
     Ok(Update::Insert {
         imsi,
         o: Some(one_row()?),
@@ -82,7 +84,7 @@ pub fn criteria_update(alloc: Global, imsi: Imsi) -> Result<Update, Refusal> {
 }
 
 // The Insert of the entry alone.
-pub fn entry_update(alloc: Global, imsi: Imsi) -> Result<Update, Refusal> {
+fn entry_update(alloc: Global, imsi: Imsi) -> Result<Update, Refusal> {
     Ok(Update::Insert {
         imsi,
         o: None,
@@ -92,21 +94,50 @@ pub fn entry_update(alloc: Global, imsi: Imsi) -> Result<Update, Refusal> {
     })
 }
 
+// The updates that tests send.
+#[derive(Clone, Copy, Debug)]
+enum Kind {
+    Register,
+    Row,
+    Criteria,
+    Entry,
+    DeleteO,
+    Cancel,
+}
+
+fn update_of(alloc: Global, imsi: Imsi, kind: Kind) -> Result<Update, Refusal> {
+    match kind {
+        Kind::Register => Ok(Update::Register { imsi }),
+        Kind::Row => row_update(imsi),
+        Kind::Criteria => criteria_update(alloc, imsi),
+        Kind::Entry => entry_update(alloc, imsi),
+        Kind::DeleteO => Ok(Update::Delete {
+            imsi,
+            what: Withdrawal {
+                o: true,
+                vt: false,
+                everything: false,
+            },
+        }),
+        Kind::Cancel => Ok(Update::Cancel { imsi }),
+    }
+}
+
 // A lent entry: its detection point, how many numbers it lists, and the digits of the first; or that it is one of the
 // VT-CSI.
 #[derive(Clone, Copy, Debug, PartialEq, Eq)]
-pub enum Entry {
+enum Entry {
     O(u8, usize, [Option<u8>; 4]),
     T,
 }
 
 // The one entry of these tests.
-pub const LISTED: Entry = Entry::O(2, 1, [Some(1), Some(2), Some(3), None]);
+const LISTED: Entry = Entry::O(2, 1, [Some(1), Some(2), Some(3), None]);
 
 // What is told of a call: the service key and the lent entry, or the reason.
-pub type Told = Result<(u32, Option<Entry>), Reason>;
+type Told = Result<(u32, Option<Entry>), Reason>;
 
-pub fn entry_told(lent: Lent) -> Entry {
+fn entry_told(lent: Lent) -> Entry {
     match lent {
         Lent::O(entry) => {
             let Some(criterion) = entry.number() else {
@@ -126,7 +157,7 @@ pub fn entry_told(lent: Lent) -> Entry {
     }
 }
 
-pub fn told(decision: &Decision) -> Told {
+fn told(decision: &Decision) -> Told {
     match decision {
         Decision::Trigger { row, criteria } => Ok((row.key(), criteria.map(entry_told))),
         Decision::NoTrigger(reason) => Err(*reason),
@@ -134,18 +165,18 @@ pub fn told(decision: &Decision) -> Told {
 }
 
 // A row: its detection point and service key, whether it has the one gsmSCF address, and its default call handling.
-pub type RowTold = (u8, u32, bool, Handling);
+type RowTold = (u8, u32, bool, Handling);
 
-pub fn row_told(row: &TdpRow) -> RowTold {
+fn row_told(row: &TdpRow) -> RowTold {
     let is_there = row.scf().bytes() == SCF.as_slice();
     (row.dp(), row.key(), is_there, row.handling())
 }
 
 // The one row of these tests.
-pub const ARMED: RowTold = (2, 100, true, Handling::Continue);
+const ARMED: RowTold = (2, 100, true, Handling::Continue);
 
 // A store with so many sessions.
-pub fn opened<R: Wait>(
+fn opened<R: Wait>(
     rt: &R,
     alloc: Global,
     places: usize,
@@ -166,11 +197,7 @@ pub fn opened<R: Wait>(
 }
 
 // A store with one session.
-pub fn opened_with_one<R: Wait>(
-    rt: &R,
-    alloc: Global,
-    limit: u64,
-) -> Result<(Vlr, Session), Refusal>
+fn opened_with_one<R: Wait>(rt: &R, alloc: Global, limit: u64) -> Result<(Vlr, Session), Refusal>
     requires limit { (1 ≤ limit) × (limit ≤ 1000000) }
     ensures session { IfOk result (λ r. r.1 ≡ fresh r.0.store) }
 {
@@ -183,7 +210,7 @@ pub fn opened_with_one<R: Wait>(
 }
 
 // A store with two sessions.
-pub fn opened_with_two<R: Wait>(
+fn opened_with_two<R: Wait>(
     rt: &R,
     alloc: Global,
     limit: u64,
@@ -205,7 +232,7 @@ pub fn opened_with_two<R: Wait>(
 }
 
 // The front of one look, and what is told of the call there.
-pub fn asked_once(session: &mut Session, call: &CallEvent) -> Option<(u64, Told)>
+fn asked_once(session: &mut Session, call: &CallEvent) -> Option<(u64, Told)>
     ensures store { session.new.store ≡ session.old.store }
 {
     let Ok(look) = session.look() else {
@@ -221,7 +248,7 @@ pub fn asked_once(session: &mut Session, call: &CallEvent) -> Option<(u64, Told)
 }
 
 // The same, and again where there was no look.
-pub fn asked(session: &mut Session, call: &CallEvent) -> Option<(u64, Told)>
+fn asked(session: &mut Session, call: &CallEvent) -> Option<(u64, Told)>
     ensures store { session.new.store ≡ session.old.store }
 {
     for _ in 1..TURNS {
@@ -234,11 +261,7 @@ pub fn asked(session: &mut Session, call: &CallEvent) -> Option<(u64, Told)>
 }
 
 // The front of a look, and the row and the entry of a subscriber at a detection point there.
-pub fn lent(
-    session: &mut Session,
-    imsi: &Imsi,
-    dp: u8,
-) -> Option<(u64, Option<RowTold>, Option<Entry>)>
+fn lent(session: &mut Session, imsi: &Imsi, dp: u8) -> Option<(u64, Option<RowTold>, Option<Entry>)>
     ensures store { session.new.store ≡ session.old.store }
 {
     for _ in 1..TURNS {
@@ -268,7 +291,7 @@ fn lent_once(
 }
 
 // The records that a store leaves. It is closed again where its session got no look, and for no other reason.
-pub fn closed<R: Wait>(rt: &R, store: Vlr, session: &mut Session) -> Result<Records, Refusal>
+fn closed<R: Wait>(rt: &R, store: Vlr, session: &mut Session) -> Result<Records, Refusal>
     requires { session.old.store ≡ store.store }
 {
     let mut left = store;
@@ -297,7 +320,7 @@ pub fn closed<R: Wait>(rt: &R, store: Vlr, session: &mut Session) -> Result<Reco
 }
 
 // Registers a subscriber, inserts the row, publishes both, and lets the session learn and look.
-pub fn filled<R: Wait + Abort>(
+fn filled<R: Wait + Abort>(
     rt: &R,
     store: &mut Vlr,
     session: &mut Session,
@@ -319,7 +342,7 @@ pub fn filled<R: Wait + Abort>(
 }
 
 // The row and the entry of a subscriber at detection point 2.
-pub fn held(records: &Records, imsi: &Imsi) -> Option<(Option<RowTold>, Option<Entry>)> {
+fn held(records: &Records, imsi: &Imsi) -> Option<(Option<RowTold>, Option<Entry>)> {
     let subscriber = records.get(imsi)?;
     let row = subscriber.row(2).map(row_told);
     let entry = subscriber.criteria(2).map(entry_told);

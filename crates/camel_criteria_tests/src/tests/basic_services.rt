@@ -19,12 +19,12 @@ const BEARER_GROUPS: [(u8, u8, u8); 3] = [
 ];
 
 // Whether the table has a listed teleservice cover that of a call.
-pub fn table_covers_tele(listed: u8, octet: u8) -> bool {
+pub(super) fn table_covers_tele(listed: u8, octet: u8) -> bool {
     listed == octet || is_member(&TELE_GROUPS, listed, octet)
 }
 
 // Whether the table has a listed bearer service cover that of a call.
-pub fn table_covers_bearer(listed: u8, octet: u8) -> bool {
+pub(super) fn table_covers_bearer(listed: u8, octet: u8) -> bool {
     listed == octet || is_member(&BEARER_GROUPS, listed, octet)
 }
 

@@ -5,44 +5,48 @@ use super::basic_services::{table_covers_bearer, table_covers_tele};
 use std::alloc::{AllocError, Global};
 
 // The nibble that fills an odd count of digits.
-pub const FILLER: u8 = 0xf;
+pub(super) const FILLER: u8 = 0xf;
 
 // The code of a basic service.
 #[derive(Clone, Copy, Debug)]
-pub struct PlainCode {
-    pub is_tele: bool,
-    pub octet: u8,
+pub(super) struct PlainCode {
+    pub(super) is_tele: bool,
+    pub(super) octet: u8,
 }
 
 // A destination number criterion. Each number is kept as the octets of its address.
 #[derive(Debug, Drop)]
-pub struct PlainNumberCriterion {
-    pub is_enabling: bool,
-    pub numbers: Vec<Vec<u8>>,
-    pub lengths: Vec<u8>,
+pub(super) struct PlainNumberCriterion {
+    pub(super) is_enabling: bool,
+    pub(super) numbers: Vec<Vec<u8>>,
+    pub(super) lengths: Vec<u8>,
 }
 
 // An entry of criteria. An empty list is an absent criterion, and a call type is whether it asks for
 // forwarded calls.
 #[derive(Debug, Drop)]
-pub struct PlainEntry {
-    pub number: Option<PlainNumberCriterion>,
-    pub codes: Vec<PlainCode>,
-    pub forwarded: Option<bool>,
-    pub causes: Vec<u8>,
+pub(super) struct PlainEntry {
+    pub(super) number: Option<PlainNumberCriterion>,
+    pub(super) codes: Vec<PlainCode>,
+    pub(super) forwarded: Option<bool>,
+    pub(super) causes: Vec<u8>,
 }
 
 // What a call shows to the criteria. The destination is kept as the octets of its address.
 #[derive(Debug, Drop)]
-pub struct PlainEvent {
-    pub destination: Vec<u8>,
-    pub code: PlainCode,
-    pub is_forwarded: bool,
-    pub cause: Option<u8>,
+pub(super) struct PlainEvent {
+    pub(super) destination: Vec<u8>,
+    pub(super) code: PlainCode,
+    pub(super) is_forwarded: bool,
+    pub(super) cause: Option<u8>,
 }
 
 // Whether the event meets each criterion that the entry holds.
-pub fn is_met(alloc: Global, entry: &PlainEntry, event: &PlainEvent) -> Result<bool, AllocError> {
+pub(super) fn is_met(
+    alloc: Global,
+    entry: &PlainEntry,
+    event: &PlainEvent,
+) -> Result<bool, AllocError> {
     let is_number_met = match &entry.number {
         Some(criterion) => is_number_criterion_met(alloc, criterion, &event.destination)?,
         None => true,

@@ -18,12 +18,12 @@ const GROUP_OCTETS: [u8; 5] = [0x00, 0x10, 0x18, 0x60, 0x80];
 // A xorshift generator of 64 bits by the shifts 13, 7 and 17. Its seed is fixed, so that each run makes the
 // same cases.
 #[derive(Drop)]
-pub struct Random {
+pub(super) struct Random {
     state: u64,
 }
 
 impl Random {
-    pub fn new() -> Random {
+    pub(super) fn new() -> Random {
         Random {
             state: 0x9e37_79b9_7f4a_7c15,
         }
@@ -55,13 +55,13 @@ impl Random {
 
 // An entry, and an event that is judged by it.
 #[derive(Debug, Drop)]
-pub struct Case {
-    pub entry: PlainEntry,
-    pub event: PlainEvent,
+pub(super) struct Case {
+    pub(super) entry: PlainEntry,
+    pub(super) event: PlainEvent,
 }
 
 impl Case {
-    pub fn new(alloc: Global, random: &mut Random) -> Result<Case, AllocError> {
+    pub(super) fn new(alloc: Global, random: &mut Random) -> Result<Case, AllocError> {
         let nibbles = random_nibbles(alloc, random, 6, &[])?;
         Ok(Case {
             entry: random_entry(alloc, random, &nibbles)?,

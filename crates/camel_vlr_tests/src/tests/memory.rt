@@ -2,8 +2,8 @@ ghost use Rattle.std.specs.Prelude.{◌≡◌, IfOk};
 ghost use Rattle.camel_vlr.specs.Store.{fresh};
 
 use super::{
-    ARMED, LISTED, TURNS, Told, asked, call_of, criteria_update, entry_update, held, imsi_of,
-    opened_with_one, row_update,
+    ARMED, Kind, LISTED, TURNS, Told, asked, call_of, held, imsi_of, opened_with_one, row_update,
+    update_of,
 };
 use camel_criteria::Refusal;
 use camel_rows::{CallEvent, Reason, Records, Update};
@@ -16,34 +16,15 @@ use std::test::Fail;
 
 // These tests also pass where any one request for memory is refused: each call that answers so is made again.
 
-// The updates that are submitted here.
-#[derive(Clone, Copy, Debug)]
-enum Kind {
-    Register,
-    Row,
-    Criteria,
-    Entry,
-    Cancel,
-}
-
-fn update_once(alloc: Global, imsi: Imsi, kind: Kind) -> Result<Update, Refusal> {
-    match kind {
-        Kind::Register => Ok(Update::Register { imsi }),
-        Kind::Row => row_update(imsi),
-        Kind::Criteria => criteria_update(alloc, imsi),
-        Kind::Entry => entry_update(alloc, imsi),
-        Kind::Cancel => Ok(Update::Cancel { imsi }),
-    }
-}
-
-fn update_of(alloc: Global, imsi: Imsi, kind: Kind) -> Result<Update, Refusal> {
+// An update, which is made again where it met want of memory.
+fn update_again(alloc: Global, imsi: Imsi, kind: Kind) -> Result<Update, Refusal> {
     for _ in 1..TURNS {
-        match update_once(alloc, imsi, kind) {
+        match update_of(alloc, imsi, kind) {
             Err(Refusal::OutOfMemory) => {}
             made => return made,
         }
     }
-    update_once(alloc, imsi, kind)
+    update_of(alloc, imsi, kind)
 }
 
 // A store with one session. After a refusal nothing remains.
@@ -83,7 +64,7 @@ fn submitted<R: Abort>(
 {
     let before = seen(store, session, call);
     for _ in 1..TURNS {
-        let update = update_of(alloc, imsi, kind)?;
+        let update = update_again(alloc, imsi, kind)?;
         match store.submit(update) {
             Err(Refusal::OutOfMemory) => {
                 assert_eq!(rt; seen(store, session, call), before);
