@@ -1,14 +1,14 @@
+-- what clauses say of TDP rows and of received lists
+pub use Rattle.camel_csi.specs.DetectionPoint
+pub use Rattle.camel_csi.specs.Received
+pub use Rattle.camel_csi.specs.TdpRow
 pub mod Change
 pub mod Decision
-pub mod DetectionPoint
 pub mod Event
 pub mod Front
 pub mod Means
 pub mod Outcome
-pub mod Received
 pub mod Records
-pub mod Rows
 pub mod StoredCsis
 pub mod Subscriber
-pub mod TdpRow
 pub mod Update

@@ -7,9 +7,9 @@ use Rattle.std.specs.Ordering.{nat_cmp}
 use Rattle.camel_criteria.specs.Criteria.{OCriteriaData, TCriteriaData}
 use Rattle.camel_criteria.specs.declared.refusal.Refusal.{Refusal}
 use Rattle.camel_criteria.specs.declared.refusal.Refusal.TheVariants.{UnidentifiedSubscriber, DataMissing}
+use Rattle.camel_csi.specs.TdpRow.{TdpRowData}
 use Rattle.camel_rows.specs.Records.{RecordsData}
 use Rattle.camel_rows.specs.Subscriber.{SubscriberData}
-use Rattle.camel_rows.specs.TdpRow.{TdpRowData}
 use Rattle.camel_rows.specs.declared.stored_csis.WhichCsis.{WhichCsis}
 use Rattle.camel_rows.specs.declared.update.Update.{Update}
 use Rattle.camel_rows.specs.declared.update.Update.TheVariants.{Register, Insert, Delete, Cancel}

@@ -2,8 +2,8 @@
 use Rattle.std.specs.Prelude.{ℕ, ◌==◌, List, Option, None, find, if◌then◌else◌}
 use Rattle.std.specs.Option.{option_and_then, option_map}
 use Rattle.camel_criteria.specs.Criteria.{OCriteriaData, TCriteriaData}
-use Rattle.camel_rows.specs.DetectionPoint.{is_o_detection_point, is_vt_detection_point}
-use Rattle.camel_rows.specs.TdpRow.{TdpRowData}
+use Rattle.camel_csi.specs.DetectionPoint.{is_o_detection_point, is_vt_detection_point}
+use Rattle.camel_csi.specs.TdpRow.{TdpRowData}
 use Rattle.camel_rows.specs.declared.lent.Lent.{Lent}
 use Rattle.camel_rows.specs.declared.lent.Lent.TheVariants as lent
 

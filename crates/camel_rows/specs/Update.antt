@@ -8,9 +8,9 @@ use Rattle.std.specs.Option.{option_map}
 use Rattle.camel_criteria.specs.Criteria.{OCriteriaData, TCriteriaData}
 use Rattle.camel_criteria.specs.declared.refusal.Refusal.{Refusal}
 use Rattle.camel_criteria.specs.declared.refusal.Refusal.TheVariants.{UnidentifiedSubscriber, DataMissing}
+use Rattle.camel_csi.specs.TdpRow.{TdpRowData}
 use Rattle.camel_rows.specs.Subscriber.{Half, SubscriberData, empty_record}
 use Rattle.camel_rows.specs.Records.{RecordsData, no_records}
-use Rattle.camel_rows.specs.TdpRow.{TdpRowData}
 use Rattle.camel_rows.specs.declared.update.Update.{Update}
 use Rattle.camel_rows.specs.declared.update.Update.TheVariants.{Register, Insert, Delete, Cancel}
 use Rattle.camel_rows.specs.declared.update.Withdrawal.{Withdrawal}

@@ -6,8 +6,8 @@ ghost use Rattle.camel_rows.specs.Subscriber.{entry_data};
 use crate::event::Event;
 use crate::lent::Lent;
 use crate::records::Records;
-use crate::tdp_row::TdpRow;
 use camel_criteria::{o_met, t_met};
+use camel_csi::TdpRow;
 
 /// Why an event triggers nothing, in the order in which the reasons are looked at.
 #[derive(Clone, Copy, Debug, PartialEq, Eq)]

@@ -3,10 +3,8 @@ ghost use Rattle.std.specs.Option.{option_map};
 ghost use Rattle.camel_criteria.specs.Event.{o_event_data};
 ghost use Rattle.camel_rows.specs.Event.{event_basic, event_cause, event_data, event_dp, event_imsi, o_event_of, t_event_of};
 
-use crate::detection_point::{
-    BUSY, COLLECTED_INFO, NO_ANSWER, ROUTE_SELECT_FAILURE, TERMINATING_ATTEMPT,
-};
 use camel_criteria::{BasicService, Cause, OEvent, TEvent};
+use camel_csi::{BUSY, COLLECTED_INFO, NO_ANSWER, ROUTE_SELECT_FAILURE, TERMINATING_ATTEMPT};
 use camel_tbcd::{Address, CallAddress, Imsi};
 
 /// A call event at a trigger detection point (TS 23.078), with a borrowed destination.

@@ -1,11 +1,11 @@
 ghost use Rattle.std.specs.Prelude.{◌≡◌, ◌≢◌, ◌↔◌, ℕ, List, Option, Some, None};
 ghost use Rattle.std.specs.FinMap as map;
 ghost use Rattle.camel_criteria.specs.Criteria.{OCriteriaData, TCriteriaData};
+ghost use Rattle.camel_csi.specs.TdpRow.{TdpRowData};
 ghost use Rattle.camel_rows.specs.Decision.{Triggers, decision};
 ghost use Rattle.camel_rows.specs.Means.{HasO, HasVt, Invokes, half_of};
 ghost use Rattle.camel_rows.specs.Records.{RecordsData};
 ghost use Rattle.camel_rows.specs.Subscriber.{EntryData};
-ghost use Rattle.camel_rows.specs.TdpRow.{TdpRowData};
 ghost use Rattle.camel_rows.specs.Update.{after, refusal, update_imsi};
 ghost use Rattle.camel_rows.specs.declared.event.CallEvent.{CallEvent};
 ghost use Rattle.camel_rows.specs.declared.update.Update.{Update};

@@ -5,9 +5,8 @@ ghost use Rattle.camel_rows.specs.Subscriber.{o_entry_of, rows_of};
 ghost use Rattle.camel_rows.specs.Update.{half_after};
 
 use crate::change::Change;
-use crate::o_criteria_set::OCriteriaSet;
-use crate::o_csi::OCsi;
 use camel_criteria::OCriteria;
+use camel_csi::{OCriteriaSet, OCsi};
 use std::alloc::{AllocError, Global};
 use std::marker::Model;
 

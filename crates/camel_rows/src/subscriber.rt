@@ -5,15 +5,12 @@ ghost use Rattle.camel_rows.specs.Subscriber.{empty_record, entry_at, entry_data
 ghost use Rattle.camel_rows.specs.Update.{half_after, lacks_csi};
 
 use crate::change::{Change, make};
-use crate::detection_point::{is_o_detection_point, is_vt_detection_point};
 use crate::lent::Lent;
-use crate::o_criteria_set::OCriteriaSet;
-use crate::o_csi::OCsi;
 use crate::o_half::OHalf;
-use crate::t_criteria_set::TCriteriaSet;
-use crate::tdp_row::TdpRow;
-use crate::vt_csi::VtCsi;
 use crate::vt_half::VtHalf;
+use camel_csi::{
+    OCriteriaSet, OCsi, TCriteriaSet, TdpRow, VtCsi, is_o_detection_point, is_vt_detection_point,
+};
 use std::alloc::{AllocError, Global};
 use std::marker::Model;
 

@@ -1,11 +1,8 @@
 ghost use Rattle.std.specs.Prelude.{◌≡◌, IfErr, IfOk};
 ghost use Rattle.camel_rows.specs.Update.{update_imsi};
 
-use crate::o_criteria_set::OCriteriaSet;
-use crate::o_csi::OCsi;
-use crate::t_criteria_set::TCriteriaSet;
-use crate::vt_csi::VtCsi;
 use camel_criteria::Refusal;
+use camel_csi::{OCriteriaSet, OCsi, TCriteriaSet, VtCsi};
 use camel_tbcd::Imsi;
 use std::alloc::AllocError;
 

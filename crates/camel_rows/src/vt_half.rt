@@ -5,9 +5,8 @@ ghost use Rattle.camel_rows.specs.Subscriber.{rows_of, t_entry_of};
 ghost use Rattle.camel_rows.specs.Update.{half_after};
 
 use crate::change::Change;
-use crate::t_criteria_set::TCriteriaSet;
-use crate::vt_csi::VtCsi;
 use camel_criteria::TCriteria;
+use camel_csi::{TCriteriaSet, VtCsi};
 use std::alloc::{AllocError, Global};
 use std::marker::Model;
 

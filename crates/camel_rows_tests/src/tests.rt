@@ -2,7 +2,6 @@ mod copies;
 mod criteria;
 mod decisions;
 mod events;
-mod received;
 mod updates;
 
 use camel_criteria::{

@@ -1,0 +1,4 @@
+pub mod DetectionPoint
+pub mod Received
+pub mod Rows
+pub mod TdpRow

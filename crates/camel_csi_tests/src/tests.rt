@@ -1,0 +1,301 @@
+use camel_criteria::{BasicService, Handling, OCriteria, Refusal, TCriteria};
+use camel_csi::{MAX_SERVICE_KEY, MAX_TDP_DATA, OCriteriaSet, OCsi, TCriteriaSet, TdpRow, VtCsi};
+use camel_tbcd::IsdnAddress;
+use std::alloc::Global;
+use std::test::Fail;
+
+// The gsmSCF address of each row.
+const SCF: [u8; 6] = [0x91, 0x94, 0x71, 0x16, 0x00, 0x00];
+
+const MISSING: Refusal = Refusal::DataMissing;
+
+const UNEXPECTED: Refusal = Refusal::UnexpectedDataValue;
+
+fn row_of(dp: u8, key: u32, handling: Handling) -> Result<TdpRow, Refusal> {
+    let scf = IsdnAddress::from_bytes(&SCF).map_err(|_| UNEXPECTED)?;
+    TdpRow::new(dp, key, scf, handling)
+}
+
+#[test]
+fn a_service_key_has_31_bits(rt: HostRuntime) -> Result<(), Fail> {
+    assert_eq!(rt; MAX_SERVICE_KEY, 2_147_483_647);
+    for (key, wanted) in [
+        (0, Ok(0)),
+        (2_147_483_647, Ok(2_147_483_647)),
+        (2_147_483_648, Err(UNEXPECTED)),
+        (u32::MAX, Err(UNEXPECTED)),
+    ] {
+        let row = row_of(2, key, Handling::Continue);
+        assert_eq!(rt; row.map(|row| row.key()), wanted, "{key}");
+    }
+    Ok(())
+}
+
+#[test]
+fn a_row_shows_its_four_values(rt: HostRuntime) -> Result<(), Fail> {
+    for (dp, key, handling) in [
+        (2, 100, Handling::Continue),
+        (4, 0, Handling::Release),
+        (255, 70_000, Handling::Release),
+    ] {
+        let row = row_of(dp, key, handling)?;
+        assert_eq!(rt; (row.dp(), row.key(), row.handling()), (dp, key, handling));
+        assert_eq!(rt; row.scf().bytes(), SCF.as_slice());
+    }
+    Ok(())
+}
+
+// The rows of a CSI by their places, each as its detection point and its service key.
+type Rows = [Option<(u8, u32)>; 4];
+
+const NO_ROWS: Rows = [None; 4];
+
+// Rows of these detection points. Each has its place in the list as its service key.
+fn rows_of(alloc: Global, points: &[u8]) -> Result<Vec<TdpRow>, Refusal> {
+    let mut rows = Vec::new(alloc);
+    let mut place = 0u32;
+    for dp in points {
+        rows.push(row_of(*dp, place, Handling::Continue)?)?;
+        place = place.wrapping_add(1);
+    }
+    Ok(rows)
+}
+
+fn o_csi_kept(alloc: Global, points: &[u8]) -> Result<Rows, Refusal> {
+    let csi = OCsi::new(&rows_of(alloc, points)?)?;
+    Ok([0, 1, 2, 3].map(|at| csi.get(at).map(|row| (row.dp(), row.key()))))
+}
+
+#[test]
+fn an_o_csi_keeps_its_rows_of_2_and_4_in_order(rt: HostRuntime) -> Result<(), Fail> {
+    for (points, wanted) in [
+        ([].as_slice(), Err(MISSING)),
+        ([3; MAX_TDP_DATA].as_slice(), Ok(NO_ROWS)),
+        ([3; 11].as_slice(), Err(UNEXPECTED)),
+        (
+            [2, 3, 3, 3, 3, 3, 3, 3, 3, 3, 4].as_slice(),
+            Err(UNEXPECTED),
+        ),
+        ([2, 2].as_slice(), Err(UNEXPECTED)),
+        ([4, 2, 4].as_slice(), Err(UNEXPECTED)),
+        ([3, 3].as_slice(), Ok(NO_ROWS)),
+        ([12, 13, 14, 12].as_slice(), Ok(NO_ROWS)),
+        ([2].as_slice(), Ok([Some((2, 0)), None, None, None])),
+        (
+            [2, 4].as_slice(),
+            Ok([Some((2, 0)), Some((4, 1)), None, None]),
+        ),
+        (
+            [3, 4, 3, 2].as_slice(),
+            Ok([Some((4, 1)), Some((2, 3)), None, None]),
+        ),
+    ] {
+        assert_eq!(rt; o_csi_kept(rt.alloc(), points), wanted, "{points:?}");
+    }
+    Ok(())
+}
+
+fn vt_csi_kept(alloc: Global, points: &[u8]) -> Result<Rows, Refusal> {
+    let csi = VtCsi::new(&rows_of(alloc, points)?)?;
+    Ok([0, 1, 2, 3].map(|at| csi.get(at).map(|row| (row.dp(), row.key()))))
+}
+
+#[test]
+fn a_vt_csi_keeps_its_rows_of_12_13_and_14_in_order(rt: HostRuntime) -> Result<(), Fail> {
+    for (points, wanted) in [
+        ([].as_slice(), Err(MISSING)),
+        ([2; MAX_TDP_DATA].as_slice(), Ok(NO_ROWS)),
+        ([2; 11].as_slice(), Err(UNEXPECTED)),
+        (
+            [12, 2, 2, 2, 2, 2, 2, 2, 2, 2, 13].as_slice(),
+            Err(UNEXPECTED),
+        ),
+        ([12, 12].as_slice(), Err(UNEXPECTED)),
+        ([13, 12, 13].as_slice(), Err(UNEXPECTED)),
+        ([14, 13, 12, 14].as_slice(), Err(UNEXPECTED)),
+        ([15, 15].as_slice(), Ok(NO_ROWS)),
+        ([2, 4, 2, 4].as_slice(), Ok(NO_ROWS)),
+        ([13].as_slice(), Ok([Some((13, 0)), None, None, None])),
+        (
+            [12, 14].as_slice(),
+            Ok([Some((12, 0)), Some((14, 1)), None, None]),
+        ),
+        (
+            [14, 2, 13, 2, 12].as_slice(),
+            Ok([Some((14, 0)), Some((13, 2)), Some((12, 4)), None]),
+        ),
+    ] {
+        assert_eq!(rt; vt_csi_kept(rt.alloc(), points), wanted, "{points:?}");
+    }
+    Ok(())
+}
+
+#[test]
+fn an_o_csi_counts_its_rows_and_finds_them(rt: HostRuntime) -> Result<(), Fail> {
+    for (points, len, keys) in [
+        ([3].as_slice(), 0, [None; 5]),
+        ([4].as_slice(), 1, [None, Some(0), None, None, None]),
+        (
+            [4, 3, 2].as_slice(),
+            2,
+            [Some(2), Some(0), None, None, None],
+        ),
+    ] {
+        let csi = OCsi::new(&rows_of(rt.alloc(), points)?)?;
+        assert_eq!(rt; (csi.len(), csi.is_empty()), (len, len == 0), "{points:?}");
+        let found = [2, 4, 12, 13, 14].map(|dp| csi.row(dp).map(|row| row.key()));
+        assert_eq!(rt; found, keys, "{points:?}");
+    }
+    Ok(())
+}
+
+#[test]
+fn a_vt_csi_counts_its_rows_and_finds_them(rt: HostRuntime) -> Result<(), Fail> {
+    for (points, len, keys) in [
+        ([3].as_slice(), 0, [None; 5]),
+        ([13].as_slice(), 1, [None, None, None, Some(0), None]),
+        ([14, 12].as_slice(), 2, [None, None, Some(1), None, Some(0)]),
+        (
+            [13, 14, 12].as_slice(),
+            3,
+            [None, None, Some(2), Some(0), Some(1)],
+        ),
+    ] {
+        let csi = VtCsi::new(&rows_of(rt.alloc(), points)?)?;
+        assert_eq!(rt; (csi.len(), csi.is_empty()), (len, len == 0), "{points:?}");
+        let found = [2, 4, 12, 13, 14].map(|dp| csi.row(dp).map(|row| row.key()));
+        assert_eq!(rt; found, keys, "{points:?}");
+    }
+    Ok(())
+}
+
+// The set of entries of these detection points. Each has its place in the list as the octet of its code.
+fn o_set_of(alloc: Global, points: &[u8]) -> Result<OCriteriaSet, Refusal> {
+    let mut entries = Vec::new(alloc);
+    let mut place = 0u8;
+    for dp in points {
+        let codes = [BasicService::Tele(place)];
+        entries.push(OCriteria::new(alloc, *dp, None, &codes, None, &[])?)?;
+        place = place.wrapping_add(1);
+    }
+    OCriteriaSet::new(entries)
+}
+
+fn t_set_of(alloc: Global, points: &[u8]) -> Result<TCriteriaSet, Refusal> {
+    let mut entries = Vec::new(alloc);
+    let mut place = 0u8;
+    for dp in points {
+        let codes = [BasicService::Tele(place)];
+        entries.push(TCriteria::new(alloc, *dp, &codes, &[])?)?;
+        place = place.wrapping_add(1);
+    }
+    TCriteriaSet::new(entries)
+}
+
+// The octet of an entry's code.
+fn octet_of(codes: &[BasicService]) -> Option<u8> {
+    match codes {
+        [BasicService::Tele(octet)] => Some(*octet),
+        _ => None,
+    }
+}
+
+// The entries of a set by their places, each as its detection point and the octet of its code.
+type Entries = [Option<(u8, Option<u8>)>; 4];
+
+const NO_ENTRIES: Entries = [None; 4];
+
+fn o_entries_in(set: OCriteriaSet) -> Entries {
+    [0, 1, 2, 3].map(|at| set
+        .get(at)
+        .map(|entry| (entry.dp(), octet_of(entry.basic()))))
+}
+
+fn t_entries_in(set: TCriteriaSet) -> Entries {
+    [0, 1, 2, 3].map(|at| set
+        .get(at)
+        .map(|entry| (entry.dp(), octet_of(entry.basic()))))
+}
+
+#[test]
+fn the_criteria_of_an_o_csi_keep_their_entries_of_2_and_4_in_order(
+    rt: HostRuntime,
+) -> Result<(), Fail> {
+    for (points, wanted) in [
+        ([].as_slice(), Err(MISSING)),
+        ([3; MAX_TDP_DATA].as_slice(), Ok(NO_ENTRIES)),
+        ([3; 11].as_slice(), Err(UNEXPECTED)),
+        (
+            [2, 3, 3, 3, 3, 3, 3, 3, 3, 3, 4].as_slice(),
+            Err(UNEXPECTED),
+        ),
+        ([2, 2].as_slice(), Err(UNEXPECTED)),
+        ([4, 2, 4].as_slice(), Err(UNEXPECTED)),
+        ([3, 3].as_slice(), Ok(NO_ENTRIES)),
+        ([12, 13, 14, 12].as_slice(), Ok(NO_ENTRIES)),
+        ([4].as_slice(), Ok([Some((4, Some(0))), None, None, None])),
+        (
+            [3, 4, 3, 2].as_slice(),
+            Ok([Some((4, Some(1))), Some((2, Some(3))), None, None]),
+        ),
+    ] {
+        let kept = o_set_of(rt.alloc(), points).map(o_entries_in);
+        assert_eq!(rt; kept, wanted, "{points:?}");
+    }
+    Ok(())
+}
+
+#[test]
+fn the_criteria_of_a_vt_csi_keep_their_entries_of_12_13_and_14_in_order(
+    rt: HostRuntime,
+) -> Result<(), Fail> {
+    for (points, wanted) in [
+        ([].as_slice(), Err(MISSING)),
+        ([2; MAX_TDP_DATA].as_slice(), Ok(NO_ENTRIES)),
+        ([2; 11].as_slice(), Err(UNEXPECTED)),
+        (
+            [12, 2, 2, 2, 2, 2, 2, 2, 2, 2, 13].as_slice(),
+            Err(UNEXPECTED),
+        ),
+        ([12, 12].as_slice(), Err(UNEXPECTED)),
+        ([13, 12, 13].as_slice(), Err(UNEXPECTED)),
+        ([14, 13, 12, 14].as_slice(), Err(UNEXPECTED)),
+        ([15, 15].as_slice(), Ok(NO_ENTRIES)),
+        ([2, 4, 2, 4].as_slice(), Ok(NO_ENTRIES)),
+        ([13].as_slice(), Ok([Some((13, Some(0))), None, None, None])),
+        (
+            [14, 2, 13, 2, 12].as_slice(),
+            Ok([
+                Some((14, Some(0))),
+                Some((13, Some(2))),
+                Some((12, Some(4))),
+                None,
+            ]),
+        ),
+    ] {
+        let kept = t_set_of(rt.alloc(), points).map(t_entries_in);
+        assert_eq!(rt; kept, wanted, "{points:?}");
+    }
+    Ok(())
+}
+
+#[test]
+fn a_set_of_criteria_counts_its_entries_and_finds_them(rt: HostRuntime) -> Result<(), Fail> {
+    for (points, o_len, o_at_4, t_len, t_at_14) in [
+        ([3].as_slice(), 0, None, 0, None),
+        ([12, 4].as_slice(), 1, Some(1), 1, None),
+        ([4, 14, 2, 13].as_slice(), 2, Some(0), 2, Some(1)),
+        ([2, 12, 13, 14].as_slice(), 1, None, 3, Some(3)),
+    ] {
+        let o = o_set_of(rt.alloc(), points)?;
+        let t = t_set_of(rt.alloc(), points)?;
+        assert_eq!(rt; (o.len(), o.is_empty()), (o_len, o_len == 0), "{points:?}");
+        assert_eq!(rt; (t.len(), t.is_empty()), (t_len, t_len == 0), "{points:?}");
+        let found = o.entry(4).and_then(|entry| octet_of(entry.basic()));
+        assert_eq!(rt; found, o_at_4, "{points:?}");
+        let found = t.entry(14).and_then(|entry| octet_of(entry.basic()));
+        assert_eq!(rt; found, t_at_14, "{points:?}");
+        assert!(rt; o.entry(14).is_none() && t.entry(4).is_none(), "{points:?}");
+    }
+    Ok(())
+}
