@@ -3,14 +3,15 @@ ghost use Rattle.std.specs.FinMap as map;
 ghost use Rattle.std.specs.Option.{option_copied, option_map};
 ghost use Rattle.camel_rows.specs.Change.{with_changes};
 ghost use Rattle.camel_rows.specs.Records.{no_records};
-ghost use Rattle.camel_rows.specs.Update.{after, refusal, with_record};
+ghost use Rattle.camel_rows.specs.Update.{after, record_with_insert, record_without, refusal, with_record};
 
 use crate::change::{Change, removal};
 use crate::o_half::OHalf;
 use crate::subscriber::Subscriber;
-use crate::update::Update;
+use crate::update::{Update, Withdrawal};
 use crate::vt_half::VtHalf;
 use camel_criteria::Refusal;
+use camel_csi::{OCriteriaSet, OCsi, TCriteriaSet, VtCsi};
 use camel_tbcd::Imsi;
 use std::alloc::{AllocError, Global};
 use std::collections::BTreeMap;
@@ -108,18 +109,8 @@ impl Records {
                 o_criteria,
                 vt,
                 t_criteria,
-            } => {
-                if let Some(subscriber) = self.get(imsi) {
-                    let o = subscriber.o_inserted(self.alloc, *o, o_criteria)?;
-                    let vt = subscriber.vt_inserted(self.alloc, *vt, t_criteria)?;
-                    self.change(imsi, o, vt);
-                }
-            }
-            Update::Delete { imsi, what } => {
-                let o = removal(what.o || what.everything);
-                let vt = removal(what.vt || what.everything);
-                self.change(imsi, o, vt);
-            }
+            } => self.insert(imsi, *o, o_criteria, *vt, t_criteria)?,
+            Update::Delete { imsi, what } => self.withdraw(imsi, *what),
             Update::Cancel { imsi } => self.take_out(imsi),
         }
         Ok(())
@@ -131,6 +122,38 @@ impl Records {
         ensures only { IfErr result (λ why. why ≡ Refusal.OutOfMemory) }
     {
         Ok(self.clone()?)
+    }
+
+    // Puts what an Insert brings into the record of its IMSI.
+    fn insert(
+        &mut self,
+        imsi: &Imsi,
+        o: Option<OCsi>,
+        o_criteria: &Option<OCriteriaSet>,
+        vt: Option<VtCsi>,
+        t_criteria: &Option<TCriteriaSet>,
+    ) -> Result<(), AllocError>
+        requires { IsSome (map.get self.old imsi.now) }
+        ensures inserted { OnOk result (self.new ≡ with_record self.old imsi.now
+            (option_map (record_with_insert o o_criteria.now vt t_criteria.now) (map.get self.old imsi.now))) }
+        ensures unchanged { OnErr result (self.new ≡ self.old) }
+    {
+        if let Some(subscriber) = self.get(imsi) {
+            let o = subscriber.o_inserted(self.alloc, o, o_criteria)?;
+            let vt = subscriber.vt_inserted(self.alloc, vt, t_criteria)?;
+            self.change(imsi, o, vt);
+        }
+        Ok(())
+    }
+
+    // Removes what a Delete names from the record of its IMSI.
+    fn withdraw(&mut self, imsi: &Imsi, what: Withdrawal)
+        requires { IsSome (map.get self.old imsi.now) }
+        ensures { self.new ≡ with_record self.old imsi.now (option_map (record_without what) (map.get self.old imsi.now)) }
+    {
+        let o = removal(what.o || what.everything);
+        let vt = removal(what.vt || what.everything);
+        self.change(imsi, o, vt);
     }
 
     // Changes the record of an IMSI in its place.
