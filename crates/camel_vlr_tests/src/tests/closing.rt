@@ -101,8 +101,8 @@ fn a_copy_of_closed_records_lends_the_same(rt: HostRuntime) -> Result<(), Fail> 
         (imsi_of(2)?, Some((Some(ARMED), Some(LISTED)))),
         (imsi_of(3)?, None),
     ] {
-        assert_eq!(rt; held(&records, &imsi), wanted);
-        assert_eq!(rt; held(&copied, &imsi), wanted);
+        let both = (held(&records, &imsi), held(&copied, &imsi));
+        assert_eq!(rt; both, (wanted, wanted));
     }
     Ok(())
 }

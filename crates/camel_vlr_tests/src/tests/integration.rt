@@ -95,13 +95,22 @@ fn switch<R: Threads + Wait + Abort + Sync>(
     );
     // Each call was decided, and none by the empty store.
     assert!(rt; are_served);
+    all_is_seen(rt, session, written?, &call)
+}
 
-    // A receipt that comes back with the writer's result tells the session of all that was published.
+// A receipt that comes back with the writer's result tells the session of all that was published.
+fn all_is_seen<R: Abort>(
+    rt: &R,
+    session: Session,
+    receipt: Receipt,
+    call: &CallEvent,
+) -> Result<(), Fail>
+    requires { receipt.store ≡ session.store }
+{
     let mut session = session;
-    let receipt = written?;
     assert_eq!(rt; receipt.front(), 102);
     session.learn(receipt);
-    assert_eq!(rt; asked(&mut session, &call), Some((102, Ok((100, None)))));
+    assert_eq!(rt; asked(&mut session, call), Some((102, Ok((100, None)))));
     Ok(())
 }
 

@@ -1,12 +1,13 @@
 ghost use Rattle.std.specs.Prelude.{◌≡◌};
 
 use super::{
-    ARMED, LISTED, asked, call_of, closed, criteria_update, filled, imsi_of, lent, opened_with_one,
-    opened_with_two, row_update,
+    ARMED, LISTED, Told, asked, call_of, closed, criteria_update, filled, imsi_of, lent,
+    opened_with_one, opened_with_two, row_update,
 };
 use camel_criteria::Refusal;
-use camel_rows::{Reason, Update};
-use camel_vlr::{Session, Vlr};
+use camel_rows::{CallEvent, Reason, Records, Update};
+use camel_tbcd::Imsi;
+use camel_vlr::{Receipt, Session, Vlr};
 use std::alloc::Global;
 use std::process::Abort;
 use std::sync::Wait;
@@ -54,36 +55,107 @@ fn pending_is_not_seen<R: Wait + Abort>(
     requires first { first.old.store ≡ store.old.store }
     requires second { second.old.store ≡ store.old.store }
 {
+    sees_nothing_pending(rt, store, first, second)?;
+    sees_the_row(rt, store, first, second)?;
+    sees_the_entry(rt, alloc, store, first, second)
+}
+
+// What a call of the one subscriber is told by each of two sessions.
+fn both_asked(
+    first: &mut Session,
+    second: &mut Session,
+    call: &CallEvent,
+) -> [Option<(u64, Told)>; 2]
+    ensures first { first.new.store ≡ first.old.store }
+    ensures second { second.new.store ≡ second.old.store }
+{
+    [asked(first, call), asked(second, call)]
+}
+
+// Publishes what is pending, and tells both sessions. The front is the answer.
+fn both_told<R: Wait>(
+    rt: &R,
+    store: &mut Vlr,
+    first: &mut Session,
+    second: &mut Session,
+) -> Result<u64, Refusal>
+    requires first { first.old.store ≡ store.old.store }
+    requires second { second.old.store ≡ store.old.store }
+    ensures store { store.new.store ≡ store.old.store }
+    ensures first { first.new.store ≡ first.old.store }
+    ensures second { second.new.store ≡ second.old.store }
+{
+    let receipt = store.publish(rt)?;
+    first.learn(store.receipt());
+    second.learn(store.receipt());
+    Ok(receipt.front())
+}
+
+// A register and the row of the subscriber are pending, and a row of another one is refused.
+fn sees_nothing_pending<R: Abort>(
+    rt: &R,
+    store: &mut Vlr,
+    first: &mut Session,
+    second: &mut Session,
+) -> Result<(), Fail>
+    ensures store { store.new.store ≡ store.old.store }
+    ensures first { first.new.store ≡ first.old.store }
+    ensures second { second.new.store ≡ second.old.store }
+{
     let imsi = imsi_of(1)?;
     let call = call_of(imsi)?;
     let unknown = Some((0, Err(Reason::Unknown)));
-    assert_eq!(rt; asked(first, &call), unknown);
-    assert_eq!(rt; asked(second, &call), unknown);
-
+    assert_eq!(rt; both_asked(first, second, &call), [unknown, unknown]);
     assert_eq!(rt; store.submit(Update::Register { imsi }), Ok(1));
     let refused = Err(Refusal::UnidentifiedSubscriber);
     assert_eq!(rt; store.submit(row_update(imsi_of(2)?)?), refused);
     assert_eq!(rt; store.submit(row_update(imsi)?), Ok(2));
     assert_eq!(rt; (store.published(), store.pending()), (0, 2));
-    assert_eq!(rt; asked(first, &call), unknown);
+    assert_eq!(rt; both_asked(first, second, &call), [unknown, unknown]);
+    Ok(())
+}
 
-    assert_eq!(rt; store.publish(rt)?.front(), 2);
-    first.learn(store.receipt());
-    second.learn(store.receipt());
+fn sees_the_row<R: Wait + Abort>(
+    rt: &R,
+    store: &mut Vlr,
+    first: &mut Session,
+    second: &mut Session,
+) -> Result<(), Fail>
+    requires first { first.old.store ≡ store.old.store }
+    requires second { second.old.store ≡ store.old.store }
+    ensures store { store.new.store ≡ store.old.store }
+    ensures first { first.new.store ≡ first.old.store }
+    ensures second { second.new.store ≡ second.old.store }
+{
+    assert_eq!(rt; both_told(rt, store, first, second), Ok(2));
     let armed = Some((2, Ok((100, None))));
-    assert_eq!(rt; asked(first, &call), armed);
-    assert_eq!(rt; asked(second, &call), armed);
+    let call = call_of(imsi_of(1)?)?;
+    assert_eq!(rt; both_asked(first, second, &call), [armed, armed]);
+    Ok(())
+}
 
+// The entry comes after the row.
+fn sees_the_entry<R: Wait + Abort>(
+    rt: &R,
+    alloc: Global,
+    store: &mut Vlr,
+    first: &mut Session,
+    second: &mut Session,
+) -> Result<(), Fail>
+    requires first { first.old.store ≡ store.old.store }
+    requires second { second.old.store ≡ store.old.store }
+{
+    let imsi = imsi_of(1)?;
+    let call = call_of(imsi)?;
     assert_eq!(rt; store.submit(criteria_update(alloc, imsi)?), Ok(3));
-    assert_eq!(rt; store.publish(rt)?.front(), 3);
-    first.learn(store.receipt());
-    second.learn(store.receipt());
+    assert_eq!(rt; both_told(rt, store, first, second), Ok(3));
     let listed = Some((3, Ok((100, Some(LISTED)))));
-    assert_eq!(rt; asked(first, &call), listed);
-    assert_eq!(rt; asked(second, &call), listed);
+    assert_eq!(rt; both_asked(first, second, &call), [listed, listed]);
     let both = Some((3, Some(ARMED), Some(LISTED)));
-    assert_eq!(rt; lent(first, &imsi, 2), both);
-    assert_eq!(rt; lent(second, &imsi, 2), both);
+    assert_eq!(rt;
+        (lent(first, &imsi, 2), lent(second, &imsi, 2)),
+        (both, both)
+    );
     assert_eq!(rt; lent(first, &imsi, 4), Some((3, None, None)));
     Ok(())
 }
@@ -99,13 +171,15 @@ fn receipts_are_learnt_in_any_order(rt: HostRuntime) -> Result<(), Fail> {
         }
     }
     let records = closed(&rt, store, &mut second)?;
-    for imsi in [imsi_of(1)?, imsi_of(2)?] {
-        let subscriber = records.get(&imsi).ok_or("no record")?;
-        assert!(rt; subscriber.o().is_none());
-        assert!(rt; subscriber.vt().is_none());
-    }
-    assert!(rt; records.get(&imsi_of(3)?).is_none());
+    let registered = [imsi_of(1)?, imsi_of(2)?, imsi_of(3)?].map(|imsi| is_bare(&records, &imsi));
+    assert_eq!(rt; registered, [Some(true), Some(true), None]);
     Ok(())
+}
+
+// Whether a record holds neither CSI, where there is one.
+fn is_bare(records: &Records, imsi: &Imsi) -> Option<bool> {
+    let subscriber = records.get(imsi)?;
+    Some(subscriber.o().is_none() && subscriber.vt().is_none())
 }
 
 fn learns_in_any_order<R: Wait + Abort>(
@@ -127,18 +201,35 @@ fn learns_in_any_order<R: Wait + Abort>(
     assert_eq!(rt; (published.front(), once.front(), again.front()), (1, 1, 1));
     first.learn(published);
     assert_eq!(rt; asked(first, &call), Some((1, Err(Reason::NoCsi))));
+    learns_late(rt, store, first, once, again)?;
+    // Told nothing, the second session sees what is published all the same.
+    let both = Some((2, Err(Reason::NoCsi)));
+    assert_eq!(rt; both_asked(first, second, &call), [both, both]);
+    Ok(())
+}
 
+// Receipts of the first publication are learnt before and after those of the second one.
+fn learns_late<R: Wait + Abort>(
+    rt: &R,
+    store: &mut Vlr,
+    session: &mut Session,
+    once: Receipt,
+    again: Receipt,
+) -> Result<(), Fail>
+    requires session { session.old.store ≡ store.old.store }
+    requires once { once.store ≡ store.old.store }
+    requires again { again.store ≡ store.old.store }
+    ensures store { store.new.store ≡ store.old.store }
+    ensures session { session.new.store ≡ session.old.store }
+{
     let imsi = imsi_of(2)?;
     assert_eq!(rt; store.submit(Update::Register { imsi }), Ok(2));
     let later = store.publish(rt)?;
     let latest = store.publish(rt)?;
     assert_eq!(rt; (later.front(), latest.front()), (2, 2));
-    first.learn(once);
-    first.learn(later);
-    first.learn(again);
-    first.learn(latest);
-    assert_eq!(rt; asked(first, &call), Some((2, Err(Reason::NoCsi))));
-    // Told nothing, it sees what is published all the same.
-    assert_eq!(rt; asked(second, &call), Some((2, Err(Reason::NoCsi))));
+    session.learn(once);
+    session.learn(later);
+    session.learn(again);
+    session.learn(latest);
     Ok(())
 }

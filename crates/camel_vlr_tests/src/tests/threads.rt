@@ -1,9 +1,8 @@
 use super::{
-    TURNS, Told, asked, asked_once, call_of, criteria_update, imsi_of, opened_with_two, row_update,
-    told,
+    Kind, TURNS, Told, asked, asked_once, call_of, imsi_of, opened_with_two, told, update_of,
 };
 use camel_criteria::Refusal;
-use camel_rows::{CallEvent, Records, Update, Withdrawal, decide_in};
+use camel_rows::{CallEvent, Records, Update, decide_in};
 use camel_tbcd::{Address, Imsi};
 use camel_vlr::{Session, Vlr};
 use std::alloc::Global;
@@ -149,26 +148,20 @@ fn next_of(number: u64) -> u64 {
 }
 
 // The update that a number stands for.
-fn update_of(alloc: Global, imsis: &Three<Imsi>, number: u64) -> Result<Update, Refusal> {
+fn update_by(alloc: Global, imsis: &Three<Imsi>, number: u64) -> Result<Update, Refusal> {
     let imsi = match (number >> 33) % 3 {
         0 => imsis[0],
         1 => imsis[1],
         _ => imsis[2],
     };
-    match (number >> 40) % 5 {
-        0 => Ok(Update::Register { imsi }),
-        1 => row_update(imsi),
-        2 => criteria_update(alloc, imsi),
-        3 => Ok(Update::Delete {
-            imsi,
-            what: Withdrawal {
-                o: true,
-                vt: false,
-                everything: false,
-            },
-        }),
-        _ => Ok(Update::Cancel { imsi }),
-    }
+    let kind = match (number >> 40) % 5 {
+        0 => Kind::Register,
+        1 => Kind::Row,
+        2 => Kind::Criteria,
+        3 => Kind::DeleteO,
+        _ => Kind::Cancel,
+    };
+    update_of(alloc, imsi, kind)
 }
 
 fn told_in(records: &Records, call: &CallEvent) -> Told {
@@ -199,7 +192,7 @@ fn outcomes_of(
     let mut number = seed;
     for _ in 0..ROUNDS {
         number = next_of(number);
-        let update = update_of(alloc, imsis, number)?;
+        let update = update_by(alloc, imsis, number)?;
         if records.apply(&update).is_ok() {
             outcomes.push(all_told(&records, calls))?;
         }
@@ -223,7 +216,7 @@ fn writes<R: Wait>(
             waits_for(has_looked);
         }
         number = next_of(number);
-        match store.submit(update_of(alloc, imsis, number)?) {
+        match store.submit(update_by(alloc, imsis, number)?) {
             Ok(_) | Err(Refusal::UnidentifiedSubscriber) => {}
             Err(why) => return Err(why),
         }
