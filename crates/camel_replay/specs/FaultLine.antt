@@ -1,7 +1,7 @@
 -- The line that tells the fault with which a run ended (profile 1's own format).
 use Rattle.std.specs.Prelude.{ℕ, List, ◌++◌, codes, Option, Some, None}
 use Rattle.std.specs.Fmt.{decimal}
-use Rattle.camel_replay.specs.declared.replay.ReplayFault.{ReplayFault}
+use Rattle.camel_script_replay.specs.declared.script_replay.ReplayFault.{ReplayFault}
 
 abbrev pub fault_line_at : Option ℕ → ℕ → List ℕ
 fault_line_at (Some number) code = codes "camel_replay: record " ++ decimal number ++ codes ": fault " ++ decimal code ++ codes "\n"

@@ -1,9 +1,3 @@
 pub mod CommandLine
 pub mod FaultLine
-pub mod Fronts
-pub mod Output
-pub mod ReplayFault
 pub mod Run
-pub mod Store
-pub mod StoreCode
-pub mod Written

@@ -4,9 +4,9 @@ use Rattle.std.specs.Prelude.{◌≡◌, ◌≢◌, ◌⊎◌, ℕ, List, Option
 use Rattle.camel_script.specs.Script.{script}
 use Rattle.camel_replay.specs.CommandLine.{AsksForHelp, LimitOf}
 use Rattle.camel_replay.specs.FaultLine.{fault_line, fault_line_at}
-use Rattle.camel_replay.specs.ReplayFault.{is_replay_code}
-use Rattle.camel_replay.specs.Written.{AppendsPart, Stopped, WroteAll}
-use Rattle.camel_replay.specs.declared.replay.ReplayFault.{ReplayFault}
+use Rattle.camel_script_replay.specs.ReplayFault.{is_replay_code}
+use Rattle.camel_script_replay.specs.Written.{AppendsPart, Stopped, WroteAll}
+use Rattle.camel_script_replay.specs.declared.script_replay.ReplayFault.{ReplayFault}
 
 -- The script is replayed under a limit. With status 0 its whole output was written, and nothing to standard error.
 -- Any other status is 1; then a part of the output was written, and the line of the fault or a part of it.

@@ -2,17 +2,13 @@
 #![tactic(auto)]
 
 mod command_line;
-mod fronts;
 mod options;
-mod replay;
 mod run;
-mod store;
 #[cfg(test)]
 mod tests;
-mod write;
 
 use crate::run::{FAULT_STATUS, REJECTED_STATUS, run};
-use crate::write::write_whole;
+use camel_script_replay::write_whole;
 use std::io;
 use std::io::ErrorKind;
 use std::process::ExitCode;

@@ -3,11 +3,10 @@ ghost use Rattle.clap.specs.Words.{kind_of};
 ghost use Rattle.clap.specs.declared.error.kind.ErrorKind.TheVariants.{DisplayHelp, OutOfMemory};
 ghost use Rattle.camel_replay.specs.FaultLine.{fault_line, fault_line_at};
 ghost use Rattle.camel_replay.specs.Run.{Helps, LacksMemory, Rejects, Replays, Runs};
-ghost use Rattle.camel_replay.specs.Written.{AppendsPart};
+ghost use Rattle.camel_script_replay.specs.Written.{AppendsPart};
 
 use crate::command_line::options;
-use crate::replay::{ReplayFault, replay};
-use crate::write::write_whole;
+use camel_script_replay::{ReplayFault, replay, write_whole};
 use clap::error::ErrorKind;
 use std::alloc::{AllocError, Global};
 use std::io::{Read, Write};

@@ -1,4 +1,3 @@
 pub mod CsvRecords
-pub mod InTurn
+pub mod FieldLemmas
 pub mod ReadRecord
-pub mod TextsLemmas

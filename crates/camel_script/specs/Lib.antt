@@ -1,10 +1,7 @@
 pub mod Call
 pub mod Csv
-pub mod Item
+pub mod Field
 pub mod Line
-pub mod Reading
 pub mod Record
 pub mod Script
 pub mod ScriptFault
-pub mod ScriptFields
-pub mod Texts

@@ -1,15 +1,14 @@
 ghost use Rattle.std.specs.Prelude.{◌≡◌};
 ghost use Rattle.csv.specs.Records.{fields_of};
 ghost use Rattle.camel_script.specs.Call.{busy_of, call_of, collected_info_of, event_of, no_answer_of, route_select_failure_of, terminating_attempt_of, with_fields};
-ghost use Rattle.camel_script.specs.Reading.{ReadsAs};
+ghost use Rattle.camel_texts.specs.Reading.{ReadsAs};
 
-use crate::parts::field;
+use crate::field::field;
 use crate::record::Record;
-use crate::stop::Stop;
-use crate::texts::{
-    basic_service, call_address, cause, imsi, is_forwarded, octets_from, small_decimal,
-};
 use camel_rows::CallEvent;
+use camel_texts::{
+    Stop, basic_service, call_address, cause, imsi, is_forwarded, octets_from, small_decimal,
+};
 use csv::ByteRecord;
 use std::alloc::Global;
 

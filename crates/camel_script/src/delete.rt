@@ -1,13 +1,12 @@
 ghost use Rattle.std.specs.Prelude.{◌≡◌, drop};
 ghost use Rattle.csv.specs.Records.{fields_of};
-ghost use Rattle.camel_script.specs.Reading.{in_turn};
+ghost use Rattle.camel_texts.specs.Reading.{in_turn};
 ghost use Rattle.camel_script.specs.Record.{delete_of, nothing, what_into};
 
-use crate::parts::field;
+use crate::field::field;
 use crate::record::Record;
-use crate::stop::Stop;
-use crate::texts::imsi;
 use camel_rows::{Update, Withdrawal};
+use camel_texts::{Stop, imsi};
 use csv::ByteRecord;
 
 // A delete with what it names.

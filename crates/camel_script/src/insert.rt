@@ -1,18 +1,16 @@
 ghost use Rattle.std.specs.Prelude.{◌≡◌, drop};
 ghost use Rattle.csv.specs.Records.{fields_of};
 ghost use Rattle.camel_rows.specs.Received.{o_criteria_set_of, o_csi_of, t_criteria_set_of, vt_csi_of};
-ghost use Rattle.camel_script.specs.Item.{items_of};
-ghost use Rattle.camel_script.specs.Reading.{ReadsAs};
+ghost use Rattle.camel_texts.specs.Item.{items_of};
+ghost use Rattle.camel_texts.specs.Reading.{ReadsAs};
 ghost use Rattle.camel_script.specs.Record.{insert_of, insert_of_items, received_list};
 
-use crate::items::Items;
-use crate::parts::field;
+use crate::field::field;
 use crate::record::Record;
-use crate::stop::Stop;
-use crate::texts::imsi;
 use camel_criteria::{OCriteria, TCriteria};
 use camel_rows::{OCriteriaSet, OCsi, TCriteriaSet, TdpRow, Update, VtCsi};
 use camel_tbcd::Imsi;
+use camel_texts::{Items, Stop, imsi};
 use csv::ByteRecord;
 use std::alloc::Global;
 

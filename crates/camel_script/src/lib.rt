@@ -3,17 +3,12 @@
 
 mod call;
 mod delete;
-mod elements;
+mod field;
 mod insert;
-mod items;
 mod line;
-mod number;
-mod parts;
 mod record;
 mod script;
 mod script_fault;
-mod stop;
-mod texts;
 
 pub use line::{Line, push_line};
 pub use record::Record;

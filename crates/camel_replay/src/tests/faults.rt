@@ -1,6 +1,6 @@
 use super::{FIRST_CALL, FIRST_CALL_OUTPUT, check_run, words};
-use crate::replay::{ReplayFault, replay};
 use crate::run::run;
+use camel_script_replay::{ReplayFault, replay};
 use std::io;
 use std::io::{ErrorKind, Read, Write};
 use std::test::Fail;

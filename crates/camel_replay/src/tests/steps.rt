@@ -1,4 +1,4 @@
-use crate::replay::replay;
+use camel_script_replay::replay;
 use std::cell::Cell;
 use std::io;
 use std::io::{ErrorKind, Read, Write};

@@ -1,6 +1,7 @@
 use Rattle.std.proofs.Common.{arith, sym}
 use Rattle.csv.specs.Records.{fields_of}
-use Rattle.camel_script.proofs.InTurn.{drop-field, goes_on, is_done, stops_here}
+use Rattle.camel_script.proofs.FieldLemmas.{drop-field}
+use Rattle.camel_texts.proofs.InTurn.{goes_on, is_done, stops_here}
 use Rattle.camel_script.specs.Record.{what_into}
 use Rattle.camel_script.proofs.delete.withdrawal.Goals as goal
 

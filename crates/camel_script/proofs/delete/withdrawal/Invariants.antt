@@ -1,6 +1,6 @@
 use Rattle.std.proofs.Common.{◌≡◌, drop}
 use Rattle.csv.specs.Records.{fields_of}
-use Rattle.camel_script.specs.Reading.{in_turn}
+use Rattle.camel_texts.specs.Reading.{in_turn}
 use Rattle.camel_script.specs.Record.{nothing, what_into}
 use Rattle.camel_script.proofs.delete.withdrawal.Given as goal
 

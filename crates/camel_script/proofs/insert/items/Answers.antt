@@ -1,7 +1,8 @@
 use Rattle.std.proofs.Common.{arith}
 use Rattle.csv.specs.Records.{fields_of}
-use Rattle.camel_script.proofs.InTurn.{drop-field, goes_on, is_done, stops}
-use Rattle.camel_script.specs.Item.{item_into}
+use Rattle.camel_script.proofs.FieldLemmas.{drop-field}
+use Rattle.camel_texts.proofs.InTurn.{goes_on, is_done, stops}
+use Rattle.camel_texts.specs.Item.{item_into}
 use Rattle.camel_script.proofs.insert.items.Goals as goal
 
 pub loop-at-preserved : goal.loop-at-preserved

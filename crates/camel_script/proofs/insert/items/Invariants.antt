@@ -1,7 +1,7 @@
 use Rattle.std.proofs.Common.{◌≡◌, drop}
 use Rattle.csv.specs.Records.{fields_of}
-use Rattle.camel_script.specs.Item.{item_into, items_of}
-use Rattle.camel_script.specs.Reading.{in_turn}
+use Rattle.camel_texts.specs.Item.{item_into, items_of}
+use Rattle.camel_texts.specs.Reading.{in_turn}
 use Rattle.camel_script.proofs.insert.items.Given as goal
 
 -- the lists so far, with the items that are left, are those of all items

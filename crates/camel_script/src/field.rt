@@ -1,0 +1,15 @@
+ghost use Rattle.std.specs.Prelude.{◌≡◌};
+ghost use Rattle.csv.specs.Records.{fields_of};
+ghost use Rattle.camel_script.specs.Field.{field};
+
+use csv::ByteRecord;
+
+// The field at a place, from 0; empty past the last.
+pub fn field(fields: &ByteRecord, at: usize) -> &[u8]
+    ensures { result.now ≡ field (fields_of fields.now) at }
+{
+    match fields.get(at) {
+        Some(text) => text,
+        None => &[],
+    }
+}

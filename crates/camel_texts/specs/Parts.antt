@@ -1,0 +1,31 @@
+-- The parts of an item, and the elements of a list.
+use Rattle.std.specs.Prelude.{ℕ, ◌==◌, List, [], ◌∷◌, unwrap_or, slice_get}
+use Rattle.std.specs.List.{slice_split}
+
+-- what stands between the parts of an item, `:`
+abbrev pub item_separator : ℕ
+item_separator = 58
+
+-- between the parts of NUMBER, `/`
+abbrev pub number_separator : ℕ
+number_separator = 47
+
+-- and between the elements of a list, `+`
+abbrev pub element_separator : ℕ
+element_separator = 43
+
+-- the parts of a text
+abbrev pub parts_of : ℕ → List ℕ → List (List ℕ)
+parts_of separator text = slice_split (λ character. character == separator) text
+
+-- the part at a place, from 0; empty past the last
+abbrev pub part : ℕ → List ℕ → ℕ → List ℕ
+part separator text at = unwrap_or (slice_get (parts_of separator text) at) []
+
+abbrev pub item_part : List ℕ → ℕ → List ℕ
+item_part item at = part item_separator item at
+
+-- the elements of a list; an empty text has none
+abbrev pub elements_of : List ℕ → List (List ℕ)
+elements_of [] = []
+elements_of (first ∷ more) = parts_of element_separator (first ∷ more)
