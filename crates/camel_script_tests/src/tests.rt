@@ -67,10 +67,17 @@ fn gives<R: Read>(rt: &impl Abort, script: &mut Script<R>, wanted: &[Given]) {
     }
 }
 
+// A record, with what it gives.
+fn check_record(rt: &impl Abort, alloc: Global, text: &str, wanted: Given) -> Result<(), Fail> {
+    let given = first(alloc, text.as_bytes())?;
+    assert_eq!(rt; given, wanted, "{text}");
+    Ok(())
+}
+
 // Records, each with what it gives.
 fn check_records(rt: &impl Abort, alloc: Global, records: &[(&str, Given)]) -> Result<(), Fail> {
     for (text, wanted) in records {
-        assert_eq!(rt; first(alloc, text.as_bytes())?, *wanted, "{text}");
+        check_record(rt, alloc, text, *wanted)?;
     }
     Ok(())
 }
@@ -78,20 +85,21 @@ fn check_records(rt: &impl Abort, alloc: Global, records: &[(&str, Given)]) -> R
 // Records, each with the number of its fault.
 fn check_faults(rt: &impl Abort, alloc: Global, records: &[(&str, u16)]) -> Result<(), Fail> {
     for (text, code) in records {
-        assert_eq!(rt;
-            first(alloc, text.as_bytes())?,
-            Given::Fault(*code),
-            "{text}"
-        );
+        check_record(rt, alloc, text, Given::Fault(*code))?;
     }
     Ok(())
+}
+
+// An item, with what an insert of it alone gives.
+fn check_item(rt: &impl Abort, alloc: Global, item: &str, wanted: Given) -> Result<(), Fail> {
+    let text = format!(in alloc; "insert,26201,{item}")?;
+    check_record(rt, alloc, &text, wanted)
 }
 
 // Items, each with what an insert of it alone gives.
 fn check_items(rt: &impl Abort, alloc: Global, items: &[(&str, Given)]) -> Result<(), Fail> {
     for (item, wanted) in items {
-        let text = format!(in alloc; "insert,26201,{item}")?;
-        assert_eq!(rt; first(alloc, text.as_bytes())?, *wanted, "{item}");
+        check_item(rt, alloc, item, *wanted)?;
     }
     Ok(())
 }
@@ -99,12 +107,7 @@ fn check_items(rt: &impl Abort, alloc: Global, items: &[(&str, Given)]) -> Resul
 // Items, each with the number of the fault of an insert of it alone.
 fn check_item_faults(rt: &impl Abort, alloc: Global, items: &[(&str, u16)]) -> Result<(), Fail> {
     for (item, code) in items {
-        let text = format!(in alloc; "insert,26201,{item}")?;
-        assert_eq!(rt;
-            first(alloc, text.as_bytes())?,
-            Given::Fault(*code),
-            "{item}"
-        );
+        check_item(rt, alloc, item, Given::Fault(*code))?;
     }
     Ok(())
 }
