@@ -4,7 +4,7 @@ use Rattle.std.proofs.lemmas.Bool.Decides.{nat_tests}
 use mathlib.Core.List.{IsPrefix}
 use prog.Atomic.{either}
 use Rattle.logbook.specs.Pages.{Away, Cell, Goes, Moves, Nib, adds, cell, gives, may_write, no_nib, step}
-use Rattle.camel_rows.specs.declared.update.Update.{Update}
+use Rattle.camel_subscriber.specs.declared.update.Update.{Update}
 use Rattle.camel_history.specs.Chain.{AddedLink, AllUsedUp, IsUsedUp, MadeCell, UsedUp, limit_of, list_of, root_of, tail_of}
 use Rattle.camel_history.specs.declared.link.Link.{Link}
 

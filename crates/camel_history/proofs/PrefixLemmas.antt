@@ -2,7 +2,7 @@
 use Rattle.std.proofs.Common.{◌≡◌, List, [], ◌∷◌, refl, ◌⊎◌, inl, inr, ⊎_elim}
 use mathlib.Core.List.{IsPrefix}
 use Rattle.camel_rows.specs.Front.{Extends}
-use Rattle.camel_rows.specs.declared.update.Update.{Update}
+use Rattle.camel_subscriber.specs.declared.update.Update.{Update}
 
 -- of two beginnings of one list one extends the other
 pub one_extends : (first second whole : List Update) → IsPrefix first whole → IsPrefix second whole → Extends second first ⊎ Extends first second

@@ -3,7 +3,7 @@ use Rattle.std.specs.Prelude.{ℕ, List}
 use Rattle.logbook.specs.Pages.{Book}
 use Rattle.camel_history.specs.Chain.{limit_of, list_of, root_of}
 use Rattle.camel_history.specs.declared.link.Link.{Link}
-use Rattle.camel_rows.specs.declared.update.Update.{Update}
+use Rattle.camel_subscriber.specs.declared.update.Update.{Update}
 
 -- which store it is: the book and the cell at which its history begins; and the most updates that it takes
 pub record StoreId : Type 0 where

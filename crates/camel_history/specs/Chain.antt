@@ -2,7 +2,7 @@
 -- the chain from a cell on can only grow at its end, by whoever has the right to the cell that its last link names.
 use Rattle.std.specs.Prelude.{ℕ, ◌≡◌, ◌==◌, ◌<◌, true, List, [], ◌∷◌, ◌++◌, length, if◌then◌else◌}
 use Rattle.logbook.specs.Pages.{Book, Cell, Named, Step, View, cell, may_make}
-use Rattle.camel_rows.specs.declared.update.Update.{Update}
+use Rattle.camel_subscriber.specs.declared.update.Update.{Update}
 use Rattle.camel_history.specs.declared.link.Link.{Link}
 
 -- the one word of a book at which all steps are made

@@ -11,7 +11,7 @@ use std::marker::{Brand, Model, PhantomData};
 /// in clauses alone.
 pub trait Growth {
     ghost use Rattle.std.specs.Prelude.{List, ℕ};
-    ghost use Rattle.camel_rows.specs.declared.update.Update.{Update};
+    ghost use Rattle.camel_subscriber.specs.declared.update.Update.{Update};
 
     ghost updates: { List Update };
 

@@ -1,4 +1,3 @@
 pub mod MeansLemmas
-pub mod RecordsTable
 pub mod StoredCsisLemmas
 pub mod UpdateLemmas

@@ -5,13 +5,13 @@ use Rattle.std.specs.FinMap as map
 use Rattle.std.specs.Option.{option_map}
 use Rattle.std.specs.Ordering.{nat_cmp, eq_by_cmp}
 use Rattle.camel_csi.specs.TdpRow.{TdpRowData}
-use Rattle.camel_rows.specs.Records.{RecordsData}
+use Rattle.camel_subscriber.specs.Records.{RecordsData}
 use Rattle.camel_rows.specs.StoredCsis.{AreStored, StoredCsisData, csis_after, csis_of, csis_refusal, lacks_stored, with_csis}
-use Rattle.camel_rows.specs.Subscriber.{Half, SubscriberData}
-use Rattle.camel_rows.specs.Update.{after, half_after, half_without, lacks_csi, record_after, refusal, update_imsi, with_record}
+use Rattle.camel_subscriber.specs.Subscriber.{Half, SubscriberData}
+use Rattle.camel_subscriber.specs.Update.{after, half_after, half_without, lacks_csi, record_after, refusal, update_imsi, with_record}
 use Rattle.camel_rows.specs.declared.stored_csis.WhichCsis.{WhichCsis}
-use Rattle.camel_rows.specs.declared.update.Update.{Update}
-use Rattle.camel_rows.specs.declared.update.Update.TheVariants.{Register, Insert, Delete, Cancel}
+use Rattle.camel_subscriber.specs.declared.update.Update.{Update}
+use Rattle.camel_subscriber.specs.declared.update.Update.TheVariants.{Register, Insert, Delete, Cancel}
 
 lacks : {Entry : Type 0} (half : Option (Half Entry)) (rows : Option (List TdpRowData)) (entries : Option (List Entry)) → lacks_stored (is_some half) rows entries ≡ lacks_csi half rows entries
 lacks None None None = refl

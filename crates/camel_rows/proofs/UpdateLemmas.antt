@@ -9,11 +9,11 @@ use Rattle.std.specs.declared.cmp.Ordering.TheVariants.{Less, Equal, Greater}
 use Rattle.camel_criteria.specs.Criteria.{OCriteriaData, TCriteriaData}
 use Rattle.camel_csi.specs.TdpRow.{TdpRowData}
 use Rattle.camel_rows.specs.Means.{HasO, HasVt, half_of}
-use Rattle.camel_rows.specs.Records.{RecordsData}
-use Rattle.camel_rows.specs.Subscriber.{SubscriberData, empty_record}
-use Rattle.camel_rows.specs.Update.{AcceptedFrom, after, record_after, record_with_insert, refusal, state_from, update_imsi, with_record}
-use Rattle.camel_rows.specs.declared.update.Update.{Update}
-use Rattle.camel_rows.specs.declared.update.Update.TheVariants.{Register, Insert}
+use Rattle.camel_subscriber.specs.Records.{RecordsData}
+use Rattle.camel_subscriber.specs.Subscriber.{SubscriberData, empty_record}
+use Rattle.camel_subscriber.specs.Update.{AcceptedFrom, after, record_after, record_with_insert, refusal, state_from, update_imsi, with_record}
+use Rattle.camel_subscriber.specs.declared.update.Update.{Update}
+use Rattle.camel_subscriber.specs.declared.update.Update.TheVariants.{Register, Insert}
 
 -- other digits do not compare as equal, and equal ones do
 untied : (imsi key : List ℕ) → imsi ≢ key → eq_by_cmp (slice_cmp nat_cmp) imsi key ≡ false

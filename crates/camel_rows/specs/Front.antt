@@ -2,8 +2,8 @@
 use Rattle.std.specs.Prelude.{◌≡◌, ℕ, ◌≤◌, Bool, true, false, List, ◌++◌, Option, Some, None, length}
 use Rattle.camel_criteria.specs.declared.refusal.Refusal.{Refusal}
 use Rattle.camel_criteria.specs.declared.refusal.Refusal.TheVariants.{HistoryFull}
-use Rattle.camel_rows.specs.Update.{Accepted}
-use Rattle.camel_rows.specs.declared.update.Update.{Update}
+use Rattle.camel_subscriber.specs.Update.{Accepted}
+use Rattle.camel_subscriber.specs.declared.update.Update.{Update}
 
 -- an accepted list of at most `limit` updates, the first update first
 pub record IsFront (limit : ℕ) (updates : List Update) : Type 0 where

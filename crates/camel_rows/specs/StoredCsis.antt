@@ -8,11 +8,11 @@ use Rattle.camel_criteria.specs.Criteria.{OCriteriaData, TCriteriaData}
 use Rattle.camel_criteria.specs.declared.refusal.Refusal.{Refusal}
 use Rattle.camel_criteria.specs.declared.refusal.Refusal.TheVariants.{UnidentifiedSubscriber, DataMissing}
 use Rattle.camel_csi.specs.TdpRow.{TdpRowData}
-use Rattle.camel_rows.specs.Records.{RecordsData}
-use Rattle.camel_rows.specs.Subscriber.{SubscriberData}
+use Rattle.camel_subscriber.specs.Records.{RecordsData}
+use Rattle.camel_subscriber.specs.Subscriber.{SubscriberData}
 use Rattle.camel_rows.specs.declared.stored_csis.WhichCsis.{WhichCsis}
-use Rattle.camel_rows.specs.declared.update.Update.{Update}
-use Rattle.camel_rows.specs.declared.update.Update.TheVariants.{Register, Insert, Delete, Cancel}
+use Rattle.camel_subscriber.specs.declared.update.Update.{Update}
+use Rattle.camel_subscriber.specs.declared.update.Update.TheVariants.{Register, Insert, Delete, Cancel}
 
 -- a finite map from the IMSIs that have a record to the CSIs that are stored in it
 abbrev pub StoredCsisData : Type 0

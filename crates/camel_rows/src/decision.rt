@@ -1,13 +1,12 @@
 ghost use Rattle.std.specs.Prelude.{◌≡◌};
 ghost use Rattle.camel_rows.specs.Decision.{decision, decision_data, meets};
 ghost use Rattle.camel_rows.specs.Event.{event_data};
-ghost use Rattle.camel_rows.specs.Subscriber.{entry_data};
+ghost use Rattle.camel_subscriber.specs.Subscriber.{entry_data};
 
 use crate::event::Event;
-use crate::lent::Lent;
-use crate::records::Records;
 use camel_criteria::{o_met, t_met};
 use camel_csi::TdpRow;
+use camel_subscriber::{Lent, Records};
 
 /// Why an event triggers nothing, in the order in which the reasons are looked at.
 #[derive(Clone, Copy, Debug, PartialEq, Eq)]

@@ -4,11 +4,11 @@ ghost use Rattle.camel_criteria.specs.Criteria.{OCriteriaData, TCriteriaData};
 ghost use Rattle.camel_csi.specs.TdpRow.{TdpRowData};
 ghost use Rattle.camel_rows.specs.Decision.{Triggers, decision};
 ghost use Rattle.camel_rows.specs.Means.{HasO, HasVt, Invokes, half_of};
-ghost use Rattle.camel_rows.specs.Records.{RecordsData};
-ghost use Rattle.camel_rows.specs.Subscriber.{EntryData};
-ghost use Rattle.camel_rows.specs.Update.{after, refusal, update_imsi};
+ghost use Rattle.camel_subscriber.specs.Records.{RecordsData};
+ghost use Rattle.camel_subscriber.specs.Subscriber.{EntryData};
+ghost use Rattle.camel_subscriber.specs.Update.{after, refusal, update_imsi};
 ghost use Rattle.camel_rows.specs.declared.event.CallEvent.{CallEvent};
-ghost use Rattle.camel_rows.specs.declared.update.Update.{Update};
+ghost use Rattle.camel_subscriber.specs.declared.update.Update.{Update};
 
 /// A law of the definitions: a service is invoked exactly where the words of TS 23.078 say so. It does nothing when
 /// it is called.

@@ -4,8 +4,8 @@ ghost use Rattle.camel_rows.specs.Outcome.{action_of, outcome_of};
 
 use crate::decision::{Decision, Reason, decide_in};
 use crate::event::CallEvent;
-use crate::records::Records;
 use camel_criteria::Handling;
+use camel_subscriber::Records;
 use camel_tbcd::{Address, IsdnAddress};
 
 /// A decision with the row's four values, or the reason why no service is invoked.

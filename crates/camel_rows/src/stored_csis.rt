@@ -1,10 +1,10 @@
 ghost use Rattle.std.specs.Prelude.{◌≡◌, Some, None, IfErr, IfOk, IsSome, OnErr, OnOk};
 ghost use Rattle.std.specs.FinMap as map;
 ghost use Rattle.camel_rows.specs.StoredCsis.{csis_after, csis_refusal, no_stored_csis, with_csis};
-ghost use Rattle.camel_rows.specs.Update.{update_imsi};
+ghost use Rattle.camel_subscriber.specs.Update.{update_imsi};
 
-use crate::update::Update;
 use camel_criteria::Refusal;
+use camel_subscriber::Update;
 use camel_tbcd::Imsi;
 use std::alloc::{AllocError, Global};
 use std::collections::BTreeMap;

@@ -4,8 +4,8 @@ use Rattle.std.specs.Prelude.{ℕ, ◌==◌, not, nat_lt, true, false, List, [],
 use Rattle.std.specs.Str.{bytes_eq}
 use Rattle.camel_criteria.specs.declared.refusal.Refusal.{Refusal}
 use Rattle.camel_rows.specs.Received.{o_criteria_set_of, o_csi_of, t_criteria_set_of, vt_csi_of}
-use Rattle.camel_rows.specs.declared.update.Update.TheVariants as update
-use Rattle.camel_rows.specs.declared.update.Withdrawal.{Withdrawal}
+use Rattle.camel_subscriber.specs.declared.update.Update.TheVariants as update
+use Rattle.camel_subscriber.specs.declared.update.Withdrawal.{Withdrawal}
 use Rattle.camel_script.specs.Call.{call_of}
 use Rattle.camel_texts.specs.Item.{ItemsData, items_of}
 use Rattle.camel_texts.specs.Reading.{◌>>=◌, in_turn, or_refused}

@@ -9,7 +9,7 @@ use Rattle.camel_rows.proofs.StoredCsisLemmas.{AreStored-after, AreStored-empty,
 use Rattle.camel_rows.specs.StoredCsis.{StoredCsisData, csis_after, csis_refusal, no_stored_csis, with_csis}
 use Rattle.camel_rows.specs.Update.{refusal, state, state_from, update_imsi}
 use Rattle.std.specs.FinMap as map
-use Rattle.camel_rows.specs.declared.update.Update.{Update}
+use Rattle.camel_subscriber.specs.declared.update.Update.{Update}
 use Rattle.camel_script.specs.Line.{line_text}
 use Rattle.camel_script.specs.declared.record.Record.{Record}
 use Rattle.camel_script.specs.declared.record.Record.TheVariants as request

@@ -1,7 +1,7 @@
 -- What is published in a run is a front at every moment, and only grows.
 use Rattle.std.specs.Prelude.{ℕ, List, [], ◌∷◌, ◌++◌}
 use Rattle.camel_rows.specs.Front.{Extends, IsFront}
-use Rattle.camel_rows.specs.declared.update.Update.{Update}
+use Rattle.camel_subscriber.specs.declared.update.Update.{Update}
 use Rattle.camel_script.specs.declared.record.Record.{Record}
 use Rattle.camel_script_replay.specs.Output.{History, history_after, no_history}
 

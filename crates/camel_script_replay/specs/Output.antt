@@ -9,7 +9,7 @@ use Rattle.camel_rows.specs.Outcome.{outcome_of}
 use Rattle.camel_rows.specs.Update.{refusal, state}
 use Rattle.camel_rows.specs.declared.event.CallEvent.{CallEvent}
 use Rattle.camel_rows.specs.declared.outcome.Answer.{Answer}
-use Rattle.camel_rows.specs.declared.update.Update.{Update}
+use Rattle.camel_subscriber.specs.declared.update.Update.{Update}
 use Rattle.camel_script.specs.Line.{line_text}
 use Rattle.camel_script.specs.declared.line.Line.{Line}
 use Rattle.camel_script.specs.declared.line.Line.TheVariants as line

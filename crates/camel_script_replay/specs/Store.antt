@@ -11,7 +11,7 @@ use Rattle.camel_rows.specs.StoredCsis.{AreStored, StoredCsisData}
 use Rattle.camel_rows.specs.Update.{AcceptedFrom, refusal, state, state_from}
 use Rattle.camel_rows.specs.declared.event.CallEvent.{CallEvent}
 use Rattle.camel_rows.specs.declared.outcome.Answer.{Answer}
-use Rattle.camel_rows.specs.declared.update.Update.{Update}
+use Rattle.camel_subscriber.specs.declared.update.Update.{Update}
 use Rattle.camel_script.specs.declared.line.Line.{Line}
 use Rattle.camel_script.specs.declared.line.Line.TheVariants as line
 use Rattle.camel_script.specs.declared.record.Record.{Record}

@@ -2,9 +2,9 @@
 use Rattle.std.specs.Prelude.{ℕ, List, refl}
 use Rattle.std.specs.Coded.{Coded, code_by, coded_ℕ, coded_list, coded×}
 use Rattle.camel_rows.specs.Records.{RecordsData}
-use Rattle.camel_rows.specs.contracts.records.Records as records
-use Rattle.camel_rows.specs.contracts.update.Update as update
-use Rattle.camel_rows.specs.declared.update.Update.{Update}
+use Rattle.camel_subscriber.specs.contracts.records.Records as records
+use Rattle.camel_subscriber.specs.contracts.update.Update as update
+use Rattle.camel_subscriber.specs.declared.update.Update.{Update}
 use Rattle.camel_script_replay.specs.Store.{StoreData}
 
 -- the data of a store are told apart as the tuple of their parts

@@ -5,7 +5,7 @@ use Rattle.camel_rows.proofs.UpdateLemmas.{AcceptedFrom-push, state_from-append}
 use Rattle.camel_rows.specs.Front.{Extends, IsFront}
 use Rattle.camel_rows.specs.Records.{no_records}
 use Rattle.camel_rows.specs.Update.{after, refusal, state}
-use Rattle.camel_rows.specs.declared.update.Update.{Update}
+use Rattle.camel_subscriber.specs.declared.update.Update.{Update}
 use Rattle.camel_vlr.specs.Fronts.{ExtendsAll}
 
 pub extends_itself : (front : List Update) → Extends front front

@@ -12,8 +12,8 @@ use Rattle.camel_rows.specs.Front.{IsFront}
 use Rattle.camel_rows.specs.Records.{RecordsData, no_records}
 use Rattle.camel_rows.specs.Update.{AcceptedFrom, after, insert_refusal, record_after, refusal, state, state_from, update_imsi}
 use Rattle.camel_rows.specs.declared.event.CallEvent.{CallEvent}
-use Rattle.camel_rows.specs.declared.update.Update.{Update}
-use Rattle.camel_rows.specs.declared.update.Update.TheVariants.{Cancel, Delete, Insert, Register}
+use Rattle.camel_subscriber.specs.declared.update.Update.{Update}
+use Rattle.camel_subscriber.specs.declared.update.Update.TheVariants.{Cancel, Delete, Insert, Register}
 use Rattle.camel_vlr.specs.OwnUpdates.{DecidedByOwn, own_updates}
 
 -- what refuses an update is its own subscriber's record

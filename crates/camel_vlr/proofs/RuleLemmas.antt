@@ -6,7 +6,7 @@ use Rattle.atomic_table.proofs.Lists.{at_set, at_snoc}
 use Rattle.crossbeam_utils.specs.Register.{Admits, Forks, Merges, TurnsAt}
 use Rattle.camel_history.specs.Beginning.{BeginningData, StoreId}
 use Rattle.camel_rows.specs.Front.{Extends, IsFront}
-use Rattle.camel_rows.specs.declared.update.Update.{Update}
+use Rattle.camel_subscriber.specs.declared.update.Update.{Update}
 use Rattle.camel_vlr.proofs.FrontLemmas.{extends_itself, extends_further}
 use Rattle.camel_vlr.specs.Fronts.{ExtendsAll}
 use Rattle.camel_vlr.specs.PublishedCopy.{IsOfItsFront}

@@ -7,7 +7,7 @@ use Rattle.camel_rows.specs.Event.{event_imsi}
 use Rattle.camel_rows.specs.Front.{IsFront}
 use Rattle.camel_rows.specs.Update.{state, update_imsi}
 use Rattle.camel_rows.specs.declared.event.CallEvent.{CallEvent}
-use Rattle.camel_rows.specs.declared.update.Update.{Update}
+use Rattle.camel_subscriber.specs.declared.update.Update.{Update}
 
 abbrev pub own_updates : List ℕ → List Update → List Update
 own_updates imsi updates = filter (λ update. bytes_eq (update_imsi update) imsi) updates

@@ -1,7 +1,7 @@
 -- A session's place at its store.
 use Rattle.std.specs.Prelude.{◌≡◌, Bool, true, false, List, Some}
 use Rattle.left_right.specs.Sides.{view}
-use Rattle.camel_rows.specs.declared.update.Update.{Update}
+use Rattle.camel_subscriber.specs.declared.update.Update.{Update}
 use Rattle.camel_vlr.specs.PublishedCopy.{IsOfItsFront}
 use Rattle.camel_vlr.specs.Rule.{newcomer}
 use Rattle.camel_vlr.specs.declared.rule.View.{View}

@@ -2,7 +2,7 @@
 use Rattle.std.specs.Prelude.{◌≡◌, Bool, true, false, List, [], ◌∷◌, ◌++◌}
 use Rattle.camel_history.specs.Beginning.{BeginningData, StoreId}
 use Rattle.camel_rows.specs.Front.{Extends, IsFront}
-use Rattle.camel_rows.specs.declared.update.Update.{Update}
+use Rattle.camel_subscriber.specs.declared.update.Update.{Update}
 use Rattle.camel_vlr.specs.Fronts.{ExtendsAll}
 
 pub record SessionData : Type 0 where

@@ -11,7 +11,7 @@ pub struct Told {
 
 impl Model for Told {
     ghost use Rattle.std.specs.Prelude.{List, length, ◌++◌, ◌∷◌, []};
-    ghost use Rattle.camel_rows.specs.declared.update.Update.{Update};
+    ghost use Rattle.camel_subscriber.specs.declared.update.Update.{Update};
     ghost use Rattle.camel_vlr.specs.Told.{list_or_none};
     ghost use Rattle.std.proofs.Common.{arith, length-append};
 

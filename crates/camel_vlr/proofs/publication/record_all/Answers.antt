@@ -1,5 +1,5 @@
 use Rattle.std.proofs.Common.{◌∙◌, ◌++◌, List, drop, ap}
-use Rattle.camel_rows.specs.declared.update.Update.{Update}
+use Rattle.camel_subscriber.specs.declared.update.Update.{Update}
 use Rattle.camel_vlr.proofs.ChangeLemmas.{behind}
 use Rattle.camel_vlr.specs.Change.{updates_among}
 use Rattle.camel_vlr.proofs.publication.record_all.Goals as goal

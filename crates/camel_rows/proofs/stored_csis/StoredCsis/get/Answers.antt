@@ -1,6 +1,6 @@
 use Rattle.std.proofs.Common.{◌∙◌, ap, sym}
 use Rattle.std.specs.FinMap as map
-use Rattle.camel_rows.proofs.RecordsTable.{get-entries}
+use Rattle.camel_subscriber.proofs.RecordsTable.{get-entries}
 use Rattle.camel_rows.proofs.stored_csis.StoredCsis.get.Goals as goal
 
 pub returns : goal.returns

@@ -1,6 +1,6 @@
 use Rattle.std.proofs.Common.{◌∙◌, ap}
 use Rattle.std.specs.FinMap as map
-use Rattle.camel_rows.proofs.RecordsTable.{insert-entries}
+use Rattle.camel_subscriber.proofs.RecordsTable.{insert-entries}
 use Rattle.camel_rows.proofs.stored_csis.StoredCsis.insert.Goals as goal
 
 pub returns-clause-put : goal.returns-clause-put

@@ -1,7 +1,7 @@
 use Rattle.std.proofs.Common.{◌≡◌, ◌∙◌, ap, subst, sym, IsSome, Option, Some, None, MutBor}
 use Rattle.std.specs.FinMap as map
 use Rattle.std.specs.Option.{option_copied_mut}
-use Rattle.camel_rows.proofs.RecordsTable.{get-entries, insert-entries}
+use Rattle.camel_subscriber.proofs.RecordsTable.{get-entries, insert-entries}
 use Rattle.camel_rows.specs.declared.stored_csis.WhichCsis.{WhichCsis}
 use Rattle.camel_rows.proofs.stored_csis.StoredCsis.put_back.Goals as goal
 

@@ -1,6 +1,6 @@
 use Rattle.std.proofs.Common.{◌∙◌, ap}
 use Rattle.std.specs.FinMap as map
-use Rattle.camel_rows.proofs.RecordsTable.{remove-entries}
+use Rattle.camel_subscriber.proofs.RecordsTable.{remove-entries}
 use Rattle.camel_rows.proofs.stored_csis.StoredCsis.take_out.Goals as goal
 
 pub returns : goal.returns

@@ -1,5 +1,5 @@
 ghost use Rattle.std.specs.Prelude.{◌≡◌, IfErr, IfOk};
-ghost use Rattle.camel_rows.specs.Update.{update_imsi};
+ghost use Rattle.camel_subscriber.specs.Update.{update_imsi};
 
 use camel_criteria::Refusal;
 use camel_csi::{OCriteriaSet, OCsi, TCriteriaSet, VtCsi};

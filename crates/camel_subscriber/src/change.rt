@@ -1,5 +1,5 @@
 ghost use Rattle.std.specs.Prelude.{◌≡◌};
-ghost use Rattle.camel_rows.specs.Change.{changed, removal};
+ghost use Rattle.camel_subscriber.specs.Change.{changed, removal};
 
 // What an update makes of one half of a record.
 #[derive(Drop)]

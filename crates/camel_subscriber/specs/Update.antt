@@ -9,11 +9,11 @@ use Rattle.camel_criteria.specs.Criteria.{OCriteriaData, TCriteriaData}
 use Rattle.camel_criteria.specs.declared.refusal.Refusal.{Refusal}
 use Rattle.camel_criteria.specs.declared.refusal.Refusal.TheVariants.{UnidentifiedSubscriber, DataMissing}
 use Rattle.camel_csi.specs.TdpRow.{TdpRowData}
-use Rattle.camel_rows.specs.Subscriber.{Half, SubscriberData, empty_record}
-use Rattle.camel_rows.specs.Records.{RecordsData, no_records}
-use Rattle.camel_rows.specs.declared.update.Update.{Update}
-use Rattle.camel_rows.specs.declared.update.Update.TheVariants.{Register, Insert, Delete, Cancel}
-use Rattle.camel_rows.specs.declared.update.Withdrawal.{Withdrawal}
+use Rattle.camel_subscriber.specs.Subscriber.{Half, SubscriberData, empty_record}
+use Rattle.camel_subscriber.specs.Records.{RecordsData, no_records}
+use Rattle.camel_subscriber.specs.declared.update.Update.{Update}
+use Rattle.camel_subscriber.specs.declared.update.Update.TheVariants.{Register, Insert, Delete, Cancel}
+use Rattle.camel_subscriber.specs.declared.update.Withdrawal.{Withdrawal}
 
 -- the subscriber whom an update concerns
 abbrev pub update_imsi : Update → List ℕ

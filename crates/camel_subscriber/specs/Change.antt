@@ -1,9 +1,9 @@
 -- What a change makes of a half.
 use Rattle.std.specs.Prelude.{Bool, Option, Some, None, if◌then◌else◌}
 use Rattle.camel_criteria.specs.Criteria.{OCriteriaData, TCriteriaData}
-use Rattle.camel_rows.specs.Subscriber.{Half, SubscriberData}
-use Rattle.camel_rows.specs.declared.change.Change.{Change}
-use Rattle.camel_rows.specs.declared.change.Change.TheVariants.{Keep, Remove, Put}
+use Rattle.camel_subscriber.specs.Subscriber.{Half, SubscriberData}
+use Rattle.camel_subscriber.specs.declared.change.Change.{Change}
+use Rattle.camel_subscriber.specs.declared.change.Change.TheVariants.{Keep, Remove, Put}
 
 abbrev pub changed : {H : Type 0} → Option H → Change H → Option H
 changed half Keep = half

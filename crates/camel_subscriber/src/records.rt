@@ -1,9 +1,9 @@
 ghost use Rattle.std.specs.Prelude.{◌≡◌, ◌⊎◌, Some, IfErr, IfNone, IfOk, IfSome, IsOk, IsSome, OnErr, OnOk};
 ghost use Rattle.std.specs.FinMap as map;
 ghost use Rattle.std.specs.Option.{option_copied, option_map};
-ghost use Rattle.camel_rows.specs.Change.{with_changes};
-ghost use Rattle.camel_rows.specs.Records.{no_records};
-ghost use Rattle.camel_rows.specs.Update.{after, record_with_insert, record_without, refusal, with_record};
+ghost use Rattle.camel_subscriber.specs.Change.{with_changes};
+ghost use Rattle.camel_subscriber.specs.Records.{no_records};
+ghost use Rattle.camel_subscriber.specs.Update.{after, record_with_insert, record_without, refusal, with_record};
 
 use crate::change::{Change, removal};
 use crate::o_half::OHalf;
@@ -31,8 +31,8 @@ impl Model for Records {
     ghost use Rattle.std.specs.Cmp.Lexicographic.{slice_cmp};
     ghost use Rattle.std.specs.Coded.{coded_ℕ, coded_list};
     ghost use Rattle.std.specs.Ordering.{nat_cmp};
-    ghost use Rattle.camel_rows.specs.Records.{RecordsData};
-    ghost use Rattle.camel_rows.specs.contracts.subscriber.Subscriber as subscriber;
+    ghost use Rattle.camel_subscriber.specs.Records.{RecordsData};
+    ghost use Rattle.camel_subscriber.specs.contracts.subscriber.Subscriber as subscriber;
 
     ghost Value = { RecordsData };
 

@@ -1,7 +1,7 @@
 use Rattle.std.proofs.Common.{◌∙◌, ap}
 use Rattle.std.specs.FinMap as map
-use Rattle.camel_rows.proofs.RecordsTable.{insert-entries}
-use Rattle.camel_rows.proofs.records.Records.put.Goals as goal
+use Rattle.camel_subscriber.proofs.RecordsTable.{insert-entries}
+use Rattle.camel_subscriber.proofs.records.Records.put.Goals as goal
 
 pub returns-clause-put : goal.returns-clause-put
 returns-clause-put c =

@@ -1,9 +1,9 @@
 use Rattle.std.proofs.Common.{◌≡◌, ◌∙◌, ap, subst, sym, IsSome, Option, Some, None, MutBor}
 use Rattle.std.specs.FinMap as map
 use Rattle.std.specs.Option.{option_copied_mut}
-use Rattle.camel_rows.proofs.RecordsTable.{get-entries, insert-entries}
-use Rattle.camel_rows.specs.Subscriber.{SubscriberData}
-use Rattle.camel_rows.proofs.records.Records.change.Goals as goal
+use Rattle.camel_subscriber.proofs.RecordsTable.{get-entries, insert-entries}
+use Rattle.camel_subscriber.specs.Subscriber.{SubscriberData}
+use Rattle.camel_subscriber.proofs.records.Records.change.Goals as goal
 
 -- what is lent is there where the value is
 lent_there : (lent : Option (MutBor SubscriberData)) (stored : Option SubscriberData) → option_copied_mut lent ≡ stored → IsSome stored → IsSome lent

@@ -1,8 +1,8 @@
 ghost use Rattle.std.specs.Prelude.{◌≡◌, ◌||◌, is_some, IfOk};
 ghost use Rattle.std.specs.Option.{option_copied, option_map};
-ghost use Rattle.camel_rows.specs.Change.{changed};
-ghost use Rattle.camel_rows.specs.Subscriber.{empty_record, entry_at, entry_data, row_at, rows_of, rows_tested_at};
-ghost use Rattle.camel_rows.specs.Update.{half_after, lacks_csi};
+ghost use Rattle.camel_subscriber.specs.Change.{changed};
+ghost use Rattle.camel_subscriber.specs.Subscriber.{empty_record, entry_at, entry_data, row_at, rows_of, rows_tested_at};
+ghost use Rattle.camel_subscriber.specs.Update.{half_after, lacks_csi};
 
 use crate::change::{Change, make};
 use crate::lent::Lent;
@@ -24,7 +24,7 @@ pub struct Subscriber {
 }
 
 impl Model for Subscriber {
-    ghost use Rattle.camel_rows.specs.Subscriber.{SubscriberData};
+    ghost use Rattle.camel_subscriber.specs.Subscriber.{SubscriberData};
 
     ghost Value = { SubscriberData };
 
@@ -80,8 +80,9 @@ impl Subscriber {
         }
     }
 
-    // Whether the CSI that a detection point is tested against is stored.
-    pub(crate) fn has_csi(&self, dp: u8) -> bool
+    /// Whether the CSI that a detection point is tested against is stored: the O-CSI for 2 and 4, the VT-CSI for 12, 13
+    /// and 14. No CSI is tested at any other.
+    pub fn has_csi(&self, dp: u8) -> bool
         ensures { result ≡ is_some (rows_tested_at dp self.now) }
     {
         if is_o_detection_point(dp) {

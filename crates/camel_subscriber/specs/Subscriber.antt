@@ -4,8 +4,8 @@ use Rattle.std.specs.Option.{option_and_then, option_map}
 use Rattle.camel_criteria.specs.Criteria.{OCriteriaData, TCriteriaData}
 use Rattle.camel_csi.specs.DetectionPoint.{is_o_detection_point, is_vt_detection_point}
 use Rattle.camel_csi.specs.TdpRow.{TdpRowData}
-use Rattle.camel_rows.specs.declared.lent.Lent.{Lent}
-use Rattle.camel_rows.specs.declared.lent.Lent.TheVariants as lent
+use Rattle.camel_subscriber.specs.declared.lent.Lent.{Lent}
+use Rattle.camel_subscriber.specs.declared.lent.Lent.TheVariants as lent
 
 -- one half: the TDP rows of a CSI with the entries of its criteria, both in the order received and
 -- without the ignored items

@@ -1,7 +1,7 @@
 use Rattle.std.proofs.Common.{◌∙◌, ap}
 use Rattle.std.specs.FinMap as map
-use Rattle.camel_rows.proofs.RecordsTable.{remove-entries}
-use Rattle.camel_rows.proofs.records.Records.take_out.Goals as goal
+use Rattle.camel_subscriber.proofs.RecordsTable.{remove-entries}
+use Rattle.camel_subscriber.proofs.records.Records.take_out.Goals as goal
 
 pub returns : goal.returns
 returns c =
