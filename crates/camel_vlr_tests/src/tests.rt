@@ -331,18 +331,51 @@ fn filled<R: Wait + Abort>(
     ensures session { session.new.store ≡ session.old.store }
 {
     let call = call_of(imsi)?;
-    let insert = row_update(imsi)?;
-    assert_eq!(rt; store.submit(Update::Register { imsi }), Ok(1));
-    assert_eq!(rt; store.submit(insert), Ok(2));
-    let receipt = store.publish(rt)?;
-    assert_eq!(rt; receipt.front(), 2);
-    session.learn(receipt);
+    row_sent(rt, store, imsi)?;
+    assert_eq!(rt; learnt(rt, store, session), Ok(2));
     assert_eq!(rt; asked(session, &call), Some((2, Ok((100, None)))));
     Ok(())
 }
 
-// The row and the entry of a subscriber at detection point 2.
-fn held(records: &Records, imsi: &Imsi) -> Option<(Option<RowTold>, Option<Entry>)> {
+// Registers a subscriber and inserts the row, as the first two updates.
+fn row_sent(rt: &impl Abort, store: &mut Vlr, imsi: Imsi) -> Result<(), Refusal>
+    ensures { store.new.store ≡ store.old.store }
+{
+    let insert = row_update(imsi)?;
+    assert_eq!(rt; store.submit(Update::Register { imsi }), Ok(1));
+    assert_eq!(rt; store.submit(insert), Ok(2));
+    Ok(())
+}
+
+// Publishes what is pending, and tells the session. The front is the answer.
+fn learnt<R: Wait>(rt: &R, store: &mut Vlr, session: &mut Session) -> Result<u64, Refusal>
+    requires { session.old.store ≡ store.old.store }
+    ensures store { store.new.store ≡ store.old.store }
+    ensures session { session.new.store ≡ session.old.store }
+{
+    let receipt = store.publish(rt)?;
+    let front = receipt.front();
+    session.learn(receipt);
+    Ok(front)
+}
+
+// The store with which a test goes on. Where it does not, the store is ended.
+fn going_on<R: Wait>(rt: &R, store: Vlr, done: Result<(), Fail>) -> Result<Vlr, Fail>
+    ensures { IfOk result (λ kept. kept.store ≡ store.store) }
+{
+    match done {
+        Ok(()) => Ok(store),
+        Err(fail) => {
+            store.end(rt);
+            Err(fail)
+        }
+    }
+}
+
+// The row and the entry of a subscriber at detection point 2, where there is a record.
+type Held = Option<(Option<RowTold>, Option<Entry>)>;
+
+fn held(records: &Records, imsi: &Imsi) -> Held {
     let subscriber = records.get(imsi)?;
     let row = subscriber.row(2).map(row_told);
     let entry = subscriber.criteria(2).map(entry_told);

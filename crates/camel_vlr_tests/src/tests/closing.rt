@@ -1,10 +1,11 @@
 ghost use Rattle.std.specs.Prelude.{◌≡◌};
 
 use super::{
-    ARMED, LISTED, asked_once, call_of, closed, criteria_update, filled, held, imsi_of,
-    opened_with_one,
+    ARMED, Held, LISTED, asked_once, call_of, closed, criteria_update, filled, going_on, held,
+    imsi_of, opened_with_one,
 };
-use camel_rows::Update;
+use camel_criteria::Refusal;
+use camel_rows::{Records, Update};
 use camel_tbcd::Imsi;
 use camel_vlr::{Session, Vlr};
 use std::alloc::Global;
@@ -42,13 +43,8 @@ fn closing_gives_the_published_records_and_drops_what_is_pending(
 ) -> Result<(), Fail> {
     let imsi = imsi_of(1)?;
     let (mut store, mut session) = opened_with_one(&rt, rt.alloc(), 10)?;
-    match with_pending_cancel(&rt, &mut store, &mut session, imsi) {
-        Ok(()) => {}
-        Err(fail) => {
-            store.end(&rt);
-            return Err(fail);
-        }
-    }
+    let done = with_pending_cancel(&rt, &mut store, &mut session, imsi);
+    let store = going_on(&rt, store, done)?;
     let records = closed(&rt, store, &mut session)?;
     assert_eq!(rt; held(&records, &imsi), Some((Some(ARMED), None)));
     check_last_look(&rt, &mut session, imsi)
@@ -75,34 +71,49 @@ fn with_two_kinds<R: Wait + Abort>(
     ensures store { store.new.store ≡ store.old.store }
     ensures session { session.new.store ≡ session.old.store }
 {
-    let imsi = imsi_of(2)?;
-    let insert = criteria_update(alloc, imsi)?;
     filled(rt, store, session, imsi_of(1)?)?;
-    assert_eq!(rt; store.submit(Update::Register { imsi }), Ok(3));
-    assert_eq!(rt; store.submit(insert), Ok(4));
+    criteria_sent(rt, alloc, store, imsi_of(2)?)?;
     assert_eq!(rt; store.publish(rt)?.front(), 4);
     Ok(())
 }
 
+// Registers a subscriber and inserts the row and the entry, as the third and the fourth update.
+fn criteria_sent(rt: &impl Abort, alloc: Global, store: &mut Vlr, imsi: Imsi) -> Result<(), Refusal>
+    ensures { store.new.store ≡ store.old.store }
+{
+    let insert = criteria_update(alloc, imsi)?;
+    assert_eq!(rt; store.submit(Update::Register { imsi }), Ok(3));
+    assert_eq!(rt; store.submit(insert), Ok(4));
+    Ok(())
+}
+
+// The records of a store in which two subscribers have these.
+fn closed_with_two_kinds<R: Wait + Abort>(rt: &R, alloc: Global) -> Result<Records, Fail> {
+    let (mut store, mut session) = opened_with_one(rt, alloc, 10)?;
+    let done = with_two_kinds(rt, alloc, &mut store, &mut session);
+    let store = going_on(rt, store, done)?;
+    Ok(closed(rt, store, &mut session)?)
+}
+
+// What a subscriber has in records and in their copy.
+fn check_both(rt: &impl Abort, records: &Records, copied: &Records, imsi: &Imsi, wanted: Held) {
+    assert_eq!(rt; held(records, imsi), wanted, "in the records");
+    assert_eq!(rt; held(copied, imsi), wanted, "in the copy");
+}
+
 #[test]
 fn a_copy_of_closed_records_lends_the_same(rt: HostRuntime) -> Result<(), Fail> {
-    let (mut store, mut session) = opened_with_one(&rt, rt.alloc(), 10)?;
-    match with_two_kinds(&rt, rt.alloc(), &mut store, &mut session) {
-        Ok(()) => {}
-        Err(fail) => {
-            store.end(&rt);
-            return Err(fail);
-        }
-    }
-    let records = closed(&rt, store, &mut session)?;
+    let (first, second, third) = (imsi_of(1)?, imsi_of(2)?, imsi_of(3)?);
+    let records = closed_with_two_kinds(&rt, rt.alloc())?;
     let copied = records.copy()?;
-    for (imsi, wanted) in [
-        (imsi_of(1)?, Some((Some(ARMED), None))),
-        (imsi_of(2)?, Some((Some(ARMED), Some(LISTED)))),
-        (imsi_of(3)?, None),
-    ] {
-        let both = (held(&records, &imsi), held(&copied, &imsi));
-        assert_eq!(rt; both, (wanted, wanted));
-    }
+    check_both(&rt, &records, &copied, &first, Some((Some(ARMED), None)));
+    check_both(
+        &rt,
+        &records,
+        &copied,
+        &second,
+        Some((Some(ARMED), Some(LISTED))),
+    );
+    check_both(&rt, &records, &copied, &third, None);
     Ok(())
 }

@@ -1,7 +1,7 @@
 ghost use Rattle.std.specs.Prelude.{◌≡◌};
 
 use super::{
-    ARMED, LISTED, Told, asked, call_of, closed, criteria_update, filled, imsi_of, lent,
+    ARMED, LISTED, Told, asked, call_of, closed, criteria_update, filled, going_on, imsi_of, lent,
     opened_with_one, opened_with_two, row_update,
 };
 use camel_criteria::Refusal;
@@ -163,13 +163,8 @@ fn sees_the_entry<R: Wait + Abort>(
 #[test]
 fn receipts_are_learnt_in_any_order(rt: HostRuntime) -> Result<(), Fail> {
     let (mut store, mut first, mut second) = opened_with_two(&rt, rt.alloc(), 10)?;
-    match learns_in_any_order(&rt, &mut store, &mut first, &mut second) {
-        Ok(()) => {}
-        Err(fail) => {
-            store.end(&rt);
-            return Err(fail);
-        }
-    }
+    let done = learns_in_any_order(&rt, &mut store, &mut first, &mut second);
+    let store = going_on(&rt, store, done)?;
     let records = closed(&rt, store, &mut second)?;
     let registered = [imsi_of(1)?, imsi_of(2)?, imsi_of(3)?].map(|imsi| is_bare(&records, &imsi));
     assert_eq!(rt; registered, [Some(true), Some(true), None]);

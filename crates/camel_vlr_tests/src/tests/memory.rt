@@ -2,8 +2,8 @@ ghost use Rattle.std.specs.Prelude.{◌≡◌, IfOk};
 ghost use Rattle.camel_vlr.specs.Store.{fresh};
 
 use super::{
-    ARMED, Kind, LISTED, TURNS, Told, asked, call_of, held, imsi_of, opened_with_one, row_update,
-    update_of,
+    ARMED, Kind, LISTED, TURNS, Told, asked, call_of, going_on, held, imsi_of, opened_with_one,
+    row_update, update_of,
 };
 use camel_criteria::Refusal;
 use camel_rows::{CallEvent, Reason, Records, Update};
@@ -155,13 +155,8 @@ fn each_call_may_be_made_again_after_want_of_memory(rt: HostRuntime) -> Result<(
     let imsi = imsi_of(1)?;
     let call = call_of(imsi)?;
     let (mut store, mut session) = opened_again(&rt, rt.alloc())?;
-    match each_call_before_the_end(&rt, rt.alloc(), &mut store, &mut session) {
-        Ok(()) => {}
-        Err(fail) => {
-            store.end(&rt);
-            return Err(fail);
-        }
-    }
+    let done = each_call_before_the_end(&rt, rt.alloc(), &mut store, &mut session);
+    let store = going_on(&rt, store, done)?;
     let records = closed_again(&rt, store, &mut session, &call)?;
     assert_eq!(rt; held(&records, &imsi), Some((Some(ARMED), Some(LISTED))));
     assert_eq!(rt; held(&records, &imsi_of(2)?), None);
@@ -240,24 +235,30 @@ fn cancel_leaves_the_entry<R: Wait + Abort>(
     let imsi = imsi_of(1)?;
     let call = call_of(imsi)?;
     with_row(rt, alloc, store, session, imsi)?;
-    // Criteria alone come next: after a refused Cancel they are taken, and else not.
-    let (entry, wanted) = match store.submit(Update::Cancel { imsi }) {
-        Err(Refusal::OutOfMemory) => {
-            assert_eq!(rt; (store.published(), store.pending()), (2, 1));
-            (Ok(4), Some((4, Ok((100, Some(LISTED))))))
-        }
-        answered => {
-            assert_eq!(rt; answered, Ok(4));
-            let unknown = Err(Refusal::UnidentifiedSubscriber);
-            (unknown, Some((4, Err(Reason::Unknown))))
-        }
-    };
+    let (entry, wanted) = after_cancel(rt, store, imsi);
     let answered = submitted(rt, alloc, store, session, &call, imsi, Kind::Entry);
     assert_eq!(rt; answered, entry);
     let receipt = published(rt, store, session, &call)?;
     session.learn(receipt);
-    assert_eq!(rt; asked(session, &call), wanted);
+    assert_eq!(rt; asked(session, &call), Some((4, wanted)));
     Ok(())
+}
+
+// Sends a Cancel behind a pending row. What criteria alone are answered next, and what a call is told then: after a
+// refused Cancel they are taken, and else not.
+fn after_cancel(rt: &impl Abort, store: &mut Vlr, imsi: Imsi) -> (Result<u64, Refusal>, Told)
+    ensures { store.new.store ≡ store.old.store }
+{
+    match store.submit(Update::Cancel { imsi }) {
+        Err(Refusal::OutOfMemory) => {
+            assert_eq!(rt; (store.published(), store.pending()), (2, 1));
+            (Ok(4), Ok((100, Some(LISTED))))
+        }
+        answered => {
+            assert_eq!(rt; answered, Ok(4));
+            (Err(Refusal::UnidentifiedSubscriber), Err(Reason::Unknown))
+        }
+    }
 }
 
 #[test]
