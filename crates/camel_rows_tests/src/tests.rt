@@ -200,14 +200,23 @@ fn insert(alloc: Global, imsi: Imsi, items: &Items) -> Result<Update, Refusal> {
     })
 }
 
+// Applies the Insert of these items.
+fn bring(alloc: Global, records: &mut Records, imsi: Imsi, items: &Items) -> Result<(), Refusal> {
+    records.apply(&insert(alloc, imsi, items)?)
+}
+
 // The records of the subscriber 1, who registered and was sent these items.
 fn base(alloc: Global, items: &Items) -> Result<Records, Fail> {
-    let imsi = imsi_of(1)?;
-    let update = insert(alloc, imsi, items)?;
     let mut records = Records::new(alloc);
-    records.apply(&Update::Register { imsi })?;
-    records.apply(&update)?;
+    register(alloc, &mut records, items)?;
     Ok(records)
+}
+
+fn register(alloc: Global, records: &mut Records, items: &Items) -> Result<(), Fail> {
+    let imsi = imsi_of(1)?;
+    records.apply(&Update::Register { imsi })?;
+    bring(alloc, records, imsi, items)?;
+    Ok(())
 }
 
 // An event of a call that is not forwarded. The destination and the cause count where the detection point has

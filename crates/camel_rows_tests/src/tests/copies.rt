@@ -1,10 +1,11 @@
 use super::{
-    BARE, Items, NOTHING, ONE_ROW, PlainNumber, PlainO, base, halves_in, imsi_of, insert, mark_of,
-    marked_insert, one_number,
+    BARE, Half, Items, NOTHING, ONE_ROW, PlainNumber, PlainO, base, halves_in, imsi_of, insert,
+    mark_of, marked_insert, one_number,
 };
 use camel_criteria::{MatchType, Refusal};
 use camel_rows::{Lent, Records, Update, Withdrawal};
 use camel_tbcd::Imsi;
+use std::alloc::Global;
 use std::process::Abort;
 use std::test::Fail;
 
@@ -118,24 +119,34 @@ fn a_copy_of_an_insert_holds_the_same(rt: HostRuntime) -> Result<(), Fail> {
     Ok(())
 }
 
+// Both halves of a subscriber to whom all four items were brought.
+const FULL: Option<(Half, Half)> = Some((Some((Some(1), Some(2))), Some((Some(3), Some(4)))));
+
 #[test]
 fn a_copy_of_records_holds_the_same_and_stands_alone(rt: HostRuntime) -> Result<(), Fail> {
     let (first, second, third) = (imsi_of(1)?, imsi_of(2)?, imsi_of(3)?);
     let mut records = base(rt.alloc(), &NOTHING)?;
-    records.apply(&Update::Register { imsi: second })?;
-    let brought = [Some(1), Some(2), Some(3), Some(4)];
-    let update = marked_insert(rt.alloc(), first, brought)?;
-    records.apply(&update)?;
+    bring_to_two(rt.alloc(), &mut records, first, second)?;
     let mut copied = records.copy()?;
-    let full = Some((Some((Some(1), Some(2))), Some((Some(3), Some(4)))));
-    for (imsi, wanted) in [(first, full), (second, Some((None, None))), (third, None)] {
+    for (imsi, wanted) in [(first, FULL), (second, Some((None, None))), (third, None)] {
         assert_eq!(rt; halves_in(&records, &imsi), wanted);
         assert_eq!(rt; halves_in(&copied, &imsi), wanted);
     }
-    copied.apply(&Update::Cancel { imsi: first })?;
+    assert_eq!(rt; copied.apply(&Update::Cancel { imsi: first }), Ok(()));
     assert!(rt; copied.get(&first).is_none());
-    assert_eq!(rt; halves_in(&records, &first), full);
+    assert_eq!(rt; halves_in(&records, &first), FULL);
     Ok(())
+}
+
+// All four items are brought to a subscriber, and another one registers.
+fn bring_to_two(
+    alloc: Global,
+    records: &mut Records,
+    first: Imsi,
+    second: Imsi,
+) -> Result<(), Refusal> {
+    records.apply(&Update::Register { imsi: second })?;
+    records.apply(&marked_insert(alloc, first, [1, 2, 3, 4].map(Some))?)
 }
 
 // The digits of the listed numbers of the entry at detection point 2, where there is a row and such an entry.
@@ -170,15 +181,24 @@ fn a_copied_insert_stands_with_its_listed_number(rt: HostRuntime) -> Result<(), 
     };
     let update = insert(rt.alloc(), imsi, &items)?;
     let mut records = Records::new(rt.alloc());
-    let unknown = Err(Refusal::UnidentifiedSubscriber);
-    assert_eq!(rt; records.apply(&update), unknown);
-    assert!(rt; records.get(&imsi).is_none());
-    records.apply(&Update::Register { imsi })?;
-    let copied = update.copy()?;
-    records.apply(&copied)?;
+    copied_to(&rt, &mut records, imsi, &update)?;
+    let copied = records.copy()?;
     let wanted = Some((1, [Some(1), Some(2), Some(3), None]));
     assert_eq!(rt; listed_digits(&records, &imsi), wanted);
-    let copied = records.copy()?;
     assert_eq!(rt; listed_digits(&copied, &imsi), wanted);
     Ok(())
+}
+
+// An Insert is refused as long as its subscriber is not registered, and then a copy of it is taken.
+fn copied_to(
+    rt: &impl Abort,
+    records: &mut Records,
+    imsi: Imsi,
+    update: &Update,
+) -> Result<(), Refusal> {
+    let unknown = Err(Refusal::UnidentifiedSubscriber);
+    assert_eq!(rt; records.apply(update), unknown);
+    assert!(rt; records.get(&imsi).is_none());
+    records.apply(&Update::Register { imsi })?;
+    records.apply(&update.copy()?)
 }

@@ -1,10 +1,10 @@
 use super::{
     BARE, CONTINUE, DESTINATION, EMERGENCY, FACSIMILE, Items, NOTHING, Numbers, ONE_ROW,
-    PlainNumber, PlainO, PlainRow, PlainT, RELEASE, TELEPHONY, Told, base, call_at, check_calls,
-    held_at, imsi_of, insert, number_of, one_number, told,
+    PlainNumber, PlainO, PlainRow, PlainT, RELEASE, TELEPHONY, Told, base, bring, call_at,
+    check_calls, held_at, imsi_of, number_of, one_number, told,
 };
 use camel_criteria::{BasicService, CallType, Cause, MatchType, Refusal};
-use camel_rows::{CallEvent, Reason};
+use camel_rows::{CallEvent, Reason, Records};
 use camel_tbcd::CallAddress;
 use std::alloc::Global;
 use std::process::Abort;
@@ -82,8 +82,7 @@ fn an_inserted_row_without_criteria_triggers_where_the_old_ones_were_not_met(
         o: [Some(PlainRow(2, 101, 0)), None, None],
         ..NOTHING
     };
-    let update = insert(rt.alloc(), imsi_of(1)?, &items)?;
-    records.apply(&update)?;
+    bring(rt.alloc(), &mut records, imsi_of(1)?, &items)?;
     check_calls(&rt, &records, &[(2, TELEPHONY, 0, Ok((2, 101, CONTINUE)))])
 }
 
@@ -180,9 +179,20 @@ fn a_call_type_criterion_decides_a_forwarded_call(rt: HostRuntime) -> Result<(),
         (4, true, Ok((4, 200, CONTINUE))),
         (4, false, Err(Reason::Criteria)),
     ] {
-        let call = call_with(dp, forwarded)?;
-        assert_eq!(rt; told(&rt, &records, &call), wanted, "{call:?}");
+        check_call_with(&rt, &records, dp, forwarded, wanted)?;
     }
+    Ok(())
+}
+
+fn check_call_with(
+    rt: &impl Abort,
+    records: &Records,
+    dp: u8,
+    forwarded: bool,
+    wanted: Told,
+) -> Result<(), Fail> {
+    let call = call_with(dp, forwarded)?;
+    assert_eq!(rt; told(rt, records, &call), wanted, "{call:?}");
     Ok(())
 }
 

@@ -1,12 +1,15 @@
 use super::{
     BARE, CONTINUE, DESTINATION, EMERGENCY, FACSIMILE, Items, NOTHING, ONE_ROW, PlainO, PlainRow,
-    PlainT, RELEASE, TELEPHONY, base, call_at, check_calls, imsi_of, insert, lent_at, told,
+    PlainT, RELEASE, TELEPHONY, Told, base, bring, call_at, check_calls, imsi_of, lent_at, told,
 };
 use camel_criteria::{BasicService, Handling};
 use camel_rows::{
     BUSY, COLLECTED_INFO, NO_ANSWER, ROUTE_SELECT_FAILURE, Reason, Records, TERMINATING_ATTEMPT,
     Update, decisions_mean, on_failure,
 };
+use camel_tbcd::Imsi;
+use std::alloc::Global;
+use std::process::Abort;
 use std::test::Fail;
 
 #[test]
@@ -67,10 +70,15 @@ fn asking_for_facsimile() -> PlainO {
     }
 }
 
-// An emergency call that doesn't meet the criteria either, at each step with one reason less.
 #[test]
 fn the_first_reason_is_answered(rt: HostRuntime) -> Result<(), Fail> {
     decisions_mean();
+    let mut records = Records::new(rt.alloc());
+    check_first_reasons(&rt, rt.alloc(), &mut records)
+}
+
+// An emergency call that doesn't meet the criteria either, at each step with one reason less.
+fn check_first_reasons(rt: &impl Abort, alloc: Global, records: &mut Records) -> Result<(), Fail> {
     let imsi = imsi_of(1)?;
     let armed = Items {
         o_criteria: [Some(asking_for_facsimile()), None],
@@ -81,18 +89,15 @@ fn the_first_reason_is_answered(rt: HostRuntime) -> Result<(), Fail> {
         o_criteria: [Some(asking_for_facsimile()), None],
         ..NOTHING
     };
-    let mut records = Records::new(rt.alloc());
-    check_calls(&rt, &records, &[(2, EMERGENCY, 0, Err(Reason::Unknown))])?;
+    check_calls(rt, records, &[(2, EMERGENCY, 0, Err(Reason::Unknown))])?;
     records.apply(&Update::Register { imsi })?;
-    check_calls(&rt, &records, &[(2, EMERGENCY, 0, Err(Reason::NoCsi))])?;
-    let update = insert(rt.alloc(), imsi, &unarmed)?;
-    records.apply(&update)?;
-    check_calls(&rt, &records, &[(2, EMERGENCY, 0, Err(Reason::NotArmed))])?;
-    let update = insert(rt.alloc(), imsi, &armed)?;
-    records.apply(&update)?;
+    check_calls(rt, records, &[(2, EMERGENCY, 0, Err(Reason::NoCsi))])?;
+    bring(alloc, records, imsi, &unarmed)?;
+    check_calls(rt, records, &[(2, EMERGENCY, 0, Err(Reason::NotArmed))])?;
+    bring(alloc, records, imsi, &armed)?;
     check_calls(
-        &rt,
-        &records,
+        rt,
+        records,
         &[
             (2, EMERGENCY, 0, Err(Reason::Emergency)),
             (2, TELEPHONY, 0, Err(Reason::Criteria)),
@@ -103,6 +108,15 @@ fn the_first_reason_is_answered(rt: HostRuntime) -> Result<(), Fail> {
 
 #[test]
 fn the_first_reason_is_answered_of_a_call_to_a_subscriber(rt: HostRuntime) -> Result<(), Fail> {
+    let mut records = Records::new(rt.alloc());
+    check_first_reasons_to_a_subscriber(&rt, rt.alloc(), &mut records)
+}
+
+fn check_first_reasons_to_a_subscriber(
+    rt: &impl Abort,
+    alloc: Global,
+    records: &mut Records,
+) -> Result<(), Fail> {
     let imsi = imsi_of(1)?;
     let facsimile = Some(PlainT(13, Some(FACSIMILE), None));
     let armed = Items {
@@ -115,18 +129,15 @@ fn the_first_reason_is_answered_of_a_call_to_a_subscriber(rt: HostRuntime) -> Re
         t_criteria: [facsimile, None],
         ..NOTHING
     };
-    let mut records = Records::new(rt.alloc());
-    check_calls(&rt, &records, &[(13, EMERGENCY, 17, Err(Reason::Unknown))])?;
+    check_calls(rt, records, &[(13, EMERGENCY, 17, Err(Reason::Unknown))])?;
     records.apply(&Update::Register { imsi })?;
-    check_calls(&rt, &records, &[(13, EMERGENCY, 17, Err(Reason::NoCsi))])?;
-    let update = insert(rt.alloc(), imsi, &unarmed)?;
-    records.apply(&update)?;
-    check_calls(&rt, &records, &[(13, EMERGENCY, 17, Err(Reason::NotArmed))])?;
-    let update = insert(rt.alloc(), imsi, &armed)?;
-    records.apply(&update)?;
+    check_calls(rt, records, &[(13, EMERGENCY, 17, Err(Reason::NoCsi))])?;
+    bring(alloc, records, imsi, &unarmed)?;
+    check_calls(rt, records, &[(13, EMERGENCY, 17, Err(Reason::NotArmed))])?;
+    bring(alloc, records, imsi, &armed)?;
     check_calls(
-        &rt,
-        &records,
+        rt,
+        records,
         &[
             (13, EMERGENCY, 17, Err(Reason::Emergency)),
             (13, TELEPHONY, 17, Err(Reason::Criteria)),
@@ -137,17 +148,17 @@ fn the_first_reason_is_answered_of_a_call_to_a_subscriber(rt: HostRuntime) -> Re
 
 #[test]
 fn a_call_is_decided_by_the_record_of_its_own_subscriber(rt: HostRuntime) -> Result<(), Fail> {
+    let (first, second, third) = (imsi_of(1)?, imsi_of(2)?, imsi_of(3)?);
     let mut records = base(rt.alloc(), &ONE_ROW)?;
-    let other = imsi_of(2)?;
-    records.apply(&Update::Register { imsi: other })?;
-    for (imsi, wanted) in [
-        (imsi_of(1)?, Ok((2, 100, CONTINUE))),
-        (other, Err(Reason::NoCsi)),
-        (imsi_of(3)?, Err(Reason::Unknown)),
-    ] {
-        let call = call_at(2, imsi, TELEPHONY, &DESTINATION, 0)?;
-        assert_eq!(rt; told(&rt, &records, &call), wanted, "{imsi:?}");
-    }
+    records.apply(&Update::Register { imsi: second })?;
+    check_call_of(&rt, &records, first, Ok((2, 100, CONTINUE)))?;
+    check_call_of(&rt, &records, second, Err(Reason::NoCsi))?;
+    check_call_of(&rt, &records, third, Err(Reason::Unknown))
+}
+
+fn check_call_of(rt: &impl Abort, records: &Records, imsi: Imsi, wanted: Told) -> Result<(), Fail> {
+    let call = call_at(2, imsi, TELEPHONY, &DESTINATION, 0)?;
+    assert_eq!(rt; told(rt, records, &call), wanted, "{imsi:?}");
     Ok(())
 }
 

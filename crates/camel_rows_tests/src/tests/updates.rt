@@ -1,6 +1,7 @@
 use super::{
     BARE, CONTINUE, Half, Items, NOTHING, Numbers, ONE_ROW, PlainNumber, PlainO, PlainRow,
-    TELEPHONY, base, check_calls, halves_in, imsi_of, insert, marked_insert, number_of, one_number,
+    TELEPHONY, base, bring, check_calls, halves_in, imsi_of, insert, marked_insert, number_of,
+    one_number,
 };
 use camel_criteria::{MatchType, Refusal};
 use camel_rows::{
@@ -8,6 +9,7 @@ use camel_rows::{
 };
 use camel_tbcd::Imsi;
 use std::alloc::Global;
+use std::process::Abort;
 use std::test::Fail;
 
 // The answer to an Insert of these items, as the number of its refusal, by the data or by the records.
@@ -59,8 +61,12 @@ fn with_keys(first: u32, second: Option<u32>) -> Items {
 
 #[test]
 fn the_data_of_an_insert_are_taken_or_refused(rt: HostRuntime) -> Result<(), Fail> {
-    let imsi = imsi_of(1)?;
     let mut records = Records::new(rt.alloc());
+    check_answers(&rt, rt.alloc(), &mut records)
+}
+
+fn check_answers(rt: &impl Abort, alloc: Global, records: &mut Records) -> Result<(), Fail> {
+    let imsi = imsi_of(1)?;
     records.apply(&Update::Register { imsi })?;
     for (items, wanted) in [
         (with_keys(2_147_483_647, None), Ok(())),
@@ -74,7 +80,7 @@ fn the_data_of_an_insert_are_taken_or_refused(rt: HostRuntime) -> Result<(), Fai
         (listing(0, None)?, Err(35)),
         (with_keys(1, Some(2)), Err(36)),
     ] {
-        let answered = answer(rt.alloc(), &mut records, imsi, &items);
+        let answered = answer(alloc, records, imsi, &items);
         assert_eq!(rt; answered, wanted, "{items:?}");
     }
     Ok(())
@@ -113,12 +119,16 @@ fn mark(mark: u8) -> Half {
     Some((None, Some(mark)))
 }
 
-// Each Insert follows those before it. It brings the O-CSI, its criteria, the VT-CSI and its criteria.
 #[test]
 fn an_insert_replaces_what_it_brings_and_leaves_the_rest(rt: HostRuntime) -> Result<(), Fail> {
     inserted_csi_stands();
-    let imsi = imsi_of(1)?;
     let mut records = Records::new(rt.alloc());
+    check_inserts(&rt, rt.alloc(), &mut records)
+}
+
+// Each Insert follows those before it. It brings the O-CSI, its criteria, the VT-CSI and its criteria.
+fn check_inserts(rt: &impl Abort, alloc: Global, records: &mut Records) -> Result<(), Fail> {
+    let imsi = imsi_of(1)?;
     records.apply(&Update::Register { imsi })?;
     let empty: Half = Some((None, None));
     for (brought, wanted, o, vt) in [
@@ -155,19 +165,18 @@ fn an_insert_replaces_what_it_brings_and_leaves_the_rest(rt: HostRuntime) -> Res
         ([Some(0), None, Some(0), None], Ok(()), empty, empty),
         ([None, Some(16), None, Some(17)], Ok(()), mark(16), mark(17)),
     ] {
-        let update = marked_insert(rt.alloc(), imsi, brought)?;
+        let update = marked_insert(alloc, imsi, brought)?;
         let checked = records.check(&update).map_err(|why| why.code());
         assert_eq!(rt; checked, wanted, "{brought:?}");
         let applied = records.apply(&update).map_err(|why| why.code());
         assert_eq!(rt; applied, wanted, "{brought:?}");
-        assert_eq!(rt; halves_in(&records, &imsi), Some((o, vt)), "{brought:?}");
+        assert_eq!(rt; halves_in(records, &imsi), Some((o, vt)), "{brought:?}");
     }
     Ok(())
 }
 
 #[test]
 fn a_withdrawal_removes_each_half_that_it_names(rt: HostRuntime) -> Result<(), Fail> {
-    let imsi = imsi_of(1)?;
     let (o, vt) = (held(1, 2), held(3, 4));
     for (names_o, names_vt, everything, halves) in [
         (false, false, false, (o, vt)),
@@ -185,15 +194,26 @@ fn a_withdrawal_removes_each_half_that_it_names(rt: HostRuntime) -> Result<(), F
             everything,
         };
         let mut records = base(rt.alloc(), &NOTHING)?;
-        let brought = [1, 2, 3, 4].map(Some);
-        let update = marked_insert(rt.alloc(), imsi, brought)?;
-        records.apply(&update)?;
-        records.apply(&Update::Delete { imsi, what })?;
-        assert_eq!(rt; halves_in(&records, &imsi), Some(halves), "{what:?}");
-        // What is named and not there any more is no fault.
-        assert_eq!(rt; records.apply(&Update::Delete { imsi, what }), Ok(()));
-        assert_eq!(rt; halves_in(&records, &imsi), Some(halves), "{what:?}");
+        check_withdrawal(&rt, rt.alloc(), &mut records, what, Some(halves))?;
     }
+    Ok(())
+}
+
+// A subscriber who has registered is sent both halves, and then the withdrawal twice.
+fn check_withdrawal(
+    rt: &impl Abort,
+    alloc: Global,
+    records: &mut Records,
+    what: Withdrawal,
+    halves: Option<(Half, Half)>,
+) -> Result<(), Fail> {
+    let imsi = imsi_of(1)?;
+    records.apply(&marked_insert(alloc, imsi, [1, 2, 3, 4].map(Some))?)?;
+    records.apply(&Update::Delete { imsi, what })?;
+    assert_eq!(rt; halves_in(records, &imsi), halves, "{what:?}");
+    // What is named and not there any more is no fault.
+    assert_eq!(rt; records.apply(&Update::Delete { imsi, what }), Ok(()));
+    assert_eq!(rt; halves_in(records, &imsi), halves, "{what:?}");
     Ok(())
 }
 
@@ -205,12 +225,18 @@ const O_ALONE: Withdrawal = Withdrawal {
 
 #[test]
 fn withdrawn_and_cancelled_data_trigger_nothing(rt: HostRuntime) -> Result<(), Fail> {
-    let imsi = imsi_of(1)?;
     let items = Items {
         vt: [Some(PlainRow(12, 300, 0)), None, None],
         ..ONE_ROW
     };
     let mut records = base(rt.alloc(), &items)?;
+    check_withdrawn(&rt, &mut records)?;
+    check_cancelled(&rt, &mut records)
+}
+
+// All data of the subscriber are withdrawn.
+fn check_withdrawn(rt: &impl Abort, records: &mut Records) -> Result<(), Fail> {
+    let imsi = imsi_of(1)?;
     let what = Withdrawal {
         o: true,
         vt: false,
@@ -218,13 +244,18 @@ fn withdrawn_and_cancelled_data_trigger_nothing(rt: HostRuntime) -> Result<(), F
     };
     assert_eq!(rt; records.apply(&Update::Delete { imsi, what }), Ok(()));
     check_calls(
-        &rt,
-        &records,
+        rt,
+        records,
         &[
             (2, TELEPHONY, 0, Err(Reason::NoCsi)),
             (12, TELEPHONY, 0, Err(Reason::NoCsi)),
         ],
-    )?;
+    )
+}
+
+// The subscriber is cancelled, and another one who has no record.
+fn check_cancelled(rt: &impl Abort, records: &mut Records) -> Result<(), Fail> {
+    let imsi = imsi_of(1)?;
     for cancelled in [imsi, imsi, imsi_of(2)?] {
         let update = Update::Cancel { imsi: cancelled };
         assert_eq!(rt; records.apply(&update), Ok(()), "{cancelled:?}");
@@ -236,31 +267,35 @@ fn withdrawn_and_cancelled_data_trigger_nothing(rt: HostRuntime) -> Result<(), F
     let unknown = Err(Refusal::UnidentifiedSubscriber);
     assert_eq!(rt; records.check(&delete), unknown);
     assert_eq!(rt; records.apply(&delete), unknown);
-    check_calls(&rt, &records, &[(12, TELEPHONY, 0, Err(Reason::Unknown))])
+    check_calls(rt, records, &[(12, TELEPHONY, 0, Err(Reason::Unknown))])
 }
 
 #[test]
 fn one_half_comes_and_goes_without_the_other(rt: HostRuntime) -> Result<(), Fail> {
-    let imsi = imsi_of(1)?;
     let mut records = base(rt.alloc(), &ONE_ROW)?;
+    check_halves(&rt, rt.alloc(), &mut records)
+}
+
+// The VT-CSI comes to the O-CSI, which is then withdrawn, and a new registration leaves neither.
+fn check_halves(rt: &impl Abort, alloc: Global, records: &mut Records) -> Result<(), Fail> {
+    let imsi = imsi_of(1)?;
     let items = Items {
         vt: [Some(PlainRow(12, 300, 0)), None, None],
         ..NOTHING
     };
-    let update = insert(rt.alloc(), imsi, &items)?;
-    records.apply(&update)?;
+    bring(alloc, records, imsi, &items)?;
     let o = (2, TELEPHONY, 0, Ok((2, 100, CONTINUE)));
     let vt = (12, TELEPHONY, 0, Ok((12, 300, CONTINUE)));
-    check_calls(&rt, &records, &[o, vt])?;
+    check_calls(rt, records, &[o, vt])?;
 
     records.apply(&Update::Delete {
         imsi,
         what: O_ALONE,
     })?;
-    check_calls(&rt, &records, &[(2, TELEPHONY, 0, Err(Reason::NoCsi)), vt])?;
+    check_calls(rt, records, &[(2, TELEPHONY, 0, Err(Reason::NoCsi)), vt])?;
 
     records.apply(&Update::Register { imsi })?;
-    check_calls(&rt, &records, &[(12, TELEPHONY, 0, Err(Reason::NoCsi))])
+    check_calls(rt, records, &[(12, TELEPHONY, 0, Err(Reason::NoCsi))])
 }
 
 // Whether there is a record of each of two subscribers.
@@ -274,7 +309,7 @@ fn an_update_changes_the_record_of_its_own_subscriber(rt: HostRuntime) -> Result
     let (first, second) = (imsi_of(1)?, imsi_of(2)?);
     let mut records = Records::new(rt.alloc());
     assert_eq!(rt; are_there(&records, &first, &second), (false, false));
-    for (update, imsi, there) in [
+    let steps = [
         (Update::Cancel { imsi: second }, second, (false, false)),
         (Update::Register { imsi: second }, second, (false, true)),
         (Update::Register { imsi: first }, first, (true, true)),
@@ -288,11 +323,17 @@ fn an_update_changes_the_record_of_its_own_subscriber(rt: HostRuntime) -> Result
             (true, true),
         ),
         (Update::Cancel { imsi: first }, first, (false, true)),
-    ] {
-        assert_eq!(rt; update.imsi(), imsi, "{update:?}");
-        assert_eq!(rt; records.check(&update), Ok(()), "{update:?}");
-        assert_eq!(rt; records.apply(&update), Ok(()), "{update:?}");
-        assert_eq!(rt; are_there(&records, &first, &second), there, "{update:?}");
+    ];
+    for (update, imsi, there) in &steps {
+        check_accepted(&rt, &mut records, update, imsi);
+        assert_eq!(rt; are_there(&records, &first, &second), *there, "{update:?}");
     }
     Ok(())
+}
+
+// An update of this subscriber is accepted.
+fn check_accepted(rt: &impl Abort, records: &mut Records, update: &Update, imsi: &Imsi) {
+    assert_eq!(rt; update.imsi(), *imsi, "{update:?}");
+    assert_eq!(rt; records.check(update), Ok(()), "{update:?}");
+    assert_eq!(rt; records.apply(update), Ok(()), "{update:?}");
 }
