@@ -1,6 +1,6 @@
 ghost use Rattle.std.specs.Prelude.{◌≡◌, drop};
 ghost use Rattle.csv.specs.Records.{fields_of};
-ghost use Rattle.camel_rows.specs.Received.{o_criteria_set_of, o_csi_of, t_criteria_set_of, vt_csi_of};
+ghost use Rattle.camel_csi.specs.Received.{o_criteria_set_of, o_csi_of, t_criteria_set_of, vt_csi_of};
 ghost use Rattle.camel_texts.specs.Item.{items_of};
 ghost use Rattle.camel_texts.specs.Reading.{ReadsAs};
 ghost use Rattle.camel_script.specs.Record.{insert_of, insert_of_items, received_list};

@@ -5,8 +5,8 @@ use Rattle.std.proofs.lemmas.List.{append-nil, length-append}
 use Rattle.camel_criteria.specs.declared.refusal.Refusal.{Refusal}
 use Rattle.camel_rows.proofs.UpdateLemmas.{AcceptedFrom-prefix, AcceptedFrom-push}
 use Rattle.camel_rows.specs.Front.{Extends, IsFront, or_full}
-use Rattle.camel_rows.specs.Records.{no_records}
-use Rattle.camel_rows.specs.Update.{refusal, state}
+use Rattle.camel_subscriber.specs.Records.{no_records}
+use Rattle.camel_subscriber.specs.Update.{refusal, state}
 use Rattle.camel_subscriber.specs.declared.update.Update.{Update}
 use Rattle.camel_script.specs.declared.record.Record.{Record}
 use Rattle.camel_script.specs.declared.record.Record.TheVariants as request

@@ -4,10 +4,10 @@ use Rattle.std.proofs.lemmas.List.{length-append}
 use Rattle.camel_criteria.specs.declared.refusal.Refusal.{Refusal}
 use Rattle.camel_rows.proofs.UpdateLemmas.{AcceptedFrom-push, state_from-append}
 use Rattle.camel_rows.specs.Front.{or_full}
-use Rattle.camel_rows.specs.Records.{RecordsData, no_records}
+use Rattle.camel_subscriber.specs.Records.{RecordsData, no_records}
 use Rattle.camel_rows.proofs.StoredCsisLemmas.{AreStored-after, AreStored-empty, same_refusal}
 use Rattle.camel_rows.specs.StoredCsis.{StoredCsisData, csis_after, csis_refusal, no_stored_csis, with_csis}
-use Rattle.camel_rows.specs.Update.{refusal, state, state_from, update_imsi}
+use Rattle.camel_subscriber.specs.Update.{refusal, state, state_from, update_imsi}
 use Rattle.std.specs.FinMap as map
 use Rattle.camel_subscriber.specs.declared.update.Update.{Update}
 use Rattle.camel_script.specs.Line.{line_text}

@@ -6,7 +6,7 @@ use Rattle.camel_criteria.specs.declared.refusal.Refusal.{Refusal}
 use Rattle.camel_rows.specs.Decision.{decision}
 use Rattle.camel_rows.specs.Front.{or_full}
 use Rattle.camel_rows.specs.Outcome.{outcome_of}
-use Rattle.camel_rows.specs.Update.{refusal, state}
+use Rattle.camel_subscriber.specs.Update.{refusal, state}
 use Rattle.camel_rows.specs.declared.event.CallEvent.{CallEvent}
 use Rattle.camel_rows.specs.declared.outcome.Answer.{Answer}
 use Rattle.camel_subscriber.specs.declared.update.Update.{Update}

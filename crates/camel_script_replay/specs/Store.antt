@@ -6,9 +6,9 @@ use Rattle.camel_criteria.specs.declared.refusal.Refusal.{Refusal}
 use Rattle.camel_rows.specs.Decision.{decision}
 use Rattle.camel_rows.specs.Front.{or_full}
 use Rattle.camel_rows.specs.Outcome.{outcome_of}
-use Rattle.camel_rows.specs.Records.{RecordsData, no_records}
+use Rattle.camel_subscriber.specs.Records.{RecordsData, no_records}
 use Rattle.camel_rows.specs.StoredCsis.{AreStored, StoredCsisData}
-use Rattle.camel_rows.specs.Update.{AcceptedFrom, refusal, state, state_from}
+use Rattle.camel_subscriber.specs.Update.{AcceptedFrom, refusal, state, state_from}
 use Rattle.camel_rows.specs.declared.event.CallEvent.{CallEvent}
 use Rattle.camel_rows.specs.declared.outcome.Answer.{Answer}
 use Rattle.camel_subscriber.specs.declared.update.Update.{Update}

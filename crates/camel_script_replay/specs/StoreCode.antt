@@ -1,7 +1,7 @@
 -- How a proof tells the values of `StoreData` apart.
 use Rattle.std.specs.Prelude.{ℕ, List, refl}
 use Rattle.std.specs.Coded.{Coded, code_by, coded_ℕ, coded_list, coded×}
-use Rattle.camel_rows.specs.Records.{RecordsData}
+use Rattle.camel_subscriber.specs.Records.{RecordsData}
 use Rattle.camel_subscriber.specs.contracts.records.Records as records
 use Rattle.camel_subscriber.specs.contracts.update.Update as update
 use Rattle.camel_subscriber.specs.declared.update.Update.{Update}

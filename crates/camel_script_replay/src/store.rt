@@ -1,6 +1,6 @@
 ghost use Rattle.std.specs.Prelude.{◌≡◌, ◌+◌, ◌⊎◌, [], ◌∷◌, ◌++◌, Some, None, IfErr, IfOk, OnErr, OnOk, length};
 ghost use Rattle.camel_rows.specs.StoredCsis.{with_csis};
-ghost use Rattle.camel_rows.specs.Update.{update_imsi};
+ghost use Rattle.camel_subscriber.specs.Update.{update_imsi};
 ghost use Rattle.camel_script_replay.specs.Store.{StoreData, empty_store, store_after, store_answer, store_line, store_refusal, update_count};
 
 use camel_criteria::Refusal;

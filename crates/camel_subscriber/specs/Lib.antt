@@ -1,7 +1,4 @@
--- what clauses say of TDP rows and of received lists
-pub use Rattle.camel_csi.specs.DetectionPoint
-pub use Rattle.camel_csi.specs.Received
-pub use Rattle.camel_csi.specs.TdpRow
+-- what clauses say of subscriber data and of updates
 pub mod Change
 pub mod Records
 pub mod Subscriber

@@ -1,7 +1,7 @@
 -- Changes, and the updates among them.
 use Rattle.std.proofs.Common.{◌≡◌, ◌∙◌, ◌+◌, ◌-◌, ◌^◌, ◌≤◌, List, [], ◌∷◌, ◌++◌, length, drop, fold, min, sym, refl, ap, subst, arith, add-zero}
 use Rattle.camel_rows.specs.Front.{Extends}
-use Rattle.camel_rows.specs.Update.{state_from}
+use Rattle.camel_subscriber.specs.Update.{state_from}
 use Rattle.camel_subscriber.specs.declared.update.Update.{Update}
 use Rattle.camel_vlr.specs.Change.{CopyData, changed, updates_among}
 use Rattle.camel_vlr.specs.declared.change.Change.{Change}

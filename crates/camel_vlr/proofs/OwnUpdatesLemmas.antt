@@ -9,8 +9,8 @@ use Rattle.camel_rows.proofs.UpdateLemmas.{other_record, own_record}
 use Rattle.camel_rows.specs.Decision.{by_record, decision}
 use Rattle.camel_rows.specs.Event.{event_imsi}
 use Rattle.camel_rows.specs.Front.{IsFront}
-use Rattle.camel_rows.specs.Records.{RecordsData, no_records}
-use Rattle.camel_rows.specs.Update.{AcceptedFrom, after, insert_refusal, record_after, refusal, state, state_from, update_imsi}
+use Rattle.camel_subscriber.specs.Records.{RecordsData, no_records}
+use Rattle.camel_subscriber.specs.Update.{AcceptedFrom, after, insert_refusal, record_after, refusal, state, state_from, update_imsi}
 use Rattle.camel_rows.specs.declared.event.CallEvent.{CallEvent}
 use Rattle.camel_subscriber.specs.declared.update.Update.{Update}
 use Rattle.camel_subscriber.specs.declared.update.Update.TheVariants.{Cancel, Delete, Insert, Register}

@@ -4,8 +4,8 @@ use Rattle.std.proofs.lemmas.List.Sums.{fold-append}
 use Rattle.camel_history.specs.Beginning.{BeginningData}
 use Rattle.camel_rows.proofs.UpdateLemmas.{state_from-append}
 use Rattle.camel_rows.specs.Front.{IsFront}
-use Rattle.camel_rows.specs.Records.{no_records}
-use Rattle.camel_rows.specs.Update.{state, state_from}
+use Rattle.camel_subscriber.specs.Records.{no_records}
+use Rattle.camel_subscriber.specs.Update.{state, state_from}
 use Rattle.camel_vlr.proofs.ChangeLemmas.{fold_changed, updates_among-append}
 use Rattle.camel_vlr.specs.Change.{CopyData, changed, updates_among}
 use Rattle.camel_vlr.specs.PublishedCopy.{IsOfItsFront}

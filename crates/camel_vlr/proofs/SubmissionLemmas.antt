@@ -5,7 +5,7 @@ use Rattle.camel_criteria.specs.declared.refusal.Refusal.{Refusal}
 use Rattle.camel_rows.proofs.StoredCsisLemmas.{same_refusal}
 use Rattle.camel_rows.specs.Front.{or_full}
 use Rattle.camel_rows.specs.StoredCsis.{AreStored, StoredCsisData, csis_refusal}
-use Rattle.camel_rows.specs.Update.{refusal, state, update_imsi}
+use Rattle.camel_subscriber.specs.Update.{refusal, state, update_imsi}
 use Rattle.camel_subscriber.specs.declared.update.Update.{Update}
 use Rattle.camel_vlr.specs.Store.{StoreData, accepted, submission_refusal}
 

@@ -1,8 +1,8 @@
 -- What a change does to a copy.
 use Rattle.std.specs.Prelude.{ℕ, ◌+◌, ◌-◌, ◌^◌, min, List, [], ◌∷◌}
 use Rattle.camel_history.specs.Beginning.{BeginningData}
-use Rattle.camel_rows.specs.Records.{RecordsData}
-use Rattle.camel_rows.specs.Update.{after}
+use Rattle.camel_subscriber.specs.Records.{RecordsData}
+use Rattle.camel_subscriber.specs.Update.{after}
 use Rattle.camel_subscriber.specs.declared.update.Update.{Update}
 use Rattle.camel_vlr.specs.declared.change.Change.{Change}
 use Rattle.camel_vlr.specs.declared.change.Change.TheVariants as change

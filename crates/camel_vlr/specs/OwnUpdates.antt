@@ -5,7 +5,7 @@ use Rattle.std.specs.Str.{bytes_eq}
 use Rattle.camel_rows.specs.Decision.{DecisionData, decision}
 use Rattle.camel_rows.specs.Event.{event_imsi}
 use Rattle.camel_rows.specs.Front.{IsFront}
-use Rattle.camel_rows.specs.Update.{state, update_imsi}
+use Rattle.camel_subscriber.specs.Update.{state, update_imsi}
 use Rattle.camel_rows.specs.declared.event.CallEvent.{CallEvent}
 use Rattle.camel_subscriber.specs.declared.update.Update.{Update}
 

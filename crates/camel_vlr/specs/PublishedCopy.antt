@@ -1,7 +1,7 @@
 -- The copies that sessions look at.
 use Rattle.std.specs.Prelude.{◌≡◌, length}
 use Rattle.camel_rows.specs.Front.{IsFront}
-use Rattle.camel_rows.specs.Update.{state}
+use Rattle.camel_subscriber.specs.Update.{state}
 use Rattle.camel_vlr.specs.declared.published_copy.PublishedCopy.{PublishedCopy}
 
 -- a copy has the data that its front leaves, and the front's length

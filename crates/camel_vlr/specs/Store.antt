@@ -3,7 +3,7 @@ use Rattle.std.specs.Prelude.{◌==◌, List, [], ◌++◌, Option, length}
 use Rattle.camel_criteria.specs.declared.refusal.Refusal.{Refusal}
 use Rattle.camel_history.specs.Beginning.{StoreId}
 use Rattle.camel_rows.specs.Front.{or_full}
-use Rattle.camel_rows.specs.Update.{refusal, state}
+use Rattle.camel_subscriber.specs.Update.{refusal, state}
 use Rattle.camel_subscriber.specs.declared.update.Update.{Update}
 use Rattle.camel_vlr.specs.Session.{SessionData, untold}
 

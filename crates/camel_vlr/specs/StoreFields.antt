@@ -3,7 +3,7 @@ use Rattle.std.specs.Prelude.{◌≡◌, ◌≤◌, List, ◌++◌, drop, length
 use Rattle.left_right.specs.Sides.{view}
 use Rattle.camel_rows.specs.Front.{Extends, IsFront}
 use Rattle.camel_rows.specs.StoredCsis.{AreStored}
-use Rattle.camel_rows.specs.Update.{state}
+use Rattle.camel_subscriber.specs.Update.{state}
 use Rattle.camel_subscriber.specs.declared.update.Update.{Update}
 use Rattle.camel_vlr.specs.Change.{updates_among}
 use Rattle.camel_vlr.specs.PublishedCopy.{IsOfItsFront}

@@ -1,6 +1,6 @@
 ghost use Rattle.std.specs.Prelude.{◌≡◌, ◌⊎◌, [], ◌∷◌, ◌++◌, length, IfErr, IfOk, OnOk};
 ghost use Rattle.camel_rows.specs.Front.{Extends};
-ghost use Rattle.camel_rows.specs.Update.{state};
+ghost use Rattle.camel_subscriber.specs.Update.{state};
 ghost use Rattle.camel_vlr.specs.Fronts.{ExtendsAll};
 
 use crate::session::Session;

@@ -3,8 +3,8 @@ ghost use Rattle.std.specs.FinMap as map;
 ghost use Rattle.std.specs.Option.{option_and_then, option_copied, option_map};
 ghost use Rattle.camel_rows.specs.Decision.{decision, decision_data};
 ghost use Rattle.camel_rows.specs.Event.{event_data};
-ghost use Rattle.camel_rows.specs.Subscriber.{entry_at, entry_data, row_at};
-ghost use Rattle.camel_rows.specs.Update.{state};
+ghost use Rattle.camel_subscriber.specs.Subscriber.{entry_at, entry_data, row_at};
+ghost use Rattle.camel_subscriber.specs.Update.{state};
 ghost use Rattle.camel_vlr.specs.OwnUpdates.{DecidedByOwn};
 
 use crate::session::Session;

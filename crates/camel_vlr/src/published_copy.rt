@@ -1,5 +1,5 @@
 ghost use Rattle.std.specs.Prelude.{◌≡◌, ◌+◌, ◌-◌, ◌^◌, min};
-ghost use Rattle.camel_rows.specs.Records.{no_records};
+ghost use Rattle.camel_subscriber.specs.Records.{no_records};
 ghost use Rattle.camel_vlr.specs.Change.{changed};
 ghost use Rattle.camel_vlr.specs.PublishedCopy.{IsOfItsFront};
 

@@ -1,6 +1,6 @@
 ghost use Rattle.std.specs.Prelude.{◌≡◌, [], true, false, length, IfOk};
 ghost use Rattle.camel_rows.specs.Front.{IsFront};
-ghost use Rattle.camel_rows.specs.Update.{state};
+ghost use Rattle.camel_subscriber.specs.Update.{state};
 
 use crate::look::{Look, NoLook};
 use crate::published_copy::PublishedCopy;

@@ -1,6 +1,6 @@
 ghost use Rattle.std.specs.Prelude.{◌≡◌, [], ◌∷◌, ◌++◌, Some, drop, MatchResult, OnErr, OnOk};
 ghost use Rattle.camel_rows.specs.StoredCsis.{with_csis};
-ghost use Rattle.camel_rows.specs.Update.{update_imsi};
+ghost use Rattle.camel_subscriber.specs.Update.{update_imsi};
 ghost use Rattle.camel_vlr.specs.declared.change.Change.TheVariants as change;
 
 use crate::change::Change;

@@ -1,7 +1,6 @@
 use super::{
     BARE, CONTINUE, Half, Items, NOTHING, Numbers, ONE_ROW, PlainNumber, PlainO, PlainRow,
-    TELEPHONY, base, bring, check_calls, halves_in, imsi_of, insert, marked_insert, number_of,
-    one_number,
+    TELEPHONY, base, bring, check_calls, halves_in, imsi_of, marked_insert, number_of, one_number,
 };
 use camel_criteria::{MatchType, Refusal};
 use camel_rows::{
@@ -14,8 +13,7 @@ use std::test::Fail;
 
 // The answer to an Insert of these items, as the number of its refusal, by the data or by the records.
 fn answer(alloc: Global, records: &mut Records, imsi: Imsi, items: &Items) -> Result<(), u16> {
-    let update = insert(alloc, imsi, items).map_err(|why| why.code())?;
-    records.apply(&update).map_err(|why| why.code())
+    bring(alloc, records, imsi, items).map_err(|why| why.code())
 }
 
 // An entry with a number criterion of so many numbers and this length.

@@ -1,5 +1,5 @@
 use Rattle.std.proofs.Common.{◌≡◌, ◌+◌, length}
-use Rattle.camel_rows.specs.Update.{state_from}
+use Rattle.camel_subscriber.specs.Update.{state_from}
 use Rattle.camel_script_replay.specs.Store.{IsSound, update_count}
 use Rattle.camel_script_replay.proofs.store.Store.publish.Given as goal
 

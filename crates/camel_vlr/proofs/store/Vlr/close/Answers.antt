@@ -1,7 +1,7 @@
 use Rattle.std.proofs.Common.{◌≡◌, ◌∙◌, [], ◌∷◌, ◌++◌, ap, subst}
 use Rattle.camel_history.specs.Beginning.{BeginningData}
 use Rattle.camel_rows.specs.Front.{Extends}
-use Rattle.camel_rows.specs.Update.{state}
+use Rattle.camel_subscriber.specs.Update.{state}
 use Rattle.camel_vlr.proofs.FrontLemmas.{all_last, same_length}
 use Rattle.camel_vlr.specs.Fronts.{ExtendsAll}
 use Rattle.camel_vlr.proofs.store.Vlr.close.Goals as goal

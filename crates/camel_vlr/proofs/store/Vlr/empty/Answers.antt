@@ -4,7 +4,7 @@ use Rattle.camel_history.specs.Beginning.{BeginningData}
 use Rattle.camel_rows.proofs.StoredCsisLemmas.{AreStored-empty}
 use Rattle.camel_rows.specs.Front.{IsFront}
 use Rattle.camel_rows.specs.StoredCsis.{AreStored}
-use Rattle.camel_rows.specs.Update.{state}
+use Rattle.camel_subscriber.specs.Update.{state}
 use Rattle.camel_vlr.proofs.PublicationLemmas.{where_ok}
 use Rattle.camel_vlr.specs.Change.{updates_among}
 use Rattle.camel_vlr.specs.Rule.{Knows}

@@ -3,7 +3,7 @@ use Rattle.std.specs.FinMap as map
 use Rattle.std.proofs.lemmas.Bool.Decides.{nat_tests}
 use Rattle.camel_rows.proofs.StoredCsisLemmas.{AreStored-after, same_refusal}
 use Rattle.camel_rows.specs.StoredCsis.{AreStored, csis_after, with_csis}
-use Rattle.camel_rows.specs.Update.{refusal, state, update_imsi}
+use Rattle.camel_subscriber.specs.Update.{refusal, state, update_imsi}
 use Rattle.camel_vlr.proofs.ChangeLemmas.{updates_among-append}
 use Rattle.camel_vlr.proofs.FrontLemmas.{extends_further, front_push, state_push}
 use Rattle.camel_vlr.proofs.SubmissionLemmas.{submission_refusal-csis}
