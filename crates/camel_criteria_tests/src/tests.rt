@@ -175,6 +175,17 @@ fn reads_and_copies_a_number_criterion(rt: HostRuntime) -> Result<(), Fail> {
 
 const CODES: [BasicService; 6] = [BasicService::Tele(0x11); 6];
 
+// The refusals of an entry of the O-CSI and of one of the VT-CSI.
+fn refusals_at(
+    alloc: Global,
+    dp: u8,
+    codes: &[BasicService],
+    causes: &[u8],
+) -> (Option<Refusal>, Option<Refusal>) {
+    let of_o = OCriteria::new(alloc, dp, None, codes, None, causes).err();
+    (of_o, TCriteria::new(alloc, dp, codes, causes).err())
+}
+
 // At detection point 2 of an originating call and 12 of a terminating one no call is released yet.
 #[test]
 fn takes_an_entry_by_its_counts_and_causes(rt: HostRuntime) -> Result<(), Fail> {
@@ -196,17 +207,10 @@ fn takes_an_entry_by_its_counts_and_causes(rt: HostRuntime) -> Result<(), Fail> 
     ];
     for (dp, count, causes, of_o, of_t) in cases {
         let codes = CODES.get(..count).ok_or("more than were written")?;
-        let made = OCriteria::new(rt.alloc(), dp, None, codes, None, causes);
         assert_eq!(rt;
-            made.err(),
-            of_o,
-            "O-CSI at {dp}, {count} codes, {causes:?}"
-        );
-        let made = TCriteria::new(rt.alloc(), dp, codes, causes);
-        assert_eq!(rt;
-            made.err(),
-            of_t,
-            "VT-CSI at {dp}, {count} codes, {causes:?}"
+            refusals_at(rt.alloc(), dp, codes, causes),
+            (of_o, of_t),
+            "at {dp}, {count} codes, {causes:?}"
         );
     }
     Ok(())
@@ -224,35 +228,41 @@ fn check_o_entry(rt: &impl Abort, entry: &OCriteria) -> Result<(), Fail> {
     Ok(())
 }
 
-#[test]
-fn reads_and_copies_entries(rt: HostRuntime) -> Result<(), Fail> {
-    let number = number_criterion(rt.alloc(), MatchType::Inhibiting)?;
+fn o_entry(alloc: Global) -> Result<OCriteria, Fail> {
+    let number = number_criterion(alloc, MatchType::Inhibiting)?;
     let call_type = Some(CallType::Forwarded);
-    let entry = OCriteria::new(
-        rt.alloc(),
-        4,
-        Some(number),
-        &TWO_CODES,
-        call_type,
-        &[18, 17],
-    )?;
-    check_o_entry(&rt, &entry)?;
-    check_o_entry(&rt, &entry.clone()?)?;
+    Ok(OCriteria::new(alloc, 4, Some(number), &TWO_CODES, call_type, &[18, 17])?)
+}
 
+#[test]
+fn reads_and_copies_an_entry_of_the_o_csi(rt: HostRuntime) -> Result<(), Fail> {
+    let entry = o_entry(rt.alloc())?;
+    check_o_entry(&rt, &entry)?;
+    check_o_entry(&rt, &entry.clone()?)
+}
+
+#[test]
+fn reads_an_entry_without_criteria(rt: HostRuntime) -> Result<(), Fail> {
     let bare = OCriteria::new(rt.alloc(), 2, None, &[], None, &[])?;
     assert_eq!(rt; bare.dp(), 2);
     assert!(rt; bare.number().is_none());
     assert!(rt; bare.basic().is_empty());
     assert_eq!(rt; bare.call_type(), None);
     assert!(rt; bare.causes().is_empty());
+    Ok(())
+}
 
+fn check_t_entry(rt: &impl Abort, entry: &TCriteria) {
+    assert_eq!(rt; entry.dp(), 13);
+    assert_eq!(rt; entry.basic(), TWO_CODES.as_slice());
+    assert_eq!(rt; entry.causes(), [18, 17].as_slice());
+}
+
+#[test]
+fn reads_and_copies_an_entry_of_the_vt_csi(rt: HostRuntime) -> Result<(), Fail> {
     let entry = TCriteria::new(rt.alloc(), 13, &TWO_CODES, &[18, 17])?;
-    let copy = entry.clone()?;
-    for entry in [&entry, &copy] {
-        assert_eq!(rt; entry.dp(), 13);
-        assert_eq!(rt; entry.basic(), TWO_CODES.as_slice());
-        assert_eq!(rt; entry.causes(), [18, 17].as_slice());
-    }
+    check_t_entry(&rt, &entry);
+    check_t_entry(&rt, &entry.clone()?);
     Ok(())
 }
 
@@ -310,6 +320,32 @@ const INHIBITING: [NumberCase; 3] = [
     (&[OTHERS], &[4], &[0x91, 0x99, 0x99], false),
 ];
 
+// Numbers of these octets.
+fn numbers_of(alloc: Global, listed: &[&[u8]]) -> Result<Vec<IsdnAddress>, Fail> {
+    let mut numbers = Vec::new(alloc);
+    for octets in listed {
+        numbers.push(IsdnAddress::from_bytes(octets)?)?;
+    }
+    Ok(numbers)
+}
+
+// An entry that asks for a number alone.
+fn number_entry(
+    alloc: Global,
+    match_type: MatchType,
+    listed: &[&[u8]],
+    lengths: &[u8],
+) -> Result<OCriteria, Fail> {
+    let numbers = numbers_of(alloc, listed)?;
+    let number = NumberCriterion::new(alloc, match_type, &numbers, lengths)?;
+    Ok(OCriteria::new(alloc, 2, Some(number), &[], None, &[])?)
+}
+
+// Whether an event meets an entry.
+fn check_o_met(rt: &impl Abort, entry: &OCriteria, event: &OEvent, wanted: bool) {
+    assert_eq!(rt; o_met(entry, event), wanted, "{entry:?} and {event:?}");
+}
+
 fn check_number_case(
     rt: &impl Abort,
     alloc: Global,
@@ -317,14 +353,9 @@ fn check_number_case(
     case: NumberCase,
 ) -> Result<(), Fail> {
     let (listed, lengths, destination, wanted) = case;
-    let mut numbers = Vec::new(alloc);
-    for octets in listed {
-        numbers.push(IsdnAddress::from_bytes(octets)?)?;
-    }
-    let number = NumberCriterion::new(alloc, match_type, &numbers, lengths)?;
-    let entry = OCriteria::new(alloc, 2, Some(number), &[], None, &[])?;
     let event = of_telephony(Address::new(destination)?, None);
-    assert_eq!(rt; o_met(&entry, &event), wanted, "{entry:?} and {event:?}");
+    let entry = number_entry(alloc, match_type, listed, lengths)?;
+    check_o_met(rt, &entry, &event, wanted);
     Ok(())
 }
 
@@ -370,14 +401,14 @@ fn meets_an_entry_of_the_o_csi_by_each_criterion(rt: HostRuntime) -> Result<(), 
         (speech, forwarded, &[17], 0x12, true, Some(18), false),
     ];
     for (codes, call_type, causes, code, forwarded, cause, wanted) in cases {
-        let entry = OCriteria::new(rt.alloc(), 4, None, codes, call_type, causes)?;
         let event = OEvent {
             destination: Address::new(&[0x91, 0x21, 0x43])?,
             basic: BasicService::Tele(code),
             forwarded,
             cause: cause.and_then(Cause::new),
         };
-        assert_eq!(rt; o_met(&entry, &event), wanted, "{entry:?} and {event:?}");
+        let entry = OCriteria::new(rt.alloc(), 4, None, codes, call_type, causes)?;
+        check_o_met(&rt, &entry, &event, wanted);
     }
     Ok(())
 }
@@ -390,15 +421,11 @@ fn asks_for_the_number_and_the_cause(rt: HostRuntime) -> Result<(), Fail> {
         ([0x91, 0x99, 0x99], 17, false),
         ([0x91, 0x99, 0x99], 18, false),
     ] {
-        let listed = [IsdnAddress::from_bytes(&[0x91, 0x21, 0xf3])?];
+        let event = of_telephony(Address::new(&destination)?, Cause::new(cause));
+        let listed = [IsdnAddress::from_bytes(THREE_DIGITS)?];
         let number = NumberCriterion::new(rt.alloc(), MatchType::Enabling, &listed, &[])?;
         let entry = OCriteria::new(rt.alloc(), 4, Some(number), &[], None, &[17])?;
-        let event = of_telephony(Address::new(&destination)?, Cause::new(cause));
-        assert_eq!(rt;
-            o_met(&entry, &event),
-            wanted,
-            "{destination:?} and {cause}"
-        );
+        check_o_met(&rt, &entry, &event, wanted);
     }
     Ok(())
 }

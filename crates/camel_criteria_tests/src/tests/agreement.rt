@@ -76,11 +76,16 @@ fn number_criterion_of(
     } else {
         MatchType::Inhibiting
     };
+    let numbers = numbers_of(alloc, &plain.numbers)?;
+    Ok(NumberCriterion::new(alloc, match_type, &numbers, &plain.lengths)?)
+}
+
+fn numbers_of(alloc: Global, listed: &[Vec<u8>]) -> Result<Vec<IsdnAddress>, Fail> {
     let mut numbers = Vec::new(alloc);
-    for octets in plain.numbers.iter() {
+    for octets in listed {
         numbers.push(IsdnAddress::from_bytes(octets)?)?;
     }
-    Ok(NumberCriterion::new(alloc, match_type, &numbers, &plain.lengths)?)
+    Ok(numbers)
 }
 
 fn services_of(alloc: Global, codes: &[PlainCode]) -> Result<Vec<BasicService>, AllocError> {
