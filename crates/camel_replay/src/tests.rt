@@ -60,6 +60,12 @@ pub fn check_run_with(
 // A script or an output, in which `A`, `B` and `C` stand for three IMSIs, and `S` for a gsmSCF address.
 pub fn spelled_out(alloc: Global, text: &str) -> Result<String, Fail> {
     let mut whole = String::new(alloc);
+    spell_out(&mut whole, text)?;
+    Ok(whole)
+}
+
+// The same behind what stands before it.
+pub fn spell_out(whole: &mut String, text: &str) -> Result<(), Fail> {
     for character in text.chars() {
         match character {
             'A' => whole.push_str("262010000000001")?,
@@ -69,5 +75,5 @@ pub fn spelled_out(alloc: Global, text: &str) -> Result<String, Fail> {
             other => whole.push(other)?,
         }
     }
-    Ok(whole)
+    Ok(())
 }

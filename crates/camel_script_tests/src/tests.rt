@@ -114,21 +114,24 @@ fn check_item_faults(rt: &impl Abort, alloc: Global, items: &[(&str, u16)]) -> R
 
 fn update_of(alloc: Global, text: &str) -> Result<Update, Fail> {
     let mut script = Script::new(alloc, text.as_bytes(), 1)?;
+    next_update(&mut script)
+}
+
+fn next_update<R: Read>(script: &mut Script<R>) -> Result<Update, Fail> {
     match script.read_record()? {
         Some(Record::Update(update)) => Ok(update),
         _ => Err(Fail::new("no update")),
     }
 }
 
-fn call_in(record: &Option<Record>) -> Option<CallEvent> {
-    match record {
-        Some(Record::Call(call)) => Some(*call),
-        _ => None,
-    }
-}
-
 fn call_of(alloc: Global, text: &str) -> Result<CallEvent, Fail> {
     let mut script = Script::new(alloc, text.as_bytes(), 1)?;
-    let record = script.read_record()?;
-    Ok(call_in(&record).ok_or("no call")?)
+    next_call(&mut script)
+}
+
+fn next_call<R: Read>(script: &mut Script<R>) -> Result<CallEvent, Fail> {
+    match &script.read_record()? {
+        Some(Record::Call(call)) => Ok(*call),
+        _ => Err(Fail::new("no call")),
+    }
 }

@@ -260,6 +260,13 @@ fn asked(session: &mut Session, call: &CallEvent) -> Option<(u64, Told)>
     asked_once(session, call)
 }
 
+// A look has this front, and a call is told this there.
+fn check_asked<R: Abort>(rt: &R, session: &mut Session, call: &CallEvent, front: u64, wanted: Told)
+    ensures { session.new.store ≡ session.old.store }
+{
+    assert_eq!(rt; asked(session, call), Some((front, wanted)));
+}
+
 // The front of a look, and the row and the entry of a subscriber at a detection point there.
 fn lent(session: &mut Session, imsi: &Imsi, dp: u8) -> Option<(u64, Option<RowTold>, Option<Entry>)>
     ensures store { session.new.store ≡ session.old.store }
@@ -331,20 +338,25 @@ fn filled<R: Wait + Abort>(
     ensures session { session.new.store ≡ session.old.store }
 {
     let call = call_of(imsi)?;
-    row_sent(rt, store, imsi)?;
+    row_sent(rt, store, imsi);
     assert_eq!(rt; learnt(rt, store, session), Ok(2));
-    assert_eq!(rt; asked(session, &call), Some((2, Ok((100, None)))));
+    check_asked(rt, session, &call, 2, Ok((100, None)));
     Ok(())
 }
 
 // Registers a subscriber and inserts the row, as the first two updates.
-fn row_sent(rt: &impl Abort, store: &mut Vlr, imsi: Imsi) -> Result<(), Refusal>
+fn row_sent(rt: &impl Abort, store: &mut Vlr, imsi: Imsi)
     ensures { store.new.store ≡ store.old.store }
 {
-    let insert = row_update(imsi)?;
     assert_eq!(rt; store.submit(Update::Register { imsi }), Ok(1));
-    assert_eq!(rt; store.submit(insert), Ok(2));
-    Ok(())
+    assert_eq!(rt; row_answer(store, imsi), Ok(2));
+}
+
+// The answer to an Insert of the row.
+fn row_answer(store: &mut Vlr, imsi: Imsi) -> Result<u64, Refusal>
+    ensures { store.new.store ≡ store.old.store }
+{
+    store.submit(row_update(imsi)?)
 }
 
 // Publishes what is pending, and tells the session. The front is the answer.

@@ -1,4 +1,4 @@
-use super::{FIRST_CALL, FIRST_CALL_OUTPUT, check_run, check_run_with, spelled_out};
+use super::{FIRST_CALL, FIRST_CALL_OUTPUT, check_run, check_run_with, spell_out, spelled_out};
 use std::alloc::Global;
 use std::process::Abort;
 use std::test::Fail;
@@ -40,17 +40,37 @@ fn check_records(
     items: &str,
     records: &[(&str, &str)],
 ) -> Result<(), Fail> {
-    let mut script = spelled_out(alloc, "register,A\ninsert,A,")?;
-    script.push_str(spelled_out(alloc, items)?.as_str())?;
-    script.push_str("\npublish\n")?;
-    let mut output = spelled_out(alloc, "accepted 1\naccepted 2\npublished 2\n")?;
-    for (record, line) in records {
-        script.push_str(spelled_out(alloc, record)?.as_str())?;
-        script.push_str("\n")?;
-        output.push_str(spelled_out(alloc, line)?.as_str())?;
-        output.push_str("\n")?;
-    }
+    let script = script_of(alloc, items, records)?;
+    let output = output_of(alloc, &["accepted 1", "accepted 2", "published 2"], records)?;
     check_run(rt, alloc, script.as_str(), output.as_str(), "", 0)
+}
+
+fn script_of(alloc: Global, items: &str, records: &[(&str, &str)]) -> Result<String, Fail> {
+    let mut script = String::new(alloc);
+    for part in ["register,A\ninsert,A,", items, "\npublish\n"] {
+        spell_out(&mut script, part)?;
+    }
+    for (record, _) in records {
+        spell_line(&mut script, record)?;
+    }
+    Ok(script)
+}
+
+// The first lines, and those of the records.
+fn output_of(alloc: Global, first: &[&str], records: &[(&str, &str)]) -> Result<String, Fail> {
+    let mut output = String::new(alloc);
+    for line in first {
+        spell_line(&mut output, line)?;
+    }
+    for (_, line) in records {
+        spell_line(&mut output, line)?;
+    }
+    Ok(output)
+}
+
+fn spell_line(whole: &mut String, line: &str) -> Result<(), Fail> {
+    spell_out(whole, line)?;
+    Ok(whole.push_str("\n")?)
 }
 
 #[test]
@@ -194,29 +214,34 @@ fn knows_a_subscriber_once_published(rt: HostRuntime) -> Result<(), Fail> {
 
 #[test]
 fn takes_or_refuses_each_item(rt: HostRuntime) -> Result<(), Fail> {
-    let alloc = rt.alloc();
-    let mut script = spelled_out(alloc, "register,A\n")?;
-    let mut output = spelled_out(alloc, "accepted 1\n")?;
     let ten = "oc:4:e/9111+9111+9111+9111+9111+9111+9111+9111+9111+9111/:::";
     let eleven = "oc:4:e/9111+9111+9111+9111+9111+9111+9111+9111+9111+9111+9111/:::";
-    for (items, line) in [
-        ("o:2:2147483647:S:0", "accepted 2\n"),
-        ("o:2:2147483648:S:0", "refused 36\n"),
-        ("oc:4:e//15:::", "accepted 3\n"),
-        ("oc:4:e//16:::", "refused 36\n"),
-        (ten, "accepted 4\n"),
-        (eleven, "refused 36\n"),
-        ("oc:4::::17", "accepted 5\n"),
-        ("oc:2::::17", "refused 36\n"),
-        ("oc:4:e//:::", "refused 35\n"),
-        ("o:2:1:S:0,o:2:2:S:0", "refused 36\n"),
-    ] {
-        script.push_str(spelled_out(alloc, "insert,A,")?.as_str())?;
-        script.push_str(spelled_out(alloc, items)?.as_str())?;
-        script.push_str("\n")?;
-        output.push_str(line)?;
+    let inserts = [
+        ("o:2:2147483647:S:0", "accepted 2"),
+        ("o:2:2147483648:S:0", "refused 36"),
+        ("oc:4:e//15:::", "accepted 3"),
+        ("oc:4:e//16:::", "refused 36"),
+        (ten, "accepted 4"),
+        (eleven, "refused 36"),
+        ("oc:4::::17", "accepted 5"),
+        ("oc:2::::17", "refused 36"),
+        ("oc:4:e//:::", "refused 35"),
+        ("o:2:1:S:0,o:2:2:S:0", "refused 36"),
+    ];
+    let script = inserts_of(rt.alloc(), &inserts)?;
+    let output = output_of(rt.alloc(), &["accepted 1"], &inserts)?;
+    check_run(&rt, rt.alloc(), script.as_str(), output.as_str(), "", 0)
+}
+
+// A register, and an insert of each item.
+fn inserts_of(alloc: Global, inserts: &[(&str, &str)]) -> Result<String, Fail> {
+    let mut script = String::new(alloc);
+    spell_line(&mut script, "register,A")?;
+    for (items, _) in inserts {
+        spell_out(&mut script, "insert,A,")?;
+        spell_line(&mut script, items)?;
     }
-    check_run(&rt, alloc, script.as_str(), output.as_str(), "", 0)
+    Ok(script)
 }
 
 #[test]

@@ -1,6 +1,7 @@
 use super::{Given, call_of, check_faults, check_records};
 use camel_criteria::BasicService;
 use camel_rows::CallEvent;
+use std::process::Abort;
 use std::test::Fail;
 
 #[test]
@@ -132,51 +133,64 @@ const DIGITS: [u8; 6] = [2, 6, 2, 0, 1, 9];
 
 const OTHER_POINT: &str = "another detection point";
 
+fn check_call_at_2(
+    rt: &impl Abort,
+    call: CallEvent,
+    service: BasicService,
+    is_forwarded: bool,
+) -> Result<(), Fail> {
+    let CallEvent::CollectedInfo {
+        imsi,
+        destination,
+        basic,
+        forwarded,
+    } = call
+    else {
+        return Err(Fail::new(OTHER_POINT));
+    };
+    assert_eq!(rt; imsi.digits(), DIGITS.as_slice());
+    assert_eq!(rt; destination.lend().bytes(), [0x91, 0x2f].as_slice());
+    assert_eq!(rt; (basic, forwarded), (service, is_forwarded));
+    Ok(())
+}
+
 #[test]
 fn reads_a_call_at_2(rt: HostRuntime) -> Result<(), Fail> {
-    for (text, service, is_forwarded) in [
-        ("call,2,262019,t11,912F,n", BasicService::Tele(0x11), false),
-        ("call,2,262019,b1F,912f,f", BasicService::Bearer(0x1f), true),
-    ] {
-        let CallEvent::CollectedInfo {
-            imsi,
-            destination,
-            basic,
-            forwarded,
-        } = call_of(rt.alloc(), text)?
-        else {
-            return Err(Fail::new(OTHER_POINT));
-        };
-        assert_eq!(rt; imsi.digits(), DIGITS.as_slice(), "{text}");
-        assert_eq!(rt; destination.lend().bytes(), [0x91, 0x2f].as_slice());
-        assert_eq!(rt; (basic, forwarded), (service, is_forwarded), "{text}");
-    }
+    let call = call_of(rt.alloc(), "call,2,262019,t11,912F,n")?;
+    check_call_at_2(&rt, call, BasicService::Tele(0x11), false)?;
+    let call = call_of(rt.alloc(), "call,2,262019,b1F,912f,f")?;
+    check_call_at_2(&rt, call, BasicService::Bearer(0x1f), true)
+}
+
+fn check_call_at_4(
+    rt: &impl Abort,
+    call: CallEvent,
+    is_forwarded: bool,
+    value: u8,
+) -> Result<(), Fail> {
+    let CallEvent::RouteSelectFailure {
+        imsi,
+        destination,
+        basic,
+        forwarded,
+        cause,
+    } = call
+    else {
+        return Err(Fail::new(OTHER_POINT));
+    };
+    assert_eq!(rt; imsi.digits(), DIGITS.as_slice());
+    assert_eq!(rt; destination.lend().bytes(), [0x81, 0xa1, 0xb1].as_slice());
+    assert_eq!(rt; basic, BasicService::Bearer(0x1a));
+    assert_eq!(rt; (forwarded, cause.value()), (is_forwarded, value));
     Ok(())
 }
 
 #[test]
 fn reads_a_call_at_4(rt: HostRuntime) -> Result<(), Fail> {
-    for (text, is_forwarded, value) in [
-        ("call,4,262019,b1a,81a1b1,n,17", false, 17),
-        ("call,4,262019,b1A,81A1B1,f,0127", true, 127),
-    ] {
-        let CallEvent::RouteSelectFailure {
-            imsi,
-            destination,
-            basic,
-            forwarded,
-            cause,
-        } = call_of(rt.alloc(), text)?
-        else {
-            return Err(Fail::new(OTHER_POINT));
-        };
-        assert_eq!(rt; imsi.digits(), DIGITS.as_slice(), "{text}");
-        let octets = [0x81, 0xa1, 0xb1];
-        assert_eq!(rt; destination.lend().bytes(), octets.as_slice(), "{text}");
-        assert_eq!(rt; basic, BasicService::Bearer(0x1a), "{text}");
-        assert_eq!(rt; (forwarded, cause.value()), (is_forwarded, value), "{text}");
-    }
-    Ok(())
+    let call = call_of(rt.alloc(), "call,4,262019,b1a,81a1b1,n,17")?;
+    check_call_at_4(&rt, call, false, 17)?;
+    let call = call_of(rt.alloc(), "call,4,262019,b1A,81A1B1,f,0127")?;
+    check_call_at_4(&rt, call, true, 127)
 }
 
 #[test]

@@ -55,8 +55,7 @@ const MIXED: &str = "insert,26201,t:13:7:9121:31,oc:4:i/9121+a165F7/7+3:t11+b1f:
 
 #[test]
 fn reads_the_rows_of_an_o_csi_in_their_order(rt: HostRuntime) -> Result<(), Fail> {
-    let update = update_of(rt.alloc(), MIXED)?;
-    let csi = o_of(&update).ok_or("no O-CSI")?;
+    let csi = o_of(&update_of(rt.alloc(), MIXED)?).ok_or("no O-CSI")?;
     assert_eq!(rt; csi.len(), 2);
     let first = Row {
         dp: 4,
@@ -77,8 +76,7 @@ fn reads_the_rows_of_an_o_csi_in_their_order(rt: HostRuntime) -> Result<(), Fail
 
 #[test]
 fn reads_the_rows_of_a_vt_csi_in_their_order(rt: HostRuntime) -> Result<(), Fail> {
-    let update = update_of(rt.alloc(), MIXED)?;
-    let csi = vt_of(&update).ok_or("no VT-CSI")?;
+    let csi = vt_of(&update_of(rt.alloc(), MIXED)?).ok_or("no VT-CSI")?;
     assert_eq!(rt; csi.len(), 2);
     let first = Row {
         dp: 13,
@@ -121,9 +119,13 @@ fn check_whole_entry(rt: &impl Abort, entry: &OCriteria) -> Result<(), Fail> {
 #[test]
 fn reads_the_criteria_of_an_o_csi(rt: HostRuntime) -> Result<(), Fail> {
     let update = update_of(rt.alloc(), MIXED)?;
-    let set = o_criteria_of(&update).ok_or("no O criteria")?;
+    check_o_criteria(&rt, &update)
+}
+
+fn check_o_criteria(rt: &impl Abort, update: &Update) -> Result<(), Fail> {
+    let set = o_criteria_of(update).ok_or("no O criteria")?;
     assert_eq!(rt; set.len(), 2);
-    check_whole_entry(&rt, set.get(0).ok_or("no entry")?)?;
+    check_whole_entry(rt, set.get(0).ok_or("no entry")?)?;
     let entry = set.get(1).ok_or("no second entry")?;
     assert_eq!(rt; entry.dp(), 2);
     assert!(rt; entry.number().is_none());
@@ -148,20 +150,28 @@ fn check_t_entry(
 #[test]
 fn reads_the_criteria_of_a_vt_csi(rt: HostRuntime) -> Result<(), Fail> {
     let update = update_of(rt.alloc(), MIXED)?;
-    let set = t_criteria_of(&update).ok_or("no T criteria")?;
+    check_t_criteria(&rt, &update)
+}
+
+fn check_t_criteria(rt: &impl Abort, update: &Update) -> Result<(), Fail> {
+    let set = t_criteria_of(update).ok_or("no T criteria")?;
     assert_eq!(rt; set.len(), 2);
     let entry = set.get(0).ok_or("no entry")?;
-    check_t_entry(&rt, entry, 14, &[BasicService::Bearer(0x10)], &[18, 19]);
+    check_t_entry(rt, entry, 14, &[BasicService::Bearer(0x10)], &[18, 19]);
     let entry = set.get(1).ok_or("no second entry")?;
     let services = [BasicService::Tele(0x60), BasicService::Tele(0x80)];
-    check_t_entry(&rt, entry, 12, &services, &[]);
+    check_t_entry(rt, entry, 12, &services, &[]);
     Ok(())
 }
 
 #[test]
 fn reads_a_number_criterion_that_enables(rt: HostRuntime) -> Result<(), Fail> {
     let update = update_of(rt.alloc(), "insert,26201,oc:2:e//15:::")?;
-    let set = o_criteria_of(&update).ok_or("no O criteria")?;
+    check_enabling(&rt, &update)
+}
+
+fn check_enabling(rt: &impl Abort, update: &Update) -> Result<(), Fail> {
+    let set = o_criteria_of(update).ok_or("no O criteria")?;
     let entry = set.get(0).ok_or("no entry")?;
     let criterion = entry.number().ok_or("no number criterion")?;
     assert_eq!(rt; criterion.match_type(), MatchType::Enabling);
@@ -181,7 +191,7 @@ fn lists_of(update: &Update) -> (bool, bool, bool, bool) {
     )
 }
 
-// A list without an item is omitted. One whose items are all ignored is there, and holds none.
+// A list without an item is omitted. One whose items are all ignored is there.
 #[test]
 fn omits_a_list_without_an_item(rt: HostRuntime) -> Result<(), Fail> {
     for (text, wanted) in [
@@ -193,11 +203,23 @@ fn omits_a_list_without_an_item(rt: HostRuntime) -> Result<(), Fail> {
         ("insert,26201,o:3:100:91:0", (true, false, false, false)),
         ("insert,26201,tc:2::,oc:3::::", (false, true, false, true)),
     ] {
-        let update = update_of(rt.alloc(), text)?;
-        assert_eq!(rt; lists_of(&update), wanted, "{text}");
+        let lists = lists_of(&update_of(rt.alloc(), text)?);
+        assert_eq!(rt; lists, wanted, "{text}");
     }
+    Ok(())
+}
+
+// Whether the O-CSI and the VT-CSI of an insert hold no row, where they are there.
+fn are_empty(update: &Update) -> (Option<bool>, Option<bool>) {
+    (
+        o_of(update).map(|csi| csi.is_empty()),
+        vt_of(update).map(|csi| csi.is_empty()),
+    )
+}
+
+#[test]
+fn keeps_a_list_whose_items_are_all_ignored(rt: HostRuntime) -> Result<(), Fail> {
     let update = update_of(rt.alloc(), "insert,26201,o:12:100:91:0,t:2:100:91:0")?;
-    assert!(rt; o_of(&update).ok_or("no O-CSI")?.is_empty());
-    assert!(rt; vt_of(&update).ok_or("no VT-CSI")?.is_empty());
+    assert_eq!(rt; are_empty(&update), (Some(true), Some(true)));
     Ok(())
 }

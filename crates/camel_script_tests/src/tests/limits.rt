@@ -1,21 +1,37 @@
 use super::{Given, first};
 use std::alloc::{AllocError, Global};
+use std::process::Abort;
 use std::test::Fail;
 
-// What stands before, then octets so many times, and then what stands after.
+// What stands before, then a text so many times, and then what stands after.
 fn repeated(
     alloc: Global,
     before: &str,
-    octets: &[u8],
+    repeated: &str,
     count: usize,
     after: &str,
-) -> Result<Vec<u8>, AllocError> {
-    let mut text = Vec::from_slice(alloc, before.as_bytes())?;
+) -> Result<String, AllocError> {
+    let mut text = String::from_str(alloc, before)?;
     for _ in 0..count {
-        text.extend_from_slice(octets)?;
+        text.push_str(repeated)?;
     }
-    text.extend_from_slice(after.as_bytes())?;
+    text.push_str(after)?;
     Ok(text)
+}
+
+fn check_repeated(
+    rt: &impl Abort,
+    alloc: Global,
+    before: &str,
+    octets: &str,
+    count: usize,
+    after: &str,
+    wanted: Given,
+) -> Result<(), Fail> {
+    let text = repeated(alloc, before, octets, count, after)?;
+    let given = first(alloc, text.as_bytes())?;
+    assert_eq!(rt; given, wanted, "{before}{octets}{after}");
+    Ok(())
 }
 
 // Records of 10,000 fields.
@@ -49,8 +65,7 @@ fn reads_records_of_many_fields(rt: HostRuntime) -> Result<(), Fail> {
         ("call,14", ",", 9_998, "", Given::Fault(203)),
         ("", ",", 9_999, "", Given::Fault(202)),
     ] {
-        let text = repeated(rt.alloc(), before, field.as_bytes(), count, after)?;
-        assert_eq!(rt; first(rt.alloc(), &text)?, wanted, "{before}{field}");
+        check_repeated(&rt, rt.alloc(), before, field, count, after, wanted)?;
     }
     Ok(())
 }
@@ -79,8 +94,7 @@ fn reads_a_long_field_of_a_call_or_word(rt: HostRuntime) -> Result<(), Fail> {
         ("call,4,26201,t11,91,n,", "0", "", Given::Fault(205)),
         ("call,13,26201,t11,", "1", "", Given::Fault(205)),
     ] {
-        let text = repeated(rt.alloc(), before, octet.as_bytes(), MEBIBYTE, after)?;
-        assert_eq!(rt; first(rt.alloc(), &text)?, wanted, "{before}{octet}{after}");
+        check_repeated(&rt, rt.alloc(), before, octet, MEBIBYTE, after, wanted)?;
     }
     Ok(())
 }
@@ -107,12 +121,7 @@ fn reads_a_long_item(rt: HostRuntime) -> Result<(), Fail> {
         ("insert,26201,tc:13::17", "+17", "+", Given::Fault(205)),
     ] {
         let count = MEBIBYTE / octets.len().max(1);
-        let text = repeated(rt.alloc(), before, octets.as_bytes(), count, after)?;
-        assert_eq!(rt;
-            first(rt.alloc(), &text)?,
-            wanted,
-            "{before}{octets}{after}"
-        );
+        check_repeated(&rt, rt.alloc(), before, octets, count, after, wanted)?;
     }
     Ok(())
 }

@@ -88,8 +88,15 @@ fn prints_a_line_behind_those_before_it(rt: HostRuntime) -> Result<(), Fail> {
     Ok(())
 }
 
-fn text_of<E: Error>(alloc: Global, error: &E) -> Result<String, AllocError> {
-    format!(in alloc; "{error}")
+fn check_text<R: Abort, E: Error>(
+    rt: &R,
+    alloc: Global,
+    error: &E,
+    wanted: &str,
+) -> Result<(), AllocError> {
+    let text = format!(in alloc; "{error}")?;
+    assert_eq!(rt; text.as_str(), wanted);
+    Ok(())
 }
 
 #[test]
@@ -117,7 +124,7 @@ fn numbers_and_prints_each_fault(rt: HostRuntime) -> Result<(), Fail> {
         (ScriptFault::Failed, 209, "an earlier read had a fault"),
     ] {
         assert_eq!(rt; fault.code(), code, "{text}");
-        assert_eq!(rt; text_of(rt.alloc(), &fault)?.as_str(), text);
+        check_text(&rt, rt.alloc(), &fault, text)?;
     }
     Ok(())
 }

@@ -1,5 +1,6 @@
-use super::{Given, check_records, first};
+use super::{Given, check_record, check_records};
 use std::alloc::{AllocError, Global};
+use std::process::Abort;
 use std::test::Fail;
 
 // An insert of one item so many times, and then the others.
@@ -11,6 +12,18 @@ fn insert_of(alloc: Global, item: &str, count: usize, others: &str) -> Result<St
     }
     text.push_str(others)?;
     Ok(text)
+}
+
+fn check_insert_of(
+    rt: &impl Abort,
+    alloc: Global,
+    item: &str,
+    count: usize,
+    others: &str,
+    wanted: Given,
+) -> Result<(), Fail> {
+    let text = insert_of(alloc, item, count, others)?;
+    check_record(rt, alloc, &text, wanted)
 }
 
 // Items that are ignored, and so may repeat a detection point, count towards the ten.
@@ -26,18 +39,8 @@ fn takes_up_to_ten_items_of_a_list(rt: HostRuntime) -> Result<(), Fail> {
         "tc:11::",
         "tc:4::17",
     ] {
-        let text = insert_of(rt.alloc(), item, 10, "")?;
-        assert_eq!(rt;
-            first(rt.alloc(), text.as_bytes())?,
-            Given::Insert,
-            "{text}"
-        );
-        let text = insert_of(rt.alloc(), item, 11, "")?;
-        assert_eq!(rt;
-            first(rt.alloc(), text.as_bytes())?,
-            Given::Refused(36),
-            "{text}"
-        );
+        check_insert_of(&rt, rt.alloc(), item, 10, "", Given::Insert)?;
+        check_insert_of(&rt, rt.alloc(), item, 11, "", Given::Refused(36))?;
     }
     Ok(())
 }
@@ -54,8 +57,7 @@ fn counts_each_list_alone(rt: HostRuntime) -> Result<(), Fail> {
         (11, ",d", Given::Fault(202)),
         (11, ",oc:4:e//:::", Given::Refused(35)),
     ] {
-        let text = insert_of(rt.alloc(), row, count, others)?;
-        assert_eq!(rt; first(rt.alloc(), text.as_bytes())?, wanted, "{text}");
+        check_insert_of(&rt, rt.alloc(), row, count, others, wanted)?;
     }
     Ok(())
 }

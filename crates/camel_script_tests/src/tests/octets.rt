@@ -35,6 +35,20 @@ fn text_of(
     Ok(text)
 }
 
+// What a script of that text gives first.
+fn given_of(
+    alloc: Global,
+    before: &[u8],
+    places: &[Place],
+    separator: u8,
+    changed: usize,
+    is_kept: bool,
+    octets: &[u8],
+) -> Result<Given, Fail> {
+    let text = text_of(alloc, before, places, separator, changed, is_kept, octets)?;
+    first(alloc, &text)
+}
+
 // Each place in turn with other octets in it, after what stands before all of them.
 fn check_places(
     rt: &impl Abort,
@@ -44,12 +58,8 @@ fn check_places(
     separator: u8,
 ) -> Result<(), Fail> {
     for (at, place) in places.iter().enumerate() {
-        let text = text_of(alloc, before, places, separator, at, true, b"\0")?;
-        assert_eq!(rt;
-            first(alloc, &text)?,
-            Given::Fault(place.2),
-            "a NUL behind {place:?}"
-        );
+        let given = given_of(alloc, before, places, separator, at, true, b"\0")?;
+        assert_eq!(rt; given, Given::Fault(place.2), "a NUL behind {place:?}");
         check_others(rt, alloc, before, places, separator, at)?;
     }
     Ok(())
@@ -65,8 +75,8 @@ fn check_others(
 ) -> Result<(), Fail> {
     let wanted = places.get(at).map(|place| Given::Fault(place.1));
     for octets in OTHERS {
-        let text = text_of(alloc, before, places, separator, at, false, octets)?;
-        assert_eq!(rt; Some(first(alloc, &text)?), wanted, "{octets:?} at {at}");
+        let given = given_of(alloc, before, places, separator, at, false, octets)?;
+        assert_eq!(rt; Some(given), wanted, "{octets:?} at {at}");
     }
     Ok(())
 }

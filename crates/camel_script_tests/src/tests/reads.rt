@@ -6,6 +6,19 @@ use std::io::{ErrorKind, Read};
 use std::process::Abort;
 use std::test::Fail;
 
+// A script, with its next answers where so many records may be read.
+fn check_script(
+    rt: &impl Abort,
+    alloc: Global,
+    text: &str,
+    most: u64,
+    wanted: &[Given],
+) -> Result<(), Fail> {
+    let mut script = Script::new(alloc, text.as_bytes(), most)?;
+    gives(rt, &mut script, wanted);
+    Ok(())
+}
+
 // Line ends, quotes, empty lines and a byte order mark are those of CSV.
 #[test]
 fn reads_every_layout_of_two_records(rt: HostRuntime) -> Result<(), Fail> {
@@ -17,43 +30,36 @@ fn reads_every_layout_of_two_records(rt: HostRuntime) -> Result<(), Fail> {
         "\n\r\nregister,262010000000001\n\n\npublish\n\n",
         "\u{feff}register,262010000000001\npublish\n",
     ] {
-        let mut script = Script::new(rt.alloc(), text.as_bytes(), 2)?;
         let wanted = [Given::Register, Given::Publish, Given::End, Given::End];
-        gives(&rt, &mut script, &wanted);
+        check_script(&rt, rt.alloc(), text, 2, &wanted)?;
     }
     Ok(())
 }
 
 #[test]
 fn reads_no_more_after_a_fault(rt: HostRuntime) -> Result<(), Fail> {
-    let text = b"publish\nmove\npublish\n".as_slice();
-    let mut script = Script::new(rt.alloc(), text, 9)?;
     let wanted = [
         Given::Publish,
         Given::Fault(202),
         Given::Fault(209),
         Given::Fault(209),
     ];
-    gives(&rt, &mut script, &wanted);
-    Ok(())
+    check_script(&rt, rt.alloc(), "publish\nmove\npublish\n", 9, &wanted)
 }
 
 // A record that is refused is a record like the others.
 #[test]
 fn reads_on_after_a_refused_record(rt: HostRuntime) -> Result<(), Fail> {
-    let text = b"call,13,26201,t11,128\ninsert,26201,oc:4:e//:::\npublish\n".as_slice();
-    let mut script = Script::new(rt.alloc(), text, 3)?;
+    let text = "call,13,26201,t11,128\ninsert,26201,oc:4:e//:::\npublish\n";
     let wanted = [
         Given::Refused(36),
         Given::Refused(35),
         Given::Publish,
         Given::End,
     ];
-    gives(&rt, &mut script, &wanted);
-    let mut script = Script::new(rt.alloc(), text, 1)?;
+    check_script(&rt, rt.alloc(), text, 3, &wanted)?;
     let wanted = [Given::Refused(36), Given::Fault(207), Given::Fault(209)];
-    gives(&rt, &mut script, &wanted);
-    Ok(())
+    check_script(&rt, rt.alloc(), text, 1, &wanted)
 }
 
 // One record too many is told before any other fault of it, and the end after exactly so many is the end.
@@ -66,18 +72,15 @@ fn reads_no_more_than_so_many_records(rt: HostRuntime) -> Result<(), Fail> {
         "publish\n\"\"\n",
         "publish\ncall",
     ] {
-        let mut script = Script::new(rt.alloc(), text.as_bytes(), 1)?;
-        gives(&rt, &mut script, &too_many);
+        check_script(&rt, rt.alloc(), text, 1, &too_many)?;
     }
-    let mut script = Script::new(rt.alloc(), b"publish\n\n\n".as_slice(), 1)?;
-    gives(&rt, &mut script, &[Given::Publish, Given::End, Given::End]);
-    let mut script = Script::new(rt.alloc(), b"".as_slice(), 0)?;
-    gives(&rt, &mut script, &[Given::End, Given::End]);
-    let mut script = Script::new(rt.alloc(), b"move".as_slice(), 0)?;
-    gives(&rt, &mut script, &[Given::Fault(207), Given::Fault(209)]);
-    let mut script = Script::new(rt.alloc(), b"publish".as_slice(), u64::MAX)?;
-    gives(&rt, &mut script, &[Given::Publish, Given::End]);
-    Ok(())
+    let at_the_end = [Given::Publish, Given::End, Given::End];
+    check_script(&rt, rt.alloc(), "publish\n\n\n", 1, &at_the_end)?;
+    check_script(&rt, rt.alloc(), "", 0, &[Given::End, Given::End])?;
+    let over_none = [Given::Fault(207), Given::Fault(209)];
+    check_script(&rt, rt.alloc(), "move", 0, &over_none)?;
+    let most = [Given::Publish, Given::End];
+    check_script(&rt, rt.alloc(), "publish", u64::MAX, &most)
 }
 
 // A reader that gives one octet a call, and fails at one call alone.

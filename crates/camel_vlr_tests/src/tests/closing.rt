@@ -101,19 +101,16 @@ fn check_both(rt: &impl Abort, records: &Records, copied: &Records, imsi: &Imsi,
     assert_eq!(rt; held(copied, imsi), wanted, "in the copy");
 }
 
+fn check_two_kinds(rt: &impl Abort, records: &Records, copied: &Records) -> Result<(), Fail> {
+    let (row, both) = (Some((Some(ARMED), None)), Some((Some(ARMED), Some(LISTED))));
+    check_both(rt, records, copied, &imsi_of(1)?, row);
+    check_both(rt, records, copied, &imsi_of(2)?, both);
+    check_both(rt, records, copied, &imsi_of(3)?, None);
+    Ok(())
+}
+
 #[test]
 fn a_copy_of_closed_records_lends_the_same(rt: HostRuntime) -> Result<(), Fail> {
-    let (first, second, third) = (imsi_of(1)?, imsi_of(2)?, imsi_of(3)?);
     let records = closed_with_two_kinds(&rt, rt.alloc())?;
-    let copied = records.copy()?;
-    check_both(&rt, &records, &copied, &first, Some((Some(ARMED), None)));
-    check_both(
-        &rt,
-        &records,
-        &copied,
-        &second,
-        Some((Some(ARMED), Some(LISTED))),
-    );
-    check_both(&rt, &records, &copied, &third, None);
-    Ok(())
+    check_two_kinds(&rt, &records, &records.copy()?)
 }

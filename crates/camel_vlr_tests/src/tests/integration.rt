@@ -1,6 +1,6 @@
 ghost use Rattle.std.specs.Prelude.{◌≡◌, IfOk};
 
-use super::{asked, call_of, imsi_of, opened_with_one, row_update};
+use super::{call_of, check_asked, imsi_of, opened_with_one, row_update};
 use camel_criteria::Refusal;
 use camel_rows::{CallEvent, Outcome, Update};
 use camel_tbcd::{Address, Imsi};
@@ -71,6 +71,15 @@ fn outcome_of(session: &mut Session, call: &CallEvent) -> Option<Outcome>
 }
 
 // The subscriber's data are published before the first call is taken: the receipt says so.
+fn subscribed<R: Wait>(rt: &R, store: &mut Vlr, imsi: Imsi) -> Result<Receipt, Refusal>
+    ensures store { store.new.store ≡ store.old.store }
+    ensures receipt { IfOk result (λ receipt. receipt.store ≡ store.old.store) }
+{
+    store.submit(Update::Register { imsi })?;
+    store.submit(row_update(imsi)?)?;
+    store.publish(rt)
+}
+
 fn switch<R: Threads + Wait + Abort + Sync>(
     rt: &R,
     store: &mut Vlr,
@@ -80,9 +89,7 @@ fn switch<R: Threads + Wait + Abort + Sync>(
 {
     let imsi = imsi_of(1)?;
     let call = call_of(imsi)?;
-    store.submit(Update::Register { imsi })?;
-    store.submit(row_update(imsi)?)?;
-    let told = store.publish(rt)?;
+    let told = subscribed(rt, store, imsi)?;
     let ((session, are_served), written) = thread::join(
         rt,
         move || -> (Session, bool)
@@ -110,7 +117,7 @@ fn all_is_seen<R: Abort>(
     let mut session = session;
     assert_eq!(rt; receipt.front(), 102);
     session.learn(receipt);
-    assert_eq!(rt; asked(&mut session, call), Some((102, Ok((100, None)))));
+    check_asked(rt, &mut session, call, 102, Ok((100, None)));
     Ok(())
 }
 

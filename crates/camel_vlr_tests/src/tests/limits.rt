@@ -1,7 +1,7 @@
 ghost use Rattle.std.specs.Prelude.{◌≡◌, IfOk};
 ghost use Rattle.camel_vlr.specs.Store.{fresh};
 
-use super::{ARMED, asked, call_of, imsi_of, lent, opened, opened_with_one, row_update};
+use super::{ARMED, call_of, check_asked, imsi_of, lent, opened, opened_with_one, row_answer};
 use camel_criteria::Refusal;
 use camel_history::Beginning;
 use camel_rows::{Reason, Update, Withdrawal};
@@ -35,7 +35,7 @@ fn data_refuse_before_the_limit<R: Wait + Abort>(
     };
     assert_eq!(rt; store.submit(Update::Register { imsi: first }), Ok(1));
     assert_eq!(rt; store.submit(Update::Register { imsi: second }), Ok(2));
-    assert_eq!(rt; store.submit(row_update(first)?), Ok(3));
+    assert_eq!(rt; row_answer(store, first), Ok(3));
     let full = Err(Refusal::HistoryFull);
     assert_eq!(rt; store.submit(Update::Cancel { imsi: first }), full);
     let unknown = Err(Refusal::UnidentifiedSubscriber);
@@ -44,7 +44,7 @@ fn data_refuse_before_the_limit<R: Wait + Abort>(
     assert_eq!(rt; receipt.front(), 3);
     session.learn(receipt);
     let call = call_of(first)?;
-    assert_eq!(rt; asked(session, &call), Some((3, Ok((100, None)))));
+    check_asked(rt, session, &call, 3, Ok((100, None)));
     assert_eq!(rt; lent(session, &first, 2), Some((3, Some(ARMED), None)));
     Ok(())
 }
@@ -78,23 +78,30 @@ fn last_session_looks<R: Wait + Abort>(
     requires { last.old.store ≡ store.old.store }
 {
     assert_eq!(rt; others.len(), 63);
+    let receipt = takes_one_update(rt, store)?;
+    drop(others);
+    last.learn(receipt);
+    let call = call_of(imsi_of(1)?)?;
+    check_asked(rt, last, &call, 1, Err(Reason::NoCsi));
+    Ok(())
+}
+
+// A store that takes one update: what is published counts as what is pending does.
+fn takes_one_update<R: Wait + Abort>(rt: &R, store: &mut Vlr) -> Result<Receipt, Fail>
+    ensures store { store.new.store ≡ store.old.store }
+    ensures receipt { IfOk result (λ receipt. receipt.store ≡ store.old.store) }
+{
     let (first, second) = (imsi_of(1)?, imsi_of(2)?);
     assert_eq!(rt; store.submit(Update::Register { imsi: first }), Ok(1));
     let full = Err(Refusal::HistoryFull);
     assert_eq!(rt; store.submit(Update::Register { imsi: second }), full);
     assert_eq!(rt; store.submit(Update::Cancel { imsi: first }), full);
     let unknown = Err(Refusal::UnidentifiedSubscriber);
-    assert_eq!(rt; store.submit(row_update(second)?), unknown);
+    assert_eq!(rt; row_answer(store, second), unknown);
     let receipt = store.publish(rt)?;
     assert_eq!(rt; receipt.front(), 1);
-    // What is published counts as what is pending does.
     assert_eq!(rt; store.submit(Update::Register { imsi: second }), full);
-
-    drop(others);
-    last.learn(receipt);
-    let call = call_of(first)?;
-    assert_eq!(rt; asked(last, &call), Some((1, Err(Reason::NoCsi))));
-    Ok(())
+    Ok(receipt)
 }
 
 #[test]

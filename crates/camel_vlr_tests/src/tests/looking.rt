@@ -1,8 +1,8 @@
-ghost use Rattle.std.specs.Prelude.{◌≡◌};
+ghost use Rattle.std.specs.Prelude.{◌≡◌, IfOk};
 
 use super::{
-    ARMED, LISTED, Told, asked, call_of, closed, criteria_update, filled, going_on, imsi_of, lent,
-    opened_with_one, opened_with_two, row_update,
+    ARMED, LISTED, Told, call_of, check_asked, closed, criteria_update, filled, going_on, imsi_of,
+    lent, opened_with_one, opened_with_two, row_answer,
 };
 use camel_criteria::Refusal;
 use camel_rows::{CallEvent, Reason, Records, Update};
@@ -30,7 +30,7 @@ fn decides_by_what_was_published<R: Wait + Abort>(
 {
     let imsi = imsi_of(1)?;
     let call = call_of(imsi)?;
-    assert_eq!(rt; asked(session, &call), Some((0, Err(Reason::Unknown))));
+    check_asked(rt, session, &call, 0, Err(Reason::Unknown));
     filled(rt, store, session, imsi)?;
     assert_eq!(rt; lent(session, &imsi, 2), Some((2, Some(ARMED), None)));
     assert_eq!(rt; lent(session, &imsi, 4), Some((2, None, None)));
@@ -60,16 +60,20 @@ fn pending_is_not_seen<R: Wait + Abort>(
     sees_the_entry(rt, alloc, store, first, second)
 }
 
-// What a call of the one subscriber is told by each of two sessions.
-fn both_asked(
+// A look of each of two sessions has this front, and a call is told this there.
+fn check_both_asked<R: Abort>(
+    rt: &R,
     first: &mut Session,
     second: &mut Session,
     call: &CallEvent,
-) -> [Option<(u64, Told)>; 2]
+    front: u64,
+    wanted: Told,
+)
     ensures first { first.new.store ≡ first.old.store }
     ensures second { second.new.store ≡ second.old.store }
 {
-    [asked(first, call), asked(second, call)]
+    check_asked(rt, first, call, front, wanted);
+    check_asked(rt, second, call, front, wanted);
 }
 
 // Publishes what is pending, and tells both sessions. The front is the answer.
@@ -102,16 +106,16 @@ fn sees_nothing_pending<R: Abort>(
     ensures first { first.new.store ≡ first.old.store }
     ensures second { second.new.store ≡ second.old.store }
 {
-    let imsi = imsi_of(1)?;
+    let (imsi, other) = (imsi_of(1)?, imsi_of(2)?);
     let call = call_of(imsi)?;
-    let unknown = Some((0, Err(Reason::Unknown)));
-    assert_eq!(rt; both_asked(first, second, &call), [unknown, unknown]);
+    let unknown = Err(Reason::Unknown);
+    check_both_asked(rt, first, second, &call, 0, unknown);
     assert_eq!(rt; store.submit(Update::Register { imsi }), Ok(1));
     let refused = Err(Refusal::UnidentifiedSubscriber);
-    assert_eq!(rt; store.submit(row_update(imsi_of(2)?)?), refused);
-    assert_eq!(rt; store.submit(row_update(imsi)?), Ok(2));
+    assert_eq!(rt; row_answer(store, other), refused);
+    assert_eq!(rt; row_answer(store, imsi), Ok(2));
     assert_eq!(rt; (store.published(), store.pending()), (0, 2));
-    assert_eq!(rt; both_asked(first, second, &call), [unknown, unknown]);
+    check_both_asked(rt, first, second, &call, 0, unknown);
     Ok(())
 }
 
@@ -128,9 +132,8 @@ fn sees_the_row<R: Wait + Abort>(
     ensures second { second.new.store ≡ second.old.store }
 {
     assert_eq!(rt; both_told(rt, store, first, second), Ok(2));
-    let armed = Some((2, Ok((100, None))));
     let call = call_of(imsi_of(1)?)?;
-    assert_eq!(rt; both_asked(first, second, &call), [armed, armed]);
+    check_both_asked(rt, first, second, &call, 2, Ok((100, None)));
     Ok(())
 }
 
@@ -149,8 +152,7 @@ fn sees_the_entry<R: Wait + Abort>(
     let call = call_of(imsi)?;
     assert_eq!(rt; store.submit(criteria_update(alloc, imsi)?), Ok(3));
     assert_eq!(rt; both_told(rt, store, first, second), Ok(3));
-    let listed = Some((3, Ok((100, Some(LISTED)))));
-    assert_eq!(rt; both_asked(first, second, &call), [listed, listed]);
+    check_both_asked(rt, first, second, &call, 3, Ok((100, Some(LISTED))));
     let both = Some((3, Some(ARMED), Some(LISTED)));
     assert_eq!(rt;
         (lent(first, &imsi, 2), lent(second, &imsi, 2)),
@@ -165,8 +167,12 @@ fn receipts_are_learnt_in_any_order(rt: HostRuntime) -> Result<(), Fail> {
     let (mut store, mut first, mut second) = opened_with_two(&rt, rt.alloc(), 10)?;
     let done = learns_in_any_order(&rt, &mut store, &mut first, &mut second);
     let store = going_on(&rt, store, done)?;
-    let records = closed(&rt, store, &mut second)?;
-    let registered = [imsi_of(1)?, imsi_of(2)?, imsi_of(3)?].map(|imsi| is_bare(&records, &imsi));
+    check_registered(&rt, &closed(&rt, store, &mut second)?)
+}
+
+// Two subscribers have a record, and no third one.
+fn check_registered(rt: &impl Abort, records: &Records) -> Result<(), Fail> {
+    let registered = [imsi_of(1)?, imsi_of(2)?, imsi_of(3)?].map(|imsi| is_bare(records, &imsi));
     assert_eq!(rt; registered, [Some(true), Some(true), None]);
     Ok(())
 }
@@ -195,36 +201,28 @@ fn learns_in_any_order<R: Wait + Abort>(
     let (once, again) = (store.receipt(), store.receipt());
     assert_eq!(rt; (published.front(), once.front(), again.front()), (1, 1, 1));
     first.learn(published);
-    assert_eq!(rt; asked(first, &call), Some((1, Err(Reason::NoCsi))));
-    learns_late(rt, store, first, once, again)?;
+    check_asked(rt, first, &call, 1, Err(Reason::NoCsi));
+    // Receipts of the first publication are learnt before and after those of the second one.
+    let (later, latest) = published_again(rt, store)?;
+    first.learn(once);
+    first.learn(later);
+    first.learn(again);
+    first.learn(latest);
     // Told nothing, the second session sees what is published all the same.
-    let both = Some((2, Err(Reason::NoCsi)));
-    assert_eq!(rt; both_asked(first, second, &call), [both, both]);
+    check_both_asked(rt, first, second, &call, 2, Err(Reason::NoCsi));
     Ok(())
 }
 
-// Receipts of the first publication are learnt before and after those of the second one.
-fn learns_late<R: Wait + Abort>(
-    rt: &R,
-    store: &mut Vlr,
-    session: &mut Session,
-    once: Receipt,
-    again: Receipt,
-) -> Result<(), Fail>
-    requires session { session.old.store ≡ store.old.store }
-    requires once { once.store ≡ store.old.store }
-    requires again { again.store ≡ store.old.store }
+// The receipts of the publication of a second update, and of one with nothing to publish.
+fn published_again<R: Wait + Abort>(rt: &R, store: &mut Vlr) -> Result<(Receipt, Receipt), Fail>
     ensures store { store.new.store ≡ store.old.store }
-    ensures session { session.new.store ≡ session.old.store }
+    ensures receipts { IfOk result (λ r. (r.0.store ≡ store.old.store) × (r.1.store ≡ store.old.store)) }
 {
     let imsi = imsi_of(2)?;
     assert_eq!(rt; store.submit(Update::Register { imsi }), Ok(2));
     let later = store.publish(rt)?;
     let latest = store.publish(rt)?;
-    assert_eq!(rt; (later.front(), latest.front()), (2, 2));
-    session.learn(once);
-    session.learn(later);
-    session.learn(again);
-    session.learn(latest);
-    Ok(())
+    assert_eq!(rt; later.front(), 2);
+    assert_eq!(rt; latest.front(), 2);
+    Ok((later, latest))
 }

@@ -2,8 +2,8 @@ ghost use Rattle.std.specs.Prelude.{◌≡◌, IfOk};
 ghost use Rattle.camel_vlr.specs.Store.{fresh};
 
 use super::{
-    ARMED, Kind, LISTED, TURNS, Told, asked, call_of, going_on, held, imsi_of, opened_with_one,
-    row_update, update_of,
+    ARMED, Kind, LISTED, TURNS, Told, asked, call_of, check_asked, going_on, held, imsi_of,
+    opened_with_one, row_answer, update_of,
 };
 use camel_criteria::Refusal;
 use camel_rows::{CallEvent, Reason, Records, Update};
@@ -205,7 +205,7 @@ fn register_leaves_no_entry<R: Wait + Abort>(
         Err(Refusal::OutOfMemory) => {
             assert_eq!(rt; (store.published(), store.pending()), (2, 1));
             let unknown = Err(Refusal::UnidentifiedSubscriber);
-            assert_eq!(rt; store.submit(row_update(imsi)?), unknown);
+            assert_eq!(rt; row_answer(store, imsi), unknown);
             assert_eq!(rt; store.submit(Update::Register { imsi }), Ok(4));
         }
         answered => assert_eq!(rt; answered, Ok(4)),
@@ -240,7 +240,7 @@ fn cancel_leaves_the_entry<R: Wait + Abort>(
     assert_eq!(rt; answered, entry);
     let receipt = published(rt, store, session, &call)?;
     session.learn(receipt);
-    assert_eq!(rt; asked(session, &call), Some((4, wanted)));
+    check_asked(rt, session, &call, 4, wanted);
     Ok(())
 }
 
@@ -299,9 +299,8 @@ fn submits_before_the_repeat<R: Wait + Abort>(
     assert_eq!(rt; receipt.front(), 2);
     assert_eq!(rt; (store.published(), store.pending()), (2, 0));
     session.learn(receipt);
-    let both = Some((2, Err(Reason::NoCsi)));
-    assert_eq!(rt; asked(session, &call), both);
-    assert_eq!(rt; asked(session, &call_of(second)?), both);
+    check_asked(rt, session, &call, 2, Err(Reason::NoCsi));
+    check_asked(rt, session, &call_of(second)?, 2, Err(Reason::NoCsi));
     Ok(())
 }
 

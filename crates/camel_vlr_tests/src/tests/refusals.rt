@@ -1,5 +1,6 @@
-use super::{Kind, LISTED, asked, call_of, imsi_of, opened_with_one, update_of};
+use super::{Kind, LISTED, call_of, check_asked, imsi_of, opened_with_one, update_of};
 use camel_criteria::Refusal;
+use camel_tbcd::Imsi;
 use camel_vlr::{Session, Vlr};
 use std::alloc::Global;
 use std::process::Abort;
@@ -14,6 +15,38 @@ fn a_refused_update_is_as_if_it_had_not_been_sent(rt: HostRuntime) -> Result<(),
     done
 }
 
+const UNKNOWN: Result<u64, Refusal> = Err(Refusal::UnidentifiedSubscriber);
+
+const MISSING: Result<u64, Refusal> = Err(Refusal::DataMissing);
+
+// Updates of one subscriber, each with its answer.
+const SENT: [(Kind, Result<u64, Refusal>); 16] = [
+    (Kind::Row, UNKNOWN),
+    (Kind::Entry, UNKNOWN),
+    (Kind::DeleteO, UNKNOWN),
+    (Kind::Register, Ok(1)),
+    (Kind::Entry, MISSING),
+    (Kind::Entry, MISSING),
+    (Kind::Row, Ok(2)),
+    (Kind::Entry, Ok(3)),
+    (Kind::DeleteO, Ok(4)),
+    (Kind::Entry, MISSING),
+    (Kind::Row, Ok(5)),
+    (Kind::Cancel, Ok(6)),
+    (Kind::Row, UNKNOWN),
+    (Kind::Register, Ok(7)),
+    (Kind::Row, Ok(8)),
+    (Kind::Entry, Ok(9)),
+];
+
+fn check_sent(rt: &impl Abort, alloc: Global, store: &mut Vlr, imsi: Imsi) -> Result<(), Refusal> {
+    for (kind, wanted) in SENT {
+        let update = update_of(alloc, imsi, kind)?;
+        assert_eq!(rt; store.submit(update), wanted, "{kind:?}");
+    }
+    Ok(())
+}
+
 // No refused update makes a record, or a CSI in it, and none is counted.
 fn refused_is_as_if_not_sent<R: Wait + Abort>(
     rt: &R,
@@ -22,32 +55,10 @@ fn refused_is_as_if_not_sent<R: Wait + Abort>(
     session: &mut Session,
 ) -> Result<(), Fail> {
     let imsi = imsi_of(1)?;
-    let unknown = Err(Refusal::UnidentifiedSubscriber);
-    let missing = Err(Refusal::DataMissing);
-    for (kind, wanted) in [
-        (Kind::Row, unknown),
-        (Kind::Entry, unknown),
-        (Kind::DeleteO, unknown),
-        (Kind::Register, Ok(1)),
-        (Kind::Entry, missing),
-        (Kind::Entry, missing),
-        (Kind::Row, Ok(2)),
-        (Kind::Entry, Ok(3)),
-        (Kind::DeleteO, Ok(4)),
-        (Kind::Entry, missing),
-        (Kind::Row, Ok(5)),
-        (Kind::Cancel, Ok(6)),
-        (Kind::Row, unknown),
-        (Kind::Register, Ok(7)),
-        (Kind::Row, Ok(8)),
-        (Kind::Entry, Ok(9)),
-    ] {
-        let update = update_of(alloc, imsi, kind)?;
-        assert_eq!(rt; store.submit(update), wanted, "{kind:?}");
-    }
+    check_sent(rt, alloc, store, imsi)?;
     assert_eq!(rt; (store.published(), store.pending()), (0, 9));
     assert_eq!(rt; store.publish(rt)?.front(), 9);
     let call = call_of(imsi)?;
-    assert_eq!(rt; asked(session, &call), Some((9, Ok((100, Some(LISTED))))));
+    check_asked(rt, session, &call, 9, Ok((100, Some(LISTED))));
     Ok(())
 }

@@ -227,13 +227,13 @@ fn writes<R: Wait>(
 
 // The same, after which the writer waits for no look of this session.
 fn reads(
-    session: Session,
+    mut session: Session,
     calls: &Three<CallEvent>,
     outcomes: &[Three<Told>],
     has_looked: &AtomicBool,
     has_ended: &AtomicBool,
 ) -> bool {
-    let are_right = reads_until(session, calls, outcomes, has_looked, has_ended);
+    let are_right = reads_until(&mut session, calls, outcomes, has_looked, has_ended);
     has_looked.store(true, Ordering::SeqCst);
     are_right
 }
@@ -241,7 +241,7 @@ fn reads(
 // Whether what a session sees at each front is what the list says, and no front goes back. It looks until the writer
 // has ended, and then once more: the front is the last one.
 fn reads_until(
-    mut session: Session,
+    session: &mut Session,
     calls: &Three<CallEvent>,
     outcomes: &[Three<Told>],
     has_looked: &AtomicBool,
@@ -256,7 +256,7 @@ fn reads_until(
             1 => (&calls[1], 1),
             _ => (&calls[2], 2),
         };
-        match asked_once(&mut session, call) {
+        match asked_once(session, call) {
             Some((front, told)) => {
                 if front < last || wanted_at(outcomes, front, at) != Some(told) {
                     return false;
@@ -269,7 +269,7 @@ fn reads_until(
             None => {}
         }
         if is_last {
-            return match asked(&mut session, call) {
+            return match asked(session, call) {
                 Some((front, _)) => usize::try_from(front) == Ok(longest),
                 None => false,
             };
