@@ -1,5 +1,5 @@
 -- How far a replay has come: what was written, and what the script still gives.
-use Rattle.std.proofs.Common.{◌≡◌, ◌∙◌, ℕ, ◌+◌, ◌-◌, false, List, [], ◌∷◌, ◌++◌, length, take, Option, Some, None, option_map, IfSome, IsTrue, refl, sym, ap, inl, inr, arith, append_assoc}
+use Rattle.std.proofs.Common.{◌≡◌, ◌∙◌, ℕ, ◌+◌, ◌-◌, false, List, [], ◌∷◌, ◌++◌, length, take, Option, Some, None, IfSome, IsTrue, refl, sym, ap, inl, inr, arith, append_assoc}
 use Rattle.std.proofs.KnownBytes.{Appends-kept, Appends-nil, Appends-trans}
 use Rattle.std.proofs.lemmas.List.{append-nil, length-append}
 use Rattle.std.proofs.Math.Seq.{take-append-add, take-append_seam}
@@ -114,18 +114,18 @@ no_text_fault : (P : Type 0) (code other : ℕ) → code ≡ other → is_text_c
 no_text_fault P code other same none is = absurd (let wrong = rw (same, none) at is in cc)
 
 -- the record could not be answered, and a part of its line was written
-pub stopped_in_line : (source : Option (List ℕ)) (of : List ℕ → ScriptData) (old mid new : Option (List ℕ)) (left next : Option ScriptData) (limit number : ℕ) (store : StoreData) (asked : Record) (stop : ReplayFault)
-    → Progresses old mid (option_map of source) limit number store left → Gives left next (Some asked) → AppendsPart mid new (line_text (store_line store asked))
-    → is_text_code stop.code ≡ false → stop.number ≡ Some number → IfSome source (λ bytes. Stopped old new limit (of bytes) stop)
+pub stopped_in_line : (known : Option ScriptData) (old mid new : Option (List ℕ)) (left next : Option ScriptData) (limit number : ℕ) (store : StoreData) (asked : Record) (stop : ReplayFault)
+    → Progresses old mid known limit number store left → Gives left next (Some asked) → AppendsPart mid new (line_text (store_line store asked))
+    → is_text_code stop.code ≡ false → stop.number ≡ Some number → IfSome known (λ given. Stopped old new limit given stop)
 unfolding store_output
-stopped_in_line None of old mid new left next limit number store asked stop so_far gives part none place = tt
-stopped_in_line (Some bytes) of old mid new None next limit number store asked stop so_far gives part none place = absurd so_far
-stopped_in_line (Some bytes) of old mid new (Some rest) None limit number store asked stop so_far gives part none place = absurd gives
-stopped_in_line (Some bytes) of old mid new (Some rest) (Some next) limit number store asked stop so_far gives part none place =
+stopped_in_line None old mid new left next limit number store asked stop so_far gives part none place = tt
+stopped_in_line (Some given) old mid new None next limit number store asked stop so_far gives part none place = absurd so_far
+stopped_in_line (Some given) old mid new (Some rest) None limit number store asked stop so_far gives part none place = absurd gives
+stopped_in_line (Some given) old mid new (Some rest) (Some next) limit number store asked stop so_far gives part none place =
     let front = part.0 in
     let back = part.1 in
     let later = store_output (store_after store asked) next.records in
-    let whole : output limit (of bytes).records ≡ (so_far.written ++ front) ++ (back ++ later) =
+    let whole : output limit given.records ≡ (so_far.written ++ front) ++ (back ++ later) =
     whole_output so_far ∙ rw (gives.0, part.2) (simp append_assoc) in
     let line : store_output store (take 1 rest.records) ≡ front ++ back = rw (gives.0, part.2) (append-nil (front ++ back)) in
     record {
@@ -147,13 +147,13 @@ at_text_fault old new all rest limit number store e stop so_far is only =
     }
 
 -- the script answered a fault
-pub stopped_by_script : (source : Option (List ℕ)) (of : List ℕ → ScriptData) (old new : Option (List ℕ)) (left : Option ScriptData) (limit number : ℕ) (store : StoreData) (e : ScriptFault) (stop : ReplayFault)
-    → Progresses old new (option_map of source) limit number store left → stop ≡ record { number = Some number; code = script_fault_code e } → FaultsAs e left
-    → IfSome source (λ bytes. Stopped old new limit (of bytes) stop)
+pub stopped_by_script : (known : Option ScriptData) (old new : Option (List ℕ)) (left : Option ScriptData) (limit number : ℕ) (store : StoreData) (e : ScriptFault) (stop : ReplayFault)
+    → Progresses old new known limit number store left → stop ≡ record { number = Some number; code = script_fault_code e } → FaultsAs e left
+    → IfSome known (λ given. Stopped old new limit given stop)
 unfolding store_output
-stopped_by_script None of old new left limit number store e stop so_far is faults = tt
-stopped_by_script (Some bytes) of old new None limit number store e stop so_far is faults = absurd so_far
-stopped_by_script (Some bytes) of old new (Some rest) limit number store e stop so_far is faults =
+stopped_by_script None old new left limit number store e stop so_far is faults = tt
+stopped_by_script (Some given) old new None limit number store e stop so_far is faults = absurd so_far
+stopped_by_script (Some given) old new (Some rest) limit number store e stop so_far is faults =
     let place : stop.number ≡ Some number = ap (λ (x : ReplayFault). x.number) is in
     let code : stop.code ≡ script_fault_code e = ap (λ (x : ReplayFault). x.code) is in
     record {
@@ -162,35 +162,35 @@ stopped_by_script (Some bytes) of old new (Some rest) limit number store e stop 
       text = text faults code;
     }
   where
-    text : FaultsAs e (Some rest) → stop.code ≡ script_fault_code e → IsTrue (is_text_code stop.code) → StopsAtFault old new limit (of bytes) stop
+    text : FaultsAs e (Some rest) → stop.code ≡ script_fault_code e → IsTrue (is_text_code stop.code) → StopsAtFault old new limit given stop
     text (inl (inl memory)) code = no_text_fault _ stop.code 102 (code ∙ ap script_fault_code memory) refl
     text (inl (inr read)) code = no_text_fault _ stop.code 206 (code ∙ ap script_fault_code read) refl
-    text (inr only) code = λ _. at_text_fault old new (of bytes) rest limit number store e stop so_far is only
+    text (inr only) code = λ _. at_text_fault old new given rest limit number store e stop so_far is only
 
 -- the end of the script
-pub wrote_all : (source : Option (List ℕ)) (of : List ℕ → ScriptData) (old mid new : Option (List ℕ)) (left next : Option ScriptData) (limit number : ℕ) (store : StoreData)
-    → Progresses old mid (option_map of source) limit number store left → Gives left next None → Keeps mid new
-    → IfSome source (λ bytes. WroteAll old new limit (of bytes))
-wrote_all None of old mid new left next limit number store so_far gives same = tt
-wrote_all (Some bytes) of old mid new None next limit number store so_far gives same = absurd so_far
-wrote_all (Some bytes) of old mid new (Some rest) next limit number store so_far gives same =
+pub wrote_all : (known : Option ScriptData) (old mid new : Option (List ℕ)) (left next : Option ScriptData) (limit number : ℕ) (store : StoreData)
+    → Progresses old mid known limit number store left → Gives left next None → Keeps mid new
+    → IfSome known (λ given. WroteAll old new limit given)
+wrote_all None old mid new left next limit number store so_far gives same = tt
+wrote_all (Some given) old mid new None next limit number store so_far gives same = absurd so_far
+wrote_all (Some given) old mid new (Some rest) next limit number store so_far gives same =
     let none : rest.records ≡ [] = ap (λ (given : ScriptData). given.records) gives in
     let last : rest.fault ≡ None = ap (λ (given : ScriptData). given.fault) gives in
     (so_far.fault ∙ last, rw (output_at_end so_far none) (Appends-kept old mid new so_far.written so_far.appends same))
 
 -- the flush behind the last line failed
-pub stopped_at_flush : (source : Option (List ℕ)) (of : List ℕ → ScriptData) (old mid new : Option (List ℕ)) (left next : Option ScriptData) (limit number : ℕ) (store : StoreData) (stop : ReplayFault)
-    → Progresses old mid (option_map of source) limit number store left → Gives left next None → Keeps mid new → stop ≡ record { number = Some (number - 1); code = 208 }
-    → IfSome source (λ bytes. Stopped old new limit (of bytes) stop)
-stopped_at_flush None of old mid new left next limit number store stop so_far gives same is = tt
-stopped_at_flush (Some bytes) of old mid new None next limit number store stop so_far gives same is = absurd so_far
-stopped_at_flush (Some bytes) of old mid new (Some rest) next limit number store stop so_far gives same is =
+pub stopped_at_flush : (known : Option ScriptData) (old mid new : Option (List ℕ)) (left next : Option ScriptData) (limit number : ℕ) (store : StoreData) (stop : ReplayFault)
+    → Progresses old mid known limit number store left → Gives left next None → Keeps mid new → stop ≡ record { number = Some (number - 1); code = 208 }
+    → IfSome known (λ given. Stopped old new limit given stop)
+stopped_at_flush None old mid new left next limit number store stop so_far gives same is = tt
+stopped_at_flush (Some given) old mid new None next limit number store stop so_far gives same is = absurd so_far
+stopped_at_flush (Some given) old mid new (Some rest) next limit number store stop so_far gives same is =
     let none : rest.records ≡ [] = ap (λ (given : ScriptData). given.records) gives in
     let done = output_at_end so_far none in
     let appends = Appends-kept old mid new so_far.written so_far.appends same in
     let code : stop.code ≡ 208 = ap (λ (x : ReplayFault). x.code) is in
     let place : stop.number ≡ Some (number - 1) = ap (λ (x : ReplayFault). x.number) is in
-    let count : number - 1 ≡ length (of bytes).records = rw (answered_at_end so_far none) (omega (arith, so_far.count)) in
+    let count : number - 1 ≡ length given.records = rw (answered_at_end so_far none) (omega (arith, so_far.count)) in
     record {
       part = (so_far.written, [], done ∙ sym (append-nil so_far.written), appends);
       place = inr (rw done appends, place ∙ ap (λ (n : ℕ). Some n) count);

@@ -1,9 +1,9 @@
-ghost use Rattle.std.specs.Prelude.{◌≡◌, true, false, Some, IfErr, IfSome, OnErr, OnOk};
+ghost use Rattle.std.specs.Prelude.{◌≡◌, ◌≤◌, true, false, Some, IfErr, IfSome, OnErr, OnOk};
 ghost use Rattle.std.specs.Io.KnownBytes.{Appends};
 ghost use Rattle.camel_script.specs.Line.{line_text};
-ghost use Rattle.camel_script.specs.Script.{script};
+ghost use Rattle.camel_script.specs.Script.{records_left, script, still_gives};
 ghost use Rattle.camel_script_replay.specs.ReplayFault.{is_replay_code, is_text_code};
-ghost use Rattle.camel_script_replay.specs.Store.{store_after, store_line};
+ghost use Rattle.camel_script_replay.specs.Store.{empty_store, store_after, store_line};
 ghost use Rattle.camel_script_replay.specs.Written.{AppendsPart, Stopped, WroteAll};
 
 use crate::store::Store;
@@ -47,12 +47,33 @@ pub fn replay<R: Read + Drop, W: Write>(
         Stopped (W.contents writer.old) (W.contents writer.new) limit (script bytes MAX_RECORDS) fault)) }
     ensures codes { IfErr result (λ fault. is_replay_code fault.code ≡ true) }
 {
-    let mut number = 1;
     let mut script = match Script::new(alloc, reader, MAX_RECORDS) {
         Ok(script) => script,
-        Err(refusal) => return Err(fault_at(number, refusal.code())),
+        Err(refusal) => return Err(fault_at(1, refusal.code())),
     };
     let mut store = Store::new(alloc, limit);
+    let ended = answer_all(alloc, &mut script, &mut store, writer);
+    // The process ends next, and the memory of all records goes with it at once.
+    mem::forget(store);
+    ended
+}
+
+// Answers each record that the script still gives by the line of a store that is empty at first, and flushes.
+fn answer_all<R: Read + Drop, W: Write>(
+    alloc: Global,
+    script: &mut Script<R>,
+    store: &mut Store,
+    writer: &mut W,
+) -> Result<(), ReplayFault>
+    requires empty { store.old ≡ empty_store store.old.limit }
+    requires room { records_left script.old ≤ 1000000 }
+    ensures whole { OnOk result (IfSome (still_gives script.old) (λ given.
+        WroteAll (W.contents writer.old) (W.contents writer.new) store.old.limit given)) }
+    ensures stopped { IfErr result (λ fault. IfSome (still_gives script.old) (λ given.
+        Stopped (W.contents writer.old) (W.contents writer.new) store.old.limit given fault)) }
+    ensures codes { IfErr result (λ fault. is_replay_code fault.code ≡ true) }
+{
+    let mut number = 1;
     let mut text = Vec::new(alloc);
     'records: loop {
         let request = match script.read_record() {
@@ -60,13 +81,11 @@ pub fn replay<R: Read + Drop, W: Write>(
             Ok(None) => break,
             Err(fault) => return Err(fault_at(number, fault.code())),
         };
-        match answer(alloc, &mut store, writer, &mut text, request) {
+        match answer(alloc, store, writer, &mut text, request) {
             Ok(()) => number += 1,
             Err(code) => return Err(fault_at(number, code)),
         }
     }
-    // The process ends next, and the memory of all records goes with it at once.
-    mem::forget(store);
     match writer.flush() {
         Ok(()) => Ok(()),
         Err(_) => Err(fault_at(number - 1, WRITE_FAULT)),
