@@ -136,13 +136,8 @@ fn take(
     ensures unchanged { OnErr result ((stored.new ≡ stored.old) × (pending.new.items ≡ pending.old.items)) }
     ensures only { IfErr result (λ why. why ≡ Refusal.OutOfMemory) }
 {
-    let imsi = update.imsi();
-    pending.push_back(update)?;
-    match stored.put(imsi, csis) {
-        Ok(()) => Ok(()),
-        Err(error) => {
-            pending.pop_back();
-            Err(error.into())
-        }
-    }
+    pending.reserve(1)?;
+    stored.put(update.imsi(), csis)?;
+    pending.push_back_reserved(update);
+    Ok(())
 }
