@@ -35,6 +35,8 @@ pub struct ReplayFault {
 /// and 208 where a write or the flush at the end failed, or a write took no octet. After a fault what was
 /// written is a part of the output of the records before the script's first fault, from its beginning; for
 /// 202 to 205 and 207 it is all of that output.
+///
+/// The memory of the updates is not given back: it is for a process that replays one script, and ends.
 pub fn replay<R: Read + Drop, W: Write>(
     alloc: Global,
     reader: R,
@@ -53,7 +55,7 @@ pub fn replay<R: Read + Drop, W: Write>(
     };
     let mut store = Store::new(alloc, limit);
     let ended = answer_all(alloc, &mut script, &mut store, writer);
-    // The process ends next, and the memory of all records goes with it at once.
+    // The process ends next, and this memory goes with it at once.
     mem::forget(store);
     ended
 }
@@ -66,7 +68,7 @@ fn answer_all<R: Read + Drop, W: Write>(
     writer: &mut W,
 ) -> Result<(), ReplayFault>
     requires empty { store.old ≡ empty_store store.old.limit }
-    requires room { records_left script.old ≤ 1000000 }
+    requires room { records_left script.old ≤ MAX_RECORDS }
     ensures whole { OnOk result (IfSome (still_gives script.old) (λ given.
         WroteAll (W.contents writer.old) (W.contents writer.new) store.old.limit given)) }
     ensures stopped { IfErr result (λ fault. IfSome (still_gives script.old) (λ given.
