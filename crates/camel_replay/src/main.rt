@@ -1,13 +1,7 @@
 //! Replays a script of subscriber data updates and calls, from standard input to standard output.
 #![tactic(auto)]
 
-mod command_line;
-mod options;
-mod run;
-#[cfg(test)]
-mod tests;
-
-use crate::run::{FAULT_STATUS, REJECTED_STATUS, run};
+use camel_command::{FAULT_STATUS, REJECTED_STATUS, run};
 use camel_script_replay::write_whole;
 use std::io;
 use std::io::ErrorKind;
