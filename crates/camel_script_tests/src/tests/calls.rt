@@ -1,6 +1,7 @@
-use super::{Given, call_of, check_faults, check_records};
+use super::{Given, call_of, check_faults, check_record, check_records};
 use camel_criteria::BasicService;
 use camel_rows::CallEvent;
+use std::alloc::Global;
 use std::process::Abort;
 use std::test::Fail;
 
@@ -107,24 +108,26 @@ fn refuses_the_data_of_a_call_after_its_texts(rt: HostRuntime) -> Result<(), Fai
 // Twenty octets are the most.
 #[test]
 fn takes_a_destination_of_1_to_20_octets(rt: HostRuntime) -> Result<(), Fail> {
+    check_destinations(&rt, rt.alloc(), "call,2,26201,t11,", ",n")?;
+    check_destinations(&rt, rt.alloc(), "call,4,26201,t11,", ",f,17")
+}
+
+fn check_destinations(
+    rt: &impl Abort,
+    alloc: Global,
+    before: &str,
+    after: &str,
+) -> Result<(), Fail> {
     let most = "9121436587092143658709214365870921436587";
-    for (before, after) in [("call,2,26201,t11,", ",n"), ("call,4,26201,t11,", ",f,17")] {
-        let one = format!(in rt.alloc(); "{before}91{after}")?;
-        let none = format!(in rt.alloc(); "{before}{after}")?;
-        let twenty = format!(in rt.alloc(); "{before}{most}{after}")?;
-        let more = format!(in rt.alloc(); "{before}{most}09{after}")?;
-        let odd = format!(in rt.alloc(); "{before}{most}0{after}")?;
-        check_records(
-            &rt,
-            rt.alloc(),
-            &[
-                (one.as_str(), Given::Call),
-                (none.as_str(), Given::Refused(36)),
-                (twenty.as_str(), Given::Call),
-                (more.as_str(), Given::Refused(36)),
-                (odd.as_str(), Given::Fault(204)),
-            ],
-        )?;
+    for (octets, more, wanted) in [
+        ("91", "", Given::Call),
+        ("", "", Given::Refused(36)),
+        (most, "", Given::Call),
+        (most, "09", Given::Refused(36)),
+        (most, "0", Given::Fault(204)),
+    ] {
+        let text = format!(in alloc; "{before}{octets}{more}{after}")?;
+        check_record(rt, alloc, text.as_str(), wanted)?;
     }
     Ok(())
 }

@@ -43,10 +43,12 @@ struct Row<'a> {
     handling: Handling,
 }
 
-fn check_row(rt: &impl Abort, row: &TdpRow, wanted: &Row) {
+fn check_row(rt: &impl Abort, row: Option<&TdpRow>, wanted: &Row) -> Result<(), Fail> {
+    let row = row.ok_or("no row")?;
     assert_eq!(rt; (row.dp(), row.key()), (wanted.dp, wanted.key));
     assert_eq!(rt; row.scf().bytes(), wanted.scf);
     assert_eq!(rt; row.handling(), wanted.handling);
+    Ok(())
 }
 
 // Items of all kinds in mixed order. No two values of one kind are alike, so that a lost or moved one shows.
@@ -69,9 +71,8 @@ fn reads_the_rows_of_an_o_csi_in_their_order(rt: HostRuntime) -> Result<(), Fail
         scf: &[0x91, 0x94, 0x71, 0x16, 0x00, 0x00],
         handling: Handling::Release,
     };
-    check_row(&rt, csi.get(0).ok_or("no row")?, &first);
-    check_row(&rt, csi.get(1).ok_or("no second row")?, &second);
-    Ok(())
+    check_row(&rt, csi.get(0), &first)?;
+    check_row(&rt, csi.get(1), &second)
 }
 
 #[test]
@@ -90,29 +91,43 @@ fn reads_the_rows_of_a_vt_csi_in_their_order(rt: HostRuntime) -> Result<(), Fail
         scf: &[0x81],
         handling: Handling::Continue,
     };
-    check_row(&rt, csi.get(0).ok_or("no row")?, &first);
-    check_row(&rt, csi.get(1).ok_or("no second row")?, &second);
+    check_row(&rt, csi.get(0), &first)?;
+    check_row(&rt, csi.get(1), &second)
+}
+
+fn check_number(
+    rt: &impl Abort,
+    criterion: &NumberCriterion,
+    at: usize,
+    octets: &[u8],
+) -> Result<(), Fail> {
+    let number = criterion.number(at).ok_or("no number")?;
+    assert_eq!(rt; number.bytes(), octets);
     Ok(())
 }
 
 fn check_number_criterion(rt: &impl Abort, criterion: &NumberCriterion) -> Result<(), Fail> {
     assert_eq!(rt; criterion.match_type(), MatchType::Inhibiting);
     assert_eq!(rt; criterion.numbers().len(), 2);
-    let first = criterion.number(0).ok_or("no number")?;
-    assert_eq!(rt; first.bytes(), [0x91, 0x21].as_slice());
-    let second = criterion.number(1).ok_or("no second number")?;
-    assert_eq!(rt; second.bytes(), [0xa1, 0x65, 0xf7].as_slice());
+    check_number(rt, criterion, 0, &[0x91, 0x21])?;
+    check_number(rt, criterion, 1, &[0xa1, 0x65, 0xf7])?;
     assert_eq!(rt; criterion.lengths(), [7, 3].as_slice());
     Ok(())
 }
 
+fn check_lists(rt: &impl Abort, entry: &OCriteria, basic: &[BasicService], causes: &[u8]) {
+    assert_eq!(rt; entry.basic(), basic);
+    assert_eq!(rt; entry.causes(), causes);
+}
+
 fn check_whole_entry(rt: &impl Abort, entry: &OCriteria) -> Result<(), Fail> {
-    assert_eq!(rt; entry.dp(), 4);
+    assert_eq!(rt;
+        (entry.dp(), entry.call_type()),
+        (4, Some(CallType::Forwarded))
+    );
     check_number_criterion(rt, entry.number().ok_or("no number criterion")?)?;
     let basic = [BasicService::Tele(0x11), BasicService::Bearer(0x1f)];
-    assert_eq!(rt; entry.basic(), basic.as_slice());
-    assert_eq!(rt; entry.call_type(), Some(CallType::Forwarded));
-    assert_eq!(rt; entry.causes(), [17, 16].as_slice());
+    check_lists(rt, entry, &basic, &[17, 16]);
     Ok(())
 }
 
@@ -129,9 +144,8 @@ fn check_o_criteria(rt: &impl Abort, update: &Update) -> Result<(), Fail> {
     let entry = set.get(1).ok_or("no second entry")?;
     assert_eq!(rt; entry.dp(), 2);
     assert!(rt; entry.number().is_none());
-    assert!(rt; entry.basic().is_empty());
     assert_eq!(rt; entry.call_type(), Some(CallType::NotForwarded));
-    assert!(rt; entry.causes().is_empty());
+    check_lists(rt, entry, &[], &[]);
     Ok(())
 }
 
