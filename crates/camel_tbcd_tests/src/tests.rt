@@ -2,6 +2,7 @@ use camel_tbcd::{Address, AddressFault, CallAddress, Imsi, ImsiFault, IsdnAddres
 use std::alloc::{AllocError, Global};
 use std::cmp::{Ordering, max, min};
 use std::error::Error;
+use std::process::Abort;
 use std::test::Fail;
 
 // One octet more than the longest address has, no two alike, so that a lost or moved one shows.
@@ -157,18 +158,8 @@ fn numbers_and_prints_each_fault(rt: HostRuntime) -> Result<(), Fail> {
     Ok(())
 }
 
-// Digits stand low nibble first, and the first filler, f, ends them whatever follows.
-#[test]
-fn reads_the_digits_of_an_address(rt: HostRuntime) -> Result<(), Fail> {
-    let cases: [(&[u8], &[u8]); 7] = [
-        (&[0x91], &[]),
-        (&[0x91, 0x21, 0xf3], &[1, 2, 3]),
-        (&[0x91, 0x21, 0x43], &[1, 2, 3, 4]),
-        (&[0x91, 0xf1, 0x43], &[1]),
-        (&[0x91, 0x2f, 0x43], &[]),
-        (&[0x91, 0xa1], &[1, 10]),
-        (&[0xa1, 0xed, 0xcb], &[13, 14, 11, 12]),
-    ];
+// Octets, each with the digits of their address.
+fn check_digits(rt: &impl Abort, cases: &[(&[u8], &[u8])]) -> Result<(), Fail> {
     for (octets, wanted) in cases {
         let digits = Address::new(octets)?.digits();
         assert_eq!(rt; digits.len(), wanted.len(), "of {octets:?}");
@@ -184,6 +175,23 @@ fn reads_the_digits_of_an_address(rt: HostRuntime) -> Result<(), Fail> {
     Ok(())
 }
 
+// Digits stand low nibble first, and the first filler, f, ends them whatever follows.
+#[test]
+fn reads_the_digits_of_an_address(rt: HostRuntime) -> Result<(), Fail> {
+    check_digits(
+        &rt,
+        &[
+            (&[0x91], &[]),
+            (&[0x91, 0x21, 0xf3], &[1, 2, 3]),
+            (&[0x91, 0x21, 0x43], &[1, 2, 3, 4]),
+            (&[0x91, 0xf1, 0x43], &[1]),
+            (&[0x91, 0x2f, 0x43], &[]),
+            (&[0x91, 0xa1], &[1, 10]),
+            (&[0xa1, 0xed, 0xcb], &[13, 14, 11, 12]),
+        ],
+    )
+}
+
 #[test]
 fn reads_38_digits(rt: HostRuntime) -> Result<(), Fail> {
     let mut octets = [0x11; 20];
@@ -197,34 +205,41 @@ fn reads_38_digits(rt: HostRuntime) -> Result<(), Fail> {
     Ok(())
 }
 
-// Octet 1 is no digit, so that addresses of another nature may begin with these or be the same.
-#[test]
-fn compares_digits_and_not_octets(rt: HostRuntime) -> Result<(), Fail> {
-    let cases: [(&[u8], &[u8], bool, bool); 11] = [
-        (&[0x91, 0x21, 0x43], &[0x91, 0x21, 0xf3], true, false),
-        (&[0x91, 0x21, 0x43], &[0x91], true, false),
-        (&[0x91, 0x21, 0x43], &[0x91, 0x21, 0x43], true, true),
-        (&[0x91, 0x21, 0x43], &[0x91, 0x55], false, false),
-        (&[0x91, 0x21, 0xf3], &[0x91, 0x21, 0x43], false, false),
-        (&[0xa1, 0x21, 0x43], &[0x91, 0x21, 0xf3], true, false),
-        (&[0x91, 0x21, 0xf3], &[0x11, 0x21, 0xf3], true, true),
-        (&[0x91, 0x21, 0xf3], &[0x91, 0x21, 0x4f], true, false),
-        (&[0x91, 0x21], &[0x91, 0x21, 0x4f], true, true),
-        (&[0x91, 0x21, 0xf4], &[0x91, 0x21, 0xf3], false, false),
-        (&[0x91], &[0xa1], true, true),
-    ];
+// Octets and others, with whether the digits of the first begin with those of the others, and whether they are the same.
+fn check_compared(rt: &impl Abort, cases: &[(&[u8], &[u8], bool, bool)]) -> Result<(), Fail> {
     for (octets, others, begins, same) in cases {
         let digits = Address::new(octets)?.digits();
         let front = Address::new(others)?.digits();
         assert_eq!(rt;
             digits.begins_with(&front),
-            begins,
+            *begins,
             "{octets:?} with {others:?}"
         );
-        assert_eq!(rt; digits.same(&front), same, "{octets:?} and {others:?}");
-        assert_eq!(rt; front.same(&digits), same, "{others:?} and {octets:?}");
+        assert_eq!(rt; digits.same(&front), *same, "{octets:?} and {others:?}");
+        assert_eq!(rt; front.same(&digits), *same, "{others:?} and {octets:?}");
     }
     Ok(())
+}
+
+// Octet 1 is no digit, so that addresses of another nature may begin with these or be the same.
+#[test]
+fn compares_digits_and_not_octets(rt: HostRuntime) -> Result<(), Fail> {
+    check_compared(
+        &rt,
+        &[
+            (&[0x91, 0x21, 0x43], &[0x91, 0x21, 0xf3], true, false),
+            (&[0x91, 0x21, 0x43], &[0x91], true, false),
+            (&[0x91, 0x21, 0x43], &[0x91, 0x21, 0x43], true, true),
+            (&[0x91, 0x21, 0x43], &[0x91, 0x55], false, false),
+            (&[0x91, 0x21, 0xf3], &[0x91, 0x21, 0x43], false, false),
+            (&[0xa1, 0x21, 0x43], &[0x91, 0x21, 0xf3], true, false),
+            (&[0x91, 0x21, 0xf3], &[0x11, 0x21, 0xf3], true, true),
+            (&[0x91, 0x21, 0xf3], &[0x91, 0x21, 0x4f], true, false),
+            (&[0x91, 0x21], &[0x91, 0x21, 0x4f], true, true),
+            (&[0x91, 0x21, 0xf4], &[0x91, 0x21, 0xf3], false, false),
+            (&[0x91], &[0xa1], true, true),
+        ],
+    )
 }
 
 // By TS 29.002 a TBCD-STRING has the first digit in the low nibble, and a filler only for an odd count.
