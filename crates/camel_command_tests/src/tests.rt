@@ -9,14 +9,14 @@ use std::alloc::Global;
 use std::process::Abort;
 use std::test::Fail;
 
-pub const FIRST_CALL: &str =
+const FIRST_CALL: &str =
     "register,262010000000001\ninsert,262010000000001,o:2:100:919471160000:0\npublish\ncall,2,262010000000001,t11,91214365,n\n";
 
-pub const FIRST_CALL_OUTPUT: &str =
+const FIRST_CALL_OUTPUT: &str =
     "accepted 1\naccepted 2\npublished 2\nfront 2 trigger 2 100 919471160000 continue\n";
 
 // The words with which the program is started, its name first.
-pub fn words(alloc: Global, options: &[&str]) -> Result<Vec<String>, Fail> {
+fn words(alloc: Global, options: &[&str]) -> Result<Vec<String>, Fail> {
     let mut words = Vec::new(alloc);
     words.push(String::from_str(alloc, "camel_replay")?)?;
     for option in options {
@@ -26,7 +26,7 @@ pub fn words(alloc: Global, options: &[&str]) -> Result<Vec<String>, Fail> {
 }
 
 // A run of the program over a script writes this output, this fault line, and ends with this status.
-pub fn check_run(
+fn check_run(
     rt: &impl Abort,
     alloc: Global,
     script: &str,
@@ -38,7 +38,7 @@ pub fn check_run(
 }
 
 // The same with options on the command line.
-pub fn check_run_with(
+fn check_run_with(
     rt: &impl Abort,
     alloc: Global,
     options: &[&str],
@@ -58,14 +58,14 @@ pub fn check_run_with(
 }
 
 // A script or an output, in which `A`, `B` and `C` stand for three IMSIs, and `S` for a gsmSCF address.
-pub fn spelled_out(alloc: Global, text: &str) -> Result<String, Fail> {
+fn spelled_out(alloc: Global, text: &str) -> Result<String, Fail> {
     let mut whole = String::new(alloc);
     spell_out(&mut whole, text)?;
     Ok(whole)
 }
 
 // The same behind what stands before it.
-pub fn spell_out(whole: &mut String, text: &str) -> Result<(), Fail> {
+fn spell_out(whole: &mut String, text: &str) -> Result<(), Fail> {
     for character in text.chars() {
         match character {
             'A' => whole.push_str("262010000000001")?,

@@ -205,7 +205,7 @@ fn reads_38_digits(rt: HostRuntime) -> Result<(), Fail> {
     Ok(())
 }
 
-// Octets and others, with whether the digits of the first begin with those of the others, and whether they are the same.
+// Octets and others: whether the digits of the first begin with those of the others, and whether they are the same.
 fn check_compared(rt: &impl Abort, cases: &[(&[u8], &[u8], bool, bool)]) -> Result<(), Fail> {
     for (octets, others, begins, same) in cases {
         let digits = Address::new(octets)?.digits();
