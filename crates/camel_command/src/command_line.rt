@@ -13,7 +13,7 @@ pub const MAX_LIMIT: u64 = 1_000_000;
 
 /// What the command line asks for.
 #[derive(Clone, Copy, Debug, PartialEq, Eq)]
-pub struct Options {
+pub struct CommandLine {
     /// How many updates are accepted at most, 1 to 1000000.
     pub limit: u64,
 }
@@ -21,7 +21,7 @@ pub struct Options {
 /// The options of the words with which the program was started, its name first.
 ///
 /// The error is that of `clap`: a mistake in the words, the request for help, or want of memory.
-pub fn read_options(alloc: Global, words: &[String]) -> Result<Options, Error>
+pub fn options(alloc: Global, words: &[String]) -> Result<CommandLine, Error>
     ensures limit { IfOk result (λ options. LimitOf (map string_bytes words.now) options.limit) }
     ensures help { IfErr result (λ error.
         kind_of error ≡ DisplayHelp → AsksForHelp (map string_bytes words.now)) }
@@ -29,7 +29,7 @@ pub fn read_options(alloc: Global, words: &[String]) -> Result<Options, Error>
     let mut command = command(alloc)?;
     let matches = command.try_get_matches_from_mut(words)?;
     match limit(&matches) {
-        Some(limit) => Ok(Options { limit }),
+        Some(limit) => Ok(CommandLine { limit }),
         // The parser of the value has taken it, so this is not met.
         None => Err(command.error(ErrorKind::ValueValidation, "the limit is not 1 to 1000000")?),
     }

@@ -4,5 +4,5 @@
 mod command_line;
 mod program_run;
 
-pub use command_line::{MAX_LIMIT, Options, read_options};
+pub use command_line::{CommandLine, MAX_LIMIT, options};
 pub use program_run::{FAULT_STATUS, REJECTED_STATUS, run};

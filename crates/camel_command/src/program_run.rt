@@ -5,7 +5,7 @@ ghost use Rattle.camel_command.specs.FaultLine.{fault_line, fault_line_at};
 ghost use Rattle.camel_command.specs.ProgramRun.{Helps, LacksMemory, Rejects, Replays, Runs};
 ghost use Rattle.camel_script_replay.specs.Written.{AppendsPart};
 
-use crate::command_line::read_options;
+use crate::command_line::options;
 use camel_script_replay::{ReplayFault, replay, write_whole};
 use clap::error::ErrorKind;
 use std::alloc::{AllocError, Global};
@@ -34,7 +34,7 @@ pub fn run<R: Read + Drop, W: Write, E: Write>(
     ensures { Runs (map string_bytes words.now) (R.remaining reader)
         (W.contents out.old) (W.contents out.new) (E.contents err.old) (E.contents err.new) result }
 {
-    match read_options(alloc, words) {
+    match options(alloc, words) {
         Ok(options) => run_replay(alloc, options.limit, reader, out, err),
         Err(error) => tell(alloc, &error, out, err),
     }

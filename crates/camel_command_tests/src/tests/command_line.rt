@@ -1,5 +1,5 @@
 use super::{FIRST_CALL, FIRST_CALL_OUTPUT, check_run_with, words};
-use camel_command::{Options, read_options};
+use camel_command::{CommandLine, options};
 use std::test::Fail;
 
 #[test]
@@ -23,8 +23,8 @@ fn reads_the_limit_as_it_may_stand(rt: HostRuntime) -> Result<(), Fail> {
         (["script.csv"].as_slice(), None),
     ] {
         let words = words(rt.alloc(), given)?;
-        let read = read_options(rt.alloc(), &words).ok();
-        assert_eq!(rt; read, limit.map(|limit| Options { limit }), "{given:?}");
+        let read = options(rt.alloc(), &words).ok();
+        assert_eq!(rt; read, limit.map(|limit| CommandLine { limit }), "{given:?}");
     }
     Ok(())
 }

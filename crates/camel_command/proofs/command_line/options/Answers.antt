@@ -4,7 +4,7 @@ use Rattle.clap.specs.declared.error.Error.{Error}
 use Rattle.clap.specs.declared.error.kind.ErrorKind.TheVariants.{DisplayHelp}
 use Rattle.camel_command.specs.CommandLine.{AsksForHelp}
 use Rattle.camel_command.proofs.CommandLineLemmas.{AsksForHelp-answered, LimitOf-held, passed_on}
-use Rattle.camel_command.proofs.command_line.read_options.Goals as goal
+use Rattle.camel_command.proofs.command_line.options.Goals as goal
 
 pub returns-in-Some-clause-limit : goal.returns-in-Some-clause-limit
 returns-in-Some-clause-limit c =
