@@ -12,8 +12,14 @@ const MISSING: Refusal = Refusal::DataMissing;
 const UNEXPECTED: Refusal = Refusal::UnexpectedDataValue;
 
 fn row_of(dp: u8, key: u32, handling: Handling) -> Result<TdpRow, Refusal> {
-    let scf = IsdnAddress::from_bytes(&SCF).map_err(|_| UNEXPECTED)?;
-    TdpRow::new(dp, key, scf, handling)
+    match IsdnAddress::from_bytes(&SCF) {
+        Ok(scf) => TdpRow::new(dp, key, scf, handling),
+        Err(_) => Err(UNEXPECTED),
+    }
+}
+
+fn key_received(key: u32) -> Result<u32, Refusal> {
+    Ok(row_of(2, key, Handling::Continue)?.key())
 }
 
 #[test]
@@ -25,8 +31,7 @@ fn a_service_key_has_31_bits(rt: HostRuntime) -> Result<(), Fail> {
         (2_147_483_648, Err(UNEXPECTED)),
         (u32::MAX, Err(UNEXPECTED)),
     ] {
-        let row = row_of(2, key, Handling::Continue);
-        assert_eq!(rt; row.map(|row| row.key()), wanted, "{key}");
+        assert_eq!(rt; key_received(key), wanted, "{key}");
     }
     Ok(())
 }
@@ -61,9 +66,19 @@ fn rows_of(alloc: Global, points: &[u8]) -> Result<Vec<TdpRow>, Refusal> {
     Ok(rows)
 }
 
+fn told(row: Option<&TdpRow>) -> Option<(u8, u32)> {
+    let row = row?;
+    Some((row.dp(), row.key()))
+}
+
 fn o_csi_kept(alloc: Global, points: &[u8]) -> Result<Rows, Refusal> {
     let csi = OCsi::new(&rows_of(alloc, points)?)?;
-    Ok([0, 1, 2, 3].map(|at| csi.get(at).map(|row| (row.dp(), row.key()))))
+    Ok([
+        told(csi.get(0)),
+        told(csi.get(1)),
+        told(csi.get(2)),
+        told(csi.get(3)),
+    ])
 }
 
 #[test]
@@ -97,7 +112,12 @@ fn an_o_csi_keeps_its_rows_of_2_and_4_in_order(rt: HostRuntime) -> Result<(), Fa
 
 fn vt_csi_kept(alloc: Global, points: &[u8]) -> Result<Rows, Refusal> {
     let csi = VtCsi::new(&rows_of(alloc, points)?)?;
-    Ok([0, 1, 2, 3].map(|at| csi.get(at).map(|row| (row.dp(), row.key()))))
+    Ok([
+        told(csi.get(0)),
+        told(csi.get(1)),
+        told(csi.get(2)),
+        told(csi.get(3)),
+    ])
 }
 
 #[test]
@@ -130,6 +150,33 @@ fn a_vt_csi_keeps_its_rows_of_12_13_and_14_in_order(rt: HostRuntime) -> Result<(
     Ok(())
 }
 
+// The service keys of the rows at detection points 2, 4, 12, 13 and 14.
+type Keys = [Option<u32>; 5];
+
+fn key_of(row: Option<&TdpRow>) -> Option<u32> {
+    Some(row?.key())
+}
+
+fn o_csi_keys(csi: &OCsi) -> Keys {
+    [
+        key_of(csi.row(2)),
+        key_of(csi.row(4)),
+        key_of(csi.row(12)),
+        key_of(csi.row(13)),
+        key_of(csi.row(14)),
+    ]
+}
+
+fn vt_csi_keys(csi: &VtCsi) -> Keys {
+    [
+        key_of(csi.row(2)),
+        key_of(csi.row(4)),
+        key_of(csi.row(12)),
+        key_of(csi.row(13)),
+        key_of(csi.row(14)),
+    ]
+}
+
 #[test]
 fn an_o_csi_counts_its_rows_and_finds_them(rt: HostRuntime) -> Result<(), Fail> {
     for (points, len, keys) in [
@@ -143,8 +190,7 @@ fn an_o_csi_counts_its_rows_and_finds_them(rt: HostRuntime) -> Result<(), Fail> 
     ] {
         let csi = OCsi::new(&rows_of(rt.alloc(), points)?)?;
         assert_eq!(rt; (csi.len(), csi.is_empty()), (len, len == 0), "{points:?}");
-        let found = [2, 4, 12, 13, 14].map(|dp| csi.row(dp).map(|row| row.key()));
-        assert_eq!(rt; found, keys, "{points:?}");
+        assert_eq!(rt; o_csi_keys(&csi), keys, "{points:?}");
     }
     Ok(())
 }
@@ -163,8 +209,7 @@ fn a_vt_csi_counts_its_rows_and_finds_them(rt: HostRuntime) -> Result<(), Fail> 
     ] {
         let csi = VtCsi::new(&rows_of(rt.alloc(), points)?)?;
         assert_eq!(rt; (csi.len(), csi.is_empty()), (len, len == 0), "{points:?}");
-        let found = [2, 4, 12, 13, 14].map(|dp| csi.row(dp).map(|row| row.key()));
-        assert_eq!(rt; found, keys, "{points:?}");
+        assert_eq!(rt; vt_csi_keys(&csi), keys, "{points:?}");
     }
     Ok(())
 }
@@ -205,16 +250,34 @@ type Entries = [Option<(u8, Option<u8>)>; 4];
 
 const NO_ENTRIES: Entries = [None; 4];
 
-fn o_entries_in(set: OCriteriaSet) -> Entries {
-    [0, 1, 2, 3].map(|at| set
-        .get(at)
-        .map(|entry| (entry.dp(), octet_of(entry.basic()))))
+fn o_told(entry: Option<&OCriteria>) -> Option<(u8, Option<u8>)> {
+    let entry = entry?;
+    Some((entry.dp(), octet_of(entry.basic())))
 }
 
-fn t_entries_in(set: TCriteriaSet) -> Entries {
-    [0, 1, 2, 3].map(|at| set
-        .get(at)
-        .map(|entry| (entry.dp(), octet_of(entry.basic()))))
+fn t_told(entry: Option<&TCriteria>) -> Option<(u8, Option<u8>)> {
+    let entry = entry?;
+    Some((entry.dp(), octet_of(entry.basic())))
+}
+
+fn o_entries_kept(alloc: Global, points: &[u8]) -> Result<Entries, Refusal> {
+    let set = o_set_of(alloc, points)?;
+    Ok([
+        o_told(set.get(0)),
+        o_told(set.get(1)),
+        o_told(set.get(2)),
+        o_told(set.get(3)),
+    ])
+}
+
+fn t_entries_kept(alloc: Global, points: &[u8]) -> Result<Entries, Refusal> {
+    let set = t_set_of(alloc, points)?;
+    Ok([
+        t_told(set.get(0)),
+        t_told(set.get(1)),
+        t_told(set.get(2)),
+        t_told(set.get(3)),
+    ])
 }
 
 #[test]
@@ -239,8 +302,7 @@ fn the_criteria_of_an_o_csi_keep_their_entries_of_2_and_4_in_order(
             Ok([Some((4, Some(1))), Some((2, Some(3))), None, None]),
         ),
     ] {
-        let kept = o_set_of(rt.alloc(), points).map(o_entries_in);
-        assert_eq!(rt; kept, wanted, "{points:?}");
+        assert_eq!(rt; o_entries_kept(rt.alloc(), points), wanted, "{points:?}");
     }
     Ok(())
 }
@@ -273,8 +335,7 @@ fn the_criteria_of_a_vt_csi_keep_their_entries_of_12_13_and_14_in_order(
             ]),
         ),
     ] {
-        let kept = t_set_of(rt.alloc(), points).map(t_entries_in);
-        assert_eq!(rt; kept, wanted, "{points:?}");
+        assert_eq!(rt; t_entries_kept(rt.alloc(), points), wanted, "{points:?}");
     }
     Ok(())
 }
@@ -283,18 +344,22 @@ fn the_criteria_of_a_vt_csi_keep_their_entries_of_12_13_and_14_in_order(
 fn a_set_of_criteria_counts_its_entries_and_finds_them(rt: HostRuntime) -> Result<(), Fail> {
     for (points, o_len, o_at_4, t_len, t_at_14) in [
         ([3].as_slice(), 0, None, 0, None),
-        ([12, 4].as_slice(), 1, Some(1), 1, None),
-        ([4, 14, 2, 13].as_slice(), 2, Some(0), 2, Some(1)),
-        ([2, 12, 13, 14].as_slice(), 1, None, 3, Some(3)),
+        ([12, 4].as_slice(), 1, Some((4, Some(1))), 1, None),
+        (
+            [4, 14, 2, 13].as_slice(),
+            2,
+            Some((4, Some(0))),
+            2,
+            Some((14, Some(1))),
+        ),
+        ([2, 12, 13, 14].as_slice(), 1, None, 3, Some((14, Some(3)))),
     ] {
         let o = o_set_of(rt.alloc(), points)?;
         let t = t_set_of(rt.alloc(), points)?;
         assert_eq!(rt; (o.len(), o.is_empty()), (o_len, o_len == 0), "{points:?}");
         assert_eq!(rt; (t.len(), t.is_empty()), (t_len, t_len == 0), "{points:?}");
-        let found = o.entry(4).and_then(|entry| octet_of(entry.basic()));
-        assert_eq!(rt; found, o_at_4, "{points:?}");
-        let found = t.entry(14).and_then(|entry| octet_of(entry.basic()));
-        assert_eq!(rt; found, t_at_14, "{points:?}");
+        assert_eq!(rt; o_told(o.entry(4)), o_at_4, "{points:?}");
+        assert_eq!(rt; t_told(t.entry(14)), t_at_14, "{points:?}");
         assert!(rt; o.entry(14).is_none() && t.entry(4).is_none(), "{points:?}");
     }
     Ok(())

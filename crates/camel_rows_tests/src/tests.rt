@@ -94,7 +94,10 @@ const ONE_ROW: Items = Items {
 };
 
 fn number_of(octets: &[u8]) -> Result<IsdnAddress, Refusal> {
-    IsdnAddress::from_bytes(octets).map_err(|_| Refusal::UnexpectedDataValue)
+    match IsdnAddress::from_bytes(octets) {
+        Ok(number) => Ok(number),
+        Err(_) => Err(Refusal::UnexpectedDataValue),
+    }
 }
 
 fn one_number(octets: &[u8]) -> Result<Numbers, Refusal> {
@@ -280,17 +283,25 @@ fn mark_of(codes: &[BasicService]) -> Option<u8> {
 }
 
 // Where an entry belongs, to the O-CSI or to the VT-CSI, with its detection point and its mark.
-fn entry_told(entry: Lent) -> (char, u8, Option<u8>) {
-    match entry {
-        Lent::O(entry) => ('o', entry.dp(), mark_of(entry.basic())),
-        Lent::T(entry) => ('t', entry.dp(), mark_of(entry.basic())),
+type EntryTold = (char, u8, Option<u8>);
+
+fn entry_told(entry: Option<Lent>) -> Option<EntryTold> {
+    match entry? {
+        Lent::O(entry) => Some(('o', entry.dp(), mark_of(entry.basic()))),
+        Lent::T(entry) => Some(('t', entry.dp(), mark_of(entry.basic()))),
     }
 }
 
+fn key_of(row: Option<&TdpRow>) -> Option<u32> {
+    Some(row?.key())
+}
+
 // The service key of the row of a detection point, and the entry there.
-fn held_at(subscriber: &Subscriber, dp: u8) -> (Option<u32>, Option<(char, u8, Option<u8>)>) {
-    let key = subscriber.row(dp).map(|row| row.key());
-    (key, subscriber.criteria(dp).map(entry_told))
+fn held_at(subscriber: &Subscriber, dp: u8) -> (Option<u32>, Option<EntryTold>) {
+    (
+        key_of(subscriber.row(dp)),
+        entry_told(subscriber.criteria(dp)),
+    )
 }
 
 // A call of the subscriber 1, by its detection point, basic service and cause, and what is told of it.
@@ -306,14 +317,14 @@ fn check_calls(rt: &impl Abort, records: &Records, calls: &[Call]) -> Result<(),
 }
 
 // The service key and the entry that a decision lends, or the reason.
-type LentData = Result<(u32, Option<(char, u8, Option<u8>)>), Reason>;
+type LentData = Result<(u32, Option<EntryTold>), Reason>;
 
 fn lent_at(rt: &impl Abort, records: &Records, call: &CallEvent) -> LentData {
     let event = call.lend();
     match decide_in(records, &event) {
         Decision::Trigger { row, criteria } => {
             assert_eq!(rt; row.scf().bytes(), SCF.as_slice());
-            Ok((row.key(), criteria.map(entry_told)))
+            Ok((row.key(), entry_told(criteria)))
         }
         Decision::NoTrigger(reason) => Err(reason),
     }
@@ -326,41 +337,49 @@ type Half = Option<(Option<u32>, Option<u8>)>;
 fn halves_in(records: &Records, imsi: &Imsi) -> Option<(Half, Half)> {
     let subscriber = records.get(imsi)?;
     Some((
-        subscriber.o().map(|_| half_at(subscriber, 2)),
-        subscriber.vt().map(|_| half_at(subscriber, 12)),
+        half_at(subscriber, subscriber.o().is_some(), 2),
+        half_at(subscriber, subscriber.vt().is_some(), 12),
     ))
 }
 
-fn half_at(subscriber: &Subscriber, dp: u8) -> (Option<u32>, Option<u8>) {
-    let (key, entry) = held_at(subscriber, dp);
-    (key, entry.and_then(|told| told.2))
+fn half_at(subscriber: &Subscriber, is_stored: bool, dp: u8) -> Half {
+    match held_at(subscriber, dp) {
+        _ if !is_stored => None,
+        (key, Some((_, _, mark))) => Some((key, mark)),
+        (key, None) => Some((key, None)),
+    }
 }
 
 // The Insert of an O-CSI, its criteria, a VT-CSI and its criteria, where they are told. Each has one item: a row
 // at detection point 2 or 12 with this service key, or an entry there with this mark. 0 is an ignored item.
 fn marked_insert(alloc: Global, imsi: Imsi, brought: [Option<u8>; 4]) -> Result<Update, Refusal> {
     let [o, o_mark, vt, t_mark] = brought;
-    let o_entry = o_mark.map(|mark| PlainO {
-        dp: point_of(mark, 2),
-        basic: Some(BasicService::Tele(mark)),
-        ..BARE
-    });
-    let t_entry = t_mark.map(|mark| PlainT(
-        point_of(mark, 12),
-        Some(BasicService::Tele(mark)),
-        None,
-    ));
     let items = Items {
-        o: [o.map(|key| marked_row(key, 2)), None, None],
-        o_criteria: [o_entry, None],
-        vt: [vt.map(|key| marked_row(key, 12)), None, None],
-        t_criteria: [t_entry, None],
+        o: [marked_row(o, 2), None, None],
+        o_criteria: [marked_o(o_mark), None],
+        vt: [marked_row(vt, 12), None, None],
+        t_criteria: [marked_t(t_mark), None],
     };
     insert(alloc, imsi, &items)
 }
 
-fn marked_row(key: u8, dp: u8) -> PlainRow {
-    PlainRow(point_of(key, dp), u32::from(key), 0)
+fn marked_row(key: Option<u8>, dp: u8) -> Option<PlainRow> {
+    let key = key?;
+    Some(PlainRow(point_of(key, dp), u32::from(key), 0))
+}
+
+fn marked_o(mark: Option<u8>) -> Option<PlainO> {
+    let mark = mark?;
+    Some(PlainO {
+        dp: point_of(mark, 2),
+        basic: Some(BasicService::Tele(mark)),
+        ..BARE
+    })
+}
+
+fn marked_t(mark: Option<u8>) -> Option<PlainT> {
+    let mark = mark?;
+    Some(PlainT(point_of(mark, 12), Some(BasicService::Tele(mark)), None))
 }
 
 fn point_of(number: u8, dp: u8) -> u8 {

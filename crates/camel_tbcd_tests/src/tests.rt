@@ -32,6 +32,19 @@ fn reads_octet_1(rt: HostRuntime) -> Result<(), Fail> {
     Ok(())
 }
 
+// Whether just these octets are borrowed, or kept as a call address or an ISDN address.
+fn are_borrowed(octets: &[u8]) -> Result<bool, AddressFault> {
+    Ok(Address::new(octets)?.bytes() == octets)
+}
+
+fn are_kept_of_a_call(octets: &[u8]) -> Result<bool, AddressFault> {
+    Ok(CallAddress::from_bytes(octets)?.lend().bytes() == octets)
+}
+
+fn are_kept(octets: &[u8]) -> Result<bool, AddressFault> {
+    Ok(IsdnAddress::from_bytes(octets)?.lend().bytes() == octets)
+}
+
 #[test]
 fn borrows_or_keeps_1_to_20_octets(rt: HostRuntime) -> Result<(), Fail> {
     for (count, same) in [
@@ -41,10 +54,8 @@ fn borrows_or_keeps_1_to_20_octets(rt: HostRuntime) -> Result<(), Fail> {
         (21, Err(AddressFault::TooLong)),
     ] {
         let octets = OCTETS.get(..count).ok_or("more than were written")?;
-        let borrowed = Address::new(octets).map(|address| address.bytes() == octets);
-        assert_eq!(rt; borrowed, same, "{count} octets borrowed");
-        let kept = CallAddress::from_bytes(octets).map(|address| address.lend().bytes() == octets);
-        assert_eq!(rt; kept, same, "{count} octets kept");
+        assert_eq!(rt; are_borrowed(octets), same, "{count} octets borrowed");
+        assert_eq!(rt; are_kept_of_a_call(octets), same, "{count} octets kept");
     }
     Ok(())
 }
@@ -58,10 +69,14 @@ fn keeps_1_to_9_octets_of_an_isdn_address(rt: HostRuntime) -> Result<(), Fail> {
         (10, Err(AddressFault::TooLong)),
     ] {
         let octets = OCTETS.get(..count).ok_or("more than were written")?;
-        let kept = IsdnAddress::from_bytes(octets).map(|address| address.lend().bytes() == octets);
-        assert_eq!(rt; kept, same, "{count} octets");
+        assert_eq!(rt; are_kept(octets), same, "{count} octets");
     }
     Ok(())
+}
+
+// Whether an IMSI has just these digits.
+fn has_digits(imsi: Result<Imsi, ImsiFault>, digits: &[u8]) -> Result<bool, ImsiFault> {
+    Ok(imsi?.digits() == digits)
 }
 
 #[test]
@@ -74,14 +89,14 @@ fn keeps_5_to_15_digits(rt: HostRuntime) -> Result<(), Fail> {
         (16, Err(ImsiFault::Length)),
     ] {
         let digits = DIGITS.get(..count).ok_or("more than were written")?;
-        let kept = Imsi::from_digits(digits).map(|imsi| imsi.digits() == digits);
+        let kept = has_digits(Imsi::from_digits(digits), digits);
         assert_eq!(rt; kept, same, "{count} digits");
     }
     Ok(())
 }
 
 #[test]
-fn looks_at_the_count_and_then_at_the_first_value_over_9(rt: HostRuntime) {
+fn looks_at_the_count_and_then_at_the_first_value_over_9(rt: HostRuntime) -> Result<(), Fail> {
     let mut digits = DIGITS;
     digits[3] = 10;
     digits[4] = 10;
@@ -91,11 +106,14 @@ fn looks_at_the_count_and_then_at_the_first_value_over_9(rt: HostRuntime) {
         (15, ImsiFault::NotDigit { at: 3 }),
         (16, ImsiFault::Length),
     ] {
-        let found = digits
-            .get(..count)
-            .map(|digits| Imsi::from_digits(digits).err());
-        assert_eq!(rt; found, Some(Some(fault)), "{count} values");
+        let values = digits.get(..count).ok_or("more than were written")?;
+        assert_eq!(rt;
+            Imsi::from_digits(values).err(),
+            Some(fault),
+            "{count} values"
+        );
     }
+    Ok(())
 }
 
 // Every comparison of two values, each through its own bound alone.
@@ -255,7 +273,7 @@ fn keeps_the_digits_of_tbcd_octets(rt: HostRuntime) {
         (&[0x21, 0x43, 0x65], &[1, 2, 3, 4, 5, 6]),
     ];
     for (octets, wanted) in cases {
-        let kept = Imsi::from_tbcd(octets).map(|imsi| imsi.digits() == wanted);
+        let kept = has_digits(Imsi::from_tbcd(octets), wanted);
         assert_eq!(rt; kept, Ok(true), "of {octets:?}");
     }
 }

@@ -2,8 +2,10 @@ use super::{
     BARE, Half, Items, NOTHING, ONE_ROW, PlainNumber, PlainO, base, halves_in, imsi_of, insert,
     mark_of, marked_insert, one_number,
 };
-use camel_criteria::{MatchType, Refusal};
-use camel_rows::{Lent, Records, Update, Withdrawal};
+use camel_criteria::{MatchType, OCriteria, Refusal, TCriteria};
+use camel_rows::{
+    Lent, OCriteriaSet, OCsi, Records, TCriteriaSet, TdpRow, Update, VtCsi, Withdrawal,
+};
 use camel_tbcd::Imsi;
 use std::alloc::Global;
 use std::process::Abort;
@@ -36,29 +38,70 @@ fn brought_by(update: &Update) -> [Option<Places>; 4] {
     else {
         return [None; 4];
     };
-    let rows = o.as_ref().map(|csi| {
-        [0, 1, 2].map(|at| csi.get(at).map(|row| (row.dp(), row.key())))
-    });
-    let entries = o_criteria.as_ref().map(|set| {
-        [0, 1, 2].map(|at| set.get(at).map(|entry| (
-            entry.dp(),
-            number_of_mark(mark_of(entry.basic())),
-        )))
-    });
-    let vt_rows = vt.as_ref().map(|csi| {
-        [0, 1, 2].map(|at| csi.get(at).map(|row| (row.dp(), row.key())))
-    });
-    let vt_entries = t_criteria.as_ref().map(|set| {
-        [0, 1, 2].map(|at| set.get(at).map(|entry| (
-            entry.dp(),
-            number_of_mark(mark_of(entry.basic())),
-        )))
-    });
-    [rows, entries, vt_rows, vt_entries]
+    [
+        o_rows(o.as_ref()),
+        o_entries(o_criteria.as_ref()),
+        vt_rows(vt.as_ref()),
+        t_entries(t_criteria.as_ref()),
+    ]
+}
+
+fn o_rows(csi: Option<&OCsi>) -> Option<Places> {
+    let csi = csi?;
+    Some([
+        row_held(csi.get(0)),
+        row_held(csi.get(1)),
+        row_held(csi.get(2)),
+    ])
+}
+
+fn vt_rows(csi: Option<&VtCsi>) -> Option<Places> {
+    let csi = csi?;
+    Some([
+        row_held(csi.get(0)),
+        row_held(csi.get(1)),
+        row_held(csi.get(2)),
+    ])
+}
+
+fn row_held(row: Option<&TdpRow>) -> Option<(u8, u32)> {
+    let row = row?;
+    Some((row.dp(), row.key()))
+}
+
+fn o_entries(set: Option<&OCriteriaSet>) -> Option<Places> {
+    let set = set?;
+    Some([
+        o_entry_held(set.get(0)),
+        o_entry_held(set.get(1)),
+        o_entry_held(set.get(2)),
+    ])
+}
+
+fn o_entry_held(entry: Option<&OCriteria>) -> Option<(u8, u32)> {
+    let entry = entry?;
+    Some((entry.dp(), number_of_mark(mark_of(entry.basic()))))
+}
+
+fn t_entries(set: Option<&TCriteriaSet>) -> Option<Places> {
+    let set = set?;
+    Some([
+        t_entry_held(set.get(0)),
+        t_entry_held(set.get(1)),
+        t_entry_held(set.get(2)),
+    ])
+}
+
+fn t_entry_held(entry: Option<&TCriteria>) -> Option<(u8, u32)> {
+    let entry = entry?;
+    Some((entry.dp(), number_of_mark(mark_of(entry.basic()))))
 }
 
 fn number_of_mark(mark: Option<u8>) -> u32 {
-    mark.map_or(u32::MAX, u32::from)
+    match mark {
+        Some(mark) => u32::from(mark),
+        None => u32::MAX,
+    }
 }
 
 fn check_copy(rt: &impl Abort, update: &Update, wanted: Held) -> Result<(), Refusal> {
@@ -92,10 +135,14 @@ fn a_copy_of_a_register_a_delete_or_a_cancel_holds_the_same(rt: HostRuntime) -> 
     Ok(())
 }
 
+// One item, of this detection point and with this service key or mark.
+fn one(dp: u8, number: u32) -> Option<Places> {
+    Some([Some((dp, number)), None, None])
+}
+
 #[test]
 fn a_copy_of_an_insert_holds_the_same(rt: HostRuntime) -> Result<(), Fail> {
     let imsi = imsi_of(1)?;
-    let one = |dp, number| Some([Some((dp, number)), None, None]);
     let ignored = Some([None; 3]);
     for (brought, wanted) in [
         ([None; 4], [None; 4]),
@@ -146,7 +193,7 @@ fn bring_to_two(
     second: Imsi,
 ) -> Result<(), Refusal> {
     records.apply(&Update::Register { imsi: second })?;
-    records.apply(&marked_insert(alloc, first, [1, 2, 3, 4].map(Some))?)
+    records.apply(&marked_insert(alloc, first, [Some(1), Some(2), Some(3), Some(4)])?)
 }
 
 // The digits of the listed numbers of the entry at detection point 2, where there is a row and such an entry.
@@ -160,7 +207,7 @@ fn listed_digits(records: &Records, imsi: &Imsi) -> Option<(usize, [Option<u8>; 
             let digits = number.digits();
             Some((
                 criterion.numbers().len(),
-                [0, 1, 2, 3].map(|at| digits.get(at)),
+                [digits.get(0), digits.get(1), digits.get(2), digits.get(3)],
             ))
         }
         Lent::T(_) => None,

@@ -23,11 +23,11 @@ fn destination_of<'a>(event: &Event<'a>) -> Option<(&'a [u8], bool)> {
 
 // What an event shows: its detection point, basic service and cause.
 fn shown_by(event: &Event) -> (u8, BasicService, Option<u8>) {
-    (
-        event.dp(),
-        event.basic(),
-        event.cause().map(|cause| cause.value()),
-    )
+    (event.dp(), event.basic(), value_of(event.cause()))
+}
+
+fn value_of(cause: Option<Cause>) -> Option<u8> {
+    Some(cause?.value())
 }
 
 // An originating call, before and after a failure, of the subscriber 1.

@@ -13,7 +13,14 @@ use std::test::Fail;
 
 // The answer to an Insert of these items, as the number of its refusal, by the data or by the records.
 fn answer(alloc: Global, records: &mut Records, imsi: Imsi, items: &Items) -> Result<(), u16> {
-    bring(alloc, records, imsi, items).map_err(|why| why.code())
+    numbered(bring(alloc, records, imsi, items))
+}
+
+fn numbered(answer: Result<(), Refusal>) -> Result<(), u16> {
+    match answer {
+        Ok(()) => Ok(()),
+        Err(why) => Err(why.code()),
+    }
 }
 
 // An entry with a number criterion of so many numbers and this length.
@@ -46,13 +53,17 @@ fn with_entry(entry: PlainO) -> Items {
     }
 }
 
-fn with_keys(first: u32, second: Option<u32>) -> Items {
+fn with_key(key: u32) -> Items {
     Items {
-        o: [
-            Some(PlainRow(2, first, 0)),
-            second.map(|key| PlainRow(2, key, 0)),
-            None,
-        ],
+        o: [Some(PlainRow(2, key, 0)), None, None],
+        ..NOTHING
+    }
+}
+
+// Two rows of one detection point.
+fn with_repeated_rows() -> Items {
+    Items {
+        o: [Some(PlainRow(2, 1, 0)), Some(PlainRow(2, 2, 0)), None],
         ..NOTHING
     }
 }
@@ -67,8 +78,8 @@ fn check_answers(rt: &impl Abort, alloc: Global, records: &mut Records) -> Resul
     let imsi = imsi_of(1)?;
     records.apply(&Update::Register { imsi })?;
     for (items, wanted) in [
-        (with_keys(2_147_483_647, None), Ok(())),
-        (with_keys(2_147_483_648, None), Err(36)),
+        (with_key(2_147_483_647), Ok(())),
+        (with_key(2_147_483_648), Err(36)),
         (listing(0, Some(15))?, Ok(())),
         (listing(0, Some(16))?, Err(36)),
         (listing(10, None)?, Ok(())),
@@ -76,7 +87,7 @@ fn check_answers(rt: &impl Abort, alloc: Global, records: &mut Records) -> Resul
         (with_cause_at(4), Ok(())),
         (with_cause_at(2), Err(36)),
         (listing(0, None)?, Err(35)),
-        (with_keys(1, Some(2)), Err(36)),
+        (with_repeated_rows(), Err(36)),
     ] {
         let answered = answer(alloc, records, imsi, &items);
         assert_eq!(rt; answered, wanted, "{items:?}");
@@ -154,7 +165,7 @@ fn check_inserts(rt: &impl Abort, alloc: Global, records: &mut Records) -> Resul
         ([None, None, Some(10), None], Ok(()), held(1, 8), bare(10)),
         ([Some(11), None, None, None], Ok(()), bare(11), bare(10)),
         (
-            [12, 13, 14, 15].map(Some),
+            [Some(12), Some(13), Some(14), Some(15)],
             Ok(()),
             held(12, 13),
             held(14, 15),
@@ -164,9 +175,9 @@ fn check_inserts(rt: &impl Abort, alloc: Global, records: &mut Records) -> Resul
         ([None, Some(16), None, Some(17)], Ok(()), mark(16), mark(17)),
     ] {
         let update = marked_insert(alloc, imsi, brought)?;
-        let checked = records.check(&update).map_err(|why| why.code());
+        let checked = numbered(records.check(&update));
         assert_eq!(rt; checked, wanted, "{brought:?}");
-        let applied = records.apply(&update).map_err(|why| why.code());
+        let applied = numbered(records.apply(&update));
         assert_eq!(rt; applied, wanted, "{brought:?}");
         assert_eq!(rt; halves_in(records, &imsi), Some((o, vt)), "{brought:?}");
     }
@@ -206,7 +217,7 @@ fn check_withdrawal(
     halves: Option<(Half, Half)>,
 ) -> Result<(), Fail> {
     let imsi = imsi_of(1)?;
-    records.apply(&marked_insert(alloc, imsi, [1, 2, 3, 4].map(Some))?)?;
+    records.apply(&marked_insert(alloc, imsi, [Some(1), Some(2), Some(3), Some(4)])?)?;
     records.apply(&Update::Delete { imsi, what })?;
     assert_eq!(rt; halves_in(records, &imsi), halves, "{what:?}");
     // What is named and not there any more is no fault.
