@@ -57,6 +57,22 @@ fn check_run_with(
     Ok(())
 }
 
+// Scripts, each with what is written and the line of its fault, if there is one. What is spelled out below may stand in
+// the scripts and in the outputs.
+fn check_scripts(
+    rt: &impl Abort,
+    alloc: Global,
+    scripts: &[(&str, &str, &str)],
+) -> Result<(), Fail> {
+    for (script, output, fault) in scripts {
+        let script = spelled_out(alloc, script)?;
+        let output = spelled_out(alloc, output)?;
+        let status = u8::from(!fault.is_empty());
+        check_run(rt, alloc, script.as_str(), output.as_str(), fault, status)?;
+    }
+    Ok(())
+}
+
 // A script or an output, in which `A`, `B` and `C` stand for three IMSIs, and `S` for a gsmSCF address.
 fn spelled_out(alloc: Global, text: &str) -> Result<String, Fail> {
     let mut whole = String::new(alloc);

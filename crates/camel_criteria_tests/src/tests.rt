@@ -44,37 +44,47 @@ fn text_of<E: Error>(alloc: Global, error: &E) -> Result<String, AllocError> {
     format!(in alloc; "{error}")
 }
 
-#[test]
-fn numbers_and_prints_each_refusal(rt: HostRuntime) -> Result<(), Fail> {
-    for (refusal, code, text) in [
-        (
-            Refusal::UnidentifiedSubscriber,
-            5,
-            "there is no record of the subscriber",
-        ),
-        (Refusal::DataMissing, 35, "data that are needed are missing"),
-        (
-            Refusal::UnexpectedDataValue,
-            36,
-            "a value, a count or a repeated item is not allowed",
-        ),
-        (
-            Refusal::HistoryFull,
-            101,
-            "the store has taken as many updates as it may",
-        ),
-        (Refusal::OutOfMemory, 102, "out of memory"),
-        (
-            Refusal::NoPlace,
-            103,
-            "there is no place for a further reader",
-        ),
-        (Refusal::NoGuard, 104, "the reader was given no guard"),
-    ] {
-        assert_eq!(rt; refusal.code(), code, "{text}");
-        assert_eq!(rt; text_of(rt.alloc(), &refusal)?.as_str(), text);
+const REFUSALS: [(Refusal, u16, &str); 7] = [
+    (
+        Refusal::UnidentifiedSubscriber,
+        5,
+        "there is no record of the subscriber",
+    ),
+    (Refusal::DataMissing, 35, "data that are needed are missing"),
+    (
+        Refusal::UnexpectedDataValue,
+        36,
+        "a value, a count or a repeated item is not allowed",
+    ),
+    (
+        Refusal::HistoryFull,
+        101,
+        "the store has taken as many updates as it may",
+    ),
+    (Refusal::OutOfMemory, 102, "out of memory"),
+    (
+        Refusal::NoPlace,
+        103,
+        "there is no place for a further reader",
+    ),
+    (Refusal::NoGuard, 104, "the reader was given no guard"),
+];
+
+fn check_refusals(
+    rt: &impl Abort,
+    alloc: Global,
+    cases: &[(Refusal, u16, &str)],
+) -> Result<(), Fail> {
+    for (refusal, code, text) in cases {
+        assert_eq!(rt; refusal.code(), *code, "{text}");
+        assert_eq!(rt; text_of(alloc, refusal)?.as_str(), *text);
     }
     Ok(())
+}
+
+#[test]
+fn numbers_and_prints_each_refusal(rt: HostRuntime) -> Result<(), Fail> {
+    check_refusals(&rt, rt.alloc(), &REFUSALS)
 }
 
 // What `?` makes of an error, through the bound alone.
@@ -101,36 +111,45 @@ fn takes_causes_to_127(rt: HostRuntime) {
         (128, None),
         (255, None),
     ] {
-        assert_eq!(rt;
-            Cause::new(value).map(|cause| cause.value()),
-            wanted,
-            "of {value}"
-        );
+        assert_eq!(rt; value_of(Cause::new(value)), wanted, "of {value}");
     }
+}
+
+fn value_of(cause: Option<Cause>) -> Option<u8> {
+    Some(cause?.value())
+}
+
+const UNEXPECTED: Option<Refusal> = Some(Refusal::UnexpectedDataValue);
+
+// How many numbers, which lengths, and the refusal of a criterion of these.
+type CriterionCase = (usize, &'static [u8], Option<Refusal>);
+
+const CRITERIA: [CriterionCase; 10] = [
+    (0, &[], Some(Refusal::DataMissing)),
+    (0, &[1], None),
+    (1, &[], None),
+    (10, &[], None),
+    (11, &[], UNEXPECTED),
+    (0, &[1, 2, 15], None),
+    (0, &[1, 2, 3, 4], UNEXPECTED),
+    (0, &[0], UNEXPECTED),
+    (0, &[15, 16], UNEXPECTED),
+    (10, &[15, 15, 1], None),
+];
+
+fn check_criteria(rt: &impl Abort, alloc: Global, cases: &[CriterionCase]) -> Result<(), Fail> {
+    let many = [IsdnAddress::from_bytes(&[0x91, 0x21, 0xf3])?; 11];
+    for (count, lengths, wanted) in cases {
+        let numbers = many.get(..*count).ok_or("more than were written")?;
+        let made = NumberCriterion::new(alloc, MatchType::Enabling, numbers, lengths);
+        assert_eq!(rt; made.err(), *wanted, "{count} numbers and {lengths:?}");
+    }
+    Ok(())
 }
 
 #[test]
 fn takes_a_number_criterion_by_its_counts_and_lengths(rt: HostRuntime) -> Result<(), Fail> {
-    let number = IsdnAddress::from_bytes(&[0x91, 0x21, 0xf3])?;
-    let many = [number; 11];
-    let cases: [(usize, &[u8], Option<Refusal>); 10] = [
-        (0, &[], Some(Refusal::DataMissing)),
-        (0, &[1], None),
-        (1, &[], None),
-        (10, &[], None),
-        (11, &[], Some(Refusal::UnexpectedDataValue)),
-        (0, &[1, 2, 15], None),
-        (0, &[1, 2, 3, 4], Some(Refusal::UnexpectedDataValue)),
-        (0, &[0], Some(Refusal::UnexpectedDataValue)),
-        (0, &[15, 16], Some(Refusal::UnexpectedDataValue)),
-        (10, &[15, 15, 1], None),
-    ];
-    for (count, lengths, wanted) in cases {
-        let numbers = many.get(..count).ok_or("more than were written")?;
-        let made = NumberCriterion::new(rt.alloc(), MatchType::Enabling, numbers, lengths);
-        assert_eq!(rt; made.err(), wanted, "{count} numbers and {lengths:?}");
-    }
-    Ok(())
+    check_criteria(&rt, rt.alloc(), &CRITERIA)
 }
 
 // No two octets of these numbers are alike after the first, so that a lost or moved one shows.
@@ -186,34 +205,41 @@ fn refusals_at(
     (of_o, TCriteria::new(alloc, dp, codes, causes).err())
 }
 
+// A detection point, how many codes, which causes, and the refusals of an entry of the O-CSI and of one of the VT-CSI.
+type EntryCase = (u8, usize, &'static [u8], Option<Refusal>, Option<Refusal>);
+
 // At detection point 2 of an originating call and 12 of a terminating one no call is released yet.
-#[test]
-fn takes_an_entry_by_its_counts_and_causes(rt: HostRuntime) -> Result<(), Fail> {
-    let wrong = Some(Refusal::UnexpectedDataValue);
-    let cases: [(u8, usize, &[u8], Option<Refusal>, Option<Refusal>); 13] = [
-        (4, 0, &[], None, None),
-        (4, 5, &[], None, None),
-        (4, 6, &[], wrong, wrong),
-        (4, 0, &[1, 2, 3, 4, 5], None, None),
-        (4, 0, &[1, 2, 3, 4, 5, 6], wrong, wrong),
-        (4, 0, &[127], None, None),
-        (4, 0, &[1, 128], wrong, wrong),
-        (2, 5, &[], None, None),
-        (2, 0, &[17], wrong, None),
-        (2, 0, &[128], wrong, wrong),
-        (12, 5, &[], None, None),
-        (12, 0, &[17], None, wrong),
-        (13, 0, &[17], None, None),
-    ];
+const ENTRIES: [EntryCase; 13] = [
+    (4, 0, &[], None, None),
+    (4, 5, &[], None, None),
+    (4, 6, &[], UNEXPECTED, UNEXPECTED),
+    (4, 0, &[1, 2, 3, 4, 5], None, None),
+    (4, 0, &[1, 2, 3, 4, 5, 6], UNEXPECTED, UNEXPECTED),
+    (4, 0, &[127], None, None),
+    (4, 0, &[1, 128], UNEXPECTED, UNEXPECTED),
+    (2, 5, &[], None, None),
+    (2, 0, &[17], UNEXPECTED, None),
+    (2, 0, &[128], UNEXPECTED, UNEXPECTED),
+    (12, 5, &[], None, None),
+    (12, 0, &[17], None, UNEXPECTED),
+    (13, 0, &[17], None, None),
+];
+
+fn check_entries(rt: &impl Abort, alloc: Global, cases: &[EntryCase]) -> Result<(), Fail> {
     for (dp, count, causes, of_o, of_t) in cases {
-        let codes = CODES.get(..count).ok_or("more than were written")?;
+        let codes = CODES.get(..*count).ok_or("more than were written")?;
         assert_eq!(rt;
-            refusals_at(rt.alloc(), dp, codes, causes),
-            (of_o, of_t),
+            refusals_at(alloc, *dp, codes, causes),
+            (*of_o, *of_t),
             "at {dp}, {count} codes, {causes:?}"
         );
     }
     Ok(())
+}
+
+#[test]
+fn takes_an_entry_by_its_counts_and_causes(rt: HostRuntime) -> Result<(), Fail> {
+    check_entries(&rt, rt.alloc(), &ENTRIES)
 }
 
 const TWO_CODES: [BasicService; 2] = [BasicService::Tele(0x10), BasicService::Bearer(0x18)];
@@ -346,71 +372,79 @@ fn check_o_met(rt: &impl Abort, entry: &OCriteria, event: &OEvent, wanted: bool)
     assert_eq!(rt; o_met(entry, event), wanted, "{entry:?} and {event:?}");
 }
 
-fn check_number_case(
+fn check_number_cases(
     rt: &impl Abort,
     alloc: Global,
     match_type: MatchType,
-    case: NumberCase,
+    cases: &[NumberCase],
 ) -> Result<(), Fail> {
-    let (listed, lengths, destination, wanted) = case;
-    let event = of_telephony(Address::new(destination)?, None);
-    let entry = number_entry(alloc, match_type, listed, lengths)?;
-    check_o_met(rt, &entry, &event, wanted);
+    for (listed, lengths, destination, wanted) in cases {
+        let event = of_telephony(Address::new(destination)?, None);
+        let entry = number_entry(alloc, match_type, listed, lengths)?;
+        check_o_met(rt, &entry, &event, *wanted);
+    }
     Ok(())
 }
 
 #[test]
 fn meets_a_number_criterion(rt: HostRuntime) -> Result<(), Fail> {
     criteria_mean();
-    for case in ENABLING {
-        check_number_case(&rt, rt.alloc(), MatchType::Enabling, case)?;
-    }
-    for case in INHIBITING {
-        check_number_case(&rt, rt.alloc(), MatchType::Inhibiting, case)?;
+    check_number_cases(&rt, rt.alloc(), MatchType::Enabling, &ENABLING)?;
+    check_number_cases(&rt, rt.alloc(), MatchType::Inhibiting, &INHIBITING)
+}
+
+const SPEECH: &[BasicService] = &[BasicService::Tele(0x10)];
+
+const FORWARDED: Option<CallType> = Some(CallType::Forwarded);
+
+const NOT_FORWARDED: Option<CallType> = Some(CallType::NotForwarded);
+
+// The codes, the call type and the causes of an entry of the O-CSI; the code of a call, whether it is forwarded, and
+// its cause; and whether it meets the entry.
+type OCase = (
+    &'static [BasicService],
+    Option<CallType>,
+    &'static [u8],
+    u8,
+    bool,
+    Option<u8>,
+    bool,
+);
+
+const O_CASES: [OCase; 14] = [
+    (&[], None, &[], 0x11, false, None, true),
+    (&[], None, &[], 0x62, true, Some(17), true),
+    (SPEECH, None, &[], 0x11, false, None, true),
+    (SPEECH, None, &[], 0x62, false, None, false),
+    (&[], FORWARDED, &[], 0x11, true, None, true),
+    (&[], FORWARDED, &[], 0x11, false, None, false),
+    (&[], NOT_FORWARDED, &[], 0x11, false, None, true),
+    (&[], NOT_FORWARDED, &[], 0x11, true, None, false),
+    (&[], None, &[17, 18], 0x11, false, Some(17), true),
+    (&[], None, &[17, 18], 0x11, false, Some(18), true),
+    (&[], None, &[17, 18], 0x11, false, Some(19), false),
+    (&[], None, &[17, 18], 0x11, false, None, false),
+    (SPEECH, FORWARDED, &[17], 0x12, true, Some(17), true),
+    (SPEECH, FORWARDED, &[17], 0x12, true, Some(18), false),
+];
+
+fn check_o_cases(rt: &impl Abort, alloc: Global, cases: &[OCase]) -> Result<(), Fail> {
+    for (codes, call_type, causes, code, forwarded, cause, wanted) in cases {
+        let event = OEvent {
+            destination: Address::new(&[0x91, 0x21, 0x43])?,
+            basic: BasicService::Tele(*code),
+            forwarded: *forwarded,
+            cause: cause.and_then(Cause::new),
+        };
+        let entry = OCriteria::new(alloc, 4, None, codes, *call_type, causes)?;
+        check_o_met(rt, &entry, &event, *wanted);
     }
     Ok(())
 }
 
 #[test]
 fn meets_an_entry_of_the_o_csi_by_each_criterion(rt: HostRuntime) -> Result<(), Fail> {
-    let speech: &[BasicService] = &[BasicService::Tele(0x10)];
-    let forwarded = Some(CallType::Forwarded);
-    let not_forwarded = Some(CallType::NotForwarded);
-    let cases: [(
-        &[BasicService],
-        Option<CallType>,
-        &[u8],
-        u8,
-        bool,
-        Option<u8>,
-        bool,
-    ); 14] = [
-        (&[], None, &[], 0x11, false, None, true),
-        (&[], None, &[], 0x62, true, Some(17), true),
-        (speech, None, &[], 0x11, false, None, true),
-        (speech, None, &[], 0x62, false, None, false),
-        (&[], forwarded, &[], 0x11, true, None, true),
-        (&[], forwarded, &[], 0x11, false, None, false),
-        (&[], not_forwarded, &[], 0x11, false, None, true),
-        (&[], not_forwarded, &[], 0x11, true, None, false),
-        (&[], None, &[17, 18], 0x11, false, Some(17), true),
-        (&[], None, &[17, 18], 0x11, false, Some(18), true),
-        (&[], None, &[17, 18], 0x11, false, Some(19), false),
-        (&[], None, &[17, 18], 0x11, false, None, false),
-        (speech, forwarded, &[17], 0x12, true, Some(17), true),
-        (speech, forwarded, &[17], 0x12, true, Some(18), false),
-    ];
-    for (codes, call_type, causes, code, forwarded, cause, wanted) in cases {
-        let event = OEvent {
-            destination: Address::new(&[0x91, 0x21, 0x43])?,
-            basic: BasicService::Tele(code),
-            forwarded,
-            cause: cause.and_then(Cause::new),
-        };
-        let entry = OCriteria::new(rt.alloc(), 4, None, codes, call_type, causes)?;
-        check_o_met(&rt, &entry, &event, wanted);
-    }
-    Ok(())
+    check_o_cases(&rt, rt.alloc(), &O_CASES)
 }
 
 #[test]
@@ -430,26 +464,35 @@ fn asks_for_the_number_and_the_cause(rt: HostRuntime) -> Result<(), Fail> {
     Ok(())
 }
 
-#[test]
-fn meets_an_entry_of_the_vt_csi_by_each_criterion(rt: HostRuntime) -> Result<(), Fail> {
-    let facsimile: &[BasicService] = &[BasicService::Tele(0x60)];
-    let cases: [(&[BasicService], &[u8], u8, Option<u8>, bool); 8] = [
-        (&[], &[], 0x11, None, true),
-        (facsimile, &[17], 0x62, Some(17), true),
-        (facsimile, &[17], 0x11, Some(17), false),
-        (facsimile, &[17], 0x62, Some(18), false),
-        (facsimile, &[17], 0x62, None, false),
-        (facsimile, &[], 0x62, None, true),
-        (facsimile, &[], 0x64, None, false),
-        (&[], &[17], 0x11, Some(17), true),
-    ];
+const FACSIMILE: &[BasicService] = &[BasicService::Tele(0x60)];
+
+// The codes and the causes of an entry of the VT-CSI; the code and the cause of a call; and whether it meets the entry.
+type TCase = (&'static [BasicService], &'static [u8], u8, Option<u8>, bool);
+
+const T_CASES: [TCase; 8] = [
+    (&[], &[], 0x11, None, true),
+    (FACSIMILE, &[17], 0x62, Some(17), true),
+    (FACSIMILE, &[17], 0x11, Some(17), false),
+    (FACSIMILE, &[17], 0x62, Some(18), false),
+    (FACSIMILE, &[17], 0x62, None, false),
+    (FACSIMILE, &[], 0x62, None, true),
+    (FACSIMILE, &[], 0x64, None, false),
+    (&[], &[17], 0x11, Some(17), true),
+];
+
+fn check_t_cases(rt: &impl Abort, alloc: Global, cases: &[TCase]) -> Result<(), Fail> {
     for (codes, causes, code, cause, wanted) in cases {
-        let entry = TCriteria::new(rt.alloc(), 13, codes, causes)?;
+        let entry = TCriteria::new(alloc, 13, codes, causes)?;
         let event = TEvent {
-            basic: BasicService::Tele(code),
+            basic: BasicService::Tele(*code),
             cause: cause.and_then(Cause::new),
         };
-        assert_eq!(rt; t_met(&entry, &event), wanted, "{entry:?} and {event:?}");
+        assert_eq!(rt; t_met(&entry, &event), *wanted, "{entry:?} and {event:?}");
     }
     Ok(())
+}
+
+#[test]
+fn meets_an_entry_of_the_vt_csi_by_each_criterion(rt: HostRuntime) -> Result<(), Fail> {
+    check_t_cases(&rt, rt.alloc(), &T_CASES)
 }

@@ -2,6 +2,7 @@ use camel_criteria::{BasicService, Handling, OCriteria, Refusal, TCriteria};
 use camel_csi::{MAX_SERVICE_KEY, MAX_TDP_DATA, OCriteriaSet, OCsi, TCriteriaSet, TdpRow, VtCsi};
 use camel_tbcd::IsdnAddress;
 use std::alloc::Global;
+use std::process::Abort;
 use std::test::Fail;
 
 // The gsmSCF address of each row.
@@ -81,33 +82,31 @@ fn o_csi_kept(alloc: Global, points: &[u8]) -> Result<Rows, Refusal> {
     ])
 }
 
-#[test]
-fn an_o_csi_keeps_its_rows_of_2_and_4_in_order(rt: HostRuntime) -> Result<(), Fail> {
-    for (points, wanted) in [
-        ([].as_slice(), Err(MISSING)),
-        ([3; MAX_TDP_DATA].as_slice(), Ok(NO_ROWS)),
-        ([3; 11].as_slice(), Err(UNEXPECTED)),
-        (
-            [2, 3, 3, 3, 3, 3, 3, 3, 3, 3, 4].as_slice(),
-            Err(UNEXPECTED),
-        ),
-        ([2, 2].as_slice(), Err(UNEXPECTED)),
-        ([4, 2, 4].as_slice(), Err(UNEXPECTED)),
-        ([3, 3].as_slice(), Ok(NO_ROWS)),
-        ([12, 13, 14, 12].as_slice(), Ok(NO_ROWS)),
-        ([2].as_slice(), Ok([Some((2, 0)), None, None, None])),
-        (
-            [2, 4].as_slice(),
-            Ok([Some((2, 0)), Some((4, 1)), None, None]),
-        ),
-        (
-            [3, 4, 3, 2].as_slice(),
-            Ok([Some((4, 1)), Some((2, 3)), None, None]),
-        ),
-    ] {
-        assert_eq!(rt; o_csi_kept(rt.alloc(), points), wanted, "{points:?}");
+fn check_o_csis(rt: &impl Abort, alloc: Global, cases: &[(&[u8], Result<Rows, Refusal>)]) {
+    for (points, wanted) in cases {
+        assert_eq!(rt; o_csi_kept(alloc, points), *wanted, "{points:?}");
     }
-    Ok(())
+}
+
+#[test]
+fn an_o_csi_keeps_its_rows_of_2_and_4_in_order(rt: HostRuntime) {
+    check_o_csis(
+        &rt,
+        rt.alloc(),
+        &[
+            (&[], Err(MISSING)),
+            (&[3; MAX_TDP_DATA], Ok(NO_ROWS)),
+            (&[3; 11], Err(UNEXPECTED)),
+            (&[2, 3, 3, 3, 3, 3, 3, 3, 3, 3, 4], Err(UNEXPECTED)),
+            (&[2, 2], Err(UNEXPECTED)),
+            (&[4, 2, 4], Err(UNEXPECTED)),
+            (&[3, 3], Ok(NO_ROWS)),
+            (&[12, 13, 14, 12], Ok(NO_ROWS)),
+            (&[2], Ok([Some((2, 0)), None, None, None])),
+            (&[2, 4], Ok([Some((2, 0)), Some((4, 1)), None, None])),
+            (&[3, 4, 3, 2], Ok([Some((4, 1)), Some((2, 3)), None, None])),
+        ],
+    );
 }
 
 fn vt_csi_kept(alloc: Global, points: &[u8]) -> Result<Rows, Refusal> {
@@ -120,34 +119,35 @@ fn vt_csi_kept(alloc: Global, points: &[u8]) -> Result<Rows, Refusal> {
     ])
 }
 
-#[test]
-fn a_vt_csi_keeps_its_rows_of_12_13_and_14_in_order(rt: HostRuntime) -> Result<(), Fail> {
-    for (points, wanted) in [
-        ([].as_slice(), Err(MISSING)),
-        ([2; MAX_TDP_DATA].as_slice(), Ok(NO_ROWS)),
-        ([2; 11].as_slice(), Err(UNEXPECTED)),
-        (
-            [12, 2, 2, 2, 2, 2, 2, 2, 2, 2, 13].as_slice(),
-            Err(UNEXPECTED),
-        ),
-        ([12, 12].as_slice(), Err(UNEXPECTED)),
-        ([13, 12, 13].as_slice(), Err(UNEXPECTED)),
-        ([14, 13, 12, 14].as_slice(), Err(UNEXPECTED)),
-        ([15, 15].as_slice(), Ok(NO_ROWS)),
-        ([2, 4, 2, 4].as_slice(), Ok(NO_ROWS)),
-        ([13].as_slice(), Ok([Some((13, 0)), None, None, None])),
-        (
-            [12, 14].as_slice(),
-            Ok([Some((12, 0)), Some((14, 1)), None, None]),
-        ),
-        (
-            [14, 2, 13, 2, 12].as_slice(),
-            Ok([Some((14, 0)), Some((13, 2)), Some((12, 4)), None]),
-        ),
-    ] {
-        assert_eq!(rt; vt_csi_kept(rt.alloc(), points), wanted, "{points:?}");
+fn check_vt_csis(rt: &impl Abort, alloc: Global, cases: &[(&[u8], Result<Rows, Refusal>)]) {
+    for (points, wanted) in cases {
+        assert_eq!(rt; vt_csi_kept(alloc, points), *wanted, "{points:?}");
     }
-    Ok(())
+}
+
+#[test]
+fn a_vt_csi_keeps_its_rows_of_12_13_and_14_in_order(rt: HostRuntime) {
+    check_vt_csis(
+        &rt,
+        rt.alloc(),
+        &[
+            (&[], Err(MISSING)),
+            (&[2; MAX_TDP_DATA], Ok(NO_ROWS)),
+            (&[2; 11], Err(UNEXPECTED)),
+            (&[12, 2, 2, 2, 2, 2, 2, 2, 2, 2, 13], Err(UNEXPECTED)),
+            (&[12, 12], Err(UNEXPECTED)),
+            (&[13, 12, 13], Err(UNEXPECTED)),
+            (&[14, 13, 12, 14], Err(UNEXPECTED)),
+            (&[15, 15], Ok(NO_ROWS)),
+            (&[2, 4, 2, 4], Ok(NO_ROWS)),
+            (&[13], Ok([Some((13, 0)), None, None, None])),
+            (&[12, 14], Ok([Some((12, 0)), Some((14, 1)), None, None])),
+            (
+                &[14, 2, 13, 2, 12],
+                Ok([Some((14, 0)), Some((13, 2)), Some((12, 4)), None]),
+            ),
+        ],
+    );
 }
 
 // The service keys of the rows at detection points 2, 4, 12, 13 and 14.
@@ -280,64 +280,68 @@ fn t_entries_kept(alloc: Global, points: &[u8]) -> Result<Entries, Refusal> {
     ])
 }
 
-#[test]
-fn the_criteria_of_an_o_csi_keep_their_entries_of_2_and_4_in_order(
-    rt: HostRuntime,
-) -> Result<(), Fail> {
-    for (points, wanted) in [
-        ([].as_slice(), Err(MISSING)),
-        ([3; MAX_TDP_DATA].as_slice(), Ok(NO_ENTRIES)),
-        ([3; 11].as_slice(), Err(UNEXPECTED)),
-        (
-            [2, 3, 3, 3, 3, 3, 3, 3, 3, 3, 4].as_slice(),
-            Err(UNEXPECTED),
-        ),
-        ([2, 2].as_slice(), Err(UNEXPECTED)),
-        ([4, 2, 4].as_slice(), Err(UNEXPECTED)),
-        ([3, 3].as_slice(), Ok(NO_ENTRIES)),
-        ([12, 13, 14, 12].as_slice(), Ok(NO_ENTRIES)),
-        ([4].as_slice(), Ok([Some((4, Some(0))), None, None, None])),
-        (
-            [3, 4, 3, 2].as_slice(),
-            Ok([Some((4, Some(1))), Some((2, Some(3))), None, None]),
-        ),
-    ] {
-        assert_eq!(rt; o_entries_kept(rt.alloc(), points), wanted, "{points:?}");
+fn check_o_sets(rt: &impl Abort, alloc: Global, cases: &[(&[u8], Result<Entries, Refusal>)]) {
+    for (points, wanted) in cases {
+        assert_eq!(rt; o_entries_kept(alloc, points), *wanted, "{points:?}");
     }
-    Ok(())
 }
 
 #[test]
-fn the_criteria_of_a_vt_csi_keep_their_entries_of_12_13_and_14_in_order(
-    rt: HostRuntime,
-) -> Result<(), Fail> {
-    for (points, wanted) in [
-        ([].as_slice(), Err(MISSING)),
-        ([2; MAX_TDP_DATA].as_slice(), Ok(NO_ENTRIES)),
-        ([2; 11].as_slice(), Err(UNEXPECTED)),
-        (
-            [12, 2, 2, 2, 2, 2, 2, 2, 2, 2, 13].as_slice(),
-            Err(UNEXPECTED),
-        ),
-        ([12, 12].as_slice(), Err(UNEXPECTED)),
-        ([13, 12, 13].as_slice(), Err(UNEXPECTED)),
-        ([14, 13, 12, 14].as_slice(), Err(UNEXPECTED)),
-        ([15, 15].as_slice(), Ok(NO_ENTRIES)),
-        ([2, 4, 2, 4].as_slice(), Ok(NO_ENTRIES)),
-        ([13].as_slice(), Ok([Some((13, Some(0))), None, None, None])),
-        (
-            [14, 2, 13, 2, 12].as_slice(),
-            Ok([
-                Some((14, Some(0))),
-                Some((13, Some(2))),
-                Some((12, Some(4))),
-                None,
-            ]),
-        ),
-    ] {
-        assert_eq!(rt; t_entries_kept(rt.alloc(), points), wanted, "{points:?}");
+fn the_criteria_of_an_o_csi_keep_their_entries_of_2_and_4_in_order(rt: HostRuntime) {
+    check_o_sets(
+        &rt,
+        rt.alloc(),
+        &[
+            (&[], Err(MISSING)),
+            (&[3; MAX_TDP_DATA], Ok(NO_ENTRIES)),
+            (&[3; 11], Err(UNEXPECTED)),
+            (&[2, 3, 3, 3, 3, 3, 3, 3, 3, 3, 4], Err(UNEXPECTED)),
+            (&[2, 2], Err(UNEXPECTED)),
+            (&[4, 2, 4], Err(UNEXPECTED)),
+            (&[3, 3], Ok(NO_ENTRIES)),
+            (&[12, 13, 14, 12], Ok(NO_ENTRIES)),
+            (&[4], Ok([Some((4, Some(0))), None, None, None])),
+            (
+                &[3, 4, 3, 2],
+                Ok([Some((4, Some(1))), Some((2, Some(3))), None, None]),
+            ),
+        ],
+    );
+}
+
+fn check_t_sets(rt: &impl Abort, alloc: Global, cases: &[(&[u8], Result<Entries, Refusal>)]) {
+    for (points, wanted) in cases {
+        assert_eq!(rt; t_entries_kept(alloc, points), *wanted, "{points:?}");
     }
-    Ok(())
+}
+
+#[test]
+fn the_criteria_of_a_vt_csi_keep_their_entries_of_12_13_and_14_in_order(rt: HostRuntime) {
+    check_t_sets(
+        &rt,
+        rt.alloc(),
+        &[
+            (&[], Err(MISSING)),
+            (&[2; MAX_TDP_DATA], Ok(NO_ENTRIES)),
+            (&[2; 11], Err(UNEXPECTED)),
+            (&[12, 2, 2, 2, 2, 2, 2, 2, 2, 2, 13], Err(UNEXPECTED)),
+            (&[12, 12], Err(UNEXPECTED)),
+            (&[13, 12, 13], Err(UNEXPECTED)),
+            (&[14, 13, 12, 14], Err(UNEXPECTED)),
+            (&[15, 15], Ok(NO_ENTRIES)),
+            (&[2, 4, 2, 4], Ok(NO_ENTRIES)),
+            (&[13], Ok([Some((13, Some(0))), None, None, None])),
+            (
+                &[14, 2, 13, 2, 12],
+                Ok([
+                    Some((14, Some(0))),
+                    Some((13, Some(2))),
+                    Some((12, Some(4))),
+                    None,
+                ]),
+            ),
+        ],
+    );
 }
 
 #[test]

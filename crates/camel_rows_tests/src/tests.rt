@@ -13,7 +13,7 @@ use camel_rows::{
     Subscriber, TCriteriaSet, TdpRow, Update, VtCsi, decide_in, on_failure,
 };
 use camel_tbcd::{CallAddress, Imsi, ImsiFault, IsdnAddress};
-use std::alloc::{AllocError, Global};
+use std::alloc::Global;
 use std::process::Abort;
 use std::test::Fail;
 
@@ -39,24 +39,21 @@ fn imsi_of(last: u8) -> Result<Imsi, ImsiFault> {
 }
 
 // A TDP row: its detection point, its service key, and its default call handling as received.
-#[derive(Clone, Copy, Debug)]
+#[derive(Clone, Copy)]
 struct PlainRow(u8, u32, u32);
 
-// Up to eleven listed numbers.
-type Numbers = [Option<IsdnAddress>; 11];
-
-// A destination number criterion: its match type, its numbers and its length.
-#[derive(Clone, Copy, Debug)]
-struct PlainNumber(MatchType, Numbers, Option<u8>);
+// A destination number criterion: its match type, the octets of its numbers, and its lengths.
+#[derive(Clone, Copy)]
+struct PlainNumber(MatchType, &'static [&'static [u8]], &'static [u8]);
 
 // An entry of the criteria of the O-CSI.
-#[derive(Clone, Copy, Debug)]
+#[derive(Clone, Copy)]
 struct PlainO {
     dp: u8,
     number: Option<PlainNumber>,
     basic: Option<BasicService>,
     call_type: Option<CallType>,
-    causes: [Option<u8>; 2],
+    causes: &'static [u8],
 }
 
 // An entry without criteria.
@@ -65,31 +62,31 @@ const BARE: PlainO = PlainO {
     number: None,
     basic: None,
     call_type: None,
-    causes: [None; 2],
+    causes: &[],
 };
 
 // An entry of the criteria of the VT-CSI: its detection point, its code and its cause.
-#[derive(Clone, Copy, Debug)]
+#[derive(Clone, Copy)]
 struct PlainT(u8, Option<BasicService>, Option<u8>);
 
 // What an Insert brings. A list without items is an omitted one.
-#[derive(Clone, Copy, Debug)]
-struct Items {
-    o: [Option<PlainRow>; 3],
-    o_criteria: [Option<PlainO>; 2],
-    vt: [Option<PlainRow>; 3],
-    t_criteria: [Option<PlainT>; 2],
+#[derive(Clone, Copy)]
+struct Items<'a> {
+    o: &'a [PlainRow],
+    o_criteria: &'a [PlainO],
+    vt: &'a [PlainRow],
+    t_criteria: &'a [PlainT],
 }
 
-const NOTHING: Items = Items {
-    o: [None; 3],
-    o_criteria: [None; 2],
-    vt: [None; 3],
-    t_criteria: [None; 2],
+const NOTHING: Items<'static> = Items {
+    o: &[],
+    o_criteria: &[],
+    vt: &[],
+    t_criteria: &[],
 };
 
-const ONE_ROW: Items = Items {
-    o: [Some(PlainRow(2, 100, 0)), None, None],
+const ONE_ROW: Items<'static> = Items {
+    o: &[PlainRow(2, 100, 0)],
     ..NOTHING
 };
 
@@ -100,40 +97,29 @@ fn number_of(octets: &[u8]) -> Result<IsdnAddress, Refusal> {
     }
 }
 
-fn one_number(octets: &[u8]) -> Result<Numbers, Refusal> {
-    let mut numbers = [None; 11];
-    numbers[0] = Some(number_of(octets)?);
-    Ok(numbers)
-}
-
 fn row_of(row: PlainRow) -> Result<TdpRow, Refusal> {
     TdpRow::new(row.0, row.1, number_of(&SCF)?, Handling::of_received(row.2))
 }
 
-fn rows_of(alloc: Global, plain: &[Option<PlainRow>]) -> Result<Vec<TdpRow>, Refusal> {
+fn rows_of(alloc: Global, plain: &[PlainRow]) -> Result<Vec<TdpRow>, Refusal> {
     let mut rows = Vec::new(alloc);
     for row in plain {
-        if let Some(row) = row {
-            rows.push(row_of(*row)?)?;
-        }
+        rows.push(row_of(*row)?)?;
     }
     Ok(rows)
 }
 
-// The items that are there, to keep.
-fn present<T: Copy>(alloc: Global, items: &[Option<T>]) -> Result<Vec<T>, AllocError> {
-    let mut found = Vec::new(alloc);
-    for item in items {
-        if let Some(item) = item {
-            found.push(*item)?;
-        }
+fn numbers_of(alloc: Global, listed: &[&[u8]]) -> Result<Vec<IsdnAddress>, Refusal> {
+    let mut numbers = Vec::new(alloc);
+    for octets in listed {
+        numbers.push(number_of(octets)?)?;
     }
-    Ok(found)
+    Ok(numbers)
 }
 
 fn criterion_of(alloc: Global, plain: &PlainNumber) -> Result<NumberCriterion, Refusal> {
-    let numbers = present(alloc, &plain.1)?;
-    NumberCriterion::new(alloc, plain.0, &numbers, plain.2.as_slice())
+    let numbers = numbers_of(alloc, plain.1)?;
+    NumberCriterion::new(alloc, plain.0, &numbers, plain.2)
 }
 
 fn o_entry_of(alloc: Global, plain: &PlainO) -> Result<OCriteria, Refusal> {
@@ -141,43 +127,38 @@ fn o_entry_of(alloc: Global, plain: &PlainO) -> Result<OCriteria, Refusal> {
         Some(number) => Some(criterion_of(alloc, number)?),
         None => None,
     };
-    let causes = present(alloc, &plain.causes)?;
     OCriteria::new(
         alloc,
         plain.dp,
         number,
         plain.basic.as_slice(),
         plain.call_type,
-        &causes,
+        plain.causes,
     )
 }
 
-fn o_entries_of(alloc: Global, plain: &[Option<PlainO>]) -> Result<Vec<OCriteria>, Refusal> {
+fn o_entries_of(alloc: Global, plain: &[PlainO]) -> Result<Vec<OCriteria>, Refusal> {
     let mut entries = Vec::new(alloc);
     for entry in plain {
-        if let Some(entry) = entry {
-            entries.push(o_entry_of(alloc, entry)?)?;
-        }
+        entries.push(o_entry_of(alloc, entry)?)?;
     }
     Ok(entries)
 }
 
-fn t_entries_of(alloc: Global, plain: &[Option<PlainT>]) -> Result<Vec<TCriteria>, Refusal> {
+fn t_entries_of(alloc: Global, plain: &[PlainT]) -> Result<Vec<TCriteria>, Refusal> {
     let mut entries = Vec::new(alloc);
-    for entry in plain {
-        if let Some(PlainT(dp, basic, cause)) = entry {
-            entries.push(TCriteria::new(alloc, *dp, basic.as_slice(), cause.as_slice())?)?;
-        }
+    for PlainT(dp, basic, cause) in plain {
+        entries.push(TCriteria::new(alloc, *dp, basic.as_slice(), cause.as_slice())?)?;
     }
     Ok(entries)
 }
 
 // The Insert that brings these items, or why they are refused: rows and entries first, and then their lists.
 fn insert(alloc: Global, imsi: Imsi, items: &Items) -> Result<Update, Refusal> {
-    let o = rows_of(alloc, &items.o)?;
-    let o_criteria = o_entries_of(alloc, &items.o_criteria)?;
-    let vt = rows_of(alloc, &items.vt)?;
-    let t_criteria = t_entries_of(alloc, &items.t_criteria)?;
+    let o = rows_of(alloc, items.o)?;
+    let o_criteria = o_entries_of(alloc, items.o_criteria)?;
+    let vt = rows_of(alloc, items.vt)?;
+    let t_criteria = t_entries_of(alloc, items.t_criteria)?;
     Ok(Update::Insert {
         imsi,
         o: if o.is_empty() {
@@ -353,12 +334,14 @@ fn half_at(subscriber: &Subscriber, is_stored: bool, dp: u8) -> Half {
 // The Insert of an O-CSI, its criteria, a VT-CSI and its criteria, where they are told. Each has one item: a row
 // at detection point 2 or 12 with this service key, or an entry there with this mark. 0 is an ignored item.
 fn marked_insert(alloc: Global, imsi: Imsi, brought: [Option<u8>; 4]) -> Result<Update, Refusal> {
-    let [o, o_mark, vt, t_mark] = brought;
+    let [key, mark, vt_key, t_mark] = brought;
+    let (row, entry) = (marked_row(key, 2), marked_o(mark));
+    let (vt_row, t_entry) = (marked_row(vt_key, 12), marked_t(t_mark));
     let items = Items {
-        o: [marked_row(o, 2), None, None],
-        o_criteria: [marked_o(o_mark), None],
-        vt: [marked_row(vt, 12), None, None],
-        t_criteria: [marked_t(t_mark), None],
+        o: row.as_slice(),
+        o_criteria: entry.as_slice(),
+        vt: vt_row.as_slice(),
+        t_criteria: t_entry.as_slice(),
     };
     insert(alloc, imsi, &items)
 }

@@ -42,7 +42,10 @@ fn call_of(imsi: Imsi) -> Result<CallEvent, AddressFault> {
 }
 
 fn number_of(octets: &[u8]) -> Result<IsdnAddress, Refusal> {
-    IsdnAddress::from_bytes(octets).map_err(|_| Refusal::UnexpectedDataValue)
+    match IsdnAddress::from_bytes(octets) {
+        Ok(number) => Ok(number),
+        Err(_) => Err(Refusal::UnexpectedDataValue),
+    }
 }
 
 // An O-CSI with one row, of detection point 2.
@@ -137,29 +140,30 @@ const LISTED: Entry = Entry::O(2, 1, [Some(1), Some(2), Some(3), None]);
 // What is told of a call: the service key and the lent entry, or the reason.
 type Told = Result<(u32, Option<Entry>), Reason>;
 
-fn entry_told(lent: Lent) -> Entry {
-    match lent {
+fn entry_told(lent: Option<Lent>) -> Option<Entry> {
+    match lent? {
         Lent::O(entry) => {
-            let Some(criterion) = entry.number() else {
-                return Entry::O(entry.dp(), 0, [None; 4]);
-            };
-            let Some(number) = criterion.number(0) else {
-                return Entry::O(entry.dp(), 0, [None; 4]);
-            };
-            let digits = number.digits();
-            Entry::O(
-                entry.dp(),
-                criterion.numbers().len(),
-                [0, 1, 2, 3].map(|at| digits.get(at)),
-            )
+            let (count, digits) = listed(entry.number()).unwrap_or((0, [None; 4]));
+            Some(Entry::O(entry.dp(), count, digits))
         }
-        Lent::T(_) => Entry::T,
+        Lent::T(_) => Some(Entry::T),
     }
+}
+
+// How many numbers a criterion lists, and the digits of the first.
+fn listed(criterion: Option<&NumberCriterion>) -> Option<(usize, [Option<u8>; 4])> {
+    let criterion = criterion?;
+    let number = criterion.number(0)?;
+    let digits = number.digits();
+    Some((
+        criterion.numbers().len(),
+        [digits.get(0), digits.get(1), digits.get(2), digits.get(3)],
+    ))
 }
 
 fn told(decision: &Decision) -> Told {
     match decision {
-        Decision::Trigger { row, criteria } => Ok((row.key(), criteria.map(entry_told))),
+        Decision::Trigger { row, criteria } => Ok((row.key(), entry_told(*criteria))),
         Decision::NoTrigger(reason) => Err(*reason),
     }
 }
@@ -167,9 +171,10 @@ fn told(decision: &Decision) -> Told {
 // A row: its detection point and service key, whether it has the one gsmSCF address, and its default call handling.
 type RowTold = (u8, u32, bool, Handling);
 
-fn row_told(row: &TdpRow) -> RowTold {
+fn row_told(row: Option<&TdpRow>) -> Option<RowTold> {
+    let row = row?;
     let is_there = row.scf().bytes() == SCF.as_slice();
-    (row.dp(), row.key(), is_there, row.handling())
+    Some((row.dp(), row.key(), is_there, row.handling()))
 }
 
 // The one row of these tests.
@@ -220,11 +225,7 @@ fn opened_with_two<R: Wait>(
     ensures second { IfOk result (λ r. r.2 ≡ fresh r.0.store) }
 {
     let (store, mut sessions) = opened(rt, alloc, 2, limit)?;
-    let Some(second) = sessions.pop() else {
-        store.end(rt);
-        return Err(Refusal::NoPlace);
-    };
-    let Some(first) = sessions.pop() else {
+    let (Some(second), Some(first)) = (sessions.pop(), sessions.pop()) else {
         store.end(rt);
         return Err(Refusal::NoPlace);
     };
@@ -290,8 +291,8 @@ fn lent_once(
     let Ok(look) = session.look() else {
         return None;
     };
-    let row = look.row(imsi, dp).map(row_told);
-    let entry = look.criteria(imsi, dp).map(entry_told);
+    let row = row_told(look.row(imsi, dp));
+    let entry = entry_told(look.criteria(imsi, dp));
     let front = look.front();
     look.leave();
     Some((front, row, entry))
@@ -389,7 +390,8 @@ type Held = Option<(Option<RowTold>, Option<Entry>)>;
 
 fn held(records: &Records, imsi: &Imsi) -> Held {
     let subscriber = records.get(imsi)?;
-    let row = subscriber.row(2).map(row_told);
-    let entry = subscriber.criteria(2).map(entry_told);
-    Some((row, entry))
+    Some((
+        row_told(subscriber.row(2)),
+        entry_told(subscriber.criteria(2)),
+    ))
 }

@@ -1,32 +1,50 @@
 use super::{FIRST_CALL, FIRST_CALL_OUTPUT, check_run_with, words};
 use camel_command::{CommandLine, options};
+use std::alloc::Global;
+use std::process::Abort;
 use std::test::Fail;
+
+// Options, and the limit that is read of them; None where they are rejected.
+const LIMITS: [(&[&str], Option<u64>); 16] = [
+    (&[], Some(1_000_000)),
+    (&["--limit", "1"], Some(1)),
+    (&["--limit", "1000000"], Some(1_000_000)),
+    (&["--limit=3"], Some(3)),
+    (&["--limit", "+5"], Some(5)),
+    (&["--limit", "007"], Some(7)),
+    (&["--limit", "0"], None),
+    (&["--limit", "1000001"], None),
+    (&["--limit", "18446744073709551616"], None),
+    (&["--limit", "-1"], None),
+    (&["--limit", "ten"], None),
+    (&["--limit", ""], None),
+    (&["--limit"], None),
+    (&["--limit", "1", "--limit", "2"], None),
+    (&["--threads", "2"], None),
+    (&["script.csv"], None),
+];
+
+fn limit_read(alloc: Global, given: &[&str]) -> Result<Option<u64>, Fail> {
+    match options(alloc, &words(alloc, given)?) {
+        Ok(CommandLine { limit }) => Ok(Some(limit)),
+        Err(_) => Ok(None),
+    }
+}
+
+fn check_limits(
+    rt: &impl Abort,
+    alloc: Global,
+    cases: &[(&[&str], Option<u64>)],
+) -> Result<(), Fail> {
+    for (given, limit) in cases {
+        assert_eq!(rt; limit_read(alloc, given)?, *limit, "{given:?}");
+    }
+    Ok(())
+}
 
 #[test]
 fn reads_the_limit_as_it_may_stand(rt: HostRuntime) -> Result<(), Fail> {
-    for (given, limit) in [
-        ([].as_slice(), Some(1_000_000)),
-        (["--limit", "1"].as_slice(), Some(1)),
-        (["--limit", "1000000"].as_slice(), Some(1_000_000)),
-        (["--limit=3"].as_slice(), Some(3)),
-        (["--limit", "+5"].as_slice(), Some(5)),
-        (["--limit", "007"].as_slice(), Some(7)),
-        (["--limit", "0"].as_slice(), None),
-        (["--limit", "1000001"].as_slice(), None),
-        (["--limit", "18446744073709551616"].as_slice(), None),
-        (["--limit", "-1"].as_slice(), None),
-        (["--limit", "ten"].as_slice(), None),
-        (["--limit", ""].as_slice(), None),
-        (["--limit"].as_slice(), None),
-        (["--limit", "1", "--limit", "2"].as_slice(), None),
-        (["--threads", "2"].as_slice(), None),
-        (["script.csv"].as_slice(), None),
-    ] {
-        let words = words(rt.alloc(), given)?;
-        let read = options(rt.alloc(), &words).ok();
-        assert_eq!(rt; read, limit.map(|limit| CommandLine { limit }), "{given:?}");
-    }
-    Ok(())
+    check_limits(&rt, rt.alloc(), &LIMITS)
 }
 
 #[test]

@@ -1,8 +1,10 @@
 use super::{FIRST_CALL, FIRST_CALL_OUTPUT, check_run, words};
 use camel_command::run;
 use camel_script_replay::{ReplayFault, replay};
+use std::alloc::Global;
 use std::io;
 use std::io::{ErrorKind, Read, Write};
+use std::process::Abort;
 use std::test::Fail;
 
 // Where a script ends in its midst, by the greatest count of octets that end so: what was written, and the fault line.
@@ -76,23 +78,7 @@ fn answers_each_beginning_of_a_script(rt: HostRuntime) -> Result<(), Fail> {
 
 #[test]
 fn ends_at_the_first_fault_of_the_script(rt: HostRuntime) -> Result<(), Fail> {
-    for (last, fault) in [
-        ("move,26201", "camel_replay: record 2: fault 202\n"),
-        ("call,3,26201", "camel_replay: record 2: fault 202\n"),
-        ("register", "camel_replay: record 2: fault 203\n"),
-        ("call,2,2620", "camel_replay: record 2: fault 203\n"),
-        (
-            "insert,26201,o:2:100:91947:0",
-            "camel_replay: record 2: fault 204\n",
-        ),
-        ("register,2620", "camel_replay: record 2: fault 205\n"),
-    ] {
-        let mut script = String::new(rt.alloc());
-        for line in ["register,26201\n", last, "\npublish\n"] {
-            assert!(rt; script.push_str(line).is_ok());
-        }
-        check_run(&rt, rt.alloc(), script.as_str(), "accepted 1\n", fault, 1)?;
-    }
+    check_ends(&rt, rt.alloc(), &LASTS)?;
     check_run(
         &rt,
         rt.alloc(),
@@ -101,6 +87,30 @@ fn ends_at_the_first_fault_of_the_script(rt: HostRuntime) -> Result<(), Fail> {
         "camel_replay: record 1: fault 205\n",
         1,
     )
+}
+
+// Second records, each with the line of its fault.
+const LASTS: [(&str, &str); 6] = [
+    ("move,26201", "camel_replay: record 2: fault 202\n"),
+    ("call,3,26201", "camel_replay: record 2: fault 202\n"),
+    ("register", "camel_replay: record 2: fault 203\n"),
+    ("call,2,2620", "camel_replay: record 2: fault 203\n"),
+    (
+        "insert,26201,o:2:100:91947:0",
+        "camel_replay: record 2: fault 204\n",
+    ),
+    ("register,2620", "camel_replay: record 2: fault 205\n"),
+];
+
+fn check_ends(rt: &impl Abort, alloc: Global, cases: &[(&str, &str)]) -> Result<(), Fail> {
+    for (last, fault) in cases {
+        let mut script = String::new(alloc);
+        for part in ["register,26201\n", last, "\npublish\n"] {
+            script.push_str(part)?;
+        }
+        check_run(rt, alloc, script.as_str(), "accepted 1\n", fault, 1)?;
+    }
+    Ok(())
 }
 
 // A reader that gives one record so many times, and writers that count what they take.
@@ -247,6 +257,14 @@ impl Write for SlowWriter {
     }
 }
 
+// The fault of a write that failed at this record, if one did.
+fn failed_write(number: Option<u64>) -> Option<ReplayFault> {
+    Some(ReplayFault {
+        number: Some(number?),
+        code: 208,
+    })
+}
+
 #[test]
 fn a_failed_write_ends_the_run(rt: HostRuntime) {
     let whole = FIRST_CALL_OUTPUT.len();
@@ -264,11 +282,7 @@ fn a_failed_write_ends_the_run(rt: HostRuntime) {
             then,
         };
         let ended = replay(rt.alloc(), FIRST_CALL.as_bytes(), &mut out, 10);
-        let fault = number.map(|number| ReplayFault {
-            number: Some(number),
-            code: 208,
-        });
-        assert_eq!(rt; ended.err(), fault);
+        assert_eq!(rt; ended.err(), failed_write(number));
         assert_eq!(rt; out.taken.len(), written);
         assert!(rt;
             FIRST_CALL_OUTPUT

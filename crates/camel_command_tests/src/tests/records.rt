@@ -1,6 +1,4 @@
-use super::{check_run, spelled_out};
-use std::alloc::Global;
-use std::process::Abort;
+use super::check_scripts;
 use std::test::Fail;
 
 const WORD: &str = "camel_replay: record 1: fault 202\n";
@@ -10,20 +8,6 @@ const FIELD_COUNT: &str = "camel_replay: record 1: fault 203\n";
 const HEXADECIMAL: &str = "camel_replay: record 1: fault 204\n";
 
 const NUMBER: &str = "camel_replay: record 1: fault 205\n";
-
-// Scripts, each with what is written and the line of its fault, if there is one.
-fn check_scripts(
-    rt: &impl Abort,
-    alloc: Global,
-    scripts: &[(&str, &str, &str)],
-) -> Result<(), Fail> {
-    for (script, output, fault) in scripts {
-        let script = spelled_out(alloc, script)?;
-        let status = u8::from(!fault.is_empty());
-        check_run(rt, alloc, script.as_str(), output, fault, status)?;
-    }
-    Ok(())
-}
 
 #[test]
 fn ends_with_the_fault_of_the_last_record(rt: HostRuntime) -> Result<(), Fail> {

@@ -1,36 +1,37 @@
-use super::{FIRST_CALL, FIRST_CALL_OUTPUT, check_run, check_run_with, spell_out, spelled_out};
+use super::{
+    FIRST_CALL, FIRST_CALL_OUTPUT, check_run, check_run_with, check_scripts, spell_out, spelled_out,
+};
 use std::alloc::Global;
 use std::process::Abort;
 use std::test::Fail;
 
 // Whole scripts with their outputs.
+const SCRIPTS: [(&str, &str, &str); 8] = [
+    ("", "", ""),
+    (FIRST_CALL, FIRST_CALL_OUTPUT, ""),
+    ("call,2,A,t11,912143,n\n", "front 0 none unknown\n", ""),
+    ("insert,A,o:2:100:S:0\n", "refused 5\n", ""),
+    ("insert,A,o:2:2147483648:91:0\n", "refused 36\n", ""),
+    (
+        "register,A\ninsert,A,t:12:300:S:0,oc:2:e/9155/:::\npublish\ncall,12,A,t11\n",
+        "accepted 1\nrefused 35\npublished 1\nfront 1 none no-csi\n",
+        "",
+    ),
+    (
+        "register,A\ninsert,A,o:2:100:S:0,t:12:300:S:0\ndelete,A,all,o\npublish\ncall,2,A,t11,912143,n\ncall,12,A,t11\ncancel,A\ncancel,A\ncancel,B\ndelete,A,o\npublish\ncall,12,A,t11\n",
+        "accepted 1\naccepted 2\naccepted 3\npublished 3\nfront 3 none no-csi\nfront 3 none no-csi\naccepted 4\naccepted 5\naccepted 6\nrefused 5\npublished 6\nfront 6 none unknown\n",
+        "",
+    ),
+    (
+        "register,A\ninsert,A,o:2:100:S:0\npublish\ninsert,A,t:12:300:S:0\npublish\ncall,2,A,t11,912143,n\ncall,12,A,t11\ndelete,A,o\npublish\ncall,2,A,t11,912143,n\ncall,12,A,t11\nregister,A\npublish\ncall,12,A,t11\n",
+        "accepted 1\naccepted 2\npublished 2\naccepted 3\npublished 3\nfront 3 trigger 2 100 S continue\nfront 3 trigger 12 300 S continue\naccepted 4\npublished 4\nfront 4 none no-csi\nfront 4 trigger 12 300 S continue\naccepted 5\npublished 5\nfront 5 none no-csi\n",
+        "",
+    ),
+];
+
 #[test]
 fn answers_each_record_by_a_line(rt: HostRuntime) -> Result<(), Fail> {
-    for (script, output) in [
-        ("", ""),
-        (FIRST_CALL, FIRST_CALL_OUTPUT),
-        ("call,2,A,t11,912143,n\n", "front 0 none unknown\n"),
-        ("insert,A,o:2:100:S:0\n", "refused 5\n"),
-        ("insert,A,o:2:2147483648:91:0\n", "refused 36\n"),
-        (
-            "register,A\ninsert,A,t:12:300:S:0,oc:2:e/9155/:::\npublish\ncall,12,A,t11\n",
-            "accepted 1\nrefused 35\npublished 1\nfront 1 none no-csi\n",
-        ),
-        (
-            "register,A\ninsert,A,o:2:100:S:0,t:12:300:S:0\ndelete,A,all,o\npublish\ncall,2,A,t11,912143,n\ncall,12,A,t11\ncancel,A\ncancel,A\ncancel,B\ndelete,A,o\npublish\ncall,12,A,t11\n",
-            "accepted 1\naccepted 2\naccepted 3\npublished 3\nfront 3 none no-csi\nfront 3 none no-csi\naccepted 4\naccepted 5\naccepted 6\nrefused 5\npublished 6\nfront 6 none unknown\n",
-        ),
-        (
-            "register,A\ninsert,A,o:2:100:S:0\npublish\ninsert,A,t:12:300:S:0\npublish\ncall,2,A,t11,912143,n\ncall,12,A,t11\ndelete,A,o\npublish\ncall,2,A,t11,912143,n\ncall,12,A,t11\nregister,A\npublish\ncall,12,A,t11\n",
-            "accepted 1\naccepted 2\npublished 2\naccepted 3\npublished 3\nfront 3 trigger 2 100 S continue\nfront 3 trigger 12 300 S continue\naccepted 4\npublished 4\nfront 4 none no-csi\nfront 4 trigger 12 300 S continue\naccepted 5\npublished 5\nfront 5 none no-csi\n",
-        ),
-    ] {
-        let alloc = rt.alloc();
-        let script = spelled_out(alloc, script)?;
-        let output = spelled_out(alloc, output)?;
-        check_run(&rt, alloc, script.as_str(), output.as_str(), "", 0)?;
-    }
-    Ok(())
+    check_scripts(&rt, rt.alloc(), &SCRIPTS)
 }
 
 // A subscriber who has registered and has these items, published, and then these records with their lines.
@@ -73,39 +74,54 @@ fn spell_line(whole: &mut String, line: &str) -> Result<(), Fail> {
     Ok(whole.push_str("\n")?)
 }
 
+// The items of a subscriber, and records with their lines.
+type ItemsCase = (&'static str, &'static [(&'static str, &'static str)]);
+
+const TRIGGER: &str = "front 2 trigger 2 100 S continue";
+
+const CRITERIA: &str = "front 2 none criteria";
+
+const CALL: &str = "call,2,A,t11,912143,n";
+
+const SHORTER: &str = "call,2,A,t11,9121f3,n";
+
+const OTHER_NATURE: &str = "call,2,A,t11,a12143,n";
+
+const DESTINATIONS: [ItemsCase; 6] = [
+    (
+        "o:2:100:S:0,oc:2:e/9121f3/:::",
+        &[(CALL, TRIGGER), (SHORTER, TRIGGER)],
+    ),
+    (
+        "o:2:100:S:0,oc:2:e/912143/:::",
+        &[(SHORTER, CRITERIA), (OTHER_NATURE, CRITERIA)],
+    ),
+    (
+        "o:2:100:S:0,oc:2:i/9155+9121f3/:::",
+        &[(CALL, CRITERIA), ("call,2,A,t11,919999,n", TRIGGER)],
+    ),
+    (
+        "o:2:100:S:0,oc:2:e//4:::",
+        &[("call,2,A,t11,91f143,n", CRITERIA), (CALL, TRIGGER)],
+    ),
+    (
+        "o:2:100:S:0,oc:2:e/91/:::",
+        &[(CALL, TRIGGER), (OTHER_NATURE, CRITERIA)],
+    ),
+    (
+        "o:2:100:S:0,oc:2:e/1121f3/:::",
+        &[(CALL, TRIGGER), (OTHER_NATURE, CRITERIA)],
+    ),
+];
+
 #[test]
 fn decides_by_the_destination(rt: HostRuntime) -> Result<(), Fail> {
-    let trigger = "front 2 trigger 2 100 S continue";
-    let criteria = "front 2 none criteria";
-    let (destination, longer) = ("call,2,A,t11,912143,n", "call,2,A,t11,9121f3,n");
-    let other_nature = "call,2,A,t11,a12143,n";
-    for (items, records) in [
-        (
-            "o:2:100:S:0,oc:2:e/9121f3/:::",
-            [(destination, trigger), (longer, trigger)],
-        ),
-        (
-            "o:2:100:S:0,oc:2:e/912143/:::",
-            [(longer, criteria), (other_nature, criteria)],
-        ),
-        (
-            "o:2:100:S:0,oc:2:i/9155+9121f3/:::",
-            [(destination, criteria), ("call,2,A,t11,919999,n", trigger)],
-        ),
-        (
-            "o:2:100:S:0,oc:2:e//4:::",
-            [("call,2,A,t11,91f143,n", criteria), (destination, trigger)],
-        ),
-        (
-            "o:2:100:S:0,oc:2:e/91/:::",
-            [(destination, trigger), (other_nature, criteria)],
-        ),
-        (
-            "o:2:100:S:0,oc:2:e/1121f3/:::",
-            [(destination, trigger), (other_nature, criteria)],
-        ),
-    ] {
-        check_records(&rt, rt.alloc(), items, &records)?;
+    check_items(&rt, rt.alloc(), &DESTINATIONS)
+}
+
+fn check_items(rt: &impl Abort, alloc: Global, cases: &[ItemsCase]) -> Result<(), Fail> {
+    for (items, records) in cases {
+        check_records(rt, alloc, items, records)?;
     }
     Ok(())
 }
@@ -181,17 +197,16 @@ fn decides_by_basic_service_and_ignores_other_items(rt: HostRuntime) -> Result<(
 
 #[test]
 fn decides_over_what_is_published(rt: HostRuntime) -> Result<(), Fail> {
-    let call = "call,2,A,t11,912143,n";
     check_records(
         &rt,
         rt.alloc(),
         "o:2:100:S:0,oc:2:e/9155/:::",
         &[
-            (call, "front 2 none criteria"),
+            (CALL, CRITERIA),
             ("insert,A,o:2:101:S:0", "accepted 3"),
-            (call, "front 2 none criteria"),
+            (CALL, CRITERIA),
             ("publish", "published 3"),
-            (call, "front 3 trigger 2 101 S continue"),
+            (CALL, "front 3 trigger 2 101 S continue"),
         ],
     )
 }
@@ -259,35 +274,36 @@ fn reads_each_form_of_a_line(rt: HostRuntime) -> Result<(), Fail> {
 
 #[test]
 fn takes_no_more_updates_than_its_limit(rt: HostRuntime) -> Result<(), Fail> {
-    let alloc = rt.alloc();
-    let three =
-        "register,A\nregister,B\ninsert,A,o:2:100:S:0\ncancel,A\ndelete,C,all\npublish\ncall,2,A,t11,912143,n\n";
-    let three_output =
-        "accepted 1\naccepted 2\naccepted 3\nrefused 101\nrefused 5\npublished 3\nfront 3 trigger 2 100 S continue\n";
-    for (limit, script, output) in [
-        ("3", three, three_output),
-        (
-            "1",
-            FIRST_CALL,
-            "accepted 1\nrefused 101\npublished 1\nfront 1 none no-csi\n",
-        ),
-        (
-            "1",
-            "register,26201\nregister,26202\npublish\nregister,26202\n",
-            "accepted 1\nrefused 101\npublished 1\nrefused 101\n",
-        ),
-    ] {
+    check_limits(&rt, rt.alloc(), &LIMITS)
+}
+
+const THREE: &str =
+    "register,A\nregister,B\ninsert,A,o:2:100:S:0\ncancel,A\ndelete,C,all\npublish\ncall,2,A,t11,912143,n\n";
+
+const THREE_OUTPUT: &str =
+    "accepted 1\naccepted 2\naccepted 3\nrefused 101\nrefused 5\npublished 3\nfront 3 trigger 2 100 S continue\n";
+
+// Limits, with scripts and their outputs.
+const LIMITS: [(&str, &str, &str); 3] = [
+    ("3", THREE, THREE_OUTPUT),
+    (
+        "1",
+        FIRST_CALL,
+        "accepted 1\nrefused 101\npublished 1\nfront 1 none no-csi\n",
+    ),
+    (
+        "1",
+        "register,26201\nregister,26202\npublish\nregister,26202\n",
+        "accepted 1\nrefused 101\npublished 1\nrefused 101\n",
+    ),
+];
+
+fn check_limits(rt: &impl Abort, alloc: Global, cases: &[(&str, &str, &str)]) -> Result<(), Fail> {
+    for (limit, script, output) in cases {
         let script = spelled_out(alloc, script)?;
         let output = spelled_out(alloc, output)?;
-        check_run_with(
-            &rt,
-            alloc,
-            &["--limit", limit],
-            script.as_str(),
-            output.as_str(),
-            "",
-            0,
-        )?;
+        let options = ["--limit", limit];
+        check_run_with(rt, alloc, &options, script.as_str(), output.as_str(), "", 0)?;
     }
     Ok(())
 }

@@ -1,6 +1,6 @@
 use super::{
     BARE, Half, Items, NOTHING, ONE_ROW, PlainNumber, PlainO, base, halves_in, imsi_of, insert,
-    mark_of, marked_insert, one_number,
+    mark_of, marked_insert,
 };
 use camel_criteria::{MatchType, OCriteria, Refusal, TCriteria};
 use camel_rows::{
@@ -140,30 +140,47 @@ fn one(dp: u8, number: u32) -> Option<Places> {
     Some([Some((dp, number)), None, None])
 }
 
+// What is brought, and what a copy of the Insert holds.
+type CopyCase = ([Option<u8>; 4], [Option<Places>; 4]);
+
+fn check_copies(
+    rt: &impl Abort,
+    alloc: Global,
+    imsi: Imsi,
+    cases: &[CopyCase],
+) -> Result<(), Fail> {
+    for (brought, wanted) in cases {
+        let update = marked_insert(alloc, imsi, *brought)?;
+        check_copy(rt, &update, (2, imsi, None, *wanted))?;
+    }
+    Ok(())
+}
+
 #[test]
 fn a_copy_of_an_insert_holds_the_same(rt: HostRuntime) -> Result<(), Fail> {
     let imsi = imsi_of(1)?;
     let ignored = Some([None; 3]);
-    for (brought, wanted) in [
-        ([None; 4], [None; 4]),
-        (
-            [Some(1), None, None, Some(4)],
-            [one(2, 1), None, None, one(12, 4)],
-        ),
-        (
-            [Some(1), Some(2), Some(3), Some(4)],
-            [one(2, 1), one(2, 2), one(12, 3), one(12, 4)],
-        ),
-        (
-            [None, Some(2), Some(3), None],
-            [None, one(2, 2), one(12, 3), None],
-        ),
-        ([Some(0), Some(0), Some(0), Some(0)], [ignored; 4]),
-    ] {
-        let update = marked_insert(rt.alloc(), imsi, brought)?;
-        check_copy(&rt, &update, (2, imsi, None, wanted))?;
-    }
-    Ok(())
+    check_copies(
+        &rt,
+        rt.alloc(),
+        imsi,
+        &[
+            ([None; 4], [None; 4]),
+            (
+                [Some(1), None, None, Some(4)],
+                [one(2, 1), None, None, one(12, 4)],
+            ),
+            (
+                [Some(1), Some(2), Some(3), Some(4)],
+                [one(2, 1), one(2, 2), one(12, 3), one(12, 4)],
+            ),
+            (
+                [None, Some(2), Some(3), None],
+                [None, one(2, 2), one(12, 3), None],
+            ),
+            ([Some(0), Some(0), Some(0), Some(0)], [ignored; 4]),
+        ],
+    )
 }
 
 // Both halves of a subscriber to whom all four items were brought.
@@ -214,19 +231,19 @@ fn listed_digits(records: &Records, imsi: &Imsi) -> Option<(usize, [Option<u8>; 
     }
 }
 
+// A row, and an entry that lists 1 2 3.
+const LISTING: Items<'static> = Items {
+    o_criteria: &[PlainO {
+        number: Some(PlainNumber(MatchType::Enabling, &[&[0x91, 0x21, 0xf3]], &[])),
+        ..BARE
+    }],
+    ..ONE_ROW
+};
+
 #[test]
 fn a_copied_insert_stands_with_its_listed_number(rt: HostRuntime) -> Result<(), Fail> {
     let imsi = imsi_of(1)?;
-    let numbers = one_number(&[0x91, 0x21, 0xf3])?;
-    let entry = PlainO {
-        number: Some(PlainNumber(MatchType::Enabling, numbers, None)),
-        ..BARE
-    };
-    let items = Items {
-        o_criteria: [Some(entry), None],
-        ..ONE_ROW
-    };
-    let update = insert(rt.alloc(), imsi, &items)?;
+    let update = insert(rt.alloc(), imsi, &LISTING)?;
     let mut records = Records::new(rt.alloc());
     copied_to(&rt, &mut records, imsi, &update)?;
     let copied = records.copy()?;

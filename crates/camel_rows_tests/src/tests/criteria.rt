@@ -1,85 +1,111 @@
 use super::{
-    BARE, CONTINUE, DESTINATION, EMERGENCY, FACSIMILE, Items, NOTHING, Numbers, ONE_ROW,
+    BARE, CONTINUE, DESTINATION, EMERGENCY, EntryTold, FACSIMILE, Items, NOTHING, ONE_ROW,
     PlainNumber, PlainO, PlainRow, PlainT, RELEASE, TELEPHONY, Told, base, bring, call_at,
-    check_calls, held_at, imsi_of, number_of, one_number, told,
+    check_calls, held_at, imsi_of, told,
 };
-use camel_criteria::{BasicService, CallType, Cause, MatchType, Refusal};
-use camel_rows::{CallEvent, Reason, Records};
+use camel_criteria::{BasicService, CallType, Cause, MatchType};
+use camel_rows::{CallEvent, Reason, Records, Subscriber};
 use camel_tbcd::CallAddress;
 use std::alloc::Global;
 use std::process::Abort;
 use std::test::Fail;
 
-fn two(first: &[u8], second: &[u8]) -> Result<Numbers, Refusal> {
-    let mut numbers = one_number(first)?;
-    numbers[1] = Some(number_of(second)?);
-    Ok(numbers)
+const ENABLING: MatchType = MatchType::Enabling;
+
+const TRIGGERS: Told = Ok((2, 100, CONTINUE));
+
+const UNMET: Told = Err(Reason::Criteria);
+
+const OTHERS: PlainNumber = PlainNumber(ENABLING, &[&[0x91, 0x55]], &[]);
+
+const NEITHER: PlainNumber = PlainNumber(
+    MatchType::Inhibiting,
+    &[&[0x91, 0x55], &[0x91, 0x21, 0xf3]],
+    &[],
+);
+
+// A criterion, the destination of a call, and what is told of it.
+type NumberCase = (PlainNumber, &'static [u8], Told);
+
+fn check_numbers(rt: &impl Abort, alloc: Global, cases: &[NumberCase]) -> Result<(), Fail> {
+    for (number, destination, wanted) in cases {
+        let found = told_by(alloc, rt, *number, destination)?;
+        assert_eq!(rt;
+            found,
+            *wanted,
+            "{:?} lists {:?}, {destination:?}",
+            number.0, number.1
+        );
+    }
+    Ok(())
 }
 
 // 1 2 3 4 is the destination of most calls; with octet a1 it is a national number.
 #[test]
 fn a_destination_number_criterion_decides_a_call(rt: HostRuntime) -> Result<(), Fail> {
-    let (enabling, inhibiting) = (MatchType::Enabling, MatchType::Inhibiting);
-    let three = PlainNumber(enabling, one_number(&[0x91, 0x21, 0xf3])?, None);
-    let four = PlainNumber(enabling, one_number(&[0x91, 0x21, 0x43])?, None);
-    let neither = two(&[0x91, 0x55], &[0x91, 0x21, 0xf3])?;
-    let neither = PlainNumber(inhibiting, neither, None);
-    let length = PlainNumber(enabling, [None; 11], Some(4));
-    let nature = PlainNumber(enabling, one_number(&[0x91])?, None);
-    let without_bit_8 = PlainNumber(enabling, one_number(&[0x11, 0x21, 0xf3])?, None);
-    let triggers = Ok((2, 100, CONTINUE));
-    let unmet = Err(Reason::Criteria);
-    for (number, destination, wanted) in [
-        (three, [0x91, 0x21, 0x43], triggers),
-        (four, [0x91, 0x21, 0xf3], unmet),
-        (four, [0xa1, 0x21, 0x43], unmet),
-        (neither, [0x91, 0x21, 0x43], unmet),
-        (neither, [0x91, 0x99, 0x99], triggers),
-        (length, [0x91, 0xf1, 0x43], unmet),
-        (length, [0x91, 0x21, 0x43], triggers),
-        (nature, [0x91, 0x21, 0x43], triggers),
-        (nature, [0xa1, 0x21, 0x43], unmet),
-        (without_bit_8, [0x91, 0x21, 0x43], triggers),
-    ] {
-        let found = told_by(rt.alloc(), &rt, number, &destination)?;
-        assert_eq!(rt; found, wanted, "{number:?}, {destination:?}");
-    }
-    Ok(())
+    check_numbers(&rt, rt.alloc(), &NUMBERS)
 }
+
+const THREE: PlainNumber = PlainNumber(ENABLING, &[&[0x91, 0x21, 0xf3]], &[]);
+
+const FOUR: PlainNumber = PlainNumber(ENABLING, &[&[0x91, 0x21, 0x43]], &[]);
+
+const LENGTH: PlainNumber = PlainNumber(ENABLING, &[], &[4]);
+
+const NATURE: PlainNumber = PlainNumber(ENABLING, &[&[0x91]], &[]);
+
+const WITHOUT_BIT_8: PlainNumber = PlainNumber(ENABLING, &[&[0x11, 0x21, 0xf3]], &[]);
+
+const NUMBERS: [NumberCase; 10] = [
+    (THREE, &[0x91, 0x21, 0x43], TRIGGERS),
+    (FOUR, &[0x91, 0x21, 0xf3], UNMET),
+    (FOUR, &[0xa1, 0x21, 0x43], UNMET),
+    (NEITHER, &[0x91, 0x21, 0x43], UNMET),
+    (NEITHER, &[0x91, 0x99, 0x99], TRIGGERS),
+    (LENGTH, &[0x91, 0xf1, 0x43], UNMET),
+    (LENGTH, &[0x91, 0x21, 0x43], TRIGGERS),
+    (NATURE, &[0x91, 0x21, 0x43], TRIGGERS),
+    (NATURE, &[0xa1, 0x21, 0x43], UNMET),
+    (WITHOUT_BIT_8, &[0x91, 0x21, 0x43], TRIGGERS),
+];
 
 // What is told of a call to this destination where this is the only criterion.
 fn told_by(
     alloc: Global,
     rt: &impl Abort,
     number: PlainNumber,
-    destination: &[u8; 3],
+    destination: &[u8],
 ) -> Result<Told, Fail> {
-    let records = base(alloc, &with_number(number))?;
-    let call = call_at(2, imsi_of(1)?, TELEPHONY, destination, 0)?;
-    Ok(told(rt, &records, &call))
-}
-
-// One row with an entry of this criterion.
-fn with_number(number: PlainNumber) -> Items {
     let entry = PlainO {
         number: Some(number),
         ..BARE
     };
-    Items {
-        o_criteria: [Some(entry), None],
+    let items = Items {
+        o_criteria: &[entry],
         ..ONE_ROW
-    }
+    };
+    let records = base(alloc, &items)?;
+    let call = call_at(2, imsi_of(1)?, TELEPHONY, destination, 0)?;
+    Ok(told(rt, &records, &call))
 }
+
+// A row, and an entry that lists no number of these calls.
+const LISTING_OTHERS: Items<'static> = Items {
+    o_criteria: &[PlainO {
+        number: Some(OTHERS),
+        ..BARE
+    }],
+    ..ONE_ROW
+};
 
 #[test]
 fn an_inserted_row_without_criteria_triggers_where_the_old_ones_were_not_met(
     rt: HostRuntime,
 ) -> Result<(), Fail> {
-    let others = PlainNumber(MatchType::Enabling, one_number(&[0x91, 0x55])?, None);
-    let mut records = base(rt.alloc(), &with_number(others))?;
+    let mut records = base(rt.alloc(), &LISTING_OTHERS)?;
     check_calls(&rt, &records, &[(2, TELEPHONY, 0, Err(Reason::Criteria))])?;
     let items = Items {
-        o: [Some(PlainRow(2, 101, 0)), None, None],
+        o: &[PlainRow(2, 101, 0)],
         ..NOTHING
     };
     bring(rt.alloc(), &mut records, imsi_of(1)?, &items)?;
@@ -93,7 +119,7 @@ fn an_emergency_call_triggers_nothing(rt: HostRuntime) -> Result<(), Fail> {
         ..BARE
     };
     let items = Items {
-        o_criteria: [Some(speech), None],
+        o_criteria: &[speech],
         ..ONE_ROW
     };
     let records = base(rt.alloc(), &items)?;
@@ -113,12 +139,12 @@ fn an_emergency_call_triggers_nothing(rt: HostRuntime) -> Result<(), Fail> {
 fn a_cause_criterion_decides_a_call_that_failed(rt: HostRuntime) -> Result<(), Fail> {
     let entry = PlainO {
         dp: 4,
-        causes: [Some(17), Some(18)],
+        causes: &[17, 18],
         ..BARE
     };
     let items = Items {
-        o: [Some(PlainRow(4, 200, 1)), None, None],
-        o_criteria: [Some(entry), None],
+        o: &[PlainRow(4, 200, 1)],
+        o_criteria: &[entry],
         ..NOTHING
     };
     let records = base(rt.alloc(), &items)?;
@@ -168,8 +194,8 @@ fn a_call_type_criterion_decides_a_forwarded_call(rt: HostRuntime) -> Result<(),
         ..BARE
     };
     let items = Items {
-        o: [Some(PlainRow(2, 100, 0)), Some(PlainRow(4, 200, 0)), None],
-        o_criteria: [Some(at_2), Some(at_4)],
+        o: &[PlainRow(2, 100, 0), PlainRow(4, 200, 0)],
+        o_criteria: &[at_2, at_4],
         ..NOTHING
     };
     let records = base(rt.alloc(), &items)?;
@@ -196,52 +222,58 @@ fn check_call_with(
     Ok(())
 }
 
+const IGNORED_ROWS: Items<'static> = Items {
+    o: &[PlainRow(3, 7, 0), PlainRow(12, 8, 0)],
+    ..NOTHING
+};
+
+const IGNORED_ENTRY: Items<'static> = Items {
+    o_criteria: &[PlainO {
+        dp: 3,
+        number: Some(OTHERS),
+        ..BARE
+    }],
+    ..ONE_ROW
+};
+
+const IGNORED_VT_ROWS: Items<'static> = Items {
+    vt: &[PlainRow(2, 7, 0), PlainRow(15, 8, 0)],
+    ..NOTHING
+};
+
 #[test]
 fn ignored_rows_and_entries_have_no_effect(rt: HostRuntime) -> Result<(), Fail> {
-    let others = PlainNumber(MatchType::Enabling, one_number(&[0x91, 0x55])?, None);
-    let ignored = PlainO {
-        dp: 3,
-        number: Some(others),
-        ..BARE
-    };
-    let rows = Items {
-        o: [Some(PlainRow(3, 7, 0)), Some(PlainRow(12, 8, 0)), None],
-        ..NOTHING
-    };
-    let entries = Items {
-        o_criteria: [Some(ignored), None],
-        ..ONE_ROW
-    };
-    let vt_rows = Items {
-        vt: [Some(PlainRow(2, 7, 0)), Some(PlainRow(15, 8, 0)), None],
-        ..NOTHING
-    };
-    for (items, dp, wanted) in [
-        (rows, 2, Err(Reason::NotArmed)),
-        (rows, 4, Err(Reason::NotArmed)),
-        (rows, 12, Err(Reason::NoCsi)),
-        (entries, 2, Ok((2, 100, CONTINUE))),
-        (vt_rows, 12, Err(Reason::NotArmed)),
-        (vt_rows, 2, Err(Reason::NoCsi)),
-    ] {
-        let records = base(rt.alloc(), &items)?;
-        check_calls(&rt, &records, &[(dp, TELEPHONY, 17, wanted)])?;
+    check_ignored(
+        &rt,
+        rt.alloc(),
+        &[
+            (IGNORED_ROWS, 2, Err(Reason::NotArmed)),
+            (IGNORED_ROWS, 4, Err(Reason::NotArmed)),
+            (IGNORED_ROWS, 12, Err(Reason::NoCsi)),
+            (IGNORED_ENTRY, 2, Ok((2, 100, CONTINUE))),
+            (IGNORED_VT_ROWS, 12, Err(Reason::NotArmed)),
+            (IGNORED_VT_ROWS, 2, Err(Reason::NoCsi)),
+        ],
+    )
+}
+
+fn check_ignored(rt: &impl Abort, alloc: Global, cases: &[(Items, u8, Told)]) -> Result<(), Fail> {
+    for (items, dp, wanted) in cases {
+        let records = base(alloc, items)?;
+        check_calls(rt, &records, &[(*dp, TELEPHONY, 17, *wanted)])?;
     }
     Ok(())
 }
 
 // Entries of 2 and 13, which are not armed and which telephony doesn't meet.
-const UNARMED: Items = Items {
-    o: [Some(PlainRow(4, 200, 0)), None, None],
-    o_criteria: [
-        Some(PlainO {
-            basic: Some(FACSIMILE),
-            ..BARE
-        }),
-        None,
-    ],
-    vt: [Some(PlainRow(12, 300, 0)), Some(PlainRow(14, 302, 0)), None],
-    t_criteria: [Some(PlainT(13, Some(FACSIMILE), None)), None],
+const UNARMED: Items<'static> = Items {
+    o: &[PlainRow(4, 200, 0)],
+    o_criteria: &[PlainO {
+        basic: Some(FACSIMILE),
+        ..BARE
+    }],
+    vt: &[PlainRow(12, 300, 0), PlainRow(14, 302, 0)],
+    t_criteria: &[PlainT(13, Some(FACSIMILE), None)],
 };
 
 #[test]
@@ -264,16 +296,27 @@ fn criteria_of_a_point_that_is_not_armed_have_no_effect(rt: HostRuntime) -> Resu
 fn criteria_of_a_point_that_is_not_armed_are_lent(rt: HostRuntime) -> Result<(), Fail> {
     let records = base(rt.alloc(), &UNARMED)?;
     let subscriber = records.get(&imsi_of(1)?).ok_or("no record")?;
-    for (dp, wanted) in [
-        (2, (None, Some(('o', 2, Some(0x62))))),
-        (3, (None, None)),
-        (4, (Some(200), None)),
-        (12, (Some(300), None)),
-        (13, (None, Some(('t', 13, Some(0x62))))),
-        (14, (Some(302), None)),
-        (15, (None, None)),
-    ] {
-        assert_eq!(rt; held_at(subscriber, dp), wanted, "at {dp}");
-    }
+    check_held(
+        &rt,
+        subscriber,
+        &[
+            (2, (None, Some(('o', 2, Some(0x62))))),
+            (3, (None, None)),
+            (4, (Some(200), None)),
+            (12, (Some(300), None)),
+            (13, (None, Some(('t', 13, Some(0x62))))),
+            (14, (Some(302), None)),
+            (15, (None, None)),
+        ],
+    );
     Ok(())
+}
+
+// A detection point, the service key of its row, and its entry.
+type HeldCase = (u8, (Option<u32>, Option<EntryTold>));
+
+fn check_held(rt: &impl Abort, subscriber: &Subscriber, cases: &[HeldCase]) {
+    for (dp, wanted) in cases {
+        assert_eq!(rt; held_at(subscriber, *dp), *wanted, "at {dp}");
+    }
 }

@@ -1,6 +1,7 @@
 use super::{
-    BARE, CONTINUE, DESTINATION, EMERGENCY, FACSIMILE, Items, NOTHING, ONE_ROW, PlainO, PlainRow,
-    PlainT, RELEASE, TELEPHONY, Told, base, bring, call_at, check_calls, imsi_of, lent_at, told,
+    BARE, CONTINUE, DESTINATION, EMERGENCY, EntryTold, FACSIMILE, Items, NOTHING, ONE_ROW, PlainO,
+    PlainRow, PlainT, RELEASE, TELEPHONY, Told, base, bring, call_at, check_calls, imsi_of,
+    lent_at, told,
 };
 use camel_criteria::{BasicService, Handling};
 use camel_rows::{
@@ -15,8 +16,8 @@ use std::test::Fail;
 #[test]
 fn each_row_says_what_is_done_where_its_service_fails(rt: HostRuntime) -> Result<(), Fail> {
     let items = Items {
-        o: [Some(PlainRow(2, 1, 2)), Some(PlainRow(4, 2, 31)), None],
-        vt: [Some(PlainRow(12, 3, 32)), None, None],
+        o: &[PlainRow(2, 1, 2), PlainRow(4, 2, 31)],
+        vt: &[PlainRow(12, 3, 32)],
         ..NOTHING
     };
     let records = base(rt.alloc(), &items)?;
@@ -32,10 +33,10 @@ fn each_row_says_what_is_done_where_its_service_fails(rt: HostRuntime) -> Result
 }
 
 // A row of each detection point of the VT-CSI.
-const VT_ROWS: [Option<PlainRow>; 3] = [
-    Some(PlainRow(12, 300, 0)),
-    Some(PlainRow(13, 301, 1)),
-    Some(PlainRow(14, 302, 0)),
+const VT_ROWS: &[PlainRow] = &[
+    PlainRow(12, 300, 0),
+    PlainRow(13, 301, 1),
+    PlainRow(14, 302, 0),
 ];
 
 #[test]
@@ -43,7 +44,7 @@ fn calls_to_a_subscriber_are_decided_by_the_vt_csi(rt: HostRuntime) -> Result<()
     let facsimile = PlainT(13, Some(BasicService::Tele(0x60)), Some(17));
     let items = Items {
         vt: VT_ROWS,
-        t_criteria: [Some(facsimile), Some(PlainT(14, None, Some(19)))],
+        t_criteria: &[facsimile, PlainT(14, None, Some(19))],
         ..NOTHING
     };
     let records = base(rt.alloc(), &items)?;
@@ -63,12 +64,10 @@ fn calls_to_a_subscriber_are_decided_by_the_vt_csi(rt: HostRuntime) -> Result<()
     )
 }
 
-fn asking_for_facsimile() -> PlainO {
-    PlainO {
-        basic: Some(FACSIMILE),
-        ..BARE
-    }
-}
+const FOR_FACSIMILE: &[PlainO] = &[PlainO {
+    basic: Some(FACSIMILE),
+    ..BARE
+}];
 
 #[test]
 fn the_first_reason_is_answered(rt: HostRuntime) -> Result<(), Fail> {
@@ -81,12 +80,12 @@ fn the_first_reason_is_answered(rt: HostRuntime) -> Result<(), Fail> {
 fn check_first_reasons(rt: &impl Abort, alloc: Global, records: &mut Records) -> Result<(), Fail> {
     let imsi = imsi_of(1)?;
     let armed = Items {
-        o_criteria: [Some(asking_for_facsimile()), None],
+        o_criteria: FOR_FACSIMILE,
         ..ONE_ROW
     };
     let unarmed = Items {
-        o: [Some(PlainRow(4, 200, 0)), None, None],
-        o_criteria: [Some(asking_for_facsimile()), None],
+        o: &[PlainRow(4, 200, 0)],
+        o_criteria: FOR_FACSIMILE,
         ..NOTHING
     };
     check_calls(rt, records, &[(2, EMERGENCY, 0, Err(Reason::Unknown))])?;
@@ -118,15 +117,15 @@ fn check_first_reasons_to_a_subscriber(
     records: &mut Records,
 ) -> Result<(), Fail> {
     let imsi = imsi_of(1)?;
-    let facsimile = Some(PlainT(13, Some(FACSIMILE), None));
+    let facsimile = PlainT(13, Some(FACSIMILE), None);
     let armed = Items {
-        vt: [Some(PlainRow(13, 301, 0)), None, None],
-        t_criteria: [facsimile, None],
+        vt: &[PlainRow(13, 301, 0)],
+        t_criteria: &[facsimile],
         ..NOTHING
     };
     let unarmed = Items {
-        vt: [Some(PlainRow(14, 302, 0)), None, None],
-        t_criteria: [facsimile, None],
+        vt: &[PlainRow(14, 302, 0)],
+        t_criteria: &[facsimile],
         ..NOTHING
     };
     check_calls(rt, records, &[(13, EMERGENCY, 17, Err(Reason::Unknown))])?;
@@ -176,24 +175,33 @@ fn a_trigger_lends_the_row_and_the_entry_of_its_detection_point(
         ..BARE
     };
     let items = Items {
-        o: [Some(PlainRow(2, 100, 0)), Some(PlainRow(4, 200, 0)), None],
-        o_criteria: [Some(at_4), Some(at_2)],
+        o: &[PlainRow(2, 100, 0), PlainRow(4, 200, 0)],
+        o_criteria: &[at_4, at_2],
         vt: VT_ROWS,
-        t_criteria: [
-            Some(PlainT(13, speech, Some(17))),
-            Some(PlainT(12, all, None)),
-        ],
+        t_criteria: &[PlainT(13, speech, Some(17)), PlainT(12, all, None)],
     };
     let records = base(rt.alloc(), &items)?;
-    for (dp, key, entry) in [
-        (COLLECTED_INFO, 100, Some(('o', 2, Some(0x00)))),
-        (ROUTE_SELECT_FAILURE, 200, Some(('o', 4, Some(0x10)))),
-        (TERMINATING_ATTEMPT, 300, Some(('t', 12, Some(0x00)))),
-        (BUSY, 301, Some(('t', 13, Some(0x10)))),
-        (NO_ANSWER, 302, None),
-    ] {
-        let call = call_at(dp, imsi_of(1)?, TELEPHONY, &DESTINATION, 17)?;
-        assert_eq!(rt; lent_at(&rt, &records, &call), Ok((key, entry)), "at {dp}");
+    check_lent(
+        &rt,
+        &records,
+        &[
+            (COLLECTED_INFO, 100, Some(('o', 2, Some(0x00)))),
+            (ROUTE_SELECT_FAILURE, 200, Some(('o', 4, Some(0x10)))),
+            (TERMINATING_ATTEMPT, 300, Some(('t', 12, Some(0x00)))),
+            (BUSY, 301, Some(('t', 13, Some(0x10)))),
+            (NO_ANSWER, 302, None),
+        ],
+    )
+}
+
+// A detection point, the service key of its row, and its entry.
+type LentCase = (u8, u32, Option<EntryTold>);
+
+fn check_lent(rt: &impl Abort, records: &Records, cases: &[LentCase]) -> Result<(), Fail> {
+    let imsi = imsi_of(1)?;
+    for (dp, key, entry) in cases {
+        let call = call_at(*dp, imsi, TELEPHONY, &DESTINATION, 17)?;
+        assert_eq!(rt; lent_at(rt, records, &call), Ok((*key, *entry)), "at {dp}");
     }
     Ok(())
 }

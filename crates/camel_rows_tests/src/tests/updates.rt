@@ -1,6 +1,6 @@
 use super::{
-    BARE, CONTINUE, Half, Items, NOTHING, Numbers, ONE_ROW, PlainNumber, PlainO, PlainRow,
-    TELEPHONY, base, bring, check_calls, halves_in, imsi_of, marked_insert, number_of, one_number,
+    BARE, CONTINUE, Half, Items, NOTHING, ONE_ROW, PlainNumber, PlainO, PlainRow, TELEPHONY, base,
+    bring, check_calls, halves_in, imsi_of, marked_insert,
 };
 use camel_criteria::{MatchType, Refusal};
 use camel_rows::{
@@ -23,94 +23,126 @@ fn numbered(answer: Result<(), Refusal>) -> Result<(), u16> {
     }
 }
 
-// An entry with a number criterion of so many numbers and this length.
-fn listing(count: usize, length: Option<u8>) -> Result<Items, Refusal> {
-    let number = number_of(&[0x91, 0x11])?;
-    let mut numbers: Numbers = [None; 11];
-    for place in numbers.iter_mut().take(count) {
-        *place = Some(number);
+// What is inserted, by a name of its own, rows and entries of the O-CSI, and the answer.
+type AnswerCase = (
+    &'static str,
+    &'static [PlainRow],
+    &'static [PlainO],
+    Result<(), u16>,
+);
+
+fn check_answers(
+    rt: &impl Abort,
+    alloc: Global,
+    records: &mut Records,
+    cases: &[AnswerCase],
+) -> Result<(), Fail> {
+    let imsi = imsi_of(1)?;
+    for (what, o, o_criteria, wanted) in cases {
+        let items = Items {
+            o,
+            o_criteria,
+            ..NOTHING
+        };
+        let answered = answer(alloc, records, imsi, &items);
+        assert_eq!(rt; answered, *wanted, "{what}");
     }
-    Ok(with_entry(PlainO {
-        dp: 4,
-        number: Some(PlainNumber(MatchType::Enabling, numbers, length)),
-        ..BARE
-    }))
+    Ok(())
 }
 
-// An entry with a cause.
-fn with_cause_at(dp: u8) -> Items {
-    with_entry(PlainO {
-        dp,
-        causes: [Some(17), None],
-        ..BARE
-    })
-}
+const CAUSE_AT_2: PlainO = PlainO {
+    causes: &[17],
+    ..BARE
+};
 
-fn with_entry(entry: PlainO) -> Items {
-    Items {
-        o_criteria: [Some(entry), None],
-        ..NOTHING
-    }
-}
+const CAUSE_AT_4: PlainO = PlainO {
+    dp: 4,
+    ..CAUSE_AT_2
+};
 
-fn with_key(key: u32) -> Items {
-    Items {
-        o: [Some(PlainRow(2, key, 0)), None, None],
-        ..NOTHING
-    }
-}
+const ROWS_AND_CAUSES: [AnswerCase; 5] = [
+    (
+        "greatest service key",
+        &[PlainRow(2, 2_147_483_647, 0)],
+        &[],
+        Ok(()),
+    ),
+    (
+        "greater service key",
+        &[PlainRow(2, 2_147_483_648, 0)],
+        &[],
+        Err(36),
+    ),
+    (
+        "two rows of 2",
+        &[PlainRow(2, 1, 0), PlainRow(2, 2, 0)],
+        &[],
+        Err(36),
+    ),
+    ("cause at 4", &[], &[CAUSE_AT_4], Ok(())),
+    ("cause at 2", &[], &[CAUSE_AT_2], Err(36)),
+];
 
-// Two rows of one detection point.
-fn with_repeated_rows() -> Items {
-    Items {
-        o: [Some(PlainRow(2, 1, 0)), Some(PlainRow(2, 2, 0)), None],
-        ..NOTHING
-    }
-}
+const ENABLING: MatchType = MatchType::Enabling;
+
+const NUMBER: &[u8] = &[0x91, 0x11];
+
+const NO_LIST: PlainO = PlainO {
+    dp: 4,
+    number: Some(PlainNumber(ENABLING, &[], &[])),
+    ..BARE
+};
+
+const LENGTH_15: PlainO = PlainO {
+    number: Some(PlainNumber(ENABLING, &[], &[15])),
+    ..NO_LIST
+};
+
+const LENGTH_16: PlainO = PlainO {
+    number: Some(PlainNumber(ENABLING, &[], &[16])),
+    ..NO_LIST
+};
+
+const TEN_NUMBERS: PlainO = PlainO {
+    number: Some(PlainNumber(ENABLING, &[NUMBER; 10], &[])),
+    ..NO_LIST
+};
+
+const ELEVEN_NUMBERS: PlainO = PlainO {
+    number: Some(PlainNumber(ENABLING, &[NUMBER; 11], &[])),
+    ..NO_LIST
+};
+
+const NUMBER_CRITERIA: [AnswerCase; 5] = [
+    ("length 15", &[], &[LENGTH_15], Ok(())),
+    ("length 16", &[], &[LENGTH_16], Err(36)),
+    ("ten numbers", &[], &[TEN_NUMBERS], Ok(())),
+    ("eleven numbers", &[], &[ELEVEN_NUMBERS], Err(36)),
+    ("no list", &[], &[NO_LIST], Err(35)),
+];
 
 #[test]
 fn the_data_of_an_insert_are_taken_or_refused(rt: HostRuntime) -> Result<(), Fail> {
-    let mut records = Records::new(rt.alloc());
-    check_answers(&rt, rt.alloc(), &mut records)
+    let mut records = base(rt.alloc(), &NOTHING)?;
+    check_all_answers(&rt, rt.alloc(), &mut records)
 }
 
-fn check_answers(rt: &impl Abort, alloc: Global, records: &mut Records) -> Result<(), Fail> {
-    let imsi = imsi_of(1)?;
-    records.apply(&Update::Register { imsi })?;
-    for (items, wanted) in [
-        (with_key(2_147_483_647), Ok(())),
-        (with_key(2_147_483_648), Err(36)),
-        (listing(0, Some(15))?, Ok(())),
-        (listing(0, Some(16))?, Err(36)),
-        (listing(10, None)?, Ok(())),
-        (listing(11, None)?, Err(36)),
-        (with_cause_at(4), Ok(())),
-        (with_cause_at(2), Err(36)),
-        (listing(0, None)?, Err(35)),
-        (with_repeated_rows(), Err(36)),
-    ] {
-        let answered = answer(alloc, records, imsi, &items);
-        assert_eq!(rt; answered, wanted, "{items:?}");
-    }
-    Ok(())
+fn check_all_answers(rt: &impl Abort, alloc: Global, records: &mut Records) -> Result<(), Fail> {
+    check_answers(rt, alloc, records, &ROWS_AND_CAUSES)?;
+    check_answers(rt, alloc, records, &NUMBER_CRITERIA)
 }
 
 #[test]
 fn criteria_without_their_csi_are_refused_with_all_that_comes_with_them(
     rt: HostRuntime,
 ) -> Result<(), Fail> {
-    let imsi = imsi_of(1)?;
-    let mut records = Records::new(rt.alloc());
-    records.apply(&Update::Register { imsi })?;
-    let numbers = one_number(&[0x91, 0x55])?;
     let items = Items {
-        vt: [Some(PlainRow(12, 300, 0)), None, None],
-        ..with_entry(PlainO {
-            number: Some(PlainNumber(MatchType::Enabling, numbers, None)),
-            ..BARE
-        })
+        o_criteria: &[BARE],
+        vt: &[PlainRow(12, 300, 0)],
+        ..NOTHING
     };
-    let answered = answer(rt.alloc(), &mut records, imsi, &items);
+    let mut records = base(rt.alloc(), &NOTHING)?;
+    let answered = answer(rt.alloc(), &mut records, imsi_of(1)?, &items);
     assert_eq!(rt; answered, Err(35));
     check_calls(&rt, &records, &[(12, TELEPHONY, 0, Err(Reason::NoCsi))])
 }
@@ -131,79 +163,136 @@ fn mark(mark: u8) -> Half {
 #[test]
 fn an_insert_replaces_what_it_brings_and_leaves_the_rest(rt: HostRuntime) -> Result<(), Fail> {
     inserted_csi_stands();
-    let mut records = Records::new(rt.alloc());
-    check_inserts(&rt, rt.alloc(), &mut records)
+    let mut records = base(rt.alloc(), &NOTHING)?;
+    check_all_inserts(&rt, rt.alloc(), &mut records)
 }
 
-// Each Insert follows those before it. It brings the O-CSI, its criteria, the VT-CSI and its criteria.
-fn check_inserts(rt: &impl Abort, alloc: Global, records: &mut Records) -> Result<(), Fail> {
+fn check_all_inserts(rt: &impl Abort, alloc: Global, records: &mut Records) -> Result<(), Fail> {
+    check_inserts_of_one_half(rt, alloc, records)?;
+    check_inserts_of_both(rt, alloc, records)?;
+    check_inserts_of_ignored_items(rt, alloc, records)
+}
+
+// What an Insert brings, of the O-CSI, its criteria, the VT-CSI and its criteria; the answer; and both halves after it.
+type InsertCase = ([Option<u8>; 4], Result<(), u16>, Half, Half);
+
+// Each Insert follows those before it.
+fn check_inserts(
+    rt: &impl Abort,
+    alloc: Global,
+    records: &mut Records,
+    cases: &[InsertCase],
+) -> Result<(), Fail> {
     let imsi = imsi_of(1)?;
-    records.apply(&Update::Register { imsi })?;
-    let empty: Half = Some((None, None));
-    for (brought, wanted, o, vt) in [
-        ([None, Some(1), None, None], Err(35), None, None),
-        ([None, None, None, Some(1)], Err(35), None, None),
-        ([None; 4], Ok(()), None, None),
-        ([Some(1), None, None, None], Ok(()), bare(1), None),
-        ([None, Some(2), None, None], Ok(()), held(1, 2), None),
-        ([None, None, None, Some(3)], Err(35), held(1, 2), None),
-        ([None, Some(4), None, Some(3)], Err(35), held(1, 2), None),
-        ([Some(5), None, None, Some(3)], Err(35), held(1, 2), None),
-        (
-            [None, None, Some(6), Some(7)],
-            Ok(()),
-            held(1, 2),
-            held(6, 7),
-        ),
-        (
-            [None, Some(8), None, Some(9)],
-            Ok(()),
-            held(1, 8),
-            held(6, 9),
-        ),
-        ([None; 4], Ok(()), held(1, 8), held(6, 9)),
-        ([None, None, Some(10), None], Ok(()), held(1, 8), bare(10)),
-        ([Some(11), None, None, None], Ok(()), bare(11), bare(10)),
-        (
-            [Some(12), Some(13), Some(14), Some(15)],
-            Ok(()),
-            held(12, 13),
-            held(14, 15),
-        ),
-        ([None, Some(0), None, Some(0)], Ok(()), bare(12), bare(14)),
-        ([Some(0), None, Some(0), None], Ok(()), empty, empty),
-        ([None, Some(16), None, Some(17)], Ok(()), mark(16), mark(17)),
-    ] {
-        let update = marked_insert(alloc, imsi, brought)?;
+    for (brought, wanted, o, vt) in cases {
+        let update = marked_insert(alloc, imsi, *brought)?;
         let checked = numbered(records.check(&update));
-        assert_eq!(rt; checked, wanted, "{brought:?}");
+        assert_eq!(rt; checked, *wanted, "{brought:?}");
         let applied = numbered(records.apply(&update));
-        assert_eq!(rt; applied, wanted, "{brought:?}");
-        assert_eq!(rt; halves_in(records, &imsi), Some((o, vt)), "{brought:?}");
+        assert_eq!(rt; applied, *wanted, "{brought:?}");
+        assert_eq!(rt; halves_in(records, &imsi), Some((*o, *vt)), "{brought:?}");
     }
     Ok(())
+}
+
+fn check_inserts_of_one_half(
+    rt: &impl Abort,
+    alloc: Global,
+    records: &mut Records,
+) -> Result<(), Fail> {
+    check_inserts(
+        rt,
+        alloc,
+        records,
+        &[
+            ([None, Some(1), None, None], Err(35), None, None),
+            ([None, None, None, Some(1)], Err(35), None, None),
+            ([None; 4], Ok(()), None, None),
+            ([Some(1), None, None, None], Ok(()), bare(1), None),
+            ([None, Some(2), None, None], Ok(()), held(1, 2), None),
+            ([None, None, None, Some(3)], Err(35), held(1, 2), None),
+            ([None, Some(4), None, Some(3)], Err(35), held(1, 2), None),
+            ([Some(5), None, None, Some(3)], Err(35), held(1, 2), None),
+        ],
+    )
+}
+
+fn check_inserts_of_both(
+    rt: &impl Abort,
+    alloc: Global,
+    records: &mut Records,
+) -> Result<(), Fail> {
+    let all = [Some(12), Some(13), Some(14), Some(15)];
+    let (old, new) = (held(1, 8), held(12, 13));
+    check_inserts(
+        rt,
+        alloc,
+        records,
+        &[
+            (
+                [None, None, Some(6), Some(7)],
+                Ok(()),
+                held(1, 2),
+                held(6, 7),
+            ),
+            ([None, Some(8), None, Some(9)], Ok(()), old, held(6, 9)),
+            ([None; 4], Ok(()), old, held(6, 9)),
+            ([None, None, Some(10), None], Ok(()), old, bare(10)),
+            ([Some(11), None, None, None], Ok(()), bare(11), bare(10)),
+            (all, Ok(()), new, held(14, 15)),
+        ],
+    )
+}
+
+fn check_inserts_of_ignored_items(
+    rt: &impl Abort,
+    alloc: Global,
+    records: &mut Records,
+) -> Result<(), Fail> {
+    let empty: Half = Some((None, None));
+    check_inserts(
+        rt,
+        alloc,
+        records,
+        &[
+            ([None, Some(0), None, Some(0)], Ok(()), bare(12), bare(14)),
+            ([Some(0), None, Some(0), None], Ok(()), empty, empty),
+            ([None, Some(16), None, Some(17)], Ok(()), mark(16), mark(17)),
+        ],
+    )
+}
+
+const fn naming(o: bool, vt: bool, everything: bool) -> Withdrawal {
+    Withdrawal { o, vt, everything }
 }
 
 #[test]
 fn a_withdrawal_removes_each_half_that_it_names(rt: HostRuntime) -> Result<(), Fail> {
     let (o, vt) = (held(1, 2), held(3, 4));
-    for (names_o, names_vt, everything, halves) in [
-        (false, false, false, (o, vt)),
-        (true, false, false, (None, vt)),
-        (false, true, false, (o, None)),
-        (true, true, false, (None, None)),
-        (false, false, true, (None, None)),
-        (true, false, true, (None, None)),
-        (false, true, true, (None, None)),
-        (true, true, true, (None, None)),
-    ] {
-        let what = Withdrawal {
-            o: names_o,
-            vt: names_vt,
-            everything,
-        };
-        let mut records = base(rt.alloc(), &NOTHING)?;
-        check_withdrawal(&rt, rt.alloc(), &mut records, what, Some(halves))?;
+    check_withdrawals(
+        &rt,
+        rt.alloc(),
+        &[
+            (naming(false, false, false), (o, vt)),
+            (naming(true, false, false), (None, vt)),
+            (naming(false, true, false), (o, None)),
+            (naming(true, true, false), (None, None)),
+            (naming(false, false, true), (None, None)),
+            (naming(true, false, true), (None, None)),
+            (naming(false, true, true), (None, None)),
+            (naming(true, true, true), (None, None)),
+        ],
+    )
+}
+
+fn check_withdrawals(
+    rt: &impl Abort,
+    alloc: Global,
+    cases: &[(Withdrawal, (Half, Half))],
+) -> Result<(), Fail> {
+    for (what, halves) in cases {
+        let mut records = base(alloc, &NOTHING)?;
+        check_withdrawal(rt, alloc, &mut records, *what, Some(*halves))?;
     }
     Ok(())
 }
@@ -235,7 +324,7 @@ const O_ALONE: Withdrawal = Withdrawal {
 #[test]
 fn withdrawn_and_cancelled_data_trigger_nothing(rt: HostRuntime) -> Result<(), Fail> {
     let items = Items {
-        vt: [Some(PlainRow(12, 300, 0)), None, None],
+        vt: &[PlainRow(12, 300, 0)],
         ..ONE_ROW
     };
     let mut records = base(rt.alloc(), &items)?;
@@ -289,7 +378,7 @@ fn one_half_comes_and_goes_without_the_other(rt: HostRuntime) -> Result<(), Fail
 fn check_halves(rt: &impl Abort, alloc: Global, records: &mut Records) -> Result<(), Fail> {
     let imsi = imsi_of(1)?;
     let items = Items {
-        vt: [Some(PlainRow(12, 300, 0)), None, None],
+        vt: &[PlainRow(12, 300, 0)],
         ..NOTHING
     };
     bring(alloc, records, imsi, &items)?;
@@ -319,30 +408,42 @@ fn an_update_changes_the_record_of_its_own_subscriber(rt: HostRuntime) -> Result
     let mut records = Records::new(rt.alloc());
     assert_eq!(rt; are_there(&records, &first, &second), (false, false));
     let steps = [
-        (Update::Cancel { imsi: second }, second, (false, false)),
-        (Update::Register { imsi: second }, second, (false, true)),
-        (Update::Register { imsi: first }, first, (true, true)),
-        (Update::Register { imsi: first }, first, (true, true)),
-        (
-            Update::Delete {
-                imsi: first,
-                what: O_ALONE,
-            },
-            first,
-            (true, true),
-        ),
-        (Update::Cancel { imsi: first }, first, (false, true)),
+        (Kind::Cancel, second, (false, false)),
+        (Kind::Register, second, (false, true)),
+        (Kind::Register, first, (true, true)),
+        (Kind::Register, first, (true, true)),
+        (Kind::Delete, first, (true, true)),
+        (Kind::Cancel, first, (false, true)),
     ];
-    for (update, imsi, there) in &steps {
-        check_accepted(&rt, &mut records, update, imsi);
-        assert_eq!(rt; are_there(&records, &first, &second), *there, "{update:?}");
+    for (kind, imsi, there) in steps {
+        check_accepted(&rt, &mut records, kind, imsi);
+        assert_eq!(rt; are_there(&records, &first, &second), there, "{imsi:?}");
     }
     Ok(())
 }
 
-// An update of this subscriber is accepted.
-fn check_accepted(rt: &impl Abort, records: &mut Records, update: &Update, imsi: &Imsi) {
-    assert_eq!(rt; update.imsi(), *imsi, "{update:?}");
-    assert_eq!(rt; records.check(update), Ok(()), "{update:?}");
-    assert_eq!(rt; records.apply(update), Ok(()), "{update:?}");
+#[derive(Clone, Copy)]
+enum Kind {
+    Register,
+    Delete,
+    Cancel,
+}
+
+fn update_of(kind: Kind, imsi: Imsi) -> Update {
+    match kind {
+        Kind::Register => Update::Register { imsi },
+        Kind::Delete => Update::Delete {
+            imsi,
+            what: O_ALONE,
+        },
+        Kind::Cancel => Update::Cancel { imsi },
+    }
+}
+
+// The update of this kind and this subscriber is accepted.
+fn check_accepted(rt: &impl Abort, records: &mut Records, kind: Kind, imsi: Imsi) {
+    let update = update_of(kind, imsi);
+    assert_eq!(rt; update.imsi(), imsi, "{update:?}");
+    assert_eq!(rt; records.check(&update), Ok(()), "{update:?}");
+    assert_eq!(rt; records.apply(&update), Ok(()), "{update:?}");
 }
