@@ -132,12 +132,17 @@ fn check_all_answers(rt: &impl Abort, alloc: Global, records: &mut Records) -> R
     check_answers(rt, alloc, records, &NUMBER_CRITERIA)
 }
 
+const OTHERS: PlainO = PlainO {
+    number: Some(PlainNumber(ENABLING, &[&[0x91, 0x55]], &[])),
+    ..BARE
+};
+
 #[test]
 fn criteria_without_their_csi_are_refused_with_all_that_comes_with_them(
     rt: HostRuntime,
 ) -> Result<(), Fail> {
     let items = Items {
-        o_criteria: &[BARE],
+        o_criteria: &[OTHERS],
         vt: &[PlainRow(12, 300, 0)],
         ..NOTHING
     };
