@@ -33,6 +33,8 @@ const CONTINUE: CallAction = CallAction::Continue;
 
 const RELEASE: CallAction = CallAction::Release;
 
+const ENABLING: MatchType = MatchType::Enabling;
+
 // The subscriber whose last digit this is.
 fn imsi_of(last: u8) -> Result<Imsi, ImsiFault> {
     Imsi::from_digits(&[2, 6, 2, 0, 1, 0, 0, 0, 0, 0, 0, 0, 0, 0, last])
@@ -45,6 +47,9 @@ struct PlainRow(u8, u32, u32);
 // A destination number criterion: its match type, the octets of its numbers, and its lengths.
 #[derive(Clone, Copy)]
 struct PlainNumber(MatchType, &'static [&'static [u8]], &'static [u8]);
+
+// A criterion that lists the digits 5 5, with which no destination of these tests begins.
+const OTHERS: PlainNumber = PlainNumber(ENABLING, &[&[0x91, 0x55]], &[]);
 
 // An entry of the criteria of the O-CSI.
 #[derive(Clone, Copy)]

@@ -1,7 +1,7 @@
 use super::{
-    BARE, CONTINUE, DESTINATION, EMERGENCY, EntryTold, FACSIMILE, Items, NOTHING, ONE_ROW,
-    PlainNumber, PlainO, PlainRow, PlainT, RELEASE, TELEPHONY, Told, base, bring, call_at,
-    check_calls, held_at, imsi_of, told,
+    BARE, CONTINUE, DESTINATION, EMERGENCY, ENABLING, EntryTold, FACSIMILE, Items, NOTHING,
+    ONE_ROW, OTHERS, PlainNumber, PlainO, PlainRow, PlainT, RELEASE, TELEPHONY, Told, base, bring,
+    call_at, check_calls, held_at, imsi_of, told,
 };
 use camel_criteria::{BasicService, CallType, Cause, MatchType};
 use camel_rows::{CallEvent, Reason, Records, Subscriber};
@@ -10,13 +10,9 @@ use std::alloc::Global;
 use std::process::Abort;
 use std::test::Fail;
 
-const ENABLING: MatchType = MatchType::Enabling;
-
 const TRIGGERS: Told = Ok((2, 100, CONTINUE));
 
 const UNMET: Told = Err(Reason::Criteria);
-
-const OTHERS: PlainNumber = PlainNumber(ENABLING, &[&[0x91, 0x55]], &[]);
 
 const NEITHER: PlainNumber = PlainNumber(
     MatchType::Inhibiting,

@@ -1,8 +1,8 @@
 use super::{
-    BARE, CONTINUE, Half, Items, NOTHING, ONE_ROW, PlainNumber, PlainO, PlainRow, TELEPHONY, base,
-    bring, check_calls, halves_in, imsi_of, marked_insert,
+    BARE, CONTINUE, ENABLING, Half, Items, NOTHING, ONE_ROW, OTHERS, PlainNumber, PlainO, PlainRow,
+    TELEPHONY, base, bring, check_calls, halves_in, imsi_of, marked_insert,
 };
-use camel_criteria::{MatchType, Refusal};
+use camel_criteria::Refusal;
 use camel_rows::{
     Reason, Records, Update, Withdrawal, inserted_csi_stands, updates_change_one_record,
 };
@@ -83,8 +83,6 @@ const ROWS_AND_CAUSES: [AnswerCase; 5] = [
     ("cause at 2", &[], &[CAUSE_AT_2], Err(36)),
 ];
 
-const ENABLING: MatchType = MatchType::Enabling;
-
 const NUMBER: &[u8] = &[0x91, 0x11];
 
 const NO_LIST: PlainO = PlainO {
@@ -132,8 +130,8 @@ fn check_all_answers(rt: &impl Abort, alloc: Global, records: &mut Records) -> R
     check_answers(rt, alloc, records, &NUMBER_CRITERIA)
 }
 
-const OTHERS: PlainO = PlainO {
-    number: Some(PlainNumber(ENABLING, &[&[0x91, 0x55]], &[])),
+const ENTRY_LISTING_OTHERS: PlainO = PlainO {
+    number: Some(OTHERS),
     ..BARE
 };
 
@@ -142,7 +140,7 @@ fn criteria_without_their_csi_are_refused_with_all_that_comes_with_them(
     rt: HostRuntime,
 ) -> Result<(), Fail> {
     let items = Items {
-        o_criteria: &[OTHERS],
+        o_criteria: &[ENTRY_LISTING_OTHERS],
         vt: &[PlainRow(12, 300, 0)],
         ..NOTHING
     };
@@ -267,8 +265,33 @@ fn check_inserts_of_ignored_items(
     )
 }
 
-const fn naming(o: bool, vt: bool, everything: bool) -> Withdrawal {
-    Withdrawal { o, vt, everything }
+const NEITHER_HALF: Withdrawal = Withdrawal {
+    o: false,
+    vt: false,
+    everything: false,
+};
+
+const O_ALONE: Withdrawal = Withdrawal {
+    o: true,
+    ..NEITHER_HALF
+};
+
+const VT_ALONE: Withdrawal = Withdrawal {
+    vt: true,
+    ..NEITHER_HALF
+};
+
+const BOTH_HALVES: Withdrawal = Withdrawal {
+    vt: true,
+    ..O_ALONE
+};
+
+// All CAMEL subscription information, and what else is named beside it.
+const fn everything(what: Withdrawal) -> Withdrawal {
+    Withdrawal {
+        everything: true,
+        ..what
+    }
 }
 
 #[test]
@@ -278,14 +301,14 @@ fn a_withdrawal_removes_each_half_that_it_names(rt: HostRuntime) -> Result<(), F
         &rt,
         rt.alloc(),
         &[
-            (naming(false, false, false), (o, vt)),
-            (naming(true, false, false), (None, vt)),
-            (naming(false, true, false), (o, None)),
-            (naming(true, true, false), (None, None)),
-            (naming(false, false, true), (None, None)),
-            (naming(true, false, true), (None, None)),
-            (naming(false, true, true), (None, None)),
-            (naming(true, true, true), (None, None)),
+            (NEITHER_HALF, (o, vt)),
+            (O_ALONE, (None, vt)),
+            (VT_ALONE, (o, None)),
+            (BOTH_HALVES, (None, None)),
+            (everything(NEITHER_HALF), (None, None)),
+            (everything(O_ALONE), (None, None)),
+            (everything(VT_ALONE), (None, None)),
+            (everything(BOTH_HALVES), (None, None)),
         ],
     )
 }
@@ -319,12 +342,6 @@ fn check_withdrawal(
     assert_eq!(rt; halves_in(records, &imsi), halves, "{what:?}");
     Ok(())
 }
-
-const O_ALONE: Withdrawal = Withdrawal {
-    o: true,
-    vt: false,
-    everything: false,
-};
 
 #[test]
 fn withdrawn_and_cancelled_data_trigger_nothing(rt: HostRuntime) -> Result<(), Fail> {
