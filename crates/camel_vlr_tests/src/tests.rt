@@ -14,7 +14,7 @@ use camel_rows::{
     CallEvent, Decision, Lent, OCriteriaSet, OCsi, Reason, Records, TdpRow, Update, Withdrawal,
 };
 use camel_tbcd::{Address, AddressFault, CallAddress, Imsi, ImsiFault, IsdnAddress};
-use camel_vlr::{CloseRefused, Session, Vlr};
+use camel_vlr::{CloseRefused, Receipt, Session, Vlr};
 use std::alloc::Global;
 use std::process::Abort;
 use std::sync::Wait;
@@ -25,6 +25,9 @@ const SCF: [u8; 6] = [0x91, 0x94, 0x71, 0x16, 0x00, 0x00];
 
 // How often a call is made again that was answered by no place, no guard or no look.
 const TURNS: usize = 100;
+
+// The answer to an update of a subscriber who has no record.
+const UNKNOWN: Result<u64, Refusal> = Err(Refusal::UnidentifiedSubscriber);
 
 // The subscriber whose last digit this is.
 fn imsi_of(last: u8) -> Result<Imsi, ImsiFault> {
@@ -96,6 +99,9 @@ fn entry_update(alloc: Global, imsi: Imsi) -> Result<Update, Refusal> {
         t_criteria: None,
     })
 }
+
+// An update, and its answer.
+type Sent = (Kind, Result<u64, Refusal>);
 
 // The updates that tests send.
 #[derive(Clone, Copy, Debug)]
@@ -201,16 +207,32 @@ fn opened<R: Wait>(
     Vlr::open(rt, alloc, places, limit)
 }
 
+// The same: the store, the sessions before the last one, and the last one.
+fn opened_with_last<R: Wait>(
+    rt: &R,
+    alloc: Global,
+    places: usize,
+    limit: u64,
+) -> Result<(Vlr, Vec<Session>, Session), Refusal>
+    requires places { (1 ≤ places) × (places ≤ 64) }
+    requires limit { (1 ≤ limit) × (limit ≤ 1000000) }
+    ensures others { IfOk result (λ r. All (λ s. s ≡ fresh r.0.store) r.1.items) }
+    ensures last { IfOk result (λ r. r.2 ≡ fresh r.0.store) }
+{
+    let (store, mut sessions) = opened(rt, alloc, places, limit)?;
+    let Some(last) = sessions.pop() else {
+        store.end(rt);
+        return Err(Refusal::NoPlace);
+    };
+    Ok((store, sessions, last))
+}
+
 // A store with one session.
 fn opened_with_one<R: Wait>(rt: &R, alloc: Global, limit: u64) -> Result<(Vlr, Session), Refusal>
     requires limit { (1 ≤ limit) × (limit ≤ 1000000) }
     ensures session { IfOk result (λ r. r.1 ≡ fresh r.0.store) }
 {
-    let (store, mut sessions) = opened(rt, alloc, 1, limit)?;
-    let Some(session) = sessions.pop() else {
-        store.end(rt);
-        return Err(Refusal::NoPlace);
-    };
+    let (store, _, session) = opened_with_last(rt, alloc, 1, limit)?;
     Ok((store, session))
 }
 
@@ -224,8 +246,8 @@ fn opened_with_two<R: Wait>(
     ensures first { IfOk result (λ r. r.1 ≡ fresh r.0.store) }
     ensures second { IfOk result (λ r. r.2 ≡ fresh r.0.store) }
 {
-    let (store, mut sessions) = opened(rt, alloc, 2, limit)?;
-    let (Some(second), Some(first)) = (sessions.pop(), sessions.pop()) else {
+    let (store, mut others, second) = opened_with_last(rt, alloc, 2, limit)?;
+    let Some(first) = others.pop() else {
         store.end(rt);
         return Err(Refusal::NoPlace);
     };
@@ -269,7 +291,15 @@ fn check_asked<R: Abort>(rt: &R, session: &mut Session, call: &CallEvent, front:
 }
 
 // The front of a look, and the row and the entry of a subscriber at a detection point there.
-fn lent(session: &mut Session, imsi: &Imsi, dp: u8) -> Option<(u64, Option<RowTold>, Option<Entry>)>
+type LentTold = (u64, Option<RowTold>, Option<Entry>);
+
+fn check_lent<R: Abort>(rt: &R, session: &mut Session, imsi: &Imsi, dp: u8, wanted: LentTold)
+    ensures { session.new.store ≡ session.old.store }
+{
+    assert_eq!(rt; lent(session, imsi, dp), Some(wanted), "at {dp}");
+}
+
+fn lent(session: &mut Session, imsi: &Imsi, dp: u8) -> Option<LentTold>
     ensures store { session.new.store ≡ session.old.store }
 {
     for _ in 1..TURNS {
@@ -281,11 +311,7 @@ fn lent(session: &mut Session, imsi: &Imsi, dp: u8) -> Option<(u64, Option<RowTo
     lent_once(session, imsi, dp)
 }
 
-fn lent_once(
-    session: &mut Session,
-    imsi: &Imsi,
-    dp: u8,
-) -> Option<(u64, Option<RowTold>, Option<Entry>)>
+fn lent_once(session: &mut Session, imsi: &Imsi, dp: u8) -> Option<LentTold>
     ensures store { session.new.store ≡ session.old.store }
 {
     let Ok(look) = session.look() else {
@@ -340,36 +366,67 @@ fn filled<R: Wait + Abort>(
 {
     let call = call_of(imsi)?;
     row_sent(rt, store, imsi);
-    assert_eq!(rt; learnt(rt, store, session), Ok(2));
+    tell(rt, store, session, 2)?;
     check_asked(rt, session, &call, 2, Ok((100, None)));
     Ok(())
+}
+
+// An update has this answer.
+fn check_submit(rt: &impl Abort, store: &mut Vlr, update: Update, wanted: Result<u64, Refusal>)
+    ensures { store.new.store ≡ store.old.store }
+{
+    assert_eq!(rt; store.submit(update), wanted);
+}
+
+// So many updates are published, and so many are pending.
+fn check_counts(rt: &impl Abort, store: &Vlr, published: u64, pending: u64) {
+    assert_eq!(rt; (store.published(), store.pending()), (published, pending));
 }
 
 // Registers a subscriber and inserts the row, as the first two updates.
 fn row_sent(rt: &impl Abort, store: &mut Vlr, imsi: Imsi)
     ensures { store.new.store ≡ store.old.store }
 {
-    assert_eq!(rt; store.submit(Update::Register { imsi }), Ok(1));
-    assert_eq!(rt; row_answer(store, imsi), Ok(2));
+    check_submit(rt, store, Update::Register { imsi }, Ok(1));
+    check_row(rt, store, imsi, Ok(2));
 }
 
-// The answer to an Insert of the row.
+// An Insert of the row has this answer.
+fn check_row(rt: &impl Abort, store: &mut Vlr, imsi: Imsi, wanted: Result<u64, Refusal>)
+    ensures { store.new.store ≡ store.old.store }
+{
+    assert_eq!(rt; row_answer(store, imsi), wanted);
+}
+
 fn row_answer(store: &mut Vlr, imsi: Imsi) -> Result<u64, Refusal>
     ensures { store.new.store ≡ store.old.store }
 {
     store.submit(row_update(imsi)?)
 }
 
-// Publishes what is pending, and tells the session. The front is the answer.
-fn learnt<R: Wait>(rt: &R, store: &mut Vlr, session: &mut Session) -> Result<u64, Refusal>
+// The receipt of a publication that has this front.
+fn receipt_of<R: Wait + Abort>(rt: &R, store: &mut Vlr, front: u64) -> Result<Receipt, Refusal>
+    ensures store { store.new.store ≡ store.old.store }
+    ensures receipt { IfOk result (λ receipt. receipt.store ≡ store.old.store) }
+{
+    let receipt = store.publish(rt)?;
+    assert_eq!(rt; receipt.front(), front);
+    Ok(receipt)
+}
+
+// Publishes what is pending, with this front, and tells the session.
+fn tell<R: Wait + Abort>(
+    rt: &R,
+    store: &mut Vlr,
+    session: &mut Session,
+    front: u64,
+) -> Result<(), Refusal>
     requires { session.old.store ≡ store.old.store }
     ensures store { store.new.store ≡ store.old.store }
     ensures session { session.new.store ≡ session.old.store }
 {
-    let receipt = store.publish(rt)?;
-    let front = receipt.front();
-    session.learn(receipt);
-    Ok(front)
+    session.learn(receipt_of(rt, store, front)?);
+    Ok(())
 }
 
 // The store with which a test goes on. Where it does not, the store is ended.

@@ -188,17 +188,23 @@ const FULL: Option<(Half, Half)> = Some((Some((Some(1), Some(2))), Some((Some(3)
 
 #[test]
 fn a_copy_of_records_holds_the_same_and_stands_alone(rt: HostRuntime) -> Result<(), Fail> {
-    let (first, second, third) = (imsi_of(1)?, imsi_of(2)?, imsi_of(3)?);
+    let (first, second) = (imsi_of(1)?, imsi_of(2)?);
     let mut records = base(rt.alloc(), &NOTHING)?;
     bring_to_two(rt.alloc(), &mut records, first, second)?;
     let mut copied = records.copy()?;
-    for (imsi, wanted) in [(first, FULL), (second, Some((None, None))), (third, None)] {
-        assert_eq!(rt; halves_in(&records, &imsi), wanted);
-        assert_eq!(rt; halves_in(&copied, &imsi), wanted);
-    }
+    check_two(&rt, &records)?;
+    check_two(&rt, &copied)?;
     assert_eq!(rt; copied.apply(&Update::Cancel { imsi: first }), Ok(()));
     assert!(rt; copied.get(&first).is_none());
     assert_eq!(rt; halves_in(&records, &first), FULL);
+    Ok(())
+}
+
+// The subscriber 1 has all four items and the subscriber 2 none, and there is no record of another.
+fn check_two(rt: &impl Abort, records: &Records) -> Result<(), Fail> {
+    assert_eq!(rt; halves_in(records, &imsi_of(1)?), FULL);
+    assert_eq!(rt; halves_in(records, &imsi_of(2)?), Some((None, None)));
+    assert_eq!(rt; halves_in(records, &imsi_of(3)?), None);
     Ok(())
 }
 

@@ -195,13 +195,28 @@ fn a_call_type_criterion_decides_a_forwarded_call(rt: HostRuntime) -> Result<(),
         ..NOTHING
     };
     let records = base(rt.alloc(), &items)?;
-    for (dp, forwarded, wanted) in [
-        (2, true, Ok((2, 100, CONTINUE))),
-        (2, false, Err(Reason::Criteria)),
-        (4, true, Ok((4, 200, CONTINUE))),
-        (4, false, Err(Reason::Criteria)),
-    ] {
-        check_call_with(&rt, &records, dp, forwarded, wanted)?;
+    check_calls_with(
+        &rt,
+        &records,
+        &[
+            (2, true, Ok((2, 100, CONTINUE))),
+            (2, false, Err(Reason::Criteria)),
+            (4, true, Ok((4, 200, CONTINUE))),
+            (4, false, Err(Reason::Criteria)),
+        ],
+    )
+}
+
+// A call by its detection point and whether it is forwarded, and what is told of it.
+type ForwardedCase = (u8, bool, Told);
+
+fn check_calls_with(
+    rt: &impl Abort,
+    records: &Records,
+    cases: &[ForwardedCase],
+) -> Result<(), Fail> {
+    for (dp, forwarded, wanted) in cases {
+        check_call_with(rt, records, *dp, *forwarded, *wanted)?;
     }
     Ok(())
 }

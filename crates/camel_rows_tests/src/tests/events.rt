@@ -2,6 +2,7 @@ use super::{DESTINATION, FACSIMILE, TELEPHONY, imsi_of};
 use camel_criteria::{BasicService, Cause};
 use camel_rows::{CallEvent, Event};
 use camel_tbcd::{CallAddress, Imsi};
+use std::process::Abort;
 use std::test::Fail;
 
 // The destination of a call and whether it is forwarded, where the event has them.
@@ -52,23 +53,22 @@ fn originating(destination: CallAddress, forwarded: bool) -> Result<(CallEvent, 
 
 #[test]
 fn an_originating_call_shows_what_it_was_made_of(rt: HostRuntime) -> Result<(), Fail> {
-    let long = [0x91; 20];
-    for (octets, forwarded) in [
-        (DESTINATION.as_slice(), false),
-        (DESTINATION.as_slice(), true),
-        (long.as_slice(), false),
-        ([0x11].as_slice(), true),
-    ] {
-        let (before, after) = originating(CallAddress::from_bytes(octets)?, forwarded)?;
-        let (before, after) = (before.lend(), after.lend());
-        assert_eq!(rt; shown_by(&before), (2, TELEPHONY, None));
-        assert_eq!(rt; shown_by(&after), (4, FACSIMILE, Some(3)));
-        let imsi = imsi_of(1)?;
-        assert_eq!(rt; (before.imsi(), after.imsi()), (imsi, imsi));
-        let destination = Some((octets, forwarded));
-        assert_eq!(rt; destination_of(&before), destination, "{before:?}");
-        assert_eq!(rt; destination_of(&after), destination, "{after:?}");
-    }
+    check_originating(&rt, &DESTINATION, false)?;
+    check_originating(&rt, &DESTINATION, true)?;
+    check_originating(&rt, &[0x91; 20], false)?;
+    check_originating(&rt, &[0x11], true)
+}
+
+fn check_originating(rt: &impl Abort, octets: &[u8], forwarded: bool) -> Result<(), Fail> {
+    let (before, after) = originating(CallAddress::from_bytes(octets)?, forwarded)?;
+    let (before, after) = (before.lend(), after.lend());
+    assert_eq!(rt; shown_by(&before), (2, TELEPHONY, None));
+    assert_eq!(rt; shown_by(&after), (4, FACSIMILE, Some(3)));
+    let imsi = imsi_of(1)?;
+    assert_eq!(rt; (before.imsi(), after.imsi()), (imsi, imsi));
+    let destination = Some((octets, forwarded));
+    assert_eq!(rt; destination_of(&before), destination, "{before:?}");
+    assert_eq!(rt; destination_of(&after), destination, "{after:?}");
     Ok(())
 }
 

@@ -1,8 +1,8 @@
 ghost use Rattle.std.specs.Prelude.{◌≡◌};
 
 use super::{
-    ARMED, Held, LISTED, asked_once, call_of, closed, criteria_update, filled, going_on, held,
-    imsi_of, opened_with_one,
+    ARMED, Held, LISTED, asked_once, call_of, check_submit, closed, criteria_update, filled,
+    going_on, held, imsi_of, opened_with_one, receipt_of,
 };
 use camel_criteria::Refusal;
 use camel_rows::{Records, Update};
@@ -33,7 +33,7 @@ fn with_pending_cancel<R: Wait + Abort>(
     ensures session { session.new.store ≡ session.old.store }
 {
     filled(rt, store, session, imsi)?;
-    assert_eq!(rt; store.submit(Update::Cancel { imsi }), Ok(3));
+    check_submit(rt, store, Update::Cancel { imsi }, Ok(3));
     Ok(())
 }
 
@@ -73,7 +73,7 @@ fn with_two_kinds<R: Wait + Abort>(
 {
     filled(rt, store, session, imsi_of(1)?)?;
     criteria_sent(rt, alloc, store, imsi_of(2)?)?;
-    assert_eq!(rt; store.publish(rt)?.front(), 4);
+    receipt_of(rt, store, 4)?;
     Ok(())
 }
 
@@ -82,8 +82,8 @@ fn criteria_sent(rt: &impl Abort, alloc: Global, store: &mut Vlr, imsi: Imsi) ->
     ensures { store.new.store ≡ store.old.store }
 {
     let insert = criteria_update(alloc, imsi)?;
-    assert_eq!(rt; store.submit(Update::Register { imsi }), Ok(3));
-    assert_eq!(rt; store.submit(insert), Ok(4));
+    check_submit(rt, store, Update::Register { imsi }, Ok(3));
+    check_submit(rt, store, insert, Ok(4));
     Ok(())
 }
 

@@ -1,8 +1,9 @@
 ghost use Rattle.std.specs.Prelude.{◌≡◌, IfOk};
 
 use super::{
-    ARMED, LISTED, Told, call_of, check_asked, closed, criteria_update, filled, going_on, imsi_of,
-    lent, opened_with_one, opened_with_two, row_answer,
+    ARMED, LISTED, Told, UNKNOWN, call_of, check_asked, check_counts, check_lent, check_row,
+    check_submit, closed, criteria_update, filled, going_on, imsi_of, opened_with_one,
+    opened_with_two, receipt_of,
 };
 use camel_criteria::Refusal;
 use camel_rows::{CallEvent, Reason, Records, Update};
@@ -32,8 +33,8 @@ fn decides_by_what_was_published<R: Wait + Abort>(
     let call = call_of(imsi)?;
     check_asked(rt, session, &call, 0, Err(Reason::Unknown));
     filled(rt, store, session, imsi)?;
-    assert_eq!(rt; lent(session, &imsi, 2), Some((2, Some(ARMED), None)));
-    assert_eq!(rt; lent(session, &imsi, 4), Some((2, None, None)));
+    check_lent(rt, session, &imsi, 2, (2, Some(ARMED), None));
+    check_lent(rt, session, &imsi, 4, (2, None, None));
     Ok(())
 }
 
@@ -76,23 +77,23 @@ fn check_both_asked<R: Abort>(
     check_asked(rt, second, call, front, wanted);
 }
 
-// Publishes what is pending, and tells both sessions. The front is the answer.
-fn both_told<R: Wait>(
+// Publishes what is pending, with this front, and tells both sessions.
+fn tell_both<R: Wait + Abort>(
     rt: &R,
     store: &mut Vlr,
     first: &mut Session,
     second: &mut Session,
-) -> Result<u64, Refusal>
+    front: u64,
+) -> Result<(), Refusal>
     requires first { first.old.store ≡ store.old.store }
     requires second { second.old.store ≡ store.old.store }
     ensures store { store.new.store ≡ store.old.store }
     ensures first { first.new.store ≡ first.old.store }
     ensures second { second.new.store ≡ second.old.store }
 {
-    let receipt = store.publish(rt)?;
-    first.learn(store.receipt());
+    first.learn(receipt_of(rt, store, front)?);
     second.learn(store.receipt());
-    Ok(receipt.front())
+    Ok(())
 }
 
 // A register and the row of the subscriber are pending, and a row of another one is refused.
@@ -110,11 +111,10 @@ fn sees_nothing_pending<R: Abort>(
     let call = call_of(imsi)?;
     let unknown = Err(Reason::Unknown);
     check_both_asked(rt, first, second, &call, 0, unknown);
-    assert_eq!(rt; store.submit(Update::Register { imsi }), Ok(1));
-    let refused = Err(Refusal::UnidentifiedSubscriber);
-    assert_eq!(rt; row_answer(store, other), refused);
-    assert_eq!(rt; row_answer(store, imsi), Ok(2));
-    assert_eq!(rt; (store.published(), store.pending()), (0, 2));
+    check_submit(rt, store, Update::Register { imsi }, Ok(1));
+    check_row(rt, store, other, UNKNOWN);
+    check_row(rt, store, imsi, Ok(2));
+    check_counts(rt, store, 0, 2);
     check_both_asked(rt, first, second, &call, 0, unknown);
     Ok(())
 }
@@ -131,7 +131,7 @@ fn sees_the_row<R: Wait + Abort>(
     ensures first { first.new.store ≡ first.old.store }
     ensures second { second.new.store ≡ second.old.store }
 {
-    assert_eq!(rt; both_told(rt, store, first, second), Ok(2));
+    tell_both(rt, store, first, second, 2)?;
     let call = call_of(imsi_of(1)?)?;
     check_both_asked(rt, first, second, &call, 2, Ok((100, None)));
     Ok(())
@@ -150,15 +150,12 @@ fn sees_the_entry<R: Wait + Abort>(
 {
     let imsi = imsi_of(1)?;
     let call = call_of(imsi)?;
-    assert_eq!(rt; store.submit(criteria_update(alloc, imsi)?), Ok(3));
-    assert_eq!(rt; both_told(rt, store, first, second), Ok(3));
+    check_submit(rt, store, criteria_update(alloc, imsi)?, Ok(3));
+    tell_both(rt, store, first, second, 3)?;
     check_both_asked(rt, first, second, &call, 3, Ok((100, Some(LISTED))));
-    let both = Some((3, Some(ARMED), Some(LISTED)));
-    assert_eq!(rt;
-        (lent(first, &imsi, 2), lent(second, &imsi, 2)),
-        (both, both)
-    );
-    assert_eq!(rt; lent(first, &imsi, 4), Some((3, None, None)));
+    check_lent(rt, first, &imsi, 2, (3, Some(ARMED), Some(LISTED)));
+    check_lent(rt, second, &imsi, 2, (3, Some(ARMED), Some(LISTED)));
+    check_lent(rt, first, &imsi, 4, (3, None, None));
     Ok(())
 }
 
@@ -197,10 +194,10 @@ fn learns_in_any_order<R: Wait + Abort>(
 {
     let call = call_of(imsi_of(1)?)?;
     let imsi = imsi_of(1)?;
-    assert_eq!(rt; store.submit(Update::Register { imsi }), Ok(1));
-    let published = store.publish(rt)?;
+    check_submit(rt, store, Update::Register { imsi }, Ok(1));
+    let published = receipt_of(rt, store, 1)?;
     let (once, again) = (store.receipt(), store.receipt());
-    assert_eq!(rt; (published.front(), once.front(), again.front()), (1, 1, 1));
+    assert_eq!(rt; (once.front(), again.front()), (1, 1));
     first.learn(published);
     check_asked(rt, first, &call, 1, Err(Reason::NoCsi));
     // Receipts of the first publication are learnt before and after those of the second one.
@@ -220,10 +217,7 @@ fn published_again<R: Wait + Abort>(rt: &R, store: &mut Vlr) -> Result<(Receipt,
     ensures receipts { IfOk result (λ r. (r.0.store ≡ store.old.store) × (r.1.store ≡ store.old.store)) }
 {
     let imsi = imsi_of(2)?;
-    assert_eq!(rt; store.submit(Update::Register { imsi }), Ok(2));
-    let later = store.publish(rt)?;
-    let latest = store.publish(rt)?;
-    assert_eq!(rt; later.front(), 2);
-    assert_eq!(rt; latest.front(), 2);
-    Ok((later, latest))
+    check_submit(rt, store, Update::Register { imsi }, Ok(2));
+    let later = receipt_of(rt, store, 2)?;
+    Ok((later, receipt_of(rt, store, 2)?))
 }

@@ -2,8 +2,8 @@ ghost use Rattle.std.specs.Prelude.{◌≡◌, IfOk};
 ghost use Rattle.camel_vlr.specs.Store.{fresh};
 
 use super::{
-    ARMED, Kind, LISTED, TURNS, Told, asked, call_of, check_asked, going_on, held, imsi_of,
-    opened_with_one, row_answer, update_of,
+    ARMED, Kind, LISTED, Sent, TURNS, Told, UNKNOWN, asked, call_of, check_asked, check_counts,
+    check_row, check_submit, going_on, held, imsi_of, opened_with_one, update_of,
 };
 use camel_criteria::Refusal;
 use camel_rows::{CallEvent, Reason, Records, Update};
@@ -43,10 +43,19 @@ fn opened_again<R: Wait>(rt: &R, alloc: Global) -> Result<(Vlr, Session), Refusa
 // What callers see of a store: how many updates are published and pending, and what a look shows.
 type Seen = (u64, u64, Option<(u64, Told)>);
 
+// What a look shows before the first publication.
+const EMPTY: Option<(u64, Told)> = Some((0, Err(Reason::Unknown)));
+
 fn seen(store: &Vlr, session: &mut Session, call: &CallEvent) -> Seen
     ensures { session.new.store ≡ session.old.store }
 {
     (store.published(), store.pending(), asked(session, call))
+}
+
+fn check_seen<R: Abort>(rt: &R, store: &Vlr, session: &mut Session, call: &CallEvent, wanted: Seen)
+    ensures { session.new.store ≡ session.old.store }
+{
+    assert_eq!(rt; seen(store, session, call), wanted);
 }
 
 // Submits an update, and again where memory was refused, after which all is as before.
@@ -66,13 +75,29 @@ fn submitted<R: Abort>(
     for _ in 1..TURNS {
         let update = update_again(alloc, imsi, kind)?;
         match store.submit(update) {
-            Err(Refusal::OutOfMemory) => {
-                assert_eq!(rt; seen(store, session, call), before);
-            }
+            Err(Refusal::OutOfMemory) => check_seen(rt, store, session, call, before),
             answered => return answered,
         }
     }
     Err(Refusal::OutOfMemory)
+}
+
+// Submits an update likewise, which has this answer.
+fn send<R: Abort>(
+    rt: &R,
+    alloc: Global,
+    store: &mut Vlr,
+    session: &mut Session,
+    call: &CallEvent,
+    imsi: Imsi,
+    sent: Sent,
+)
+    ensures store { store.new.store ≡ store.old.store }
+    ensures session { session.new.store ≡ session.old.store }
+{
+    let (kind, wanted) = sent;
+    let answered = submitted(rt, alloc, store, session, call, imsi, kind);
+    assert_eq!(rt; answered, wanted, "{kind:?}");
 }
 
 // Publishes, and again where memory was refused, after which all is pending as before.
@@ -89,13 +114,29 @@ fn published<R: Wait + Abort>(
     let before = seen(store, session, call);
     for _ in 1..TURNS {
         match store.publish(rt) {
-            Err(_) => {
-                assert_eq!(rt; seen(store, session, call), before);
-            }
+            Err(_) => check_seen(rt, store, session, call, before),
             Ok(receipt) => return Ok(receipt),
         }
     }
     Err(Refusal::OutOfMemory)
+}
+
+// The same with this front, of which the session is told.
+fn tell_again<R: Wait + Abort>(
+    rt: &R,
+    store: &mut Vlr,
+    session: &mut Session,
+    call: &CallEvent,
+    front: u64,
+) -> Result<(), Refusal>
+    requires { session.old.store ≡ store.old.store }
+    ensures store { store.new.store ≡ store.old.store }
+    ensures session { session.new.store ≡ session.old.store }
+{
+    let receipt = published(rt, store, session, call)?;
+    assert_eq!(rt; receipt.front(), front);
+    session.learn(receipt);
+    Ok(())
 }
 
 // Closes the store, and again where memory or a guard was refused, after which the store is as before.
@@ -114,7 +155,7 @@ fn closed_again<R: Wait + Abort>(
             Ok(records) => return Ok(records),
             Err(CloseRefused { why: _, store }) => {
                 left = store;
-                assert_eq!(rt; seen(&left, session, call), before);
+                check_seen(rt, &left, session, call, before);
             }
         }
     }
@@ -134,32 +175,67 @@ fn each_call_before_the_end<R: Wait + Abort>(
 {
     let imsi = imsi_of(1)?;
     let call = call_of(imsi)?;
-    let unknown = Err(Reason::Unknown);
-    assert_eq!(rt; seen(store, session, &call), (0, 0, Some((0, unknown))));
-    let first = submitted(rt, alloc, store, session, &call, imsi, Kind::Register);
-    assert_eq!(rt; first, Ok(1));
-    assert_eq!(rt; seen(store, session, &call), (0, 1, Some((0, unknown))));
-    let second = submitted(rt, alloc, store, session, &call, imsi, Kind::Criteria);
-    assert_eq!(rt; second, Ok(2));
-    assert_eq!(rt; seen(store, session, &call), (0, 2, Some((0, unknown))));
-    let receipt = published(rt, store, session, &call)?;
-    assert_eq!(rt; receipt.front(), 2);
-    session.learn(receipt);
-    let listed = Ok((100, Some(LISTED)));
-    assert_eq!(rt; seen(store, session, &call), (2, 0, Some((2, listed))));
+    check_seen(rt, store, session, &call, (0, 0, EMPTY));
+    submits_both(rt, alloc, store, session, &call, imsi);
+    check_seen(rt, store, session, &call, (0, 2, EMPTY));
+    tell_again(rt, store, session, &call, 2)?;
+    let listed = Some((2, Ok((100, Some(LISTED)))));
+    check_seen(rt, store, session, &call, (2, 0, listed));
     Ok(())
+}
+
+// Registers a subscriber and inserts the row and the entry, as the first two updates.
+fn submits_both<R: Abort>(
+    rt: &R,
+    alloc: Global,
+    store: &mut Vlr,
+    session: &mut Session,
+    call: &CallEvent,
+    imsi: Imsi,
+)
+    ensures store { store.new.store ≡ store.old.store }
+    ensures session { session.new.store ≡ session.old.store }
+{
+    send(
+        rt,
+        alloc,
+        store,
+        session,
+        call,
+        imsi,
+        (Kind::Register, Ok(1)),
+    );
+    check_seen(rt, store, session, call, (0, 1, EMPTY));
+    send(
+        rt,
+        alloc,
+        store,
+        session,
+        call,
+        imsi,
+        (Kind::Criteria, Ok(2)),
+    );
 }
 
 #[test]
 fn each_call_may_be_made_again_after_want_of_memory(rt: HostRuntime) -> Result<(), Fail> {
-    let imsi = imsi_of(1)?;
-    let call = call_of(imsi)?;
-    let (mut store, mut session) = opened_again(&rt, rt.alloc())?;
-    let done = each_call_before_the_end(&rt, rt.alloc(), &mut store, &mut session);
-    let store = going_on(&rt, store, done)?;
-    let records = closed_again(&rt, store, &mut session, &call)?;
-    assert_eq!(rt; held(&records, &imsi), Some((Some(ARMED), Some(LISTED))));
-    assert_eq!(rt; held(&records, &imsi_of(2)?), None);
+    let records = closed_after_each_call(&rt, rt.alloc())?;
+    check_listed(&rt, &records)
+}
+
+fn closed_after_each_call<R: Wait + Abort>(rt: &R, alloc: Global) -> Result<Records, Fail> {
+    let call = call_of(imsi_of(1)?)?;
+    let (mut store, mut session) = opened_again(rt, alloc)?;
+    let done = each_call_before_the_end(rt, alloc, &mut store, &mut session);
+    let store = going_on(rt, store, done)?;
+    Ok(closed_again(rt, store, &mut session, &call)?)
+}
+
+// One subscriber has the row and the entry, and another one no record.
+fn check_listed(rt: &impl Abort, records: &Records) -> Result<(), Fail> {
+    let both = Some((Some(ARMED), Some(LISTED)));
+    assert_eq!(rt; held(records, &imsi_of(1)?), both);
+    assert_eq!(rt; held(records, &imsi_of(2)?), None);
     Ok(())
 }
 
@@ -176,18 +252,25 @@ fn with_row<R: Wait + Abort>(
     ensures session { session.new.store ≡ session.old.store }
 {
     let call = call_of(imsi)?;
-    let first = submitted(rt, alloc, store, session, &call, imsi, Kind::Register);
-    assert_eq!(rt; first, Ok(1));
-    let second = submitted(rt, alloc, store, session, &call, imsi, Kind::Row);
-    assert_eq!(rt; second, Ok(2));
-    let receipt = published(rt, store, session, &call)?;
-    session.learn(receipt);
-    assert_eq!(rt;
-        seen(store, session, &call),
-        (2, 0, Some((2, Ok((100, None)))))
+    send(
+        rt,
+        alloc,
+        store,
+        session,
+        &call,
+        imsi,
+        (Kind::Register, Ok(1)),
     );
-    let third = submitted(rt, alloc, store, session, &call, imsi, Kind::Row);
-    assert_eq!(rt; third, Ok(3));
+    send(rt, alloc, store, session, &call, imsi, (Kind::Row, Ok(2)));
+    tell_again(rt, store, session, &call, 2)?;
+    check_seen(
+        rt,
+        store,
+        session,
+        &call,
+        (2, 0, Some((2, Ok((100, None))))),
+    );
+    send(rt, alloc, store, session, &call, imsi, (Kind::Row, Ok(3)));
     Ok(())
 }
 
@@ -201,19 +284,24 @@ fn register_leaves_no_entry<R: Wait + Abort>(
 {
     with_row(rt, alloc, store, session, imsi_of(1)?)?;
     let imsi = imsi_of(2)?;
+    registers(rt, store, imsi);
+    let call = call_of(imsi)?;
+    send(rt, alloc, store, session, &call, imsi, (Kind::Row, Ok(5)));
+    Ok(())
+}
+
+// Registers a subscriber, and again where memory was refused, after which there is no record to be inserted into.
+fn registers(rt: &impl Abort, store: &mut Vlr, imsi: Imsi)
+    ensures { store.new.store ≡ store.old.store }
+{
     match store.submit(Update::Register { imsi }) {
         Err(Refusal::OutOfMemory) => {
-            assert_eq!(rt; (store.published(), store.pending()), (2, 1));
-            let unknown = Err(Refusal::UnidentifiedSubscriber);
-            assert_eq!(rt; row_answer(store, imsi), unknown);
-            assert_eq!(rt; store.submit(Update::Register { imsi }), Ok(4));
+            check_counts(rt, store, 2, 1);
+            check_row(rt, store, imsi, UNKNOWN);
+            check_submit(rt, store, Update::Register { imsi }, Ok(4));
         }
         answered => assert_eq!(rt; answered, Ok(4)),
     }
-    let call = call_of(imsi)?;
-    let insert = submitted(rt, alloc, store, session, &call, imsi, Kind::Row);
-    assert_eq!(rt; insert, Ok(5));
-    Ok(())
 }
 
 #[test]
@@ -236,10 +324,8 @@ fn cancel_leaves_the_entry<R: Wait + Abort>(
     let call = call_of(imsi)?;
     with_row(rt, alloc, store, session, imsi)?;
     let (entry, wanted) = after_cancel(rt, store, imsi);
-    let answered = submitted(rt, alloc, store, session, &call, imsi, Kind::Entry);
-    assert_eq!(rt; answered, entry);
-    let receipt = published(rt, store, session, &call)?;
-    session.learn(receipt);
+    send(rt, alloc, store, session, &call, imsi, (Kind::Entry, entry));
+    tell_again(rt, store, session, &call, 4)?;
     check_asked(rt, session, &call, 4, wanted);
     Ok(())
 }
@@ -251,12 +337,12 @@ fn after_cancel(rt: &impl Abort, store: &mut Vlr, imsi: Imsi) -> (Result<u64, Re
 {
     match store.submit(Update::Cancel { imsi }) {
         Err(Refusal::OutOfMemory) => {
-            assert_eq!(rt; (store.published(), store.pending()), (2, 1));
+            check_counts(rt, store, 2, 1);
             (Ok(4), Ok((100, Some(LISTED))))
         }
         answered => {
             assert_eq!(rt; answered, Ok(4));
-            (Err(Refusal::UnidentifiedSubscriber), Err(Reason::Unknown))
+            (UNKNOWN, Err(Reason::Unknown))
         }
     }
 }
@@ -279,29 +365,48 @@ fn submits_before_the_repeat<R: Wait + Abort>(
 {
     let (first, second) = (imsi_of(1)?, imsi_of(2)?);
     let call = call_of(first)?;
-    let register = submitted(rt, alloc, store, session, &call, first, Kind::Register);
-    assert_eq!(rt; register, Ok(1));
-    match store.publish(rt) {
-        Err(why) => {
-            assert_eq!(rt; why, Refusal::OutOfMemory);
-            let unknown = Some((0, Err(Reason::Unknown)));
-            assert_eq!(rt; seen(store, session, &call), (0, 1, unknown));
-        }
-        Ok(receipt) => {
-            assert_eq!(rt; receipt.front(), 1);
-            assert_eq!(rt; (store.published(), store.pending()), (1, 0));
-        }
-    }
+    send(
+        rt,
+        alloc,
+        store,
+        session,
+        &call,
+        first,
+        (Kind::Register, Ok(1)),
+    );
+    publishes_once(rt, store, session, &call);
     // The next update comes behind what is pending, and the same publication is asked for again.
-    let register = submitted(rt, alloc, store, session, &call, second, Kind::Register);
-    assert_eq!(rt; register, Ok(2));
-    let receipt = published(rt, store, session, &call)?;
-    assert_eq!(rt; receipt.front(), 2);
-    assert_eq!(rt; (store.published(), store.pending()), (2, 0));
-    session.learn(receipt);
+    send(
+        rt,
+        alloc,
+        store,
+        session,
+        &call,
+        second,
+        (Kind::Register, Ok(2)),
+    );
+    tell_again(rt, store, session, &call, 2)?;
+    check_counts(rt, store, 2, 0);
     check_asked(rt, session, &call, 2, Err(Reason::NoCsi));
     check_asked(rt, session, &call_of(second)?, 2, Err(Reason::NoCsi));
     Ok(())
+}
+
+// Publishes the first update. Where memory is refused, it is pending as before.
+fn publishes_once<R: Wait + Abort>(rt: &R, store: &mut Vlr, session: &mut Session, call: &CallEvent)
+    ensures store { store.new.store ≡ store.old.store }
+    ensures session { session.new.store ≡ session.old.store }
+{
+    match store.publish(rt) {
+        Err(why) => {
+            assert_eq!(rt; why, Refusal::OutOfMemory);
+            check_seen(rt, store, session, call, (0, 1, EMPTY));
+        }
+        Ok(receipt) => {
+            assert_eq!(rt; receipt.front(), 1);
+            check_counts(rt, store, 1, 0);
+        }
+    }
 }
 
 #[test]

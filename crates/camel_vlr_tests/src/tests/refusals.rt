@@ -1,4 +1,7 @@
-use super::{Kind, LISTED, call_of, check_asked, imsi_of, opened_with_one, update_of};
+use super::{
+    Kind, LISTED, Sent, UNKNOWN, call_of, check_asked, check_counts, imsi_of, opened_with_one,
+    receipt_of, update_of,
+};
 use camel_criteria::Refusal;
 use camel_tbcd::Imsi;
 use camel_vlr::{Session, Vlr};
@@ -15,12 +18,10 @@ fn a_refused_update_is_as_if_it_had_not_been_sent(rt: HostRuntime) -> Result<(),
     done
 }
 
-const UNKNOWN: Result<u64, Refusal> = Err(Refusal::UnidentifiedSubscriber);
-
 const MISSING: Result<u64, Refusal> = Err(Refusal::DataMissing);
 
 // Updates of one subscriber, each with its answer.
-const SENT: [(Kind, Result<u64, Refusal>); 16] = [
+const SENT: [Sent; 16] = [
     (Kind::Row, UNKNOWN),
     (Kind::Entry, UNKNOWN),
     (Kind::DeleteO, UNKNOWN),
@@ -39,10 +40,16 @@ const SENT: [(Kind, Result<u64, Refusal>); 16] = [
     (Kind::Entry, Ok(9)),
 ];
 
-fn check_sent(rt: &impl Abort, alloc: Global, store: &mut Vlr, imsi: Imsi) -> Result<(), Refusal> {
-    for (kind, wanted) in SENT {
-        let update = update_of(alloc, imsi, kind)?;
-        assert_eq!(rt; store.submit(update), wanted, "{kind:?}");
+fn check_sent(
+    rt: &impl Abort,
+    alloc: Global,
+    store: &mut Vlr,
+    imsi: Imsi,
+    sent: &[Sent],
+) -> Result<(), Refusal> {
+    for (kind, wanted) in sent {
+        let update = update_of(alloc, imsi, *kind)?;
+        assert_eq!(rt; store.submit(update), *wanted, "{kind:?}");
     }
     Ok(())
 }
@@ -55,9 +62,9 @@ fn refused_is_as_if_not_sent<R: Wait + Abort>(
     session: &mut Session,
 ) -> Result<(), Fail> {
     let imsi = imsi_of(1)?;
-    check_sent(rt, alloc, store, imsi)?;
-    assert_eq!(rt; (store.published(), store.pending()), (0, 9));
-    assert_eq!(rt; store.publish(rt)?.front(), 9);
+    check_sent(rt, alloc, store, imsi, &SENT)?;
+    check_counts(rt, store, 0, 9);
+    receipt_of(rt, store, 9)?;
     let call = call_of(imsi)?;
     check_asked(rt, session, &call, 9, Ok((100, Some(LISTED))));
     Ok(())
