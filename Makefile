@@ -11,7 +11,7 @@ EXAMPLES := first-call:1000000 prepaid:1000000 change-of-profile:1000000 refusal
 
 .PHONY: program replay examples bench bench-program bench-vlr count-vlr test
 
-# Proves and builds the program where a source has changed, some minutes the first time.
+# Proves and builds the program where a source has changed, about 12 minutes the first time.
 program:
 	@mkdir -p crates/camel_replay/out
 	@(cd crates/camel_replay && rt run < /dev/null) > $(LOG) 2>&1 || { cat $(LOG) >&2; exit 1; }
