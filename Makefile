@@ -5,6 +5,7 @@ SCRIPT ?= examples/first-call.csv
 LIMIT ?= 1000000
 PROGRAM := crates/camel_replay/out/camel_replay
 LOG := crates/camel_replay/out/build.log
+BENCH_LOG := crates/camel_vlr_bench/out/build.log
 
 # An example, and the limit with which it is replayed.
 EXAMPLES := first-call:1000000 prepaid:1000000 change-of-profile:1000000 refusals:3
@@ -31,7 +32,8 @@ bench: program
 	@bench/run
 
 bench-program:
-	@(cd crates/camel_vlr_bench && mkdir -p out && rt run < /dev/null) > crates/camel_vlr_bench/out/build.log 2>&1
+	@mkdir -p crates/camel_vlr_bench/out
+	@(cd crates/camel_vlr_bench && rt run < /dev/null) > $(BENCH_LOG) 2>&1 || { cat $(BENCH_LOG) >&2; exit 1; }
 
 bench-vlr: bench-program
 	@bench/run-vlr
