@@ -1,6 +1,7 @@
 pub mod BasicService
 pub mod Cause
 pub mod Criteria
+pub mod DetectionPoint
 pub mod Event
 pub mod Handling
 pub mod ListedNumbers

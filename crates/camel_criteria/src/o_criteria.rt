@@ -5,14 +5,12 @@ ghost use Rattle.camel_criteria.specs.Refusal.{MakesOf};
 
 use crate::basic_service::BasicService;
 use crate::criteria::CallType;
+use crate::detection_point::COLLECTED_INFO;
 use crate::entry_limits::{MAX_BASIC_SERVICES, are_causes_at};
 use crate::number_criterion::NumberCriterion;
 use crate::refusal::Refusal;
 use std::alloc::{AllocError, Global};
 use std::marker::Model;
-
-/// The detection point of an originating call at which no call is released yet: collectedInfo.
-const COLLECTED_INFO: u8 = 2;
 
 /// The criteria of a detection point of the O-CSI (O-BcsmCamelTDP-Criteria of TS 29.002): any of a destination
 /// number criterion, a basic service criterion, a call type criterion and a cause criterion, or none.

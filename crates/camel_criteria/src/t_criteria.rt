@@ -3,13 +3,11 @@ ghost use Rattle.camel_criteria.specs.Criteria.{t_criteria_of};
 ghost use Rattle.camel_criteria.specs.Refusal.{MakesOf};
 
 use crate::basic_service::BasicService;
+use crate::detection_point::TERMINATING_ATTEMPT;
 use crate::entry_limits::{MAX_BASIC_SERVICES, are_causes_at};
 use crate::refusal::Refusal;
 use std::alloc::{AllocError, Global};
 use std::marker::Model;
-
-/// The detection point of a terminating call at which no call is released yet: termAttemptAuthorized.
-const TERMINATING_ATTEMPT: u8 = 12;
 
 /// The criteria of a detection point of the VT-CSI (T-BCSM-CAMEL-TDP-Criteria of TS 29.002): a basic service
 /// criterion, a cause criterion, both or none.

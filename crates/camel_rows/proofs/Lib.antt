@@ -1,3 +1,5 @@
+pub mod DirectoryLemmas
 pub mod MeansLemmas
-pub mod StoredCsisLemmas
+pub mod ReceivedLemmas
+pub mod RecordsTable
 pub mod UpdateLemmas

@@ -6,14 +6,14 @@ use Rattle.camel_criteria.specs.BasicService.{is_emergency}
 use Rattle.camel_criteria.specs.Criteria.{OCriteriaData}
 use Rattle.camel_criteria.specs.Event.{OEventData}
 use Rattle.camel_criteria.specs.Means.{OMet}
-use Rattle.camel_csi.specs.TdpRow.{TdpRowData}
+use Rattle.camel_rows.specs.TdpRow.{TdpRowData}
 use Rattle.camel_rows.specs.Decision.{DecisionData, Triggers, TriggersNothing, by_entry, by_record, by_row, decision, meets, o_meets}
 use Rattle.camel_rows.specs.Event.{event_basic, event_dp, event_imsi, o_event_of, t_event_of}
 use Rattle.camel_rows.specs.Means.{Invokes, Meets}
-use Rattle.camel_subscriber.specs.Records.{RecordsData}
-use Rattle.camel_subscriber.specs.Subscriber.{EntryData, O, T, SubscriberData, entry_at, row_at, rows_tested_at}
-use Rattle.camel_rows.specs.declared.decision.Reason.TheVariants.{NoCsi, Emergency, Criteria}
-use Rattle.camel_rows.specs.declared.event.CallEvent.{CallEvent}
+use Rattle.camel_rows.specs.Records.{RecordsData}
+use Rattle.camel_rows.specs.Subscriber.{EntryData, O, T, SubscriberData, entry_at, row_at, rows_tested_at}
+use Rattle.camel_rows.specs.declared.trigger.decision.Reason.TheVariants.{NoCsi, Emergency, Criteria}
+use Rattle.camel_rows.specs.declared.trigger.event.CallEvent.{CallEvent}
 
 o_meets_means : (found : Option OEventData) (entry : OCriteriaData)
     → IsTrue (o_meets found entry) ↔ ((shown : OEventData) × (found ≡ Some shown) × OMet entry shown)

@@ -7,13 +7,13 @@ use Rattle.std.specs.FinMap as map
 use Rattle.std.specs.Ordering.{nat_cmp, is_eq, eq_by_cmp}
 use Rattle.std.specs.declared.cmp.Ordering.TheVariants.{Less, Equal, Greater}
 use Rattle.camel_criteria.specs.Criteria.{OCriteriaData, TCriteriaData}
-use Rattle.camel_csi.specs.TdpRow.{TdpRowData}
+use Rattle.camel_rows.specs.TdpRow.{TdpRowData}
 use Rattle.camel_rows.specs.Means.{HasO, HasVt, half_of}
-use Rattle.camel_subscriber.specs.Records.{RecordsData}
-use Rattle.camel_subscriber.specs.Subscriber.{SubscriberData, empty_record}
-use Rattle.camel_subscriber.specs.Update.{AcceptedFrom, after, record_after, record_with_insert, refusal, state_from, update_imsi, with_record}
-use Rattle.camel_subscriber.specs.declared.update.Update.{Update}
-use Rattle.camel_subscriber.specs.declared.update.Update.TheVariants.{Register, Insert}
+use Rattle.camel_rows.specs.Records.{RecordsData}
+use Rattle.camel_rows.specs.Subscriber.{SubscriberData, empty_record}
+use Rattle.camel_rows.specs.Update.{AcceptedFrom, records_after, record_after, record_with_insert, refusal, records_from, update_imsi, with_record}
+use Rattle.camel_rows.specs.declared.subscriber.update.Update.{Update}
+use Rattle.camel_rows.specs.declared.subscriber.update.Update.TheVariants.{Register, Insert}
 
 -- other digits do not compare as equal, and equal ones do
 untied : (imsi key : List ℕ) → imsi ≢ key → eq_by_cmp (slice_cmp nat_cmp) imsi key ≡ false
@@ -41,24 +41,24 @@ either : (refused : Bool) (new old : RecordsData) (imsi : List ℕ) → map.get 
 either true new old imsi same = refl
 either false new old imsi same = same
 
-pub other_record : (m : RecordsData) (update : Update) (imsi : List ℕ) → imsi ≢ update_imsi update → map.get (after m update) imsi ≡ map.get m imsi
+pub other_record : (m : RecordsData) (update : Update) (imsi : List ℕ) → imsi ≢ update_imsi update → map.get (records_after m update) imsi ≡ map.get m imsi
 other_record m update imsi apart =
     either (is_some (refusal m update)) _ m imsi (get-other m (update_imsi update) (record_after (map.get m (update_imsi update)) update) imsi apart)
 
 -- an update that is not refused leaves its record
-pub own_record : (m : RecordsData) (update : Update) → refusal m update ≡ None → map.get (after m update) (update_imsi update) ≡ record_after (map.get m (update_imsi update)) update
+pub own_record : (m : RecordsData) (update : Update) → refusal m update ≡ None → map.get (records_after m update) (update_imsi update) ≡ record_after (map.get m (update_imsi update)) update
 own_record m update accepted = rw accepted (get-there m (update_imsi update) (record_after (map.get m (update_imsi update)) update))
 
 inserted : (m : RecordsData) (imsi : List ℕ) (o : Option (List TdpRowData)) (o_criteria : Option (List OCriteriaData)) (vt : Option (List TdpRowData)) (t_criteria : Option (List TCriteriaData))
-    → refusal (after m (Register imsi)) (Insert imsi o o_criteria vt t_criteria) ≡ None
-    → map.get (after (after m (Register imsi)) (Insert imsi o o_criteria vt t_criteria)) imsi ≡ Some (record_with_insert o o_criteria vt t_criteria empty_record)
+    → refusal (records_after m (Register imsi)) (Insert imsi o o_criteria vt t_criteria) ≡ None
+    → map.get (records_after (records_after m (Register imsi)) (Insert imsi o o_criteria vt t_criteria)) imsi ≡ Some (record_with_insert o o_criteria vt t_criteria empty_record)
 inserted m imsi o o_criteria vt t_criteria accepted =
-    own_record (after m (Register imsi)) (Insert imsi o o_criteria vt t_criteria) accepted
+    own_record (records_after m (Register imsi)) (Insert imsi o o_criteria vt t_criteria) accepted
     ∙ ap (λ old. record_after old (Insert imsi o o_criteria vt t_criteria)) (get-there m imsi (Some empty_record))
 
 pub o_stands : (m : RecordsData) (imsi : List ℕ) (rows : List TdpRowData) (o_criteria : Option (List OCriteriaData)) (vt : Option (List TdpRowData)) (t_criteria : Option (List TCriteriaData))
-    → refusal (after m (Register imsi)) (Insert imsi (Some rows) o_criteria vt t_criteria) ≡ None
-    → HasO (after (after m (Register imsi)) (Insert imsi (Some rows) o_criteria vt t_criteria)) imsi (half_of rows o_criteria)
+    → refusal (records_after m (Register imsi)) (Insert imsi (Some rows) o_criteria vt t_criteria) ≡ None
+    → HasO (records_after (records_after m (Register imsi)) (Insert imsi (Some rows) o_criteria vt t_criteria)) imsi (half_of rows o_criteria)
 o_stands m imsi rows o_criteria vt t_criteria accepted = record {
   subscriber = record_with_insert (Some rows) o_criteria vt t_criteria empty_record;
   registered = inserted m imsi (Some rows) o_criteria vt t_criteria accepted;
@@ -66,25 +66,25 @@ o_stands m imsi rows o_criteria vt t_criteria accepted = record {
 }
 
 pub vt_stands : (m : RecordsData) (imsi : List ℕ) (rows : List TdpRowData) (t_criteria : Option (List TCriteriaData)) (o : Option (List TdpRowData)) (o_criteria : Option (List OCriteriaData))
-    → refusal (after m (Register imsi)) (Insert imsi o o_criteria (Some rows) t_criteria) ≡ None
-    → HasVt (after (after m (Register imsi)) (Insert imsi o o_criteria (Some rows) t_criteria)) imsi (half_of rows t_criteria)
+    → refusal (records_after m (Register imsi)) (Insert imsi o o_criteria (Some rows) t_criteria) ≡ None
+    → HasVt (records_after (records_after m (Register imsi)) (Insert imsi o o_criteria (Some rows) t_criteria)) imsi (half_of rows t_criteria)
 vt_stands m imsi rows t_criteria o o_criteria accepted = record {
   subscriber = record_with_insert o o_criteria (Some rows) t_criteria empty_record;
   registered = inserted m imsi o o_criteria (Some rows) t_criteria accepted;
   stored = refl;
 }
 
-pub state_from-append : (m : RecordsData) (first second : List Update) → state_from m (first ++ second) ≡ state_from (state_from m first) second
-state_from-append m [] second = refl
-state_from-append m (update ∷ first) second = state_from-append (after m update) first second
+pub records_from-append : (m : RecordsData) (first second : List Update) → records_from m (first ++ second) ≡ records_from (records_from m first) second
+records_from-append m [] second = refl
+records_from-append m (update ∷ first) second = records_from-append (records_after m update) first second
 
 -- an update that is not refused after accepted ones is accepted too
-pub AcceptedFrom-push : (m : RecordsData) (updates : List Update) (update : Update) → AcceptedFrom m updates → refusal (state_from m updates) update ≡ None
+pub AcceptedFrom-push : (m : RecordsData) (updates : List Update) (update : Update) → AcceptedFrom m updates → refusal (records_from m updates) update ≡ None
     → AcceptedFrom m (updates ++ update ∷ [])
 AcceptedFrom-push m [] update accepted next = (next, tt)
-AcceptedFrom-push m (first ∷ updates) update accepted next = (accepted.0, AcceptedFrom-push (after m first) updates update accepted.1 next)
+AcceptedFrom-push m (first ∷ updates) update accepted next = (accepted.0, AcceptedFrom-push (records_after m first) updates update accepted.1 next)
 
 -- the beginning of accepted updates is accepted
 pub AcceptedFrom-prefix : (m : RecordsData) (first second : List Update) → AcceptedFrom m (first ++ second) → AcceptedFrom m first
 AcceptedFrom-prefix m [] second accepted = tt
-AcceptedFrom-prefix m (update ∷ first) second accepted = (accepted.0, AcceptedFrom-prefix (after m update) first second accepted.1)
+AcceptedFrom-prefix m (update ∷ first) second accepted = (accepted.0, AcceptedFrom-prefix (records_after m update) first second accepted.1)

@@ -7,15 +7,15 @@ use Rattle.camel_criteria.specs.BasicService.{is_emergency}
 use Rattle.camel_criteria.specs.Criteria.{OCriteriaData}
 use Rattle.camel_criteria.specs.Event.{OEventData}
 use Rattle.camel_criteria.specs.Met.{o_met, t_met}
-use Rattle.camel_csi.specs.TdpRow.{TdpRowData}
+use Rattle.camel_rows.specs.TdpRow.{TdpRowData}
 use Rattle.camel_rows.specs.Event.{event_basic, event_dp, event_imsi, o_event_of, t_event_of}
-use Rattle.camel_subscriber.specs.Subscriber.{EntryData, O, T, SubscriberData, entry_at, entry_data, row_at, rows_tested_at}
-use Rattle.camel_subscriber.specs.Records.{RecordsData}
-use Rattle.camel_rows.specs.declared.decision.Decision.{Decision}
-use Rattle.camel_rows.specs.declared.decision.Decision.TheVariants as lent
-use Rattle.camel_rows.specs.declared.decision.Reason.{Reason}
-use Rattle.camel_rows.specs.declared.decision.Reason.TheVariants.{Unknown, NoCsi, NotArmed, Emergency, Criteria}
-use Rattle.camel_rows.specs.declared.event.CallEvent.{CallEvent}
+use Rattle.camel_rows.specs.Subscriber.{EntryData, O, T, SubscriberData, entry_at, entry_data, row_at, rows_tested_at}
+use Rattle.camel_rows.specs.Records.{RecordsData}
+use Rattle.camel_rows.specs.declared.trigger.decision.Decision.{Decision}
+use Rattle.camel_rows.specs.declared.trigger.decision.Decision.TheVariants as lent
+use Rattle.camel_rows.specs.declared.trigger.decision.Reason.{Reason}
+use Rattle.camel_rows.specs.declared.trigger.decision.Reason.TheVariants.{Unknown, NoCsi, NotArmed, Emergency, Criteria}
+use Rattle.camel_rows.specs.declared.trigger.event.CallEvent.{CallEvent}
 
 -- a decision as plain data: the row whose service is invoked, with the entry of its detection point, if there
 -- is one; or why none is

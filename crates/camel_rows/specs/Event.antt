@@ -4,10 +4,10 @@ use Rattle.camel_criteria.specs.Event.{OEventData}
 use Rattle.camel_criteria.specs.declared.basic_service.BasicService.{BasicService}
 use Rattle.camel_criteria.specs.declared.event.TEvent.{TEvent}
 use Rattle.camel_tbcd.specs.Address.{octets}
-use Rattle.camel_rows.specs.declared.event.CallEvent.{CallEvent}
-use Rattle.camel_rows.specs.declared.event.CallEvent.TheVariants as call
-use Rattle.camel_rows.specs.declared.event.Event.{Event}
-use Rattle.camel_rows.specs.declared.event.Event.TheVariants as event
+use Rattle.camel_rows.specs.declared.trigger.event.CallEvent.{CallEvent}
+use Rattle.camel_rows.specs.declared.trigger.event.CallEvent.TheVariants as call
+use Rattle.camel_rows.specs.declared.trigger.event.Event.{Event}
+use Rattle.camel_rows.specs.declared.trigger.event.Event.TheVariants as event
 
 -- a call event is plain data, and this is what an event with a borrowed destination shows of it
 abbrev pub event_data : Event → CallEvent

@@ -1,7 +1,14 @@
--- what clauses say of call events, of decisions and of fronts
+pub mod Change
 pub mod Decision
+pub mod Directory
 pub mod Event
 pub mod Front
 pub mod Means
 pub mod Outcome
-pub mod StoredCsis
+pub mod Received
+pub mod Records
+pub mod Rows
+pub mod Store
+pub mod Subscriber
+pub mod TdpRow
+pub mod Update

@@ -5,11 +5,11 @@ use Rattle.camel_criteria.specs.BasicService.{is_emergency}
 use Rattle.camel_criteria.specs.Criteria.{OCriteriaData, TCriteriaData}
 use Rattle.camel_criteria.specs.Event.{OEventData}
 use Rattle.camel_criteria.specs.Means.{OMet, TMet}
-use Rattle.camel_csi.specs.TdpRow.{TdpRowData}
+use Rattle.camel_rows.specs.TdpRow.{TdpRowData}
 use Rattle.camel_rows.specs.Event.{event_basic, event_dp, event_imsi, o_event_of, t_event_of}
-use Rattle.camel_subscriber.specs.Records.{RecordsData}
-use Rattle.camel_subscriber.specs.Subscriber.{EntryData, O, T, Half, SubscriberData, entry_at, row_at, rows_tested_at}
-use Rattle.camel_rows.specs.declared.event.CallEvent.{CallEvent}
+use Rattle.camel_rows.specs.Records.{RecordsData}
+use Rattle.camel_rows.specs.Subscriber.{EntryData, O, T, Half, SubscriberData, entry_at, row_at, rows_tested_at}
+use Rattle.camel_rows.specs.declared.trigger.event.CallEvent.{CallEvent}
 
 -- an event meets an entry where it meets each criterion that the entry holds
 abbrev pub Meets : CallEvent → EntryData → Type 0

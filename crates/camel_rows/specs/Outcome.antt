@@ -2,10 +2,10 @@
 use Rattle.camel_criteria.specs.declared.handling.Handling.{Handling}
 use Rattle.camel_criteria.specs.declared.handling.Handling.TheVariants as handling
 use Rattle.camel_rows.specs.Decision.{DecisionData, Triggers, TriggersNothing}
-use Rattle.camel_rows.specs.declared.outcome.CallAction.{CallAction}
-use Rattle.camel_rows.specs.declared.outcome.CallAction.TheVariants as action
-use Rattle.camel_rows.specs.declared.outcome.Outcome.{Outcome}
-use Rattle.camel_rows.specs.declared.outcome.Outcome.TheVariants.{Trigger, NoTrigger}
+use Rattle.camel_rows.specs.declared.trigger.outcome.CallAction.{CallAction}
+use Rattle.camel_rows.specs.declared.trigger.outcome.CallAction.TheVariants as action
+use Rattle.camel_rows.specs.declared.trigger.outcome.Outcome.{Outcome}
+use Rattle.camel_rows.specs.declared.trigger.outcome.Outcome.TheVariants.{Trigger, NoTrigger}
 
 -- the four values of the row, or the reason
 abbrev pub outcome_of : DecisionData → Outcome

@@ -1,20 +1,23 @@
-//! Call events and the trigger rules of CAMEL phase 3 over the data of subscribers, and which CSIs are stored (3GPP TS
-//! 23.078).
+//! The subscriber data of CAMEL phase 3 and the trigger rules over them (3GPP TS 23.078 and TS 29.002): what the home
+//! location register sends, what is stored of it, and what is decided of a call.
 #![tactic(auto)]
 
-mod decision;
-mod event;
-mod laws;
-mod outcome;
-mod stored_csis;
+mod csi;
+mod subscriber;
+mod trigger;
 
-pub use camel_csi::{
-    BUSY, COLLECTED_INFO, MAX_SERVICE_KEY, MAX_TDP_DATA, NO_ANSWER, OCriteriaSet, OCsi,
-    ROUTE_SELECT_FAILURE, TCriteriaSet, TERMINATING_ATTEMPT, TdpRow, VtCsi,
-};
-pub use camel_subscriber::{Lent, Records, Subscriber, Update, Withdrawal};
-pub use decision::{Decision, Reason, decide_in};
-pub use event::{CallEvent, Event};
-pub use laws::{decisions_mean, inserted_csi_stands, updates_change_one_record};
-pub use outcome::{Answer, CallAction, Outcome, on_failure};
-pub use stored_csis::{StoredCsis, WhichCsis};
+pub use csi::o_criteria_set::OCriteriaSet;
+pub use csi::o_csi::OCsi;
+pub use csi::received::MAX_TDP_DATA;
+pub use csi::t_criteria_set::TCriteriaSet;
+pub use csi::tdp_row::{MAX_SERVICE_KEY, TdpRow};
+pub use csi::vt_csi::VtCsi;
+pub use subscriber::Subscriber;
+pub use subscriber::directory::{CsisPresent, Directory};
+pub use subscriber::lent::Lent;
+pub use subscriber::records::Records;
+pub use subscriber::update::{Update, Withdrawal};
+pub use trigger::decision::{Decision, Reason, decide_in};
+pub use trigger::event::{CallEvent, Event};
+pub use trigger::laws::{decisions_mean, inserted_csi_stands, updates_change_one_record};
+pub use trigger::outcome::{Answer, CallAction, Outcome, on_failure};

@@ -1,3 +1,4 @@
+mod csi;
 mod copies;
 mod criteria;
 mod decisions;

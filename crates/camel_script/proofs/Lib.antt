@@ -1,3 +1,5 @@
 pub mod CsvRecords
 pub mod FieldLemmas
+pub mod InTurn
 pub mod ReadRecord
+pub mod TextsLemmas

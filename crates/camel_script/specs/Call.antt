@@ -1,15 +1,15 @@
 -- The calls of a script (profile 1's own format). The texts of all fields come before the data.
 use Rattle.std.specs.Prelude.{ℕ, ◌==◌, not, nat_lt, List, length, codes, Result, Ok, Err, if◌then◌else◌}
 use Rattle.std.specs.Str.{bytes_eq}
-use Rattle.camel_rows.specs.declared.event.CallEvent.{CallEvent}
-use Rattle.camel_rows.specs.declared.event.CallEvent.TheVariants.{CollectedInfo, RouteSelectFailure, TerminatingAttempt, Busy, NoAnswer}
-use Rattle.camel_texts.specs.Reading.{◌>>=◌}
+use Rattle.camel_rows.specs.declared.trigger.event.CallEvent.{CallEvent}
+use Rattle.camel_rows.specs.declared.trigger.event.CallEvent.TheVariants.{CollectedInfo, RouteSelectFailure, TerminatingAttempt, Busy, NoAnswer}
+use Rattle.camel_script.specs.Reading.{◌>>=◌}
 use Rattle.camel_script.specs.Field.{field}
-use Rattle.camel_texts.specs.Texts.{basic_service_of, call_address_of, cause_of_value, decimal_of, imsi_of_text, is_forwarded_of, octets_of}
+use Rattle.camel_script.specs.Texts.{basic_service_of, call_address_of, cause_of_value, decimal_of, imsi_of_text, is_forwarded_of, octets_of}
 use Rattle.camel_script.specs.declared.record.Record.{Record}
 use Rattle.camel_script.specs.declared.record.Record.TheVariants.{Call}
-use Rattle.camel_texts.specs.declared.stop.Stop.{Stop}
-use Rattle.camel_texts.specs.declared.stop.Stop.TheVariants as stop
+use Rattle.camel_script.specs.declared.text.record_fault.Stop.{Stop}
+use Rattle.camel_script.specs.declared.text.record_fault.Stop.TheVariants as stop
 
 -- call,2,IMSI,BASIC,DEST,TYPE
 unfoldable pub collected_info_of : List (List ℕ) → Result CallEvent Stop

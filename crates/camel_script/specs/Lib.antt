@@ -1,7 +1,11 @@
 pub mod Call
 pub mod Csv
 pub mod Field
+pub mod Item
 pub mod Line
+pub mod Parts
+pub mod Reading
 pub mod Record
 pub mod Script
 pub mod ScriptFault
+pub mod Texts

@@ -4,12 +4,12 @@ use Rattle.std.specs.Prelude.{ℕ, List, ◌++◌, codes}
 use Rattle.std.specs.Fmt.{decimal}
 use Rattle.hex.specs.Hex.{encode_lower}
 use Rattle.camel_rows.specs.Outcome.{action_of}
-use Rattle.camel_rows.specs.declared.decision.Reason.{Reason}
-use Rattle.camel_rows.specs.declared.decision.Reason.TheVariants.{Unknown, NoCsi, NotArmed, Emergency, Criteria}
-use Rattle.camel_rows.specs.declared.outcome.CallAction.{CallAction}
-use Rattle.camel_rows.specs.declared.outcome.CallAction.TheVariants.{Continue, Release}
-use Rattle.camel_rows.specs.declared.outcome.Outcome.{Outcome}
-use Rattle.camel_rows.specs.declared.outcome.Outcome.TheVariants.{Trigger, NoTrigger}
+use Rattle.camel_rows.specs.declared.trigger.decision.Reason.{Reason}
+use Rattle.camel_rows.specs.declared.trigger.decision.Reason.TheVariants.{Unknown, NoCsi, NotArmed, Emergency, Criteria}
+use Rattle.camel_rows.specs.declared.trigger.outcome.CallAction.{CallAction}
+use Rattle.camel_rows.specs.declared.trigger.outcome.CallAction.TheVariants.{Continue, Release}
+use Rattle.camel_rows.specs.declared.trigger.outcome.Outcome.{Outcome}
+use Rattle.camel_rows.specs.declared.trigger.outcome.Outcome.TheVariants.{Trigger, NoTrigger}
 use Rattle.camel_script.specs.declared.line.Line.{Line}
 use Rattle.camel_script.specs.declared.line.Line.TheVariants.{Accepted, Refused, Published, Decided}
 

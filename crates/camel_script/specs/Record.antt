@@ -3,20 +3,20 @@
 use Rattle.std.specs.Prelude.{ℕ, ◌==◌, not, nat_lt, true, false, List, [], ◌∷◌, length, drop, codes, Option, Some, None, Result, Ok, Err, if◌then◌else◌}
 use Rattle.std.specs.Str.{bytes_eq}
 use Rattle.camel_criteria.specs.declared.refusal.Refusal.{Refusal}
-use Rattle.camel_csi.specs.Received.{o_criteria_set_of, o_csi_of, t_criteria_set_of, vt_csi_of}
-use Rattle.camel_subscriber.specs.declared.update.Update.TheVariants as update
-use Rattle.camel_subscriber.specs.declared.update.Withdrawal.{Withdrawal}
+use Rattle.camel_rows.specs.Received.{o_criteria_set_of, o_csi_of, t_criteria_set_of, vt_csi_of}
+use Rattle.camel_rows.specs.declared.subscriber.update.Update.TheVariants as update
+use Rattle.camel_rows.specs.declared.subscriber.update.Withdrawal.{Withdrawal}
 use Rattle.camel_script.specs.Call.{call_of}
-use Rattle.camel_texts.specs.Item.{ItemsData, items_of}
-use Rattle.camel_texts.specs.Reading.{◌>>=◌, in_turn, or_refused}
+use Rattle.camel_script.specs.Item.{ItemsData, items_of}
+use Rattle.camel_script.specs.Reading.{◌>>=◌, in_turn, or_refused}
 use Rattle.camel_script.specs.Field.{field}
-use Rattle.camel_texts.specs.Texts.{imsi_of_text}
+use Rattle.camel_script.specs.Texts.{imsi_of_text}
 use Rattle.camel_script.specs.declared.record.Record.{Record}
 use Rattle.camel_script.specs.declared.record.Record.TheVariants as record_of_script
 use Rattle.camel_script.specs.declared.script_fault.ScriptFault.{ScriptFault}
 use Rattle.camel_script.specs.declared.script_fault.ScriptFault.TheVariants as fault
-use Rattle.camel_texts.specs.declared.stop.Stop.{Stop}
-use Rattle.camel_texts.specs.declared.stop.Stop.TheVariants as stop
+use Rattle.camel_script.specs.declared.text.record_fault.Stop.{Stop}
+use Rattle.camel_script.specs.declared.text.record_fault.Stop.TheVariants as stop
 
 -- the IMSI of a record that has nothing else
 unfoldable pub imsi_alone_of : List (List ℕ) → Result (List ℕ) Stop

@@ -1,14 +1,12 @@
 //! Scripts of subscriber data updates and calls, read record by record, and the lines that answer them.
 #![tactic(auto)]
 
-mod call;
-mod delete;
-mod field;
-mod insert;
+mod item;
 mod line;
 mod record;
 mod script;
 mod script_fault;
+mod text;
 
 pub use line::{Line, push_line};
 pub use record::Record;

@@ -1,18 +1,26 @@
+//! The records of a script.
+
 ghost use Rattle.std.specs.Prelude.{◌≡◌, ◌⊎◌, IfErr, IfOk};
 ghost use Rattle.csv.specs.Records.{fields_of};
-ghost use Rattle.camel_texts.specs.Reading.{ReadsAs};
+ghost use Rattle.camel_script.specs.Reading.{ReadsAs};
 ghost use Rattle.camel_script.specs.Record.{cancel_of, imsi_alone_of, publish_of, reading_of, record_of, register_of};
 ghost use Rattle.camel_script.specs.ScriptFault.{IsRecordFault};
 
-use crate::call::call;
-use crate::delete::delete;
-use crate::field::field;
-use crate::insert::insert;
+pub(crate) mod call;
+pub(crate) mod delete;
+pub(crate) mod field;
+pub(crate) mod insert;
+
+use crate::record::call::call;
+use crate::record::delete::delete;
+use crate::record::field::field;
+use crate::record::insert::insert;
 use crate::script_fault::ScriptFault;
+use crate::text::imsi;
+use crate::text::record_fault::Stop;
 use camel_criteria::Refusal;
 use camel_rows::{CallEvent, Update};
 use camel_tbcd::Imsi;
-use camel_texts::{Stop, imsi};
 use csv::ByteRecord;
 use std::alloc::Global;
 

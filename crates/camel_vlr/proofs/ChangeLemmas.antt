@@ -1,11 +1,11 @@
 -- Changes, and the updates among them.
 use Rattle.std.proofs.Common.{◌≡◌, ◌∙◌, ◌+◌, ◌-◌, ◌^◌, ◌≤◌, List, [], ◌∷◌, ◌++◌, length, drop, fold, min, sym, refl, ap, subst, arith, add-zero}
 use Rattle.camel_rows.specs.Front.{Extends}
-use Rattle.camel_subscriber.specs.Update.{state_from}
-use Rattle.camel_subscriber.specs.declared.update.Update.{Update}
+use Rattle.camel_rows.specs.Update.{records_from}
+use Rattle.camel_rows.specs.declared.subscriber.update.Update.{Update}
 use Rattle.camel_vlr.specs.Change.{CopyData, changed, updates_among}
-use Rattle.camel_vlr.specs.declared.change.Change.{Change}
-use Rattle.camel_vlr.specs.declared.change.Change.TheVariants as change
+use Rattle.camel_vlr.specs.declared.writer.operation.Change.{Change}
+use Rattle.camel_vlr.specs.declared.writer.operation.Change.TheVariants as change
 
 pub updates_among-append : (first second : List Change) → updates_among (first ++ second) ≡ updates_among first ++ updates_among second
 updates_among-append [] second = refl
@@ -14,7 +14,7 @@ updates_among-append (change.Front front ∷ first) second = updates_among-appen
 
 -- all changes leave the data that their updates leave, and count them
 pub fold_changed : (copy : CopyData) (changes : List Change) → copy.1 + length (updates_among changes) ≤ 1000000
-    → ((fold changed copy changes).0 ≡ state_from copy.0 (updates_among changes)) × ((fold changed copy changes).1 ≡ copy.1 + length (updates_among changes))
+    → ((fold changed copy changes).0 ≡ records_from copy.0 (updates_among changes)) × ((fold changed copy changes).1 ≡ copy.1 + length (updates_among changes))
 fold_changed copy [] few = (refl, sym (add-zero copy.1))
 fold_changed copy (change.Update update ∷ changes) few =
     let next : min (copy.1 + 1) (2 ^ 64 - 1) ≡ copy.1 + 1 = omega arith in

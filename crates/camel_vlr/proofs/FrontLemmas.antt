@@ -1,11 +1,11 @@
 -- Fronts that extend others.
 use Rattle.std.proofs.Common.{◌≡◌, ◌∙◌, ℕ, ◌<◌, All, List, [], ◌∷◌, ◌++◌, None, length, refl, sym, ap, subst, arith, append_assoc, append-nil, length-append}
 use Rattle.std.proofs.lemmas.List.Elements.{All-head, All-nil, All-push, All-tail, All-weaker}
-use Rattle.camel_rows.proofs.UpdateLemmas.{AcceptedFrom-push, state_from-append}
+use Rattle.camel_rows.proofs.UpdateLemmas.{AcceptedFrom-push, records_from-append}
 use Rattle.camel_rows.specs.Front.{Extends, IsFront}
-use Rattle.camel_subscriber.specs.Records.{no_records}
-use Rattle.camel_subscriber.specs.Update.{after, refusal, state}
-use Rattle.camel_subscriber.specs.declared.update.Update.{Update}
+use Rattle.camel_rows.specs.Records.{no_records}
+use Rattle.camel_rows.specs.Update.{records_after, refusal, records_of}
+use Rattle.camel_rows.specs.declared.subscriber.update.Update.{Update}
 use Rattle.camel_vlr.specs.Fronts.{ExtendsAll}
 
 pub extends_itself : (front : List Update) → Extends front front
@@ -39,7 +39,7 @@ all_last f earlier h all = last earlier all.each
     last (x ∷ xs) a = last xs (All-tail (Extends f) x (xs ++ h ∷ []) a)
 
 -- an update that is not refused, behind a front with room, makes a front
-pub front_push : (limit : ℕ) (p q : List Update) (update : Update) → IsFront limit (p ++ q) → refusal (state (p ++ q)) update ≡ None → length (p ++ q) < limit → IsFront limit (p ++ (q ++ update ∷ []))
+pub front_push : (limit : ℕ) (p q : List Update) (update : Update) → IsFront limit (p ++ q) → refusal (records_of (p ++ q)) update ≡ None → length (p ++ q) < limit → IsFront limit (p ++ (q ++ update ∷ []))
 front_push limit p q update front free room =
     let all : IsFront limit (p ++ q ++ update ∷ []) = record {
       accepted = AcceptedFrom-push no_records (p ++ q) update front.accepted free;
@@ -47,5 +47,5 @@ front_push limit p q update front free room =
     } in subst (IsFront limit) (append_assoc p q (update ∷ [])) all
 
 -- and leaves what it makes of the data before it
-pub state_push : (p q : List Update) (update : Update) → state (p ++ (q ++ update ∷ [])) ≡ after (state (p ++ q)) update
-state_push p q update = ap state (sym (append_assoc p q (update ∷ []))) ∙ state_from-append no_records (p ++ q) (update ∷ [])
+pub state_push : (p q : List Update) (update : Update) → records_of (p ++ (q ++ update ∷ [])) ≡ records_after (records_of (p ++ q)) update
+state_push p q update = ap records_of (sym (append_assoc p q (update ∷ []))) ∙ records_from-append no_records (p ++ q) (update ∷ [])

@@ -1,7 +1,9 @@
+pub mod ChainLemmas
 pub mod ChangeLemmas
+pub mod DirectoryLemmas
 pub mod FrontLemmas
 pub mod OwnUpdatesLemmas
+pub mod PrefixLemmas
 pub mod PublicationLemmas
 pub mod RuleLemmas
-pub mod StoredCsisLemmas
 pub mod SubmissionLemmas

@@ -9,11 +9,11 @@ use Rattle.camel_rows.proofs.UpdateLemmas.{other_record, own_record}
 use Rattle.camel_rows.specs.Decision.{by_record, decision}
 use Rattle.camel_rows.specs.Event.{event_imsi}
 use Rattle.camel_rows.specs.Front.{IsFront}
-use Rattle.camel_subscriber.specs.Records.{RecordsData, no_records}
-use Rattle.camel_subscriber.specs.Update.{AcceptedFrom, after, insert_refusal, record_after, refusal, state, state_from, update_imsi}
-use Rattle.camel_rows.specs.declared.event.CallEvent.{CallEvent}
-use Rattle.camel_subscriber.specs.declared.update.Update.{Update}
-use Rattle.camel_subscriber.specs.declared.update.Update.TheVariants.{Cancel, Delete, Insert, Register}
+use Rattle.camel_rows.specs.Records.{RecordsData, no_records}
+use Rattle.camel_rows.specs.Update.{AcceptedFrom, records_after, insert_refusal, record_after, refusal, records_of, records_from, update_imsi}
+use Rattle.camel_rows.specs.declared.trigger.event.CallEvent.{CallEvent}
+use Rattle.camel_rows.specs.declared.subscriber.update.Update.{Update}
+use Rattle.camel_rows.specs.declared.subscriber.update.Update.TheVariants.{Cancel, Delete, Insert, Register}
 use Rattle.camel_vlr.specs.OwnUpdates.{DecidedByOwn, own_updates}
 
 -- what refuses an update is its own subscriber's record
@@ -26,23 +26,23 @@ same_refusal m n (Cancel imsi) same = refl
 -- from the same record on, a subscriber's own updates are accepted where they are among others, and leave the same record
 record OwnLeave (imsi : List ℕ) (m n : RecordsData) (updates : List Update) : Type 0 where
   accepted : AcceptedFrom n (own_updates imsi updates)
-  leaves : map.get (state_from m updates) imsi ≡ map.get (state_from n (own_updates imsi updates)) imsi
+  leaves : map.get (records_from m updates) imsi ≡ map.get (records_from n (own_updates imsi updates)) imsi
 
 own_leave : (imsi : List ℕ) (m n : RecordsData) (updates : List Update) → AcceptedFrom m updates → map.get m imsi ≡ map.get n imsi → OwnLeave imsi m n updates
 own_leave imsi m n [] accepted same = record { accepted = tt; leaves = same }
 own_leave imsi m n (update ∷ updates) accepted same =
-    by_test (λ k next. own_leave imsi (after m update) k updates accepted.1 next) (bytes_eq (update_imsi update) imsi) refl
+    by_test (λ k next. own_leave imsi (records_after m update) k updates accepted.1 next) (bytes_eq (update_imsi update) imsi) refl
   where
-    by_test : ((k : RecordsData) → map.get (after m update) imsi ≡ map.get k imsi → OwnLeave imsi (after m update) k updates)
+    by_test : ((k : RecordsData) → map.get (records_after m update) imsi ≡ map.get k imsi → OwnLeave imsi (records_after m update) k updates)
         → (b : Bool) → bytes_eq (update_imsi update) imsi ≡ b → OwnLeave imsi m n (update ∷ updates)
     by_test further true e =
         let own : update_imsi update ≡ imsi = (bytes_eq-Decides (update_imsi update) imsi).0 e in
         let there : map.get m (update_imsi update) ≡ map.get n (update_imsi update) = subst (λ (key : List ℕ). map.get m key ≡ map.get n key) (sym own) same in
         let free : refusal n update ≡ None = sym (same_refusal m n update there) ∙ accepted.0 in
-        let next : map.get (after m update) imsi ≡ map.get (after n update) imsi =
-        subst (λ (key : List ℕ). map.get (after m update) key ≡ map.get (after n update) key) own
+        let next : map.get (records_after m update) imsi ≡ map.get (records_after n update) imsi =
+        subst (λ (key : List ℕ). map.get (records_after m update) key ≡ map.get (records_after n update) key) own
         (own_record m update accepted.0 ∙ ap (λ old. record_after old update) there ∙ sym (own_record n update free)) in
-        let rest = further (after n update) next in
+        let rest = further (records_after n update) next in
         record { accepted = rw e (free, rest.accepted); leaves = rw e rest.leaves }
     by_test further false e =
         let other : imsi ≢ update_imsi update = λ is. not_from_Decides (bytes_eq (update_imsi update) imsi) (bytes_eq-Decides (update_imsi update) imsi) e (sym is) in
@@ -57,7 +57,7 @@ fewer imsi (update ∷ updates) = by_test (fewer imsi updates) (bytes_eq (update
     by_test rest true e = rw e (omega (arith, rest))
     by_test rest false e = rw e (omega (arith, rest))
 
-pub decided_by_own : (limit : ℕ) (front : List Update) (event : CallEvent) → IsFront limit front → DecidedByOwn limit front event (decision (state front) event)
+pub decided_by_own : (limit : ℕ) (front : List Update) (event : CallEvent) → IsFront limit front → DecidedByOwn limit front event (decision (records_of front) event)
 decided_by_own limit front event is =
     let own = own_leave (event_imsi event) no_records no_records front is.accepted refl in record {
       own_front = record { accepted = own.accepted; few = omega (arith, is.few, fewer (event_imsi event) front) };

@@ -1,19 +1,19 @@
 -- One publication keeps the rule.
 use Rattle.std.proofs.Common.{◌≡◌, ◌∙◌, ℕ, ◌+◌, ◌≤◌, List, [], ◌∷◌, ◌++◌, length, length-append, fold, sym, ap, subst, arith, append-nil, Result, Ok, Err, MatchResult, OnOk}
 use Rattle.std.proofs.lemmas.List.Sums.{fold-append}
-use Rattle.camel_history.specs.Beginning.{BeginningData}
-use Rattle.camel_rows.proofs.UpdateLemmas.{state_from-append}
+use Rattle.camel_vlr.specs.Beginning.{BeginningData}
+use Rattle.camel_rows.proofs.UpdateLemmas.{records_from-append}
 use Rattle.camel_rows.specs.Front.{IsFront}
-use Rattle.camel_subscriber.specs.Records.{no_records}
-use Rattle.camel_subscriber.specs.Update.{state, state_from}
+use Rattle.camel_rows.specs.Records.{no_records}
+use Rattle.camel_rows.specs.Update.{records_of, records_from}
 use Rattle.camel_vlr.proofs.ChangeLemmas.{fold_changed, updates_among-append}
 use Rattle.camel_vlr.specs.Change.{CopyData, changed, updates_among}
 use Rattle.camel_vlr.specs.PublishedCopy.{IsOfItsFront}
 use Rattle.camel_vlr.specs.Rule.{Knows, Published}
-use Rattle.camel_vlr.specs.declared.change.Change.{Change}
-use Rattle.camel_vlr.specs.declared.change.Change.TheVariants as change
+use Rattle.camel_vlr.specs.declared.writer.operation.Change.{Change}
+use Rattle.camel_vlr.specs.declared.writer.operation.Change.TheVariants as change
 use Rattle.camel_vlr.specs.declared.published_copy.PublishedCopy.{PublishedCopy}
-use Rattle.camel_vlr.specs.declared.rule.View.{View}
+use Rattle.camel_vlr.specs.declared.history.rule.View.{View}
 
 abbrev pub data_of : PublishedCopy → CopyData
 data_of copy = (copy.records, copy.count, copy.front)
@@ -32,7 +32,7 @@ next_copy old new front changes is updates is_front greatest now =
     let new_list : new.front.updates ≡ old.front.updates ++ more = ap (λ x. x.updates) same ∙ list in (
       record {
         front = subst (λ (x : BeginningData). IsFront x.store.limit x.updates) (sym same) is_front;
-        records = ap (λ s. s.0) all ∙ (each.0 ∙ (ap (λ m. state_from m more) is.records ∙ (sym (state_from-append no_records old.front.updates more) ∙ ap state (sym new_list))));
+        records = ap (λ s. s.0) all ∙ (each.0 ∙ (ap (λ m. records_from m more) is.records ∙ (sym (records_from-append no_records old.front.updates more) ∙ ap records_of (sym new_list))));
         count = ap (λ s. s.1) all ∙ (each.1 ∙ (ap (λ (k : ℕ). k + length more) is.count ∙ (sym (length-append old.front.updates more) ∙ ap length (sym new_list))));
       },
       same,

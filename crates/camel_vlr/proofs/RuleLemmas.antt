@@ -4,16 +4,16 @@ use mathlib.Core.Option.{some}
 use lib.ListN.{get_elem?}
 use Rattle.atomic_table.proofs.Lists.{at_set, at_snoc}
 use Rattle.crossbeam_utils.specs.Register.{Admits, Forks, Merges, TurnsAt}
-use Rattle.camel_history.specs.Beginning.{BeginningData, StoreId}
+use Rattle.camel_vlr.specs.Beginning.{BeginningData, StoreId}
 use Rattle.camel_rows.specs.Front.{Extends, IsFront}
-use Rattle.camel_subscriber.specs.declared.update.Update.{Update}
+use Rattle.camel_rows.specs.declared.subscriber.update.Update.{Update}
 use Rattle.camel_vlr.proofs.FrontLemmas.{extends_itself, extends_further}
 use Rattle.camel_vlr.specs.Fronts.{ExtendsAll}
 use Rattle.camel_vlr.specs.PublishedCopy.{IsOfItsFront}
 use Rattle.camel_vlr.specs.Rule.{HasSome, IsBehind, IsBeginningOf, IsKept, Knows, Looked, Published, newcomer}
 use Rattle.camel_vlr.specs.Session.{Sees, SessionData}
 use Rattle.camel_vlr.specs.declared.published_copy.PublishedCopy.{PublishedCopy}
-use Rattle.camel_vlr.specs.declared.rule.View.{View}
+use Rattle.camel_vlr.specs.declared.history.rule.View.{View}
 
 abbrev pub AllBehind : PublishedCopy → List View → Type 0
 AllBehind copy known = (seat : ℕ) (view : View) → get_elem? known seat ≡ some view → IsBehind view copy

@@ -1,5 +1,8 @@
+pub mod Beginning
+pub mod Chain
 pub mod Change
 pub mod Fronts
+pub mod History
 pub mod OwnUpdates
 pub mod PublishedCopy
 pub mod Receipt

@@ -1,6 +1,6 @@
 -- What a receipt keeps.
 use Rattle.std.specs.Prelude.{◌≡◌, ℕ, length}
-use Rattle.camel_history.specs.Beginning.{BeginningData}
+use Rattle.camel_vlr.specs.Beginning.{BeginningData}
 use Rattle.camel_rows.specs.Front.{IsFront}
 
 -- it is of a front, and has its length

@@ -2,12 +2,12 @@
 use Rattle.std.specs.Prelude.{◌≡◌, ℕ, List, Option, Some, None, IfSome}
 use mathlib.Core.Option.{some}
 use lib.ListN.{get_elem?}
-use Rattle.camel_history.specs.Beginning.{BeginningData, StoreId}
+use Rattle.camel_vlr.specs.Beginning.{BeginningData, StoreId}
 use Rattle.camel_rows.specs.Front.{Extends}
-use Rattle.camel_subscriber.specs.declared.update.Update.{Update}
+use Rattle.camel_rows.specs.declared.subscriber.update.Update.{Update}
 use Rattle.camel_vlr.specs.PublishedCopy.{IsOfItsFront}
 use Rattle.camel_vlr.specs.declared.published_copy.PublishedCopy.{PublishedCopy}
-use Rattle.camel_vlr.specs.declared.rule.View.{View}
+use Rattle.camel_vlr.specs.declared.history.rule.View.{View}
 
 -- one beginning is of the other's store, and begins it
 abbrev pub IsBeginningOf : BeginningData → BeginningData → Type 0

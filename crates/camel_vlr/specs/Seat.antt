@@ -1,12 +1,12 @@
 -- A session's place at its store.
 use Rattle.std.specs.Prelude.{◌≡◌, Bool, true, false, List, Some}
 use Rattle.left_right.specs.Sides.{view}
-use Rattle.camel_subscriber.specs.declared.update.Update.{Update}
+use Rattle.camel_rows.specs.declared.subscriber.update.Update.{Update}
 use Rattle.camel_vlr.specs.PublishedCopy.{IsOfItsFront}
 use Rattle.camel_vlr.specs.Rule.{newcomer}
-use Rattle.camel_vlr.specs.declared.rule.View.{View}
-use Rattle.camel_vlr.specs.declared.seat.Seat.{Seat}
-use Rattle.camel_vlr.specs.declared.seat.Seat.TheVariants.{Out, In, Between}
+use Rattle.camel_vlr.specs.declared.history.rule.View.{View}
+use Rattle.camel_vlr.specs.declared.session.seat.Seat.{Seat}
+use Rattle.camel_vlr.specs.declared.session.seat.Seat.TheVariants.{Out, In, Between}
 
 -- what it is known by
 abbrev pub view_of : Seat → View

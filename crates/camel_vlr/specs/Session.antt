@@ -1,8 +1,8 @@
 -- Sessions: what one has seen and been told, and what its calls make of that.
 use Rattle.std.specs.Prelude.{◌≡◌, Bool, true, false, List, [], ◌∷◌, ◌++◌}
-use Rattle.camel_history.specs.Beginning.{BeginningData, StoreId}
+use Rattle.camel_vlr.specs.Beginning.{BeginningData, StoreId}
 use Rattle.camel_rows.specs.Front.{Extends, IsFront}
-use Rattle.camel_subscriber.specs.declared.update.Update.{Update}
+use Rattle.camel_rows.specs.declared.subscriber.update.Update.{Update}
 use Rattle.camel_vlr.specs.Fronts.{ExtendsAll}
 
 pub record SessionData : Type 0 where

@@ -2,14 +2,14 @@
 use Rattle.std.specs.Prelude.{◌≡◌, ◌≤◌, List, ◌++◌, drop, length}
 use Rattle.left_right.specs.Sides.{view}
 use Rattle.camel_rows.specs.Front.{Extends, IsFront}
-use Rattle.camel_rows.specs.StoredCsis.{AreStored}
-use Rattle.camel_subscriber.specs.Update.{state}
-use Rattle.camel_subscriber.specs.declared.update.Update.{Update}
+use Rattle.camel_rows.specs.Directory.{IsDirectoryOf}
+use Rattle.camel_rows.specs.Update.{records_of}
+use Rattle.camel_rows.specs.declared.subscriber.update.Update.{Update}
 use Rattle.camel_vlr.specs.Change.{updates_among}
 use Rattle.camel_vlr.specs.PublishedCopy.{IsOfItsFront}
 use Rattle.camel_vlr.specs.Rule.{Knows}
 use Rattle.camel_vlr.specs.Store.{StoreData}
-use Rattle.camel_vlr.specs.declared.store.Vlr.TheInside.{Inside}
+use Rattle.camel_vlr.specs.declared.writer.Vlr.TheInside.{Inside}
 
 abbrev pub published_in : Inside → List Update
 published_in a = a.writer.desk.shown.value.front.updates
@@ -31,4 +31,4 @@ pub record IsStore (a : Inside) : Type 0 where
   -- the history goes beyond what is published, and not beyond what is pending
   pub within : Extends (published_in a ++ pending_in a) a.history.updates
   pub beyond : Extends a.history.updates (published_in a)
-  pub directory : AreStored a.directory (state (published_in a ++ pending_in a))
+  pub directory : IsDirectoryOf a.directory (records_of (published_in a ++ pending_in a))

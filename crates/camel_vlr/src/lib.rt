@@ -2,21 +2,15 @@
 //! one of two published copies with no lock and no wait, and never goes back (3GPP TS 23.078, CAMEL phase 3).
 #![tactic(auto)]
 
-mod change;
-mod closing;
-mod look;
-mod publication;
+mod history;
 mod published_copy;
 mod receipt;
-mod rule;
-mod seat;
 mod session;
-mod store;
-mod submission;
-mod told;
+mod writer;
 
-pub use closing::CloseRefused;
-pub use look::{Look, NoLook};
+pub use history::prefix::Beginning;
 pub use receipt::Receipt;
 pub use session::Session;
-pub use store::Vlr;
+pub use session::look::{Look, NoLook};
+pub use writer::Vlr;
+pub use writer::closing::CloseRefused;

@@ -1,12 +1,12 @@
 ghost use Rattle.std.specs.Prelude.{◌≡◌, ◌+◌, ◌-◌, ◌^◌, min};
-ghost use Rattle.camel_subscriber.specs.Records.{no_records};
+ghost use Rattle.camel_rows.specs.Records.{no_records};
 ghost use Rattle.camel_vlr.specs.Change.{changed};
 ghost use Rattle.camel_vlr.specs.PublishedCopy.{IsOfItsFront};
 
-use crate::change::Change;
+use crate::history::prefix::Beginning;
 use crate::receipt::Receipt;
+use crate::writer::operation::Change;
 use camel_criteria::Refusal;
-use camel_history::Beginning;
 use camel_rows::Records;
 use left_right::Absorb;
 use std::alloc::{AllocError, Global};

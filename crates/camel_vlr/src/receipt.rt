@@ -1,7 +1,7 @@
 ghost use Rattle.std.specs.Prelude.{◌≡◌, length, true, false};
 ghost use Rattle.camel_rows.specs.Front.{Extends};
 
-use camel_history::Beginning;
+use crate::history::prefix::Beginning;
 use std::marker::Model;
 
 /// What tells a session of a publication: a front that its store had published when the receipt was given.
@@ -14,7 +14,7 @@ pub struct Receipt {
 }
 
 impl Model for Receipt {
-    ghost use Rattle.camel_history.specs.Beginning.{BeginningData};
+    ghost use Rattle.camel_vlr.specs.Beginning.{BeginningData};
     ghost use Rattle.camel_vlr.specs.Receipt.{IsReceipt};
 
     ghost Value = { BeginningData };

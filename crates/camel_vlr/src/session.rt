@@ -1,13 +1,18 @@
+//! The sessions of a store.
+
 ghost use Rattle.std.specs.Prelude.{◌≡◌, [], true, false, length, IfOk};
 ghost use Rattle.camel_rows.specs.Front.{IsFront};
-ghost use Rattle.camel_subscriber.specs.Update.{state};
+ghost use Rattle.camel_rows.specs.Update.{records_of};
 
-use crate::look::{Look, NoLook};
+pub(crate) mod look;
+pub(crate) mod seat;
+
+use crate::history::rule::{Looking, PublicationRule, View};
+use crate::history::told::Told;
 use crate::published_copy::PublishedCopy;
 use crate::receipt::Receipt;
-use crate::rule::{Looking, PublicationRule, View};
-use crate::seat::Seat;
-use crate::told::Told;
+use crate::session::look::{Look, NoLook};
+use crate::session::seat::Seat;
 use left_right::reader::Reader;
 use std::marker::Model;
 use std::mem;
@@ -128,7 +133,7 @@ impl Session {
     // The copy of the look.
     pub(crate) fn copy_at_hand(&self) -> &PublishedCopy
         requires { self.now.looks ≡ true }
-        ensures records { result.now.records ≡ state self.now.seen }
+        ensures records { result.now.records ≡ records_of self.now.seen }
         ensures count { result.now.count ≡ length self.now.seen }
         ensures front { IsFront self.now.store.limit self.now.seen }
     {

@@ -5,7 +5,7 @@ use super::{
     opened_with_last, opened_with_one, receipt_of, tell,
 };
 use camel_criteria::Refusal;
-use camel_history::Beginning;
+use camel_vlr::{Beginning};
 use camel_rows::{Reason, Update, Withdrawal};
 use camel_vlr::{Receipt, Session, Vlr};
 use std::mem::size_of;

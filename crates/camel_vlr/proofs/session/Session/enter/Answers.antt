@@ -5,7 +5,7 @@ use Rattle.camel_vlr.proofs.RuleLemmas.{looks, sees}
 use Rattle.camel_vlr.specs.Rule.{Knows}
 use Rattle.camel_vlr.specs.Seat.{view_of}
 use Rattle.camel_vlr.specs.SessionFields.{session_of}
-use Rattle.camel_vlr.specs.declared.rule.View.{View}
+use Rattle.camel_vlr.specs.declared.history.rule.View.{View}
 use Rattle.camel_vlr.proofs.session.Session.enter.Goals as goal
 
 pub enter_as-requires : goal.enter_as-requires

@@ -1,5 +1,5 @@
 use Rattle.std.proofs.Common.{◌∙◌, List, [], ◌∷◌, ◌++◌, ap, sym, refl}
-use Rattle.camel_subscriber.specs.declared.update.Update.{Update}
+use Rattle.camel_rows.specs.declared.subscriber.update.Update.{Update}
 use Rattle.camel_vlr.proofs.FrontLemmas.{all_further, all_push, extends_itself}
 use Rattle.camel_vlr.proofs.session.Session.learn.Goals as goal
 

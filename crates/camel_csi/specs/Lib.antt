@@ -1,4 +1,0 @@
-pub mod DetectionPoint
-pub mod Received
-pub mod Rows
-pub mod TdpRow

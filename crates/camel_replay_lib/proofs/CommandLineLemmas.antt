@@ -1,0 +1,40 @@
+-- What the matches of the command line hold is what its words say.
+use Rattle.std.proofs.Common.{◌≡◌, ◌∙◌, ◌⊎◌, ℕ, List, true, Result, Ok, Err, IfErr, IsErrAnd, refl, sym, ap, subst, inl, inr, codes}
+use Rattle.clap.proofs.OnLiterals.{clap_on_literals}
+use Rattle.clap.proofs.WalkLemmas.{first_value-rows}
+use Rattle.clap.specs.Words.{App, HasKind, HasMatchesOf, IsAmong, Kinds, Text, fault_of, first_of, found_of, is_simple, is_simple_and_free, kind_of}
+use Rattle.clap.specs.declared.error.Error.{Error}
+use Rattle.clap.specs.declared.error.kind.ErrorKind.{ErrorKind}
+use Rattle.clap.specs.declared.error.kind.ErrorKind.TheVariants.{DisplayHelp, OutOfMemory}
+use Rattle.clap.specs.declared.parser.matches.ArgMatches.{ArgMatches}
+use Rattle.camel_replay_lib.specs.CommandLine.{AsksForHelp, HoldsLimit, LimitOf, the_program}
+
+-- so `clap` says which matches every list of words has
+program_is_simple : is_simple the_program ≡ true
+unfolding clap_on_literals
+program_is_simple = refl
+
+pub LimitOf-held : (words : List Text) (matches : ArgMatches) (limit : ℕ) → HasMatchesOf the_program words matches → HoldsLimit matches limit → LimitOf words limit
+LimitOf-held words matches limit has (text, held, number) =
+    let rows = (has program_is_simple).0 in
+    (text, sym (ap (first_of (codes "limit")) rows) ∙ (sym (first_value-rows (found_of matches) (codes "limit")) ∙ held), number)
+
+-- and which kinds of error it may answer
+program_is_free : is_simple_and_free the_program ≡ true
+unfolding clap_on_literals
+program_is_free = refl
+
+help_is_among : (kind : ErrorKind) (kinds : Kinds) → (kind ≡ OutOfMemory) ⊎ IsAmong kind kinds → kind ≡ DisplayHelp → IsAmong DisplayHelp kinds
+help_is_among kind kinds (inl lacks_memory) help = absurd (cc)
+help_is_among kind kinds (inr among) help = subst (λ kind. IsAmong kind kinds) help among
+
+pub AsksForHelp-answered : (words : List Text) (app : App) (error : Error) → app ≡ the_program → (is_simple_and_free app ≡ true → HasKind (fault_of app words) error)
+    → kind_of error ≡ DisplayHelp → AsksForHelp words
+AsksForHelp-answered words app error same has help =
+    let free : is_simple_and_free app ≡ true = rw same program_is_free in
+    subst (λ (app : App). IsAmong DisplayHelp (fault_of app words)) same (help_is_among (kind_of error) (fault_of app words) (has free) help)
+
+-- an error that is passed on is the error that was answered
+pub passed_on : {T : Type 0} (result : Result T Error) (Given Shown : Error → Type 0) → IsErrAnd result Given → ((error : Error) → Given error → Shown error) → IfErr result Shown
+passed_on (Ok value) Given Shown given shown = tt
+passed_on (Err error) Given Shown given shown = shown error given

@@ -1,0 +1,12 @@
+-- The line that tells the fault with which a run ended (profile 1's own format).
+use Rattle.std.specs.Prelude.{ℕ, List, ◌++◌, codes, Option, Some, None}
+use Rattle.std.specs.Fmt.{decimal}
+use Rattle.camel_replay_lib.specs.declared.script_replay.ReplayFault.{ReplayFault}
+
+abbrev pub fault_line_at : Option ℕ → ℕ → List ℕ
+fault_line_at (Some number) code = codes "camel_replay: record " ++ decimal number ++ codes ": fault " ++ decimal code ++ codes "\n"
+fault_line_at None code = codes "camel_replay: fault " ++ decimal code ++ codes "\n"
+
+-- with the record's number, where there is one, and the fault's
+abbrev pub fault_line : ReplayFault → List ℕ
+fault_line stop = fault_line_at stop.number stop.code

@@ -1,0 +1,9 @@
+pub mod CommandLine
+pub mod FaultLine
+pub mod Fronts
+pub mod Output
+pub mod ProgramRun
+pub mod ReplayFault
+pub mod Store
+pub mod StoreCode
+pub mod Written

@@ -1,0 +1,132 @@
+//! The command `camel_replay`: its options, its run over a script, and the status that it ends with.
+
+ghost use Rattle.std.specs.Prelude.{◌≡◌, ◌⊎◌, None, Some, IfOk, map, string_bytes};
+ghost use Rattle.clap.specs.Words.{kind_of};
+ghost use Rattle.clap.specs.declared.error.kind.ErrorKind.TheVariants.{DisplayHelp, OutOfMemory};
+ghost use Rattle.camel_replay_lib.specs.FaultLine.{fault_line, fault_line_at};
+ghost use Rattle.camel_replay_lib.specs.ProgramRun.{Helps, LacksMemory, Rejects, Replays, Runs};
+ghost use Rattle.camel_replay_lib.specs.Written.{AppendsPart};
+
+pub(crate) mod words;
+
+use crate::command::words::options;
+use crate::script_replay::write::write_whole;
+use crate::script_replay::{ReplayFault, replay};
+use clap::error::ErrorKind;
+use std::alloc::{AllocError, Global};
+use std::io::{Read, Write};
+
+/// The status of a run that ended with a fault.
+pub const FAULT_STATUS: u8 = 1;
+
+/// The status of a run whose command line was rejected.
+pub const REJECTED_STATUS: u8 = 2;
+
+/// Runs the program that was started with these words, its name first: replays the script that the reader gives
+/// and writes its output to `out`. Answers the status of the process.
+///
+/// Status 0 is that of a run without a fault, and of `--help`, whose text goes to `out`. After a fault its line is
+/// written to `err`, and the status is 1. A rejected command line has status 2, and its text goes to `err`.
+///
+/// A failed write to `err`, or of the help text to `out`, is ignored.
+pub fn run<R: Read + Drop, W: Write, E: Write>(
+    alloc: Global,
+    words: &[String],
+    reader: R,
+    out: &mut W,
+    err: &mut E,
+) -> u8
+    ensures { Runs (map string_bytes words.now) (R.remaining reader)
+        (W.contents out.old) (W.contents out.new) (E.contents err.old) (E.contents err.new) result }
+{
+    match options(alloc, words) {
+        Ok(options) => run_replay(alloc, options.limit, reader, out, err),
+        Err(error) => tell(alloc, &error, out, err),
+    }
+}
+
+// Replays the script, and tells its fault, if there is one.
+fn run_replay<R: Read + Drop, W: Write, E: Write>(
+    alloc: Global,
+    limit: u64,
+    reader: R,
+    out: &mut W,
+    err: &mut E,
+) -> u8
+    ensures { Replays limit (R.remaining reader)
+        (W.contents out.old) (W.contents out.new) (E.contents err.old) (E.contents err.new) result }
+{
+    match replay(alloc, reader, out, limit) {
+        Ok(()) => 0,
+        Err(fault) => {
+            write_fault_line(alloc, err, &fault);
+            FAULT_STATUS
+        }
+    }
+}
+
+// Tells why the command line gave no options.
+fn tell<W: Write, E: Write>(alloc: Global, error: &clap::Error, out: &mut W, err: &mut E) -> u8
+    ensures { Rejects (W.contents out.old) (W.contents out.new) result
+        ⊎ (((kind_of error.now ≡ DisplayHelp) × Helps (E.contents err.old) (E.contents err.new) result)
+        ⊎ ((kind_of error.now ≡ OutOfMemory)
+        × LacksMemory (W.contents out.old) (W.contents out.new) (E.contents err.old) (E.contents err.new) result)) }
+{
+    match error.kind() {
+        ErrorKind::DisplayHelp => {
+            write_text(alloc, out, error);
+            0
+        }
+        ErrorKind::OutOfMemory => {
+            write_fault_line(alloc, err, &OUT_OF_MEMORY);
+            FAULT_STATUS
+        }
+        _ => {
+            write_text(alloc, err, error);
+            REJECTED_STATUS
+        }
+    }
+}
+
+// Writes the text of `clap`, or a part of it where memory or the writer refuses the rest.
+fn write_text<W: Write>(alloc: Global, writer: &mut W, error: &clap::Error) {
+    if let Ok(text) = format!(in alloc; "{error}") {
+        let _ = write_whole(writer, text.as_bytes());
+    }
+}
+
+// Memory was refused before the first record.
+const OUT_OF_MEMORY: ReplayFault = ReplayFault {
+    number: None,
+    code: 102,
+};
+
+// Writes the line of a fault, or a part of it where memory or the writer refuses the rest.
+fn write_fault_line<E: Write>(alloc: Global, err: &mut E, fault: &ReplayFault)
+    ensures { AppendsPart (E.contents err.old) (E.contents err.new) (fault_line fault.now) }
+{
+    if let Ok(text) = fault_line(alloc, fault) {
+        let _ = write_whole(err, text.as_bytes());
+    }
+}
+
+fn fault_line(alloc: Global, fault: &ReplayFault) -> Result<String, AllocError>
+    ensures { IfOk result (λ text. string_bytes text ≡ fault_line fault.now) }
+{
+    match fault.number {
+        Some(number) => fault_line_with_record(alloc, number, fault.code),
+        None => fault_line_alone(alloc, fault.code),
+    }
+}
+
+fn fault_line_with_record(alloc: Global, number: u64, code: u16) -> Result<String, AllocError>
+    ensures { IfOk result (λ text. string_bytes text ≡ fault_line_at (Some number) code) }
+{
+    format!(in alloc; "camel_replay: record {number}: fault {code}\n")
+}
+
+fn fault_line_alone(alloc: Global, code: u16) -> Result<String, AllocError>
+    ensures { IfOk result (λ text. string_bytes text ≡ fault_line_at None code) }
+{
+    format!(in alloc; "camel_replay: fault {code}\n")
+}

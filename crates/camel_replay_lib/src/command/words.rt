@@ -1,0 +1,113 @@
+ghost use Rattle.std.specs.Prelude.{◌≡◌, IfErr, IfOk, IfSome, map, string_bytes};
+ghost use Rattle.clap.specs.Words.{app_of, kind_of};
+ghost use Rattle.clap.specs.declared.error.kind.ErrorKind.TheVariants.{DisplayHelp, OutOfMemory};
+ghost use Rattle.camel_replay_lib.specs.CommandLine.{AsksForHelp, HoldsLimit, LimitOf, the_program};
+
+use clap::builder::ValueParser;
+use clap::error::ErrorKind;
+use clap::{Arg, ArgMatches, Command, Error};
+use std::alloc::Global;
+
+/// The greatest limit of updates.
+pub const MAX_LIMIT: u64 = 1_000_000;
+
+/// What the command line asks for.
+#[derive(Clone, Copy, Debug, PartialEq, Eq)]
+pub struct CommandLine {
+    /// How many updates are accepted at most, 1 to 1000000.
+    pub limit: u64,
+}
+
+/// The options of the words with which the program was started, its name first.
+///
+/// The error is that of `clap`: a mistake in the words, the request for help, or want of memory.
+pub fn options(alloc: Global, words: &[String]) -> Result<CommandLine, Error>
+    ensures limit { IfOk result (λ options. LimitOf (map string_bytes words.now) options.limit) }
+    ensures help { IfErr result (λ error.
+        kind_of error ≡ DisplayHelp → AsksForHelp (map string_bytes words.now)) }
+{
+    let mut command = command(alloc)?;
+    let matches = command.try_get_matches_from_mut(words)?;
+    match limit(&matches) {
+        Some(limit) => Ok(CommandLine { limit }),
+        // The parser of the value has taken it, so this is not met.
+        None => Err(command.error(ErrorKind::ValueValidation, "the limit is not 1 to 1000000")?),
+    }
+}
+
+fn command<'a>(alloc: Global) -> Result<Command<'a>, Error>
+    ensures program { IfOk result (λ command. app_of command ≡ the_program) }
+    ensures only { IfErr result (λ error. kind_of error ≡ OutOfMemory) }
+{
+    let limit = Arg::new(alloc, "limit")
+        .long("limit")
+        .value_name("N")
+        .default_value("1000000")
+        .value_parser(ValueParser::unsigned(1, MAX_LIMIT))
+        .help("The greatest number of updates that are accepted, 1 to 1000000");
+    let command = Command::new(alloc, "camel_replay")
+        .about(ABOUT)
+        .after_help(AFTER_HELP)
+        .arg(limit)?;
+    Ok(command)
+}
+
+// The limit that the matches hold.
+fn limit(matches: &ArgMatches) -> Option<u64>
+    ensures { IfSome result (HoldsLimit matches.now) }
+{
+    let limit = matches.get_str("limit")?.parse::<u64>().ok()?;
+    if limit == 0 || limit > MAX_LIMIT {
+        return None;
+    }
+    Some(limit)
+}
+
+const ABOUT: &str =
+    "Decides calls by the CAMEL subscriber data of a script (3GPP TS 23.078 and TS 29.002)";
+
+const AFTER_HELP: &str = "\
+Reads a script as CSV from standard input, and writes one line for each record to standard output. The records:
+
+  register,262010000000001                    an empty record; one that is there is emptied
+  insert,262010000000001,o:2:100:919471160000:0,oc:2:e/9121f3/:t10::
+                                              a row of the O-CSI with its criteria
+  insert,262010000000001,t:13:300:919471160000:1,tc:13:t11:17
+                                              a row of the VT-CSI with its criteria
+  delete,262010000000001,vt                   removes o, vt or all; several may be named
+  cancel,262010000000001                      removes the record
+  publish                                     calls see the updates before it from here on
+  call,2,262010000000001,t11,91214365,n       a call at collectedInfo
+  call,4,262010000000001,t11,91214365,f,17    at routeSelectFailure, forwarded, with a cause
+  call,12,262010000000001,t11                 at termAttemptAuthorized
+  call,13,262010000000001,t11,17              at tBusy
+  call,14,262010000000001,t11,19              at tNoAnswer
+
+Items of an insert, up to ten of each name, and at most one of each detection point that counts (2 and 4 for o and oc,
+12, 13 and 14 for t and tc; others are ignored):
+
+  o:DP:KEY:SCF:HANDLING               a row of the O-CSI
+  t:DP:KEY:SCF:HANDLING               a row of the VT-CSI
+  oc:DP:NUMBER:BASICS:TYPE:CAUSES     criteria of the O-CSI, each part after DP possibly empty
+  tc:DP:BASICS:CAUSES                 criteria of the VT-CSI, likewise
+
+  KEY is a service key. HANDLING is the default call handling: 0 continue, 1 release. Addresses are octets in
+  hexadecimal: the first is nature and numbering plan, the others hold two digits each, the earlier one in the lower
+  half, and f fills up. NUMBER is e/9121f3+9155/4, with e (enabling) or i (inhibiting), listed numbers and lengths.
+  BASICS is t11+b10, teleservices and bearer services in hexadecimal. TYPE is f (forwarded) or n. CAUSES is 17+18.
+
+The lines:
+
+  accepted N                          the update is the Nth
+  refused C                           5 unknown subscriber, 35 data missing, 36 unexpected value, 101 limit reached
+  published F                         the first F updates are published
+  front F trigger DP KEY SCF ACTION   by the first F updates this row's service is invoked; ACTION is continue or
+                                      release, what is done with the call where the service can't be reached
+  front F none REASON                 unknown, no-csi, not-armed, emergency or criteria
+
+A fault ends the run and is told on standard error: 202 word, 203 count of fields or parts, 204 hexadecimal digits,
+205 IMSI or number, 206 the input could not be read, 207 too many records, 208 the output could not be written,
+102 memory.
+
+Status: 0 without a fault; 1 after a fault, which is told on standard error with the number of its record;
+2 where the command line is rejected.";

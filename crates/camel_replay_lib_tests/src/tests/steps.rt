@@ -1,0 +1,92 @@
+use camel_replay_lib::{replay};
+use std::cell::Cell;
+use std::io;
+use std::io::{ErrorKind, Read, Write};
+use std::test::Fail;
+
+// A reader that gives one piece of a script a call, and fails where the count of octets that are written by then
+// is another than that of the piece.
+#[derive(Drop)]
+struct Steps<'a> {
+    left: &'a [(&'a [u8], usize)],
+    written: &'a Cell<usize>,
+}
+
+impl Read for Steps<'_> {
+    fn read(&mut self, buf: &mut [u8]) -> io::Result<usize> {
+        match self.left {
+            [] => Ok(0),
+            [(piece, count), rest @ ..] => {
+                if self.written.get() != *count || buf.len() < piece.len() {
+                    return Err(io::Error::from(ErrorKind::Other));
+                }
+                buf[..piece.len()].copy_from_slice(piece);
+                self.left = rest;
+                Ok(piece.len())
+            }
+        }
+    }
+}
+
+// A writer that tells how many octets it has taken.
+#[derive(Drop)]
+struct Told<'a> {
+    taken: Vec<u8>,
+    written: &'a Cell<usize>,
+}
+
+impl Write for Told<'_> {
+    fn write(&mut self, buf: &[u8]) -> io::Result<usize> {
+        self.taken.extend_from_slice(buf)?;
+        self.written.set(self.taken.len());
+        Ok(buf.len())
+    }
+
+    fn flush(&mut self) -> io::Result<()> {
+        Ok(())
+    }
+}
+
+// A record a piece, but for the first octet, which is read alone, and the end.
+const STEPS: [(&[u8], usize); 7] = [
+    (b"r", 0),
+    (b"egister,26201\n", 0),
+    (b"insert,26201,oc:4:e//:::\n", 11),
+    (b"insert,26201,o:2:1:91:0\n", 22),
+    (b"publish\n", 33),
+    (b"call,2,26201,t11,91,n\n", 45),
+    (b"", 77),
+];
+
+const OUTPUT: &str =
+    "accepted 1\nrefused 35\naccepted 2\npublished 2\nfront 2 trigger 2 1 91 continue\n";
+
+#[test]
+fn writes_each_line_before_the_next_record_is_read(rt: HostRuntime) -> Result<(), Fail> {
+    let written = Cell::new(0);
+    let reader = Steps {
+        left: &STEPS,
+        written: &written,
+    };
+    let mut out = Told {
+        taken: Vec::new(rt.alloc()),
+        written: &written,
+    };
+    assert!(rt; replay(rt.alloc(), reader, &mut out, 10).is_ok());
+    assert_eq!(rt; out.taken.as_slice(), OUTPUT.as_bytes());
+    Ok(())
+}
+
+// A writer that does not tell its count: the reader then fails at the second record.
+#[test]
+fn fails_where_a_line_is_not_written(rt: HostRuntime) {
+    let written = Cell::new(0);
+    let reader = Steps {
+        left: &STEPS,
+        written: &written,
+    };
+    let mut out = Vec::new(rt.alloc());
+    let ended = replay(rt.alloc(), reader, &mut out, 10);
+    assert_eq!(rt; ended.err().map(|fault| fault.code), Some(206));
+    assert_eq!(rt; out.as_slice(), "accepted 1\n".as_bytes());
+}

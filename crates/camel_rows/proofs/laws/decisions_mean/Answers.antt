@@ -1,5 +1,0 @@
-use Rattle.camel_rows.proofs.MeansLemmas.{decision_means}
-use Rattle.camel_rows.proofs.laws.decisions_mean.Goals as goal
-
-pub returns : goal.returns
-returns c = decision_means

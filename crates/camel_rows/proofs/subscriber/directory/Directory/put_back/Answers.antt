@@ -1,0 +1,26 @@
+use Rattle.std.proofs.Common.{◌≡◌, ◌∙◌, ap, subst, sym, IsSome, Option, Some, None, MutBor}
+use Rattle.std.specs.FinMap as map
+use Rattle.std.specs.Option.{option_copied_mut}
+use Rattle.camel_rows.proofs.RecordsTable.{get-entries, insert-entries}
+use Rattle.camel_rows.specs.declared.subscriber.directory.CsisPresent.{CsisPresent}
+use Rattle.camel_rows.proofs.subscriber.directory.Directory.put_back.Goals as goal
+
+-- what is lent is there where the entry is
+lent_there : (lent : Option (MutBor CsisPresent)) (stored : Option CsisPresent) → option_copied_mut lent ≡ stored → IsSome stored → IsSome lent
+lent_there None stored e h = subst IsSome (sym e) h
+lent_there (Some csis) stored e h = subst IsSome (sym e) h
+
+pub unwrap-requires : goal.unwrap-requires
+unwrap-requires c =
+    let stored = c.get_mut.ensures.value ∙ sym (get-entries c.self.inside.table.entries c.args.imsi.now) ∙ ap (λ m. map.get m c.args.imsi.now) c.self.view_is in
+    lent_there c.get_mut.result _ stored c.requires
+
+pub returns-in-Some : goal.returns-in-Some
+returns-in-Some c =
+    let entries = c.self.inside.table.entries in
+    let key = c.args.imsi.now in
+    let at_entries = sym (get-entries entries key) ∙ ap (λ m. map.get m key) c.self.view_is in
+    let put = c.in-Some.csis in
+    let held = c.get_mut.follows.holds put in
+    let there = subst IsSome (sym at_entries) c.requires in
+    rw c.in-Some.is (insert-entries entries (c.get_mut.follows.lender put).entries key put (held.3 there).0 ∙ ap (λ m. map.insert m key put) c.self.view_is)

@@ -1,0 +1,65 @@
+-- The record of a subscriber: CAMEL subscription information of TS 23.078.
+use Rattle.std.specs.Prelude.{ℕ, ◌==◌, List, Option, None, find, if◌then◌else◌}
+use Rattle.std.specs.Option.{option_and_then, option_map}
+use Rattle.camel_criteria.specs.Criteria.{OCriteriaData, TCriteriaData}
+use Rattle.camel_criteria.specs.DetectionPoint.{is_o_detection_point, is_vt_detection_point}
+use Rattle.camel_rows.specs.TdpRow.{TdpRowData}
+use Rattle.camel_rows.specs.declared.subscriber.lent.Lent.{Lent}
+use Rattle.camel_rows.specs.declared.subscriber.lent.Lent.TheVariants as lent
+
+-- one half: the TDP rows of a CSI with the entries of its criteria, both in the order received and
+-- without the ignored items
+pub record Half (Entry : Type 0) : Type 0 where
+  pub rows : List TdpRowData
+  pub entries : List Entry
+
+-- the two halves. A half that is not stored is none; one whose lists are empty is stored
+pub record SubscriberData : Type 0 where
+  pub o : Option (Half OCriteriaData)
+  pub vt : Option (Half TCriteriaData)
+
+-- the record of a subscriber who has just registered
+abbrev pub empty_record : SubscriberData
+empty_record = record { o = None; vt = None }
+
+abbrev pub rows_of : {Entry : Type 0} → Half Entry → List TdpRowData
+rows_of half = half.rows
+
+-- the rows of the half that a detection point is tested against, where it is stored
+abbrev pub rows_tested_at : ℕ → SubscriberData → Option (List TdpRowData)
+rows_tested_at dp subscriber =
+    if is_o_detection_point dp then option_map rows_of subscriber.o
+    else if is_vt_detection_point dp then option_map rows_of subscriber.vt
+    else None
+
+-- the row of a detection point among rows
+abbrev pub row_among : ℕ → List TdpRowData → Option TdpRowData
+row_among dp rows = find (λ row. row.dp == dp) rows
+
+-- the row of a detection point, where it is armed
+abbrev pub row_at : ℕ → SubscriberData → Option TdpRowData
+row_at dp subscriber = option_and_then (row_among dp) (rows_tested_at dp subscriber)
+
+-- an entry of the criteria of a detection point, of the one CSI or of the other
+pub data EntryData : Type 0 where
+  O : OCriteriaData → EntryData
+  T : TCriteriaData → EntryData
+
+-- what a borrowed entry shows
+abbrev pub entry_data : Lent → EntryData
+entry_data (lent.O entry) = O entry.now
+entry_data (lent.T entry) = T entry.now
+
+-- the entry of a detection point among those of a half
+abbrev pub o_entry_of : ℕ → Half OCriteriaData → Option OCriteriaData
+o_entry_of dp half = find (λ entry. entry.dp == dp) half.entries
+
+abbrev pub t_entry_of : ℕ → Half TCriteriaData → Option TCriteriaData
+t_entry_of dp half = find (λ entry. entry.dp == dp) half.entries
+
+-- the entry of a detection point, where the half that it is tested against has one
+abbrev pub entry_at : ℕ → SubscriberData → Option EntryData
+entry_at dp subscriber =
+    if is_o_detection_point dp then option_map O (option_and_then (o_entry_of dp) subscriber.o)
+    else if is_vt_detection_point dp then option_map T (option_and_then (t_entry_of dp) subscriber.vt)
+    else None

@@ -1,0 +1,89 @@
+ghost use Rattle.std.specs.Prelude.{◌≡◌, ◌<◌, ◌≤◌, ◌↔◌, IsErr};
+ghost use Rattle.camel_tbcd.specs.Address.{octets};
+ghost use Rattle.camel_rows.specs.TdpRow.{max_service_key, tdp_row_of};
+
+use camel_criteria::{Handling, Refusal};
+use camel_tbcd::{Address, IsdnAddress};
+use std::marker::Model;
+
+/// The greatest service key: ServiceKey of TS 29.002.
+pub const MAX_SERVICE_KEY: u32 = 2_147_483_647;
+
+/// A TDP row of a CSI: a trigger detection point that is armed, with the service that is invoked there
+/// (O-BcsmCamelTDPData and T-BcsmCamelTDPData of TS 29.002).
+#[derive(Clone, Copy, Debug)]
+pub struct TdpRow {
+    dp: u8,
+    key: u32,
+    scf: IsdnAddress,
+    handling: Handling,
+}
+
+impl Model for TdpRow {
+    ghost use Rattle.std.specs.Prelude.{◌≤◌};
+    ghost use Rattle.camel_rows.specs.TdpRow.{TdpRowData, max_service_key};
+
+    ghost Value = { TdpRowData };
+
+    ghost view = { λ a. record { dp = a.dp; key = a.key; scf = a.scf; handling = a.handling } };
+
+    ghost invariant = { λ a. a.key ≤ max_service_key };
+
+    ghost inverse = { λ row. record { dp = row.dp; key = row.key; scf = row.scf; handling = row.handling } };
+}
+
+impl TdpRow {
+    /// A row of a detection point, a service key, a gsmSCF address and a default call handling.
+    ///
+    /// `UnexpectedDataValue` (36) is answered for a service key over 2147483647.
+    pub fn new(dp: u8, key: u32, scf: IsdnAddress, handling: Handling) -> Result<TdpRow, Refusal>
+        ensures answer { result ≡ tdp_row_of dp key scf handling }
+        ensures refused { IsErr result ↔ (max_service_key < key) }
+    {
+        if key > MAX_SERVICE_KEY {
+            return Err(Refusal::UnexpectedDataValue);
+        }
+        Ok(TdpRow {
+            dp,
+            key,
+            scf,
+            handling,
+        })
+    }
+
+    /// The trigger detection point.
+    pub fn dp(&self) -> u8
+        ensures { result ≡ self.now.dp }
+    {
+        self.dp
+    }
+
+    /// The service key, 0 to 2147483647.
+    pub fn key(&self) -> u32
+        ensures key { result ≡ self.now.key }
+        ensures range { result ≤ max_service_key }
+    {
+        self.key
+    }
+
+    /// The gsmSCF address, 1 to 9 octets.
+    pub fn scf(&self) -> Address<'_>
+        ensures { octets result ≡ self.now.scf }
+    {
+        self.scf.lend()
+    }
+
+    /// The default call handling.
+    pub fn handling(&self) -> Handling
+        ensures { result ≡ self.now.handling }
+    {
+        self.handling
+    }
+
+    /// The gsmSCF address, to keep.
+    pub fn scf_address(&self) -> IsdnAddress
+        ensures { result ≡ self.now.scf }
+    {
+        self.scf
+    }
+}

@@ -1,0 +1,199 @@
+ghost use Rattle.std.specs.Prelude.{◌≡◌, ◌⊎◌, Some, IfErr, IfNone, IfOk, IfSome, IsOk, IsSome, OnErr, OnOk};
+ghost use Rattle.std.specs.FinMap as map;
+ghost use Rattle.std.specs.Option.{option_copied, option_map};
+ghost use Rattle.camel_rows.specs.Change.{with_changes};
+ghost use Rattle.camel_rows.specs.Records.{no_records};
+ghost use Rattle.camel_rows.specs.Update.{records_after, record_with_insert, record_without, refusal, with_record};
+
+use crate::csi::o_criteria_set::OCriteriaSet;
+use crate::csi::o_csi::OCsi;
+use crate::csi::t_criteria_set::TCriteriaSet;
+use crate::csi::vt_csi::VtCsi;
+use crate::subscriber::Subscriber;
+use crate::subscriber::csi_change::{Change, removal};
+use crate::subscriber::o_half::OHalf;
+use crate::subscriber::update::{Update, Withdrawal};
+use crate::subscriber::vt_half::VtHalf;
+use camel_criteria::Refusal;
+use camel_tbcd::Imsi;
+use std::alloc::{AllocError, Global};
+use std::collections::BTreeMap;
+use std::marker::Model;
+
+/// The records of all subscribers, by IMSI.
+///
+/// Contracts see them as a finite map from IMSIs to records.
+#[derive(Debug, Drop)]
+pub struct Records {
+    alloc: Global,
+    table: BTreeMap<Imsi, Subscriber>,
+}
+
+impl Model for Records {
+    ghost use Rattle.std.specs.FinMap as map;
+    ghost use Rattle.std.specs.Cmp.Lexicographic.{slice_cmp};
+    ghost use Rattle.std.specs.Coded.{coded_ℕ, coded_list};
+    ghost use Rattle.std.specs.Ordering.{nat_cmp};
+    ghost use Rattle.camel_rows.specs.Records.{RecordsData};
+    ghost use Rattle.camel_rows.specs.contracts.subscriber.Subscriber as subscriber;
+
+    ghost Value = { RecordsData };
+
+    ghost coded = { map.code (coded_list coded_ℕ) subscriber.the_row.coded };
+
+    ghost view = { λ a. map.from_entries a.table.entries };
+}
+
+impl Records {
+    /// No records. It takes no memory yet.
+    pub fn new(alloc: Global) -> Records
+        ensures { result ≡ no_records }
+    {
+        Records {
+            alloc,
+            table: BTreeMap::new(alloc),
+        }
+    }
+
+    /// The record of an IMSI, where there is one.
+    pub fn get(&self, imsi: &Imsi) -> Option<&Subscriber>
+        ensures { option_copied result ≡ map.get self.now imsi.now }
+    {
+        self.table.get(imsi)
+    }
+
+    /// Whether an update may be applied.
+    ///
+    /// `UnidentifiedSubscriber` (5) is answered for an Insert or a Delete where the IMSI has no record, and
+    /// `DataMissing` (35) for an Insert of criteria without their CSI where that CSI is not stored.
+    pub fn check(&self, update: &Update) -> Result<(), Refusal>
+        ensures refused { IfSome (refusal self.now update.now) (λ why. result ≡ Err why) }
+        ensures accepted { IfNone (refusal self.now update.now) (IsOk result) }
+    {
+        match update {
+            Update::Register { .. } | Update::Cancel { .. } => Ok(()),
+            Update::Delete { imsi, .. } => match self.get(imsi) {
+                Some(_) => Ok(()),
+                None => Err(Refusal::UnidentifiedSubscriber),
+            },
+            Update::Insert {
+                imsi,
+                o,
+                o_criteria,
+                vt,
+                t_criteria,
+            } => match self.get(imsi) {
+                Some(subscriber) if subscriber.lacks_csi(o, o_criteria, vt, t_criteria) => {
+                    Err(Refusal::DataMissing)
+                }
+                Some(_) => Ok(()),
+                None => Err(Refusal::UnidentifiedSubscriber),
+            },
+        }
+    }
+
+    /// Applies an update.
+    ///
+    /// It answers the refusals of [`Records::check`], and `OutOfMemory` (102) where memory was refused. After a
+    /// refusal the records are as before.
+    pub fn apply(&mut self, update: &Update) -> Result<(), Refusal>
+        ensures refused { IfSome (refusal self.old update.now) (λ why. result ≡ Err why) }
+        ensures applied { OnOk result (self.new ≡ records_after self.old update.now) }
+        ensures unchanged { OnErr result (self.new ≡ self.old) }
+        ensures only { IfErr result (λ why.
+            (why ≡ Refusal.OutOfMemory) ⊎ (refusal self.old update.now ≡ Some why)) }
+    {
+        self.check(update)?;
+        match update {
+            Update::Register { imsi } => self.put(*imsi, Subscriber::registered())?,
+            Update::Insert {
+                imsi,
+                o,
+                o_criteria,
+                vt,
+                t_criteria,
+            } => self.insert(imsi, *o, o_criteria, *vt, t_criteria)?,
+            Update::Delete { imsi, what } => self.withdraw(imsi, *what),
+            Update::Cancel { imsi } => self.take_out(imsi),
+        }
+        Ok(())
+    }
+
+    /// Equal records. `OutOfMemory` (102) is answered where memory was refused.
+    pub fn copy(&self) -> Result<Records, Refusal>
+        ensures equal { IfOk result (λ copied. copied ≡ self.now) }
+        ensures only { IfErr result (λ why. why ≡ Refusal.OutOfMemory) }
+    {
+        Ok(self.clone()?)
+    }
+
+    // Puts what an Insert brings into the record of its IMSI.
+    fn insert(
+        &mut self,
+        imsi: &Imsi,
+        o: Option<OCsi>,
+        o_criteria: &Option<OCriteriaSet>,
+        vt: Option<VtCsi>,
+        t_criteria: &Option<TCriteriaSet>,
+    ) -> Result<(), AllocError>
+        requires { IsSome (map.get self.old imsi.now) }
+        ensures inserted { OnOk result (self.new ≡ with_record self.old imsi.now
+            (option_map (record_with_insert o o_criteria.now vt t_criteria.now) (map.get self.old imsi.now))) }
+        ensures unchanged { OnErr result (self.new ≡ self.old) }
+    {
+        if let Some(subscriber) = self.get(imsi) {
+            let o = subscriber.o_inserted(self.alloc, o, o_criteria)?;
+            let vt = subscriber.vt_inserted(self.alloc, vt, t_criteria)?;
+            self.change(imsi, o, vt);
+        }
+        Ok(())
+    }
+
+    // Removes what a Delete names from the record of its IMSI.
+    fn withdraw(&mut self, imsi: &Imsi, what: Withdrawal)
+        requires { IsSome (map.get self.old imsi.now) }
+        ensures { self.new ≡ with_record self.old imsi.now (option_map (record_without what) (map.get self.old imsi.now)) }
+    {
+        let o = removal(what.o || what.everything);
+        let vt = removal(what.vt || what.everything);
+        self.change(imsi, o, vt);
+    }
+
+    // Changes the record of an IMSI in its place.
+    fn change(&mut self, imsi: &Imsi, o: Change<OHalf>, vt: Change<VtHalf>)
+        requires { IsSome (map.get self.old imsi.now) }
+        ensures { self.new ≡ with_record self.old imsi.now (option_map (with_changes o vt) (map.get self.old imsi.now)) }
+    {
+        let subscriber = self.table.get_mut(imsi).unwrap();
+        subscriber.change(o, vt);
+    }
+
+    // Puts a record in the place of the one that is there.
+    fn put(&mut self, imsi: Imsi, subscriber: Subscriber) -> Result<(), AllocError>
+        ensures put { OnOk result (self.new ≡ map.insert self.old imsi subscriber) }
+        ensures unchanged { OnErr result (self.new ≡ self.old) }
+    {
+        self.table.insert(imsi, subscriber)?;
+        Ok(())
+    }
+
+    // Takes the record of an IMSI out, if there is one.
+    fn take_out(&mut self, imsi: &Imsi)
+        ensures { self.new ≡ map.remove self.old imsi.now }
+    {
+        self.table.remove(imsi);
+    }
+}
+
+impl Clone for Records {
+    ghost use Rattle.std.specs.Prelude.{◌≡◌};
+
+    ghost is_clone = { λ old new. new ≡ old };
+
+    fn clone(&self) -> Result<Records, AllocError> {
+        Ok(Records {
+            alloc: self.alloc,
+            table: self.table.clone()?,
+        })
+    }
+}

@@ -1,0 +1,107 @@
+ghost use Rattle.std.specs.Prelude.{◌≡◌, IfErr, IfOk};
+ghost use Rattle.camel_rows.specs.Update.{update_imsi};
+
+use crate::csi::o_criteria_set::OCriteriaSet;
+use crate::csi::o_csi::OCsi;
+use crate::csi::t_criteria_set::TCriteriaSet;
+use crate::csi::vt_csi::VtCsi;
+use camel_criteria::Refusal;
+use camel_tbcd::Imsi;
+use std::alloc::AllocError;
+
+/// What a Delete removes (DeleteSubscriberData of TS 29.002). Several may be named together, or none.
+#[derive(Clone, Copy, Debug, PartialEq, Eq)]
+pub struct Withdrawal {
+    /// The O-CSI with its criteria.
+    pub o: bool,
+    /// The VT-CSI with its criteria.
+    pub vt: bool,
+    /// Both.
+    pub everything: bool,
+}
+
+/// A change of the subscriber data of one IMSI.
+#[derive(Debug, Drop)]
+pub enum Update {
+    /// The subscriber registers: an empty record stands, whatever stood before. It is never refused. It is
+    /// this product's own, in the place of the location update after which data are sent.
+    Register {
+        imsi: Imsi,
+    },
+    /// InsertSubscriberData of TS 29.002, from the home location register. A CSI that is present replaces the
+    /// stored CSI and its criteria, by those that come with it or by none. Criteria without their CSI replace
+    /// those of the stored CSI. What is omitted stays.
+    ///
+    /// It is refused with 5 where the IMSI has no record, and with 35 where criteria come without their CSI and
+    /// that CSI is not stored.
+    Insert {
+        imsi: Imsi,
+        o: Option<OCsi>,
+        o_criteria: Option<OCriteriaSet>,
+        vt: Option<VtCsi>,
+        t_criteria: Option<TCriteriaSet>,
+    },
+    /// DeleteSubscriberData of TS 29.002. What is named and not there is no fault. It is refused with 5 where the
+    /// IMSI has no record.
+    Delete {
+        imsi: Imsi,
+        what: Withdrawal,
+    },
+    /// CancelLocation of TS 29.002: no record stands. It is never refused, and changes nothing where there is no
+    /// record.
+    Cancel {
+        imsi: Imsi,
+    },
+}
+
+impl Update {
+    /// The subscriber whom it concerns.
+    pub fn imsi(&self) -> Imsi
+        ensures { result ≡ update_imsi self.now }
+    {
+        match self {
+            Update::Register { imsi }
+            | Update::Insert { imsi, .. }
+            | Update::Delete { imsi, .. }
+            | Update::Cancel { imsi } => *imsi,
+        }
+    }
+
+    /// An equal update. `OutOfMemory` (102) is answered where memory was refused.
+    pub fn copy(&self) -> Result<Update, Refusal>
+        ensures equal { IfOk result (λ copied. copied ≡ self.now) }
+        ensures only { IfErr result (λ why. why ≡ Refusal.OutOfMemory) }
+    {
+        Ok(self.clone()?)
+    }
+}
+
+impl Clone for Update {
+    ghost use Rattle.std.specs.Prelude.{◌≡◌};
+
+    ghost is_clone = { λ old new. new ≡ old };
+
+    fn clone(&self) -> Result<Update, AllocError> {
+        Ok(match self {
+            Update::Register { imsi } => Update::Register { imsi: *imsi },
+            Update::Insert {
+                imsi,
+                o,
+                o_criteria,
+                vt,
+                t_criteria,
+            } => Update::Insert {
+                imsi: *imsi,
+                o: *o,
+                o_criteria: o_criteria.clone()?,
+                vt: *vt,
+                t_criteria: t_criteria.clone()?,
+            },
+            Update::Delete { imsi, what } => Update::Delete {
+                imsi: *imsi,
+                what: *what,
+            },
+            Update::Cancel { imsi } => Update::Cancel { imsi: *imsi },
+        })
+    }
+}

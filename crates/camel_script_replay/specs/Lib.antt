@@ -1,6 +1,0 @@
-pub mod Fronts
-pub mod Output
-pub mod ReplayFault
-pub mod Store
-pub mod StoreCode
-pub mod Written

@@ -1,4 +1,0 @@
-pub mod Item
-pub mod Parts
-pub mod Reading
-pub mod Texts

@@ -1,0 +1,13 @@
+use Rattle.std.proofs.Common.{◌∙◌, ap, subst, sym}
+use Rattle.camel_rows.specs.Decision.{DecisionData, decision}
+use Rattle.camel_rows.specs.Event.{event_data}
+use Rattle.camel_vlr.proofs.OwnUpdatesLemmas.{decided_by_own}
+use Rattle.camel_vlr.specs.OwnUpdates.{DecidedByOwn}
+use Rattle.camel_vlr.proofs.session.look.Look.decide.Goals as goal
+
+pub returns-clause-own : goal.returns-clause-own
+returns-clause-own c =
+    let session = c.args.self.now.session.now in
+    let event = event_data c.args.event.now in
+    let decided = c.decide_in.ensures ∙ ap (λ m. decision m event) c.copy_at_hand.ensures.records in
+    subst (λ (d : DecisionData). DecidedByOwn session.store.limit session.seen event d) (sym decided) (decided_by_own session.store.limit session.seen event c.copy_at_hand.ensures.front)

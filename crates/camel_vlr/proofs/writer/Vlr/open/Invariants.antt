@@ -1,0 +1,16 @@
+use Rattle.std.proofs.Common.{◌≡◌, ◌-◌, ◌≤◌, [], vec_len, vec_capacity, All}
+use Rattle.camel_vlr.specs.Store.{fresh}
+use Rattle.camel_vlr.proofs.writer.Vlr.open.Given as goal
+
+abbrev pub invariant-loop-store : goal.invariant-loop-store
+invariant-loop-store g l = record {
+  published : l.store.published ≡ [];
+  pending : l.store.pending ≡ [];
+  limit : l.store.store.limit ≡ l.limit;
+  few : vec_len l.sessions ≤ l.places;
+  room : l.places ≤ vec_capacity l.sessions;
+  fresh_all : All (λ s. s ≡ fresh l.store.store) l.sessions.items;
+}
+
+abbrev pub decreases-loop-store : goal.decreases-loop-store
+decreases-loop-store g l = l.places - vec_len l.sessions

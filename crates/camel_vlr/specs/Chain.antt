@@ -1,0 +1,58 @@
+-- The updates of a history as a chain of links, each of which uses up the cell that the link before it names. So
+-- the chain from a cell on can only grow at its end, by whoever has the right to the cell that its last link names.
+use Rattle.std.specs.Prelude.{ℕ, ◌≡◌, ◌==◌, ◌<◌, true, List, [], ◌∷◌, ◌++◌, length, if◌then◌else◌}
+use Rattle.logbook.specs.Pages.{Book, Cell, Named, Step, View, cell, may_make}
+use Rattle.camel_rows.specs.declared.subscriber.update.Update.{Update}
+use Rattle.camel_vlr.specs.declared.history.link.Link.{Link}
+
+-- the one word of a book at which all steps are made
+abbrev pub head_of : Book → Named
+head_of book = record { tracked = true; key = 0; book = book }
+
+-- the cell of a link is at home: no right to write it is left
+abbrev pub IsUsedUp : List Cell → Link → Type 0
+IsUsedUp cells link = (link.cell < length cells) × ((cell cells link.cell).1 ≡ true)
+
+abbrev pub AllUsedUp : List Cell → List Link → Type 0
+AllUsedUp cells [] = Unit {0}
+AllUsedUp cells (link ∷ links) = IsUsedUp cells link × AllUsedUp cells links
+
+-- the word of all steps holds 0, and each link's cell is used up
+pub record UsedUp (cells : List Cell) (links : List Link) : Type 0 where
+  pub others : List Cell
+  pub head : cells ≡ (0, true) ∷ others
+  pub each : AllUsedUp cells links
+
+-- the updates of the chain that begins at a cell
+abbrev pub list_of : ℕ → List Link → List Update
+list_of start [] = []
+list_of start (link ∷ links) = if link.cell == start then link.updates ++ list_of link.next links else list_of start links
+
+-- the cell that the next link of that chain has to use up
+abbrev pub tail_of : ℕ → List Link → ℕ
+tail_of start [] = start
+tail_of start (link ∷ links) = if link.cell == start then tail_of link.next links else tail_of start links
+
+-- the cell that the last link names, and its limit
+abbrev pub root_of : List Link → ℕ
+root_of [] = 0
+root_of (link ∷ []) = link.next
+root_of (link ∷ second ∷ links) = root_of (second ∷ links)
+
+abbrev pub limit_of : List Link → ℕ
+limit_of [] = 0
+limit_of (link ∷ []) = link.limit
+limit_of (link ∷ second ∷ links) = limit_of (second ∷ links)
+
+-- after the step there is a new cell, which no link has used up and the last link names, with the limit that was asked
+pub record MadeCell (step : Step Link) (before : View Link ℕ) (found : ℕ) (after : View Link ℕ) : Type 0 where
+  pub right : after.1.0.right ≡ may_make
+  pub list : list_of after.1.0.key after.0 ≡ []
+  pub tail : tail_of after.1.0.key after.0 ≡ after.1.0.key
+  pub root : root_of after.0 ≡ after.1.0.key
+  pub limit : limit_of after.0 ≡ step.ask.limit
+
+-- after the step the updates stand behind the chain whose next cell was the pen's, and the chain goes on at `next`
+abbrev pub AddedLink : List Update → ℕ → Step Link → View Link ℕ → ℕ → View Link ℕ → Type 0
+AddedLink updates next step before found after =
+    (start : ℕ) → tail_of start before.0 ≡ before.1.0.key → (list_of start after.0 ≡ list_of start before.0 ++ updates) × (tail_of start after.0 ≡ next)

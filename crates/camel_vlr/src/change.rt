@@ -1,9 +1,0 @@
-use camel_history::Beginning;
-use camel_rows::Update;
-
-/// What the writer does to a copy: an update, and behind the updates of a publication the front that they make.
-#[derive(Drop)]
-pub enum Change {
-    Update(Update),
-    Front(Beginning),
-}

@@ -1,0 +1,92 @@
+ghost use Rattle.std.specs.Prelude.{◌≡◌, []};
+ghost use Rattle.logbook.specs.Pages.{may_write};
+ghost use Rattle.camel_vlr.specs.Chain.{head_of, limit_of, list_of, root_of, tail_of};
+
+use camel_rows::Update;
+use logbook::{Gain, Offer, Pen, Plain, Play, Rule, Seen, Word};
+use std::collections::LinkedList;
+
+/// A link of a chain: the cell that it uses up, the updates that it adds, and the cell that the link after it has to
+/// use up. `limit` is that of the history which begins at `next`. No value of it is made.
+pub struct Link {
+    pub cell: u64,
+    pub updates: LinkedList<Update>,
+    pub next: u64,
+    pub limit: u64,
+}
+
+/// Each link uses up a cell of its own, so no two links follow the same one.
+pub struct OneChain;
+
+impl Rule<Link, u64> for OneChain {
+    ghost use Rattle.std.specs.Prelude.{[]};
+    ghost use base.Fml.{ftrue};
+    ghost use Rattle.camel_vlr.specs.Chain.{UsedUp};
+
+    ghost holds = { λ cells log. UsedUp cells log };
+
+    ghost first = { [] };
+
+    ghost hinted = { λ n log. Unit {0} };
+
+    ghost shows = { λ log. [] };
+
+    ghost keeps = { λ names log. ftrue };
+
+    ghost moves = { λ ask before after answer. Unit {0} };
+}
+
+/// What is known of the links.
+pub(crate) type Log = Seen<Link, u64, OneChain>;
+
+/// The word that each step is made at. It holds 0 for good.
+pub(crate) type Head = Word<Link, u64, OneChain>;
+
+/// Nothing is traded for a link.
+pub(crate) struct NoGain;
+
+impl Gain<Link, u64> for NoGain {
+    ghost use base.Fml.{ftrue};
+
+    ghost after = { λ names about answer. ftrue };
+}
+
+/// What is asked of a step: a cell at which a history with this limit may begin.
+pub(crate) struct WithLimit;
+
+impl Plain<u64, Link, u64> for WithLimit {
+    ghost use Rattle.std.specs.Prelude.{None, []};
+
+    ghost ask = { λ limit. record { cell = 0; updates = []; next = 0; limit = limit } };
+
+    ghost state = { λ limit. None };
+}
+
+/// A step that makes a cell.
+struct Cells;
+
+impl Play<Link, u64> for Cells {
+    ghost use Rattle.camel_vlr.specs.Chain.{MadeCell};
+
+    ghost then = { MadeCell };
+}
+
+/// A cell that no link has used up, and that the last link names.
+pub(crate) fn cell(head: &Head, seen: &mut Log, limit: u64) -> Pen
+    requires { head.now ≡ head_of seen.old.book }
+    ensures book { (result.book ≡ seen.old.book) × (seen.new.book ≡ seen.old.book) }
+    ensures right { result.nib.right ≡ may_write }
+    ensures list { list_of result.nib.key seen.new.log ≡ [] }
+    ensures tail { tail_of result.nib.key seen.new.log ≡ result.nib.key }
+    ensures root { root_of seen.new.log ≡ result.nib.key }
+    ensures limit { limit_of seen.new.log ≡ limit }
+{
+    let mut offer: Offer<Link, u64, OneChain, NoGain> = seen.plain::<NoGain, u64, WithLimit>(
+        &limit,
+    );
+    let mut pen = seen.no_pen();
+    head.compare_exchange::<Cells, NoGain>(0, 0, seen, &mut offer, &mut pen);
+    let word: Head = Word::tracked(0, &mut pen);
+    drop(word);
+    pen
+}

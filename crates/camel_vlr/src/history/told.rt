@@ -1,0 +1,46 @@
+use crate::receipt::Receipt;
+use std::marker::Model;
+use std::snapshot::Snapshot;
+
+/// The fronts that a session was told of: those before, and the last one. A session keeps a snapshot of it, so that
+/// clauses alone read it, and it takes no bytes.
+#[derive(Drop)]
+pub struct Told {
+    last: Option<(Snapshot<Told>, Snapshot<Receipt>)>,
+}
+
+impl Model for Told {
+    ghost use Rattle.std.specs.Prelude.{List, length, ◌++◌, ◌∷◌, []};
+    ghost use Rattle.camel_rows.specs.declared.subscriber.update.Update.{Update};
+    ghost use Rattle.camel_vlr.specs.Told.{list_or_none};
+    ghost use Rattle.std.proofs.Common.{arith, length-append};
+
+    ghost Value = { List (List Update) };
+
+    ghost view = { λ a. list_or_none a.last (λ p. p.0.value ++ p.1.value.updates ∷ []) };
+
+    ghost size = { length };
+
+    ghost size_decreases = { λ a h. Prim.grind (arith, length-append) };
+}
+
+impl Told {
+    ghost use Rattle.std.specs.Prelude.{◌≡◌, ◌++◌, ◌∷◌, []};
+
+    /// Told of nothing.
+    pub fn nothing() -> Snapshot<Told>
+        ensures { result.value ≡ [] }
+    {
+        Snapshot::of(&Told { last: None })
+    }
+
+    /// Told of one front more.
+    pub fn and(before: Snapshot<Told>, receipt: &Receipt) -> Snapshot<Told>
+        ensures { result.value ≡ before.value ++ receipt.now.updates ∷ [] }
+    {
+        let told = Told {
+            last: Some((before, Snapshot::of(receipt))),
+        };
+        Snapshot::of(&told)
+    }
+}

@@ -1,0 +1,90 @@
+ghost use Rattle.std.specs.Prelude.{◌≡◌, true, length, IfErr, IfOk};
+ghost use Rattle.std.specs.FinMap as map;
+ghost use Rattle.std.specs.Option.{option_and_then, option_copied, option_map};
+ghost use Rattle.camel_rows.specs.Decision.{decision, decision_data};
+ghost use Rattle.camel_rows.specs.Event.{event_data};
+ghost use Rattle.camel_rows.specs.Subscriber.{entry_at, entry_data, row_at};
+ghost use Rattle.camel_rows.specs.Update.{records_of};
+ghost use Rattle.camel_vlr.specs.OwnUpdates.{DecidedByOwn};
+
+use crate::session::Session;
+use camel_criteria::Refusal;
+use camel_rows::{Decision, Event, Lent, Records, TdpRow, decide_in};
+use camel_tbcd::Imsi;
+
+/// A look was not had: the store was ended.
+#[derive(Clone, Copy, Debug)]
+pub struct NoLook;
+
+/// A look at one front. All that it answers is of this front, whatever is published meanwhile.
+///
+/// It borrows its session, and all that it lends borrows from it. Until it is left, a publication may have to wait for
+/// it. No function of it takes memory.
+pub struct Look<'s> {
+    pub(crate) session: &'s mut Session,
+}
+
+impl Look<'_> {
+    ghost use Rattle.camel_vlr.specs.Session.{Ended};
+
+    /// Decides an event by the trigger rules of TS 23.078, over the data of the front. The row and the entry that it
+    /// lends are the stored ones. The updates of the event's subscriber alone would leave the same decision.
+    pub fn decide(&self, event: &Event) -> Decision<'_>
+        requires { self.now.session.now.looks ≡ true }
+        ensures decision { decision_data result ≡ decision (records_of self.now.session.now.seen) (event_data event.now) }
+        ensures own { DecidedByOwn self.now.session.now.store.limit self.now.session.now.seen (event_data event.now)
+            (decision_data result) }
+    {
+        decide_in(&self.session.copy_at_hand().records, event)
+    }
+
+    /// How many updates the front has.
+    pub fn front(&self) -> u64
+        requires { self.now.session.now.looks ≡ true }
+        ensures { result ≡ length self.now.session.now.seen }
+    {
+        self.session.copy_at_hand().count
+    }
+
+    /// The TDP row of a subscriber at a detection point, where it is armed.
+    pub fn row(&self, imsi: &Imsi, dp: u8) -> Option<&TdpRow>
+        requires { self.now.session.now.looks ≡ true }
+        ensures { option_copied result ≡ option_and_then (row_at dp) (map.get (records_of self.now.session.now.seen) imsi.now) }
+    {
+        self.session.copy_at_hand().records.get(imsi)?.row(dp)
+    }
+
+    /// The criteria entry of a subscriber at a detection point, where there is one.
+    pub fn criteria(&self, imsi: &Imsi, dp: u8) -> Option<Lent<'_>>
+        requires { self.now.session.now.looks ≡ true }
+        ensures { option_map entry_data result ≡ option_and_then (entry_at dp) (map.get (records_of self.now.session.now.seen) imsi.now) }
+    {
+        self.session.copy_at_hand().records.get(imsi)?.criteria(dp)
+    }
+
+    // Equal records.
+    pub(crate) fn records(&self) -> Result<Records, Refusal>
+        requires { self.now.session.now.looks ≡ true }
+        ensures equal { IfOk result (λ records. records ≡ records_of self.now.session.now.seen) }
+        ensures only { IfErr result (λ why. why ≡ Refusal.OutOfMemory) }
+    {
+        self.session.copy_at_hand().records.copy()
+    }
+
+    /// Ends the look, as letting go of it does.
+    pub fn leave(self)
+        ensures { Ended self.entry.session.now self.exit.0.now }
+    {}
+}
+
+impl Drop for Look<'_> {
+    ghost use Rattle.std.specs.Prelude.{◌≡◌};
+    ghost use Rattle.camel_vlr.specs.Session.{Ended};
+
+    fn drop(self)
+        ensures { Ended self.entry.session.now self.exit.0.now }
+    {
+        let Look { session } = self;
+        session.leave();
+    }
+}

@@ -1,0 +1,62 @@
+ghost use Rattle.std.specs.Prelude.{◌≡◌, ◌⊎◌, [], ◌∷◌, ◌++◌, length, IfErr, IfOk, OnOk};
+ghost use Rattle.camel_rows.specs.Front.{Extends};
+ghost use Rattle.camel_rows.specs.Update.{records_of};
+ghost use Rattle.camel_vlr.specs.Fronts.{ExtendsAll};
+
+use crate::session::Session;
+use crate::writer::Vlr;
+use camel_criteria::Refusal;
+use camel_rows::Records;
+use std::sync::Wait;
+
+/// A store that was not closed, as it was, and why.
+pub struct CloseRefused {
+    pub why: Refusal,
+    pub store: Vlr,
+}
+
+impl Vlr {
+    /// Ends the store, and gives the records that the published updates leave. What is pending is dropped. It waits for
+    /// the looks that are not left. The session has to be of the same store; it is told of all that is published.
+    ///
+    /// `OutOfMemory` (102) is answered where memory was refused, and `NoGuard` (104) where the session got no look; then
+    /// the store comes back with all that is published and pending.
+    pub fn close<R: Wait>(self, rt: &R, session: &mut Session) -> Result<Records, CloseRefused>
+        requires { session.old.store ≡ self.store }
+        ensures records { IfOk result (λ records. records ≡ records_of self.published) }
+        ensures unchanged { IfErr result (λ refused. refused.store ≡ self) }
+        ensures only { IfErr result (λ refused. (refused.why ≡ Refusal.OutOfMemory) ⊎ (refused.why ≡ Refusal.NoGuard)) }
+        ensures same_store { session.new.store ≡ session.old.store }
+        ensures told { session.new.told ≡ session.old.told ++ self.published ∷ [] }
+        ensures later { Extends session.new.seen session.old.seen }
+    {
+        let store = self;
+        session.learn(store.receipt());
+        match records_at(session, store.published()) {
+            Ok(records) => {
+                store.end(rt);
+                Ok(records)
+            }
+            Err(why) => Err(CloseRefused { why, store }),
+        }
+    }
+}
+
+// The records of a look at a front that has so many updates.
+fn records_at(session: &mut Session, front: u64) -> Result<Records, Refusal>
+    ensures same_store { session.new.store ≡ session.old.store }
+    ensures keeps { session.new.told ≡ session.old.told }
+    ensures later { Extends session.new.seen session.old.seen }
+    ensures told { OnOk result (ExtendsAll session.new.seen session.old.told) }
+    ensures front { OnOk result (length session.new.seen ≡ front) }
+    ensures records { IfOk result (λ records. records ≡ records_of session.new.seen) }
+    ensures only { IfErr result (λ why. (why ≡ Refusal.OutOfMemory) ⊎ (why ≡ Refusal.NoGuard)) }
+{
+    let Ok(look) = session.look() else {
+        return Err(Refusal::NoGuard);
+    };
+    if look.front() != front {
+        return Err(Refusal::NoGuard);
+    }
+    look.records()
+}

@@ -1,0 +1,9 @@
+use crate::history::prefix::Beginning;
+use camel_rows::Update;
+
+/// What the writer does to a copy: an update, and behind the updates of a publication the front that they make.
+#[derive(Drop)]
+pub enum Change {
+    Update(Update),
+    Front(Beginning),
+}
