@@ -1,8 +1,7 @@
 //! Replays a script of subscriber data updates and calls, from standard input to standard output.
 #![tactic(auto)]
 
-use camel_replay_lib::{FAULT_STATUS, REJECTED_STATUS, run};
-use camel_replay_lib::{write_whole};
+use camel_replay_lib::{FAULT_STATUS, REJECTED_STATUS, run, write_whole};
 use std::io;
 use std::io::ErrorKind;
 use std::process::ExitCode;

@@ -3,7 +3,7 @@ use Rattle.std.proofs.Common.{◌≡◌, ◌∙◌, ℕ, ◌+◌, ◌<◌, ◌==
 use Rattle.std.proofs.lemmas.List.{length-append}
 use Rattle.camel_criteria.specs.declared.refusal.Refusal.{Refusal}
 use Rattle.camel_rows.proofs.UpdateLemmas.{AcceptedFrom-push, records_from-append}
-use Rattle.camel_rows.specs.Store.{refusal_or_full}
+use Rattle.camel_rows.specs.Front.{refusal_or_full}
 use Rattle.camel_rows.specs.Records.{RecordsData, no_records}
 use Rattle.camel_rows.proofs.DirectoryLemmas.{IsDirectoryOf-after, IsDirectoryOf-empty, same_refusal}
 use Rattle.camel_rows.specs.Directory.{DirectoryData, csis_after, csis_refusal, empty_directory, with_csis}

@@ -1,4 +1,4 @@
-//! The tests of `camel_command`, which call it from outside, as its users do.
+//! The tests of `camel_replay_lib`, which call it from outside, as its users do.
 #![tactic(auto)]
 
 #[cfg(test)]

@@ -8,7 +8,6 @@ pub mod Outcome
 pub mod Received
 pub mod Records
 pub mod Rows
-pub mod Store
 pub mod Subscriber
 pub mod TdpRow
 pub mod Update

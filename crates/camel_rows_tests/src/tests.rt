@@ -1,6 +1,6 @@
-mod csi;
 mod copies;
 mod criteria;
+mod csi;
 mod decisions;
 mod events;
 mod updates;

@@ -3,7 +3,7 @@ use Rattle.std.proofs.Common.{◌≡◌, ◌∙◌, ◌==◌, Bool, Option, leng
 use Rattle.std.specs.FinMap as map
 use Rattle.camel_criteria.specs.declared.refusal.Refusal.{Refusal}
 use Rattle.camel_rows.proofs.DirectoryLemmas.{same_refusal}
-use Rattle.camel_rows.specs.Store.{refusal_or_full}
+use Rattle.camel_rows.specs.Front.{refusal_or_full}
 use Rattle.camel_rows.specs.Directory.{IsDirectoryOf, DirectoryData, csis_refusal}
 use Rattle.camel_rows.specs.Update.{refusal, records_of, update_imsi}
 use Rattle.camel_rows.specs.declared.subscriber.update.Update.{Update}

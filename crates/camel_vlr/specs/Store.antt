@@ -2,7 +2,7 @@
 use Rattle.std.specs.Prelude.{◌==◌, List, [], ◌++◌, Option, length}
 use Rattle.camel_criteria.specs.declared.refusal.Refusal.{Refusal}
 use Rattle.camel_vlr.specs.Beginning.{StoreId}
-use Rattle.camel_rows.specs.Store.{refusal_or_full}
+use Rattle.camel_rows.specs.Front.{refusal_or_full}
 use Rattle.camel_rows.specs.Update.{refusal, records_of}
 use Rattle.camel_rows.specs.declared.subscriber.update.Update.{Update}
 use Rattle.camel_vlr.specs.Session.{SessionData, untold}

@@ -1,6 +1,5 @@
 use super::{FIRST_CALL, FIRST_CALL_OUTPUT, check_run, words};
-use camel_replay_lib::run;
-use camel_replay_lib::{ReplayFault, replay};
+use camel_replay_lib::{ReplayFault, replay, run};
 use std::alloc::Global;
 use std::io;
 use std::io::{ErrorKind, Read, Write};

@@ -1,4 +1,4 @@
-use camel_replay_lib::{replay};
+use camel_replay_lib::replay;
 use std::cell::Cell;
 use std::io;
 use std::io::{ErrorKind, Read, Write};

@@ -5,9 +5,8 @@ use super::{
     opened_with_last, opened_with_one, receipt_of, tell,
 };
 use camel_criteria::Refusal;
-use camel_vlr::{Beginning};
 use camel_rows::{Reason, Update, Withdrawal};
-use camel_vlr::{Receipt, Session, Vlr};
+use camel_vlr::{Beginning, Receipt, Session, Vlr};
 use std::mem::size_of;
 use std::process::Abort;
 use std::sync::Wait;
