@@ -3,11 +3,11 @@ use super::{
     PlainRow, PlainT, RELEASE, TELEPHONY, Told, base, bring, call_at, check_calls, imsi_of,
     lent_at, told,
 };
-use camel_criteria::{BasicService, Handling};
-use camel_rows::{
-    BUSY, COLLECTED_INFO, NO_ANSWER, ROUTE_SELECT_FAILURE, Reason, Records, TERMINATING_ATTEMPT,
-    Update, decisions_mean, on_failure,
+use camel_criteria::{
+    BUSY, BasicService, COLLECTED_INFO, Handling, NO_ANSWER, ROUTE_SELECT_FAILURE,
+    TERMINATING_ATTEMPT,
 };
+use camel_rows::{Reason, Records, Update, decisions_mean, on_failure};
 use camel_tbcd::Imsi;
 use std::alloc::Global;
 use std::process::Abort;
