@@ -1,5 +1,5 @@
 # `make replay SCRIPT=examples/first-call.csv` replays a script, and `make test` passes all tests: the gate, then the
-# programs that must not compile, and each example with its output.
+# programs that must not compile, and each script of examples/ and tests/scripts/ with all that it leaves.
 
 SCRIPT ?= examples/first-call.csv
 LIMIT ?= 1000000
@@ -7,10 +7,7 @@ PROGRAM := crates/camel_replay/out/camel_replay
 LOG := crates/camel_replay/out/build.log
 BENCH_LOG := crates/camel_vlr_bench/out/build.log
 
-# An example, and the limit with which it is replayed.
-EXAMPLES := first-call:1000000 prepaid:1000000 change-of-profile:1000000 refusals:3
-
-.PHONY: program replay examples bench bench-program bench-vlr count-vlr test
+.PHONY: program replay examples scripts bench bench-program bench-vlr count-vlr test
 
 # Proves and builds the program where a source has changed, about 12 minutes the first time.
 program:
@@ -22,11 +19,10 @@ replay: program
 	@$(PROGRAM) --limit $(LIMIT) < $(SCRIPT)
 
 examples: program
-	@for example in $(EXAMPLES); do \
-	    name=$${example%:*}; \
-	    $(PROGRAM) --limit $${example#*:} < examples/$$name.csv | diff examples/$$name.txt - || exit 1; \
-	    echo "example $$name ... ok"; \
-	done
+	@.ci/scripts examples
+
+scripts: program
+	@.ci/scripts tests/scripts
 
 bench: program
 	@bench/run
@@ -45,4 +41,4 @@ count-vlr: bench-program
 test:
 	rt ci
 	@.ci/must-not-compile
-	@$(MAKE) --no-print-directory examples
+	@$(MAKE) --no-print-directory examples scripts

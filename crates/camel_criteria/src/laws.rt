@@ -6,7 +6,7 @@ ghost use Rattle.camel_criteria.specs.Met.{number_met, o_met, t_met};
 ghost use Rattle.camel_criteria.specs.declared.event.TEvent.{TEvent};
 
 /// A law of the definitions: a destination number criterion is met, and an entry of criteria is met, exactly
-/// where the words of TS 23.078 say so. It does nothing when it is called.
+/// where the definitions in the words of TS 23.078 say so. It does nothing when it is called.
 pub fn criteria_mean()
     ensures number { (criterion : NumberCriterionData) (destination : List ℕ)
         → IsTrue (number_met criterion destination) ↔ NumberMetBy criterion.match_type criterion destination }

@@ -5,6 +5,7 @@
 mod basic_service;
 mod cause;
 mod criteria;
+mod criteria_entry;
 mod detection_point;
 mod entry_limits;
 mod event;
@@ -20,6 +21,7 @@ mod t_criteria;
 pub use basic_service::{BasicService, EMERGENCY_CALLS, covers};
 pub use cause::{Cause, MAX_CAUSE};
 pub use criteria::{CallType, MatchType};
+pub use criteria_entry::{AtDetectionPoint, CriteriaEntry};
 pub use detection_point::{
     BUSY, COLLECTED_INFO, NO_ANSWER, O_DETECTION_POINTS, ROUTE_SELECT_FAILURE, TERMINATING_ATTEMPT,
     VT_DETECTION_POINTS, is_among, is_o_detection_point, is_vt_detection_point,

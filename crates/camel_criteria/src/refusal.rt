@@ -21,9 +21,9 @@ pub enum Refusal {
     HistoryFull,
     /// 102: memory was refused.
     OutOfMemory,
-    /// 103: there is no place for a further reader.
+    /// 103: a session got no place in the store.
     NoPlace,
-    /// 104: the reader was given no guard.
+    /// 104: the session got no look at the published front.
     NoGuard,
 }
 

@@ -2,4 +2,14 @@
 #![tactic(auto)]
 
 #[cfg(test)]
-mod tests;
+mod basic_services;
+#[cfg(test)]
+mod constructors;
+#[cfg(test)]
+mod limits;
+#[cfg(test)]
+mod met;
+#[cfg(test)]
+mod refusals;
+#[cfg(test)]
+mod values;

@@ -1,7 +1,7 @@
 //! Replays a script of subscriber data updates and calls, from standard input to standard output.
 #![tactic(auto)]
 
-use camel_replay_lib::{FAULT_STATUS, REJECTED_STATUS, run, write_whole};
+use camel_replay_lib::{FAULT_STATUS, REJECTED_STATUS, run, write_all};
 use std::io;
 use std::io::ErrorKind;
 use std::process::ExitCode;
@@ -20,7 +20,7 @@ fn main(rt: HostRuntime) -> ExitCode {
                 ErrorKind::OutOfMemory => ("camel_replay: fault 102\n", FAULT_STATUS),
                 _ => ("error: an argument is not UTF-8\n", REJECTED_STATUS),
             };
-            let _ = write_whole(&mut rt.stderr(), text.as_bytes());
+            let _ = write_all(&mut rt.stderr(), text.as_bytes());
             status
         }
     };

@@ -1,90 +1,64 @@
 -- What is published in a run is a front, and only grows.
-use Rattle.std.proofs.Common.{◌≡◌, ◌∙◌, ℕ, ◌+◌, ◌≤◌, ◌==◌, Bool, true, false, List, [], ◌∷◌, ◌++◌, length, Option, Some, None, refl, sym, ap, subst, arith, append_assoc}
-use Rattle.std.proofs.lemmas.Bool.Decides.{nat_tests}
-use Rattle.std.proofs.lemmas.List.{append-nil, length-append}
+use base.Growing.{prefix_trans}
+use Rattle.std.proofs.Common.{◌≡◌, ◌∙◌, ℕ, List, [], ◌∷◌, ◌++◌, Option, Some, None, refl, sym, ap, subst, arith}
+use Rattle.std.proofs.lemmas.List.{append-nil}
 use Rattle.camel_criteria.specs.declared.refusal.Refusal.{Refusal}
-use Rattle.camel_rows.proofs.UpdateLemmas.{AcceptedFrom-prefix, AcceptedFrom-push}
-use Rattle.camel_rows.specs.Front.{Extends, IsFront, refusal_or_full}
-use Rattle.camel_rows.specs.Records.{no_records}
-use Rattle.camel_rows.specs.Update.{refusal, records_of}
+use Rattle.camel_rows.proofs.StoreLemmas.{IsFront-published, IsFront-with_update}
+use Rattle.camel_rows.specs.Front.{Extends, IsFront}
+use Rattle.camel_rows.specs.Store.{Updates, accepted_updates, no_updates, store_refusal}
 use Rattle.camel_rows.specs.declared.subscriber.update.Update.{Update}
 use Rattle.camel_script.specs.declared.record.Record.{Record}
-use Rattle.camel_script.specs.declared.record.Record.TheVariants as request
-use Rattle.camel_replay_lib.specs.Fronts.{history_from, published_after}
-use Rattle.camel_replay_lib.specs.Output.{History, accepted_updates, history_after, no_history, why_refused, with_update}
+use Rattle.camel_script.specs.declared.record.Record.TheVariants as script_record
+use Rattle.camel_replay_lib.specs.Fronts.{published_after, updates_from}
+use Rattle.camel_replay_lib.specs.Output.{after_submission, updates_after}
 
 -- published and pending updates together are a front
-abbrev AreFront : ℕ → History → Type 0
-AreFront limit history = IsFront limit (accepted_updates history)
+abbrev AreFront : ℕ → Updates → Type 0
+AreFront limit updates = IsFront limit (accepted_updates updates)
 
-not_refused : (o : Option Refusal) (full : Bool) → refusal_or_full o full ≡ None → (o ≡ None) × (full ≡ false)
-not_refused (Some why) full e = absurd (cc)
-not_refused None true e = absurd (cc)
-not_refused None false e = (refl, refl)
+AreFront-submission : (limit : ℕ) (updates : Updates) (update : Update) (why : Option Refusal) → store_refusal limit updates update ≡ why → AreFront limit updates
+    → AreFront limit (after_submission updates update why)
+AreFront-submission limit updates update (Some why) e front = front
+AreFront-submission limit updates update None e front = IsFront-with_update limit updates update front e
 
-AreFront-with_update : (limit : ℕ) (history : History) (update : Update) (why : Option Refusal) → why_refused limit history update ≡ why → AreFront limit history
-    → AreFront limit (with_update history update why)
-AreFront-with_update limit history update (Some why) e front = front
-AreFront-with_update limit history update None e front =
-    let old : List Update = accepted_updates history in
-    let accepted = not_refused (refusal (records_of old) update) (length history.published + length history.pending == limit) e in
-    let count : length old ≡ length history.published + length history.pending = length-append history.published history.pending in
-    let not_full : (length history.published + length history.pending == limit) ≡ false = accepted.1 in
-    let same : history.published ++ (history.pending ++ update ∷ []) ≡ old ++ update ∷ [] = sym (append_assoc history.published history.pending (update ∷ [])) in
-    let longer : length (old ++ update ∷ []) ≡ length old + 1 = length-append old (update ∷ []) in
-    let few : length old ≤ limit = front.few in
-    rw same (record {
-      accepted = AcceptedFrom-push no_records old update front.accepted accepted.0;
-      few = rw longer (grind (arith, nat_tests));
-    })
+AreFront-after : (limit : ℕ) (updates : Updates) (next_record : Record) → AreFront limit updates → AreFront limit (updates_after limit updates next_record)
+AreFront-after limit updates (script_record.Update update) front = AreFront-submission limit updates update (store_refusal limit updates update) refl front
+AreFront-after limit updates script_record.Publish front = subst (IsFront limit) (sym (append-nil (accepted_updates updates))) front
+AreFront-after limit updates (script_record.Call event) front = front
+AreFront-after limit updates (script_record.Refused why) front = front
 
-AreFront-history_after : (limit : ℕ) (history : History) (asked : Record) → AreFront limit history → AreFront limit (history_after limit history asked)
-AreFront-history_after limit history (request.Update update) front = AreFront-with_update limit history update (why_refused limit history update) refl front
-AreFront-history_after limit history request.Publish front = subst (IsFront limit) (sym (append-nil (accepted_updates history))) front
-AreFront-history_after limit history (request.Call event) front = front
-AreFront-history_after limit history (request.Refused why) front = front
+AreFront-from : (limit : ℕ) (updates : Updates) (records : List Record) → AreFront limit updates → AreFront limit (updates_from limit updates records)
+AreFront-from limit updates [] front = front
+AreFront-from limit updates (next_record ∷ records) front =
+    AreFront-from limit (updates_after limit updates next_record) records (AreFront-after limit updates next_record front)
 
-AreFront-history_from : (limit : ℕ) (history : History) (requests : List Record) → AreFront limit history → AreFront limit (history_from limit history requests)
-AreFront-history_from limit history [] front = front
-AreFront-history_from limit history (asked ∷ requests) front =
-    AreFront-history_from limit (history_after limit history asked) requests (AreFront-history_after limit history asked front)
+pub published_is_front : (limit : ℕ) (records : List Record) → IsFront limit (published_after limit records)
+published_is_front limit records =
+    let nothing : AreFront limit no_updates = record { accepted = tt; few = omega arith } in
+    IsFront-published limit (updates_from limit no_updates records) (AreFront-from limit no_updates records nothing)
 
-pub published_is_front : (limit : ℕ) (requests : List Record) → IsFront limit (published_after limit requests)
-published_is_front limit requests =
-    let history = history_from limit no_history requests in
-    let nothing : AreFront limit no_history = record { accepted = tt; few = omega arith } in
-    let both = AreFront-history_from limit no_history requests nothing in
-    let count : length (accepted_updates history) ≡ length history.published + length history.pending = length-append history.published history.pending in
-    let few : length (accepted_updates history) ≤ limit = both.few in
-    record {
-      accepted = AcceptedFrom-prefix no_records history.published history.pending both.accepted;
-      few = omega arith;
-    }
-
-published_with_update : (history : History) (update : Update) (why : Option Refusal) → (with_update history update why).published ≡ history.published
-published_with_update history update None = refl
-published_with_update history update (Some why) = refl
+published-after_submission : (updates : Updates) (update : Update) (why : Option Refusal) → (after_submission updates update why).published ≡ updates.published
+published-after_submission updates update None = refl
+published-after_submission updates update (Some why) = refl
 
 -- one record leaves what is published, or lets it grow
-grows_by_one : (limit : ℕ) (history : History) (asked : Record) → Extends (history_after limit history asked).published history.published
-grows_by_one limit history (request.Update update) = ([], published_with_update history update _ ∙ sym (append-nil history.published))
-grows_by_one limit history request.Publish = (history.pending, refl)
-grows_by_one limit history (request.Call event) = ([], sym (append-nil history.published))
-grows_by_one limit history (request.Refused why) = ([], sym (append-nil history.published))
+grows_by_one : (limit : ℕ) (updates : Updates) (next_record : Record) → Extends (updates_after limit updates next_record).published updates.published
+grows_by_one limit updates (script_record.Update update) = ([], append-nil updates.published ∙ sym (published-after_submission updates update _))
+grows_by_one limit updates script_record.Publish = (updates.pending, refl)
+grows_by_one limit updates (script_record.Call event) = ([], append-nil updates.published)
+grows_by_one limit updates (script_record.Refused why) = ([], append-nil updates.published)
 
-grows_from : (limit : ℕ) (history : History) (requests : List Record) → Extends (history_from limit history requests).published history.published
-grows_from limit history [] = ([], sym (append-nil history.published))
-grows_from limit history (asked ∷ requests) =
-    let next = history_after limit history asked in
-    let first = grows_by_one limit history asked in
-    let later = grows_from limit next requests in
-    (first.0 ++ later.0, later.1 ∙ ap (λ (updates : List Update). updates ++ later.0) first.1 ∙ append_assoc history.published first.0 later.0)
+grows_from : (limit : ℕ) (updates : Updates) (records : List Record) → Extends (updates_from limit updates records).published updates.published
+grows_from limit updates [] = ([], append-nil updates.published)
+grows_from limit updates (next_record ∷ records) =
+    let next = updates_after limit updates next_record in
+    prefix_trans updates.published next.published _ (grows_by_one limit updates next_record) (grows_from limit next records)
 
-history_from-append : (limit : ℕ) (history : History) (requests more : List Record) → history_from limit history (requests ++ more) ≡ history_from limit (history_from limit history requests) more
-history_from-append limit history [] more = refl
-history_from-append limit history (asked ∷ requests) more = history_from-append limit (history_after limit history asked) requests more
+updates_from-append : (limit : ℕ) (updates : Updates) (records more : List Record) → updates_from limit updates (records ++ more) ≡ updates_from limit (updates_from limit updates records) more
+updates_from-append limit updates [] more = refl
+updates_from-append limit updates (next_record ∷ records) more = updates_from-append limit (updates_after limit updates next_record) records more
 
-pub published_grows : (limit : ℕ) (requests more : List Record) → Extends (published_after limit (requests ++ more)) (published_after limit requests)
-published_grows limit requests more =
-    let grown = grows_from limit (history_from limit no_history requests) more in
-    (grown.0, ap (λ (history : History). history.published) (history_from-append limit no_history requests more) ∙ grown.1)
+pub published_grows : (limit : ℕ) (records more : List Record) → Extends (published_after limit (records ++ more)) (published_after limit records)
+published_grows limit records more =
+    let grown = grows_from limit (updates_from limit no_updates records) more in
+    (grown.0, grown.1 ∙ sym (ap (λ (updates : Updates). updates.published) (updates_from-append limit no_updates records more)))

@@ -1,6 +1,6 @@
 -- How far a replay has come: what was written, and what the script still gives.
-use Rattle.std.proofs.Common.{◌≡◌, ◌∙◌, ℕ, ◌+◌, ◌-◌, false, List, [], ◌∷◌, ◌++◌, length, take, Option, Some, None, IfSome, IsTrue, refl, sym, ap, inl, inr, arith, append_assoc}
-use Rattle.std.proofs.KnownBytes.{Appends-kept, Appends-nil, Appends-trans}
+use Rattle.std.proofs.Common.{◌≡◌, ◌≢◌, ◌∙◌, true, ℕ, ◌+◌, ◌-◌, ◌⊎◌, Bool, false, List, [], ◌∷◌, ◌++◌, length, take, Option, Some, None, IfSome, IsTrue, refl, sym, ap, inl, inr, arith, append_assoc}
+use Rattle.std.proofs.KnownBytes.{Appends-kept, Appends-nil, Appends-trans, Keeps-refl}
 use Rattle.std.proofs.lemmas.List.{append-nil, length-append}
 use Rattle.std.proofs.Math.Seq.{take-append-add, take-append_seam}
 use Rattle.std.specs.Io.KnownBytes.{Appends, Keeps}
@@ -9,12 +9,12 @@ use Rattle.camel_script.specs.Script.{FaultsAs, Gives, IsOnlyFault, ScriptData}
 use Rattle.camel_script.specs.ScriptFault.{script_fault_code}
 use Rattle.camel_script.specs.declared.record.Record.{Record}
 use Rattle.camel_script.specs.declared.script_fault.ScriptFault.{ScriptFault}
-use Rattle.camel_replay_lib.specs.Output.{no_history, output}
-use Rattle.camel_replay_lib.specs.ReplayFault.{is_text_code}
-use Rattle.camel_replay_lib.specs.Store.{StoreData, empty_store, store_after, store_line}
-use Rattle.camel_replay_lib.specs.Written.{AppendsPart, Stopped, StopsAt, StopsAtFault, WroteAll}
+use Rattle.camel_script.specs.declared.script_fault.ScriptFault.TheVariants as fault
+use Rattle.camel_replay_lib.specs.Output.{line_of, output, output_from}
+use Rattle.camel_replay_lib.specs.ReplayFault.{is_memory_or_read_code, is_replay_code, is_text_code, is_write_code}
+use Rattle.camel_replay_lib.specs.Store.{StoreData, empty_store, store_after}
+use Rattle.camel_replay_lib.specs.Written.{AppendsPart, AppendsProperPart, Stops, StopsAtFault, StopsBeforeLine, StopsInLine, WritesAll}
 use Rattle.camel_replay_lib.specs.declared.script_replay.ReplayFault.{ReplayFault}
-use Rattle.camel_replay_lib.proofs.StoreLemmas.{store_output, store_output-store_of}
 
 -- The lines of the records so far were written, and the script still gives the rest. `lines` is said of
 -- every list of further records, so that it gives the whole output and that of the records so far.
@@ -23,7 +23,7 @@ pub record Progress (old new : Option (List ℕ)) (all : ScriptData) (limit numb
   pub written : List ℕ
   pub appends : Appends old new written
   pub records : all.records ≡ answered ++ rest.records
-  pub lines : (more : List Record) → output limit (answered ++ more) ≡ written ++ store_output store more
+  pub lines : (more : List Record) → output limit (answered ++ more) ≡ written ++ output_from store.limit store.updates more
   pub fault : all.fault ≡ rest.fault
   pub count : number ≡ length answered + 1
 
@@ -41,97 +41,133 @@ progress_at_first old (Some all) limit =
       written = [];
       appends = Appends-nil old;
       records = refl;
-      lines = store_output-store_of limit no_history;
+      lines = λ more. refl;
       fault = refl;
       count = refl;
     }
 
 -- one more record was answered by its line
-pub progress_by_one : (old mid new : Option (List ℕ)) (known left next : Option ScriptData) (limit number : ℕ) (store : StoreData) (asked : Record)
-    → Progresses old mid known limit number store left → Gives left next (Some asked) → Appends mid new (line_text (store_line store asked))
-    → Progresses old new known limit (number + 1) (store_after store asked) next
-unfolding store_output
-progress_by_one old mid new None left next limit number store asked so_far gives line = tt
-progress_by_one old mid new (Some all) None next limit number store asked so_far gives line = absurd so_far
-progress_by_one old mid new (Some all) (Some rest) None limit number store asked so_far gives line = absurd gives
-progress_by_one old mid new (Some all) (Some rest) (Some next) limit number store asked so_far gives line =
-    let text = line_text (store_line store asked) in
+pub progress_by_one : (old mid new : Option (List ℕ)) (known left next : Option ScriptData) (limit number : ℕ) (store : StoreData) (script_record : Record)
+    → Progresses old mid known limit number store left → Gives left next (Some script_record) → Appends mid new (line_text (line_of store.limit store.updates script_record))
+    → Progresses old new known limit (number + 1) (store_after store script_record) next
+unfolding output_from
+progress_by_one old mid new None left next limit number store script_record so_far gives line = tt
+progress_by_one old mid new (Some all) None next limit number store script_record so_far gives line = absurd so_far
+progress_by_one old mid new (Some all) (Some rest) None limit number store script_record so_far gives line = absurd gives
+progress_by_one old mid new (Some all) (Some rest) (Some next) limit number store script_record so_far gives line =
+    let text = line_text (line_of store.limit store.updates script_record) in
     record {
-      answered = so_far.answered ++ asked ∷ [];
+      answered = so_far.answered ++ script_record ∷ [];
       written = so_far.written ++ text;
       appends = Appends-trans old mid new so_far.written text so_far.appends line;
-      records = so_far.records ∙ rw gives.0 (sym (append_assoc so_far.answered (asked ∷ []) next.records));
+      records = so_far.records ∙ rw gives.0 (sym (append_assoc so_far.answered (script_record ∷ []) next.records));
       lines = λ more.
-          ap (λ (records : List Record). output limit records) (append_assoc so_far.answered (asked ∷ []) more) ∙ so_far.lines (asked ∷ more)
-          ∙ sym (append_assoc so_far.written text (store_output (store_after store asked) more));
+          ap (λ (records : List Record). output limit records) (append_assoc so_far.answered (script_record ∷ []) more) ∙ so_far.lines (script_record ∷ more)
+          ∙ sym (append_assoc so_far.written text (output_from store.limit (store_after store script_record).updates more));
       fault = so_far.fault ∙ gives.1;
       count =
-          let one_more : length (so_far.answered ++ asked ∷ []) ≡ length so_far.answered + 1 = length-append so_far.answered (asked ∷ []) in
+          let one_more : length (so_far.answered ++ script_record ∷ []) ≡ length so_far.answered + 1 = length-append so_far.answered (script_record ∷ []) in
           omega (arith, so_far.count);
     }
 
 module _ {old new : Option (List ℕ)} {all rest : ScriptData} {limit number : ℕ} {store : StoreData} (so_far : Progress old new all limit number store rest) where
-  whole_output : output limit all.records ≡ so_far.written ++ store_output store rest.records
+  whole_output : output limit all.records ≡ so_far.written ++ output_from store.limit store.updates rest.records
   whole_output = ap (λ (records : List Record). output limit records) so_far.records ∙ so_far.lines rest.records
 
   written_output : output limit so_far.answered ≡ so_far.written
-  unfolding store_output
+  unfolding output_from
   written_output =
       ap (λ (records : List Record). output limit records) (sym (append-nil so_far.answered)) ∙ so_far.lines [] ∙ append-nil so_far.written
 
   -- where nothing is left, what was written is the whole output
   output_at_end : rest.records ≡ [] → output limit all.records ≡ so_far.written
-  unfolding store_output
+  unfolding output_from
   output_at_end none = whole_output ∙ rw none (append-nil so_far.written)
 
   answered_at_end : rest.records ≡ [] → all.records ≡ so_far.answered
   answered_at_end none = so_far.records ∙ rw none (append-nil so_far.answered)
 
   part_of_output : AppendsPart old new (output limit all.records)
-  part_of_output = (so_far.written, store_output store rest.records, whole_output, so_far.appends)
+  part_of_output = (so_far.written, output_from store.limit store.updates rest.records, whole_output, so_far.appends)
 
-  -- a fault in the record after those answered, behind a part of its line
-  stops_in_next : (after : Option (List ℕ)) (front back : List ℕ) → Appends new after front → store_output store (take 1 rest.records) ≡ front ++ back
-      → StopsAt old after limit all.records (Some number)
-  stops_in_next after front back appends line =
-      let before : take (length so_far.answered) all.records ≡ so_far.answered = rw so_far.records (take-append_seam so_far.answered rest.records) in
+  records_before : take (length so_far.answered) all.records ≡ so_far.answered
+  records_before = rw so_far.records (take-append_seam so_far.answered rest.records)
+
+  record_count : length all.records ≡ length so_far.answered + length rest.records
+  record_count = ap (λ (records : List Record). length records) so_far.records ∙ length-append so_far.answered rest.records
+
+  -- the output begins with what was written, and then a part of the next record's line
+  part_with_line : (after : Option (List ℕ)) (script_record : Record) (more : List Record) → rest.records ≡ script_record ∷ more
+      → AppendsProperPart new after (line_text (line_of store.limit store.updates script_record)) → AppendsPart old after (output limit all.records)
+  unfolding output_from
+  part_with_line after script_record more next part =
+      let front = part.0 in
+      let back = part.1 in
+      let later = output_from store.limit (store_after store script_record).updates more in
+      let whole : output limit all.records ≡ (so_far.written ++ front) ++ (back ++ later) =
+      whole_output ∙ rw (next, part.2) (simp append_assoc) in
+      (so_far.written ++ front, back ++ later, whole, Appends-trans old new after so_far.written front so_far.appends part.4)
+
+  -- nothing more was written
+  stops_before_line : (after : Option (List ℕ)) → Keeps new after → StopsBeforeLine old after limit all.records (Some number)
+  stops_before_line after same =
+      record {
+        count = length so_far.answered;
+        within = omega (arith, record_count);
+        written = rw (records_before, written_output) (Appends-kept old new after so_far.written so_far.appends same);
+        place = ap (λ (n : ℕ). Some n) so_far.count;
+      }
+
+  -- a part of the next record's line was written, but not all of it
+  stops_in_line : (after : Option (List ℕ)) (script_record : Record) (more : List Record) → rest.records ≡ script_record ∷ more
+      → AppendsProperPart new after (line_text (line_of store.limit store.updates script_record)) → StopsInLine old after limit all.records (Some number)
+  unfolding output_from
+  stops_in_line after script_record more next part =
+      let front = part.0 in
+      let back = part.1 in
       let up_to : take (length so_far.answered + 1) all.records ≡ so_far.answered ++ take 1 rest.records =
       rw so_far.records (take-append-add so_far.answered rest.records 1) in
-      let less : length so_far.answered + 1 - 1 ≡ length so_far.answered = omega arith in
-      inl (
-        length so_far.answered,
-        ap (λ (n : ℕ). Some n) so_far.count,
-        record {
-          front = front;
-          back = back;
-          written = rw (less, before, written_output) (Appends-trans old new after so_far.written front so_far.appends appends);
-          line = rw (less, before, written_output, up_to) (so_far.lines (take 1 rest.records) ∙ rw line (sym (append_assoc so_far.written front back)));
-        },
-      )
+      let line : output_from store.limit store.updates (take 1 rest.records) ≡ front ++ back = rw (next, part.2) (append-nil (front ++ back)) in
+      let one_more : length rest.records ≡ length more + 1 = rw next (omega arith) in
+      record {
+        count = length so_far.answered;
+        front = front;
+        back = back;
+        within = omega (arith, record_count, one_more);
+        written = rw (records_before, written_output) (Appends-trans old new after so_far.written front so_far.appends part.4);
+        line =
+            rw (records_before, written_output, up_to)
+            (so_far.lines (take 1 rest.records) ∙ rw line (sym (append_assoc so_far.written front back)));
+        proper = part.3;
+        place = ap (λ (n : ℕ). Some n) so_far.count;
+      }
 
--- a number that is no fault of the text
-no_text_fault : (P : Type 0) (code other : ℕ) → code ≡ other → is_text_code other ≡ false → IsTrue (is_text_code code) → P
-no_text_fault P code other same none is = absurd (let wrong = rw (same, none) at is in cc)
+-- a code that is not of this kind
+not_of_kind : (P : Type 0) (is_kind : ℕ → Bool) (code other : ℕ) → code ≡ other → is_kind other ≡ false → IsTrue (is_kind code) → P
+not_of_kind P is_kind code other same none is = absurd (let wrong = rw (same, none) at is in cc)
 
--- the record could not be answered, and a part of its line was written
-pub stopped_in_line : (known : Option ScriptData) (old mid new : Option (List ℕ)) (left next : Option ScriptData) (limit number : ℕ) (store : StoreData) (asked : Record) (stop : ReplayFault)
-    → Progresses old mid known limit number store left → Gives left next (Some asked) → AppendsPart mid new (line_text (store_line store asked))
-    → is_text_code stop.code ≡ false → stop.number ≡ Some number → IfSome known (λ given. Stopped old new limit given stop)
-unfolding store_output
-stopped_in_line None old mid new left next limit number store asked stop so_far gives part none place = tt
-stopped_in_line (Some given) old mid new None next limit number store asked stop so_far gives part none place = absurd so_far
-stopped_in_line (Some given) old mid new (Some rest) None limit number store asked stop so_far gives part none place = absurd gives
-stopped_in_line (Some given) old mid new (Some rest) (Some next) limit number store asked stop so_far gives part none place =
-    let front = part.0 in
-    let back = part.1 in
-    let later = store_output (store_after store asked) next.records in
-    let whole : output limit given.records ≡ (so_far.written ++ front) ++ (back ++ later) =
-    whole_output so_far ∙ rw (gives.0, part.2) (simp append_assoc) in
-    let line : store_output store (take 1 rest.records) ≡ front ++ back = rw (gives.0, part.2) (append-nil (front ++ back)) in
+-- the record could not be answered: memory was refused, or its line could not be written whole
+pub stopped_in_record : (known : Option ScriptData) (old mid new : Option (List ℕ)) (left next : Option ScriptData) (limit number : ℕ) (store : StoreData) (script_record : Record) (stop : ReplayFault)
+    → Progresses old mid known limit number store left → Gives left next (Some script_record)
+    → ((stop.code ≡ 102) × Keeps mid new) ⊎ ((stop.code ≡ 208) × AppendsProperPart mid new (line_text (line_of store.limit store.updates script_record)))
+    → stop.number ≡ Some number → IfSome known (λ given. Stops old new limit given stop)
+stopped_in_record None old mid new left next limit number store script_record stop so_far gives fails place = tt
+stopped_in_record (Some given) old mid new None next limit number store script_record stop so_far gives fails place = absurd so_far
+stopped_in_record (Some given) old mid new (Some rest) None limit number store script_record stop so_far gives fails place = absurd gives
+stopped_in_record (Some given) old mid new (Some rest) (Some next) limit number store script_record stop so_far gives (inl memory) place =
     record {
-      part = (so_far.written ++ front, back ++ later, whole, Appends-trans old mid new so_far.written front so_far.appends part.3);
-      place = rw place (stops_in_next so_far new front back part.3 line);
-      text = no_text_fault _ stop.code stop.code refl none;
+      part =
+          (so_far.written, output_from store.limit store.updates rest.records, whole_output so_far, Appends-kept old mid new so_far.written so_far.appends memory.1);
+      text = not_of_kind _ is_text_code stop.code 102 memory.0 refl;
+      memory_or_read = λ _. rw place (stops_before_line so_far new memory.1);
+      write = not_of_kind _ is_write_code stop.code 102 memory.0 refl;
+    }
+stopped_in_record (Some given) old mid new (Some rest) (Some next) limit number store script_record stop so_far gives (inr write) place =
+    record {
+      part = part_with_line so_far new script_record next.records gives.0 write.1;
+      text = not_of_kind _ is_text_code stop.code 208 write.0 refl;
+      memory_or_read = not_of_kind _ is_memory_or_read_code stop.code 208 write.0 refl;
+      write = λ _. inl (rw place (stops_in_line so_far new script_record next.records gives.0 write.1));
     }
 
 -- the script has this fault next
@@ -146,11 +182,32 @@ at_text_fault old new all rest limit number store e stop so_far is only =
       place = rw (answered_at_end so_far none, is) (ap (λ (n : ℕ). Some n) so_far.count);
     }
 
+-- a fault of a read that was not the first one to fail is no fault of a replay, and each other one is
+pub is_replay_code-of_script : (e : ScriptFault) → e ≢ fault.Failed → is_replay_code (script_fault_code e) ≡ true
+is_replay_code-of_script fault.OutOfMemory other = refl
+is_replay_code-of_script fault.Word other = refl
+is_replay_code-of_script fault.FieldCount other = refl
+is_replay_code-of_script fault.Hexadecimal other = refl
+is_replay_code-of_script fault.Number other = refl
+is_replay_code-of_script fault.Read other = refl
+is_replay_code-of_script fault.TooManyRecords other = refl
+is_replay_code-of_script fault.Failed other = absurd (other refl)
+
+-- no fault of the script is of the output
+is_no_write_fault : (e : ScriptFault) → is_write_code (script_fault_code e) ≡ false
+is_no_write_fault fault.OutOfMemory = refl
+is_no_write_fault fault.Word = refl
+is_no_write_fault fault.FieldCount = refl
+is_no_write_fault fault.Hexadecimal = refl
+is_no_write_fault fault.Number = refl
+is_no_write_fault fault.Read = refl
+is_no_write_fault fault.TooManyRecords = refl
+is_no_write_fault fault.Failed = refl
+
 -- the script answered a fault
 pub stopped_by_script : (known : Option ScriptData) (old new : Option (List ℕ)) (left : Option ScriptData) (limit number : ℕ) (store : StoreData) (e : ScriptFault) (stop : ReplayFault)
     → Progresses old new known limit number store left → stop ≡ record { number = Some number; code = script_fault_code e } → FaultsAs e left
-    → IfSome known (λ given. Stopped old new limit given stop)
-unfolding store_output
+    → IfSome known (λ given. Stops old new limit given stop)
 stopped_by_script None old new left limit number store e stop so_far is faults = tt
 stopped_by_script (Some given) old new None limit number store e stop so_far is faults = absurd so_far
 stopped_by_script (Some given) old new (Some rest) limit number store e stop so_far is faults =
@@ -158,19 +215,23 @@ stopped_by_script (Some given) old new (Some rest) limit number store e stop so_
     let code : stop.code ≡ script_fault_code e = ap (λ (x : ReplayFault). x.code) is in
     record {
       part = part_of_output so_far;
-      place = rw place (stops_in_next so_far new [] (store_output store (take 1 rest.records)) (Appends-nil new) refl);
       text = text faults code;
+      memory_or_read = λ _. rw place (stops_before_line so_far new (Keeps-refl new));
+      write = write faults code;
     }
   where
     text : FaultsAs e (Some rest) → stop.code ≡ script_fault_code e → IsTrue (is_text_code stop.code) → StopsAtFault old new limit given stop
-    text (inl (inl memory)) code = no_text_fault _ stop.code 102 (code ∙ ap script_fault_code memory) refl
-    text (inl (inr read)) code = no_text_fault _ stop.code 206 (code ∙ ap script_fault_code read) refl
+    text (inl (inl memory)) code = not_of_kind _ is_text_code stop.code 102 (code ∙ ap script_fault_code memory) refl
+    text (inl (inr read)) code = not_of_kind _ is_text_code stop.code 206 (code ∙ ap script_fault_code read) refl
     text (inr only) code = λ _. at_text_fault old new given rest limit number store e stop so_far is only
+
+    write : {P : Type 0} → FaultsAs e (Some rest) → stop.code ≡ script_fault_code e → IsTrue (is_write_code stop.code) → P
+    write faults code = not_of_kind _ is_write_code stop.code (script_fault_code e) code (is_no_write_fault e)
 
 -- the end of the script
 pub wrote_all : (known : Option ScriptData) (old mid new : Option (List ℕ)) (left next : Option ScriptData) (limit number : ℕ) (store : StoreData)
     → Progresses old mid known limit number store left → Gives left next None → Keeps mid new
-    → IfSome known (λ given. WroteAll old new limit given)
+    → IfSome known (λ given. WritesAll old new limit given)
 wrote_all None old mid new left next limit number store so_far gives same = tt
 wrote_all (Some given) old mid new None next limit number store so_far gives same = absurd so_far
 wrote_all (Some given) old mid new (Some rest) next limit number store so_far gives same =
@@ -181,7 +242,7 @@ wrote_all (Some given) old mid new (Some rest) next limit number store so_far gi
 -- the flush behind the last line failed
 pub stopped_at_flush : (known : Option ScriptData) (old mid new : Option (List ℕ)) (left next : Option ScriptData) (limit number : ℕ) (store : StoreData) (stop : ReplayFault)
     → Progresses old mid known limit number store left → Gives left next None → Keeps mid new → stop ≡ record { number = Some (number - 1); code = 208 }
-    → IfSome known (λ given. Stopped old new limit given stop)
+    → IfSome known (λ given. Stops old new limit given stop)
 stopped_at_flush None old mid new left next limit number store stop so_far gives same is = tt
 stopped_at_flush (Some given) old mid new None next limit number store stop so_far gives same is = absurd so_far
 stopped_at_flush (Some given) old mid new (Some rest) next limit number store stop so_far gives same is =
@@ -191,8 +252,10 @@ stopped_at_flush (Some given) old mid new (Some rest) next limit number store st
     let code : stop.code ≡ 208 = ap (λ (x : ReplayFault). x.code) is in
     let place : stop.number ≡ Some (number - 1) = ap (λ (x : ReplayFault). x.number) is in
     let count : number - 1 ≡ length given.records = rw (answered_at_end so_far none) (omega (arith, so_far.count)) in
+    let whole : WritesAll old new limit given = wrote_all (Some given) old mid new (Some rest) next limit number store so_far gives same in
     record {
       part = (so_far.written, [], done ∙ sym (append-nil so_far.written), appends);
-      place = inr (rw done appends, place ∙ ap (λ (n : ℕ). Some n) count);
-      text = no_text_fault _ stop.code 208 code refl;
+      text = not_of_kind _ is_text_code stop.code 208 code refl;
+      memory_or_read = not_of_kind _ is_memory_or_read_code stop.code 208 code refl;
+      write = λ _. inr (record { whole = whole; place = place ∙ ap (λ (n : ℕ). Some n) count });
     }

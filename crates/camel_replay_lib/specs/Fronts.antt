@@ -3,20 +3,21 @@ use Rattle.std.specs.Prelude.{ℕ, List, [], ◌∷◌, ◌++◌}
 use Rattle.camel_rows.specs.Front.{Extends, IsFront}
 use Rattle.camel_rows.specs.declared.subscriber.update.Update.{Update}
 use Rattle.camel_script.specs.declared.record.Record.{Record}
-use Rattle.camel_replay_lib.specs.Output.{History, history_after, no_history}
+use Rattle.camel_rows.specs.Store.{Updates, no_updates}
+use Rattle.camel_replay_lib.specs.Output.{updates_after}
 
--- the history after some records
-abbrev pub history_from : ℕ → History → List Record → History
-history_from limit history [] = history
-history_from limit history (request ∷ requests) = history_from limit (history_after limit history request) requests
+-- the updates after some records
+abbrev pub updates_from : ℕ → Updates → List Record → Updates
+updates_from limit updates [] = updates
+updates_from limit updates (script_record ∷ records) = updates_from limit (updates_after limit updates script_record) records
 
 -- the updates that are published after the first records of a script
 abbrev pub published_after : ℕ → List Record → List Update
-published_after limit requests = (history_from limit no_history requests).published
+published_after limit records = (updates_from limit no_updates records).published
 
 abbrev pub PublishedIsFront : Type 0
-PublishedIsFront = (limit : ℕ) (requests : List Record) → IsFront limit (published_after limit requests)
+PublishedIsFront = (limit : ℕ) (records : List Record) → IsFront limit (published_after limit records)
 
 abbrev pub PublishedGrows : Type 0
 PublishedGrows =
-    (limit : ℕ) (requests more : List Record) → Extends (published_after limit (requests ++ more)) (published_after limit requests)
+    (limit : ℕ) (records more : List Record) → Extends (published_after limit (records ++ more)) (published_after limit records)

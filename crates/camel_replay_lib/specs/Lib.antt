@@ -1,6 +1,7 @@
 pub mod CommandLine
 pub mod FaultLine
 pub mod Fronts
+pub mod Limits
 pub mod Output
 pub mod ProgramRun
 pub mod ReplayFault

@@ -1,35 +1,64 @@
--- What a run of the program leaves, by the words with which it was started, the bytes that it reads, and what
--- standard output and standard error held before and hold after it, where these are known.
+-- What a run of the program leaves, by the words with which it was started.
 use Rattle.std.specs.Prelude.{◌≡◌, ◌≢◌, ◌⊎◌, ℕ, List, Option, None, IfSome, true}
 use Rattle.camel_script.specs.Script.{script}
 use Rattle.camel_replay_lib.specs.CommandLine.{AsksForHelp, LimitOf}
 use Rattle.camel_replay_lib.specs.FaultLine.{fault_line, fault_line_at}
+use Rattle.camel_replay_lib.specs.Limits.{max_records}
 use Rattle.camel_replay_lib.specs.ReplayFault.{is_replay_code}
-use Rattle.camel_replay_lib.specs.Written.{AppendsPart, Stopped, WroteAll}
+use Rattle.camel_replay_lib.specs.Written.{AppendsPart, Stops, WritesAll}
 use Rattle.camel_replay_lib.specs.declared.script_replay.ReplayFault.{ReplayFault}
 
--- The script is replayed under a limit. With status 0 its whole output was written, and nothing to standard error.
--- Any other status is 1; then a part of the output was written, and the line of the fault or a part of it.
-pub record Replays (limit : ℕ) (bytes old_out new_out old_err new_err : Option (List ℕ)) (status : ℕ) : Type 0 where
-  pub whole : status ≡ 0 → IfSome bytes (λ known. WroteAll old_out new_out limit (script known 1000000))
-  pub silent : status ≡ 0 → new_err ≡ old_err
-  pub fault : status ≢ 0 → status ≡ 1
-  pub stopped : status ≢ 0 → ((stop : ReplayFault) × (is_replay_code stop.code ≡ true) × AppendsPart old_err new_err (fault_line stop)
-      × IfSome bytes (λ known. Stopped old_out new_out limit (script known 1000000) stop))
+-- What a stream holds before the run and after it, where this is known.
+pub record Stream : Type 0 where
+  pub before : Option (List ℕ)
+  pub after : Option (List ℕ)
 
--- a rejected command line writes nothing to standard output, and an answered request for help nothing to standard error
-abbrev pub Rejects : Option (List ℕ) → Option (List ℕ) → ℕ → Type 0
-Rejects old_out new_out status = (status ≡ 2) × (new_out ≡ old_out)
+-- What a run is given, does and answers: the bytes of the input, where they are known, the two streams that it writes
+-- to, standard output and standard error, and the status of the process.
+pub record RunData : Type 0 where
+  pub input : Option (List ℕ)
+  pub out : Stream
+  pub err : Stream
+  pub status : ℕ
 
-abbrev pub Helps : Option (List ℕ) → Option (List ℕ) → ℕ → Type 0
-Helps old_err new_err status = (status ≡ 0) × (new_err ≡ old_err)
+-- Nothing was written.
+abbrev pub IsSilent : Stream → Type 0
+IsSilent stream = stream.after ≡ stream.before
 
--- memory was refused before the script was read
-abbrev pub LacksMemory : Option (List ℕ) → Option (List ℕ) → Option (List ℕ) → Option (List ℕ) → ℕ → Type 0
-LacksMemory old_out new_out old_err new_err status =
-    (status ≡ 1) × (new_out ≡ old_out) × AppendsPart old_err new_err (fault_line_at None 102)
+-- Some octets or the first of them were written.
+abbrev pub ShowsPart : Stream → List ℕ → Type 0
+ShowsPart stream octets = AppendsPart stream.before stream.after octets
 
-abbrev pub Runs : List (List ℕ) → Option (List ℕ) → Option (List ℕ) → Option (List ℕ) → Option (List ℕ) → Option (List ℕ) → ℕ → Type 0
-Runs words bytes old_out new_out old_err new_err status =
-    ((limit : ℕ) × LimitOf words limit × Replays limit bytes old_out new_out old_err new_err status)
-    ⊎ (Rejects old_out new_out status ⊎ ((AsksForHelp words × Helps old_err new_err status) ⊎ LacksMemory old_out new_out old_err new_err status))
+-- The run ended with this fault: it told a part of the output, as the fault says, and the fault's line or a part of it.
+pub record EndsWithFault (limit : ℕ) (run : RunData) : Type 0 where
+  pub fault : ReplayFault
+  pub code : is_replay_code fault.code ≡ true
+  pub output : IfSome run.input (λ bytes. Stops run.out.before run.out.after limit (script bytes max_records) fault)
+  pub line : ShowsPart run.err (fault_line fault)
+
+-- The script is replayed under a limit. With status 0 its whole output was written, and nothing to standard error. Any
+-- other status is 1, and the run ended with a fault.
+pub record Replays (limit : ℕ) (run : RunData) : Type 0 where
+  pub whole : run.status ≡ 0
+      → IfSome run.input (λ bytes. WritesAll run.out.before run.out.after limit (script bytes max_records))
+  pub silent : run.status ≡ 0 → IsSilent run.err
+  pub status : run.status ≢ 0 → run.status ≡ 1
+  pub fault : run.status ≢ 0 → EndsWithFault limit run
+
+-- The command line is rejected: status 2, and nothing is written to standard output.
+abbrev pub Rejects : RunData → Type 0
+Rejects run = (run.status ≡ 2) × IsSilent run.out
+
+-- The help text is answered: status 0, and nothing is written to standard error.
+abbrev pub Helps : RunData → Type 0
+Helps run = (run.status ≡ 0) × IsSilent run.err
+
+-- Memory was refused before the script was read: status 1, and the fault's line has no record.
+abbrev pub LacksMemory : RunData → Type 0
+LacksMemory run = (run.status ≡ 1) × IsSilent run.out × ShowsPart run.err (fault_line_at None 102)
+
+-- A run does one of four things.
+abbrev pub Runs : List (List ℕ) → RunData → Type 0
+Runs words run =
+    ((limit : ℕ) × LimitOf words limit × Replays limit run)
+    ⊎ (Rejects run ⊎ ((AsksForHelp words × Helps run) ⊎ LacksMemory run))

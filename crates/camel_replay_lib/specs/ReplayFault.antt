@@ -1,10 +1,18 @@
 -- The numbers of a replay's faults.
 use Rattle.std.specs.Prelude.{ℕ, ◌==◌, ◌&&◌, ◌||◌, nat_le, Bool}
 
--- the fault is one of the script's text
+-- The fault is one of the script: of the text of a record (202 to 205), or too many records (207).
 abbrev pub is_text_code : ℕ → Bool
 is_text_code code = (nat_le 202 code && nat_le code 205) || code == 207
 
--- a replay may answer the fault: want of memory, the faults of the script, a write that failed
+-- The fault comes from outside: memory was refused (102), or the input could not be read (206).
+abbrev pub is_memory_or_read_code : ℕ → Bool
+is_memory_or_read_code code = code == 102 || code == 206
+
+-- The output could not be written (208).
+abbrev pub is_write_code : ℕ → Bool
+is_write_code code = code == 208
+
+-- A replay ends with no other fault than these.
 abbrev pub is_replay_code : ℕ → Bool
-is_replay_code code = code == 102 || (nat_le 202 code && nat_le code 209)
+is_replay_code code = code == 102 || (nat_le 202 code && nat_le code 208)

@@ -1,16 +1,14 @@
 -- How a proof tells the values of `StoreData` apart.
 use Rattle.std.specs.Prelude.{ℕ, List, refl}
 use Rattle.std.specs.Coded.{Coded, code_by, coded_ℕ, coded_list, coded×}
-use Rattle.camel_rows.specs.Records.{RecordsData}
-use Rattle.camel_rows.specs.contracts.subscriber.records.Records as records
 use Rattle.camel_rows.specs.contracts.subscriber.update.Update as update
 use Rattle.camel_rows.specs.declared.subscriber.update.Update.{Update}
 use Rattle.camel_replay_lib.specs.Store.{StoreData}
 
--- the data of a store are told apart as the tuple of their parts
+-- They are told apart as the tuple of their parts.
 abbrev pub store_code : Coded StoreData
 store_code =
-    code_by (ℕ × (ℕ × (RecordsData × List Update))) (coded× coded_ℕ (coded× coded_ℕ (coded× records.the_row.coded (coded_list update.the_row.coded))))
-    (λ store. (store.limit, (store.front, (store.published, store.pending))))
-    (λ parts. record { limit = parts.0; front = parts.1.0; published = parts.1.1.0; pending = parts.1.1.1 })
+    code_by (ℕ × (List Update × List Update)) (coded× coded_ℕ (coded× (coded_list update.the_row.coded) (coded_list update.the_row.coded)))
+    (λ store. (store.limit, (store.updates.published, store.updates.pending)))
+    (λ parts. record { limit = parts.0; updates = record { published = parts.1.0; pending = parts.1.1 } })
     (λ _. refl)

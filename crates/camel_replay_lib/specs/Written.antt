@@ -1,43 +1,66 @@
 -- What a replay has written when it ends.
-use Rattle.std.specs.Prelude.{◌≡◌, ℕ, ◌+◌, ◌-◌, ◌⊎◌, IsTrue, List, ◌++◌, length, take, Option, Some, None, IsSomeAnd}
+use Rattle.std.specs.Prelude.{◌≡◌, ◌≢◌, ℕ, ◌+◌, ◌<◌, ◌≤◌, ◌⊎◌, IsTrue, List, [], ◌++◌, length, take, Option, Some}
+use Rattle.std.specs.Prelude.{None, IsSomeAnd}
 use Rattle.std.specs.Io.KnownBytes.{Appends}
 use Rattle.camel_script.specs.Script.{ScriptData}
 use Rattle.camel_script.specs.ScriptFault.{script_fault_code}
 use Rattle.camel_script.specs.declared.record.Record.{Record}
 use Rattle.camel_replay_lib.specs.Output.{output}
-use Rattle.camel_replay_lib.specs.ReplayFault.{is_text_code}
+use Rattle.camel_replay_lib.specs.ReplayFault.{is_memory_or_read_code, is_text_code, is_write_code}
 use Rattle.camel_replay_lib.specs.declared.script_replay.ReplayFault.{ReplayFault}
 
--- what was held, where it is known, grows by a part of the octets, from the first one on
+-- What was held, where it is known, grows by a part of the octets, from the first one on. The part may be all of them.
 abbrev pub AppendsPart : Option (List ℕ) → Option (List ℕ) → List ℕ → Type 0
 AppendsPart old new octets = (front : List ℕ) × (back : List ℕ) × (octets ≡ front ++ back) × Appends old new front
 
--- the script has no fault, and its whole output was written, with nothing else
-abbrev pub WroteAll : Option (List ℕ) → Option (List ℕ) → ℕ → ScriptData → Type 0
-WroteAll old new limit given = (given.fault ≡ None) × Appends old new (output limit given.records)
+-- What was held, where it is known, grows by a part of the octets, from the first one on, and the last one is missing.
+abbrev pub AppendsProperPart : Option (List ℕ) → Option (List ℕ) → List ℕ → Type 0
+AppendsProperPart old new octets =
+    (front : List ℕ) × (back : List ℕ) × (octets ≡ front ++ back) × (back ≢ []) × Appends old new front
 
--- all lines before the script's fault were written, and the fault and its record are the script's
+-- The script has no fault, and its whole output was written, with nothing else.
+abbrev pub WritesAll : Option (List ℕ) → Option (List ℕ) → ℕ → ScriptData → Type 0
+WritesAll old new limit given = (given.fault ≡ None) × Appends old new (output limit given.records)
+
+-- The script's fault: the lines of all records before it were written, and nothing else. Code and record are those of
+-- the script.
 pub record StopsAtFault (old new : Option (List ℕ)) (limit : ℕ) (given : ScriptData) (stop : ReplayFault) : Type 0 where
   pub whole : Appends old new (output limit given.records)
   pub fault : IsSomeAnd given.fault (λ fault. script_fault_code fault ≡ stop.code)
   pub place : stop.number ≡ Some (length given.records + 1)
 
--- the lines before that of the record of this number were written, and a part of its own, if there is one
-pub record StopsInRecord (old new : Option (List ℕ)) (limit : ℕ) (records : List Record) (number : ℕ) : Type 0 where
+-- The lines of the first `count` records were written, and nothing else. The record after them is named.
+pub record StopsBeforeLine (old new : Option (List ℕ)) (limit : ℕ) (records : List Record)
+    (number : Option ℕ) : Type 0 where
+  pub count : ℕ
+  pub within : count ≤ length records
+  pub written : Appends old new (output limit (take count records))
+  pub place : number ≡ Some (count + 1)
+
+-- The lines of the first `count` records were written, and then a part of the next record's line, but not all of it.
+-- That record is named.
+pub record StopsInLine (old new : Option (List ℕ)) (limit : ℕ) (records : List Record)
+    (number : Option ℕ) : Type 0 where
+  pub count : ℕ
   pub front : List ℕ
   pub back : List ℕ
-  pub written : Appends old new (output limit (take (number - 1) records) ++ front)
-  pub line : output limit (take number records) ≡ (output limit (take (number - 1) records) ++ front) ++ back
+  pub within : count < length records
+  pub written : Appends old new (output limit (take count records) ++ front)
+  pub line : output limit (take (count + 1) records) ≡ (output limit (take count records) ++ front) ++ back
+  pub proper : back ≢ []
+  pub place : number ≡ Some (count + 1)
 
--- the fault is of a record, from 1, or of the flush behind the last
-abbrev pub StopsAt : Option (List ℕ) → Option (List ℕ) → ℕ → List Record → Option ℕ → Type 0
-StopsAt old new limit records number =
-    ((before : ℕ) × (number ≡ Some (before + 1)) × StopsInRecord old new limit records (before + 1))
-    ⊎ (Appends old new (output limit records) × (number ≡ Some (length records)))
+-- The flush behind the last line failed: all was written, and the last record is named, by 0 where there is none.
+pub record StopsAtFlush (old new : Option (List ℕ)) (limit : ℕ) (given : ScriptData) (number : Option ℕ) : Type 0 where
+  pub whole : WritesAll old new limit given
+  pub place : number ≡ Some (length given.records)
 
--- a part of the output of the records before the script's fault was written, up to the record that is
--- named; all of it, where the fault is one of the script's text
-pub record Stopped (old new : Option (List ℕ)) (limit : ℕ) (given : ScriptData) (stop : ReplayFault) : Type 0 where
+-- A fault leaves a part of the output of the records before the script's fault. The fault's code says how far that part
+-- goes, and which record is named.
+pub record Stops (old new : Option (List ℕ)) (limit : ℕ) (given : ScriptData) (stop : ReplayFault) : Type 0 where
   pub part : AppendsPart old new (output limit given.records)
-  pub place : StopsAt old new limit given.records stop.number
   pub text : IsTrue (is_text_code stop.code) → StopsAtFault old new limit given stop
+  pub memory_or_read : IsTrue (is_memory_or_read_code stop.code)
+      → StopsBeforeLine old new limit given.records stop.number
+  pub write : IsTrue (is_write_code stop.code)
+      → StopsInLine old new limit given.records stop.number ⊎ StopsAtFlush old new limit given stop.number

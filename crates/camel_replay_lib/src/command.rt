@@ -4,17 +4,24 @@ ghost use Rattle.std.specs.Prelude.{◌≡◌, ◌⊎◌, None, Some, IfOk, map,
 ghost use Rattle.clap.specs.Words.{kind_of};
 ghost use Rattle.clap.specs.declared.error.kind.ErrorKind.TheVariants.{DisplayHelp, OutOfMemory};
 ghost use Rattle.camel_replay_lib.specs.FaultLine.{fault_line, fault_line_at};
-ghost use Rattle.camel_replay_lib.specs.ProgramRun.{Helps, LacksMemory, Rejects, Replays, Runs};
+ghost use Rattle.camel_replay_lib.specs.ProgramRun.{Helps, LacksMemory, Rejects, Replays, RunData, Runs};
 ghost use Rattle.camel_replay_lib.specs.Written.{AppendsPart};
 
 pub(crate) mod words;
 
 use crate::command::words::options;
-use crate::script_replay::write::write_whole;
+use crate::script_replay::write::write_all;
 use crate::script_replay::{ReplayFault, replay};
 use clap::error::ErrorKind;
 use std::alloc::{AllocError, Global};
 use std::io::{Read, Write};
+
+/// What the command line asks for.
+#[derive(Clone, Copy, Debug, PartialEq, Eq)]
+pub struct Options {
+    /// How many updates are accepted at most, 1 to 1000000.
+    pub limit: u64,
+}
 
 /// The status of a run that ended with a fault.
 pub const FAULT_STATUS: u8 = 1;
@@ -22,13 +29,19 @@ pub const FAULT_STATUS: u8 = 1;
 /// The status of a run whose command line was rejected.
 pub const REJECTED_STATUS: u8 = 2;
 
-/// Runs the program that was started with these words, its name first: replays the script that the reader gives
-/// and writes its output to `out`. Answers the status of the process.
+/// Runs the program that was started with these words, its name first: replays the script that the reader gives, and
+/// writes its output to `out`. Returns the status of the process.
 ///
-/// Status 0 is that of a run without a fault, and of `--help`, whose text goes to `out`. After a fault its line is
-/// written to `err`, and the status is 1. A rejected command line has status 2, and its text goes to `err`.
+/// | Status | The run | `out` | `err` |
+/// |---|---|---|---|
+/// | 0 | no fault | the script's output | nothing |
+/// | 0 | `--help` | the help text | nothing |
+/// | 1 | a fault | what [`replay`] says of it | the fault's line, or a part of it |
+/// | 1 | out of memory before the script was read | nothing | the line of fault 102, or a part of it |
+/// | 2 | the command line was rejected | nothing | the text of `clap` |
 ///
-/// A failed write to `err`, or of the help text to `out`, is ignored.
+/// A failed write to `err`, or of the help text to `out`, is ignored. What is said of the output holds over a reader and
+/// a writer whose bytes a contract knows.
 pub fn run<R: Read + Drop, W: Write, E: Write>(
     alloc: Global,
     words: &[String],
@@ -36,16 +49,20 @@ pub fn run<R: Read + Drop, W: Write, E: Write>(
     out: &mut W,
     err: &mut E,
 ) -> u8
-    ensures { Runs (map string_bytes words.now) (R.remaining reader)
-        (W.contents out.old) (W.contents out.new) (E.contents err.old) (E.contents err.new) result }
+    ensures { Runs (map string_bytes words.now) (record {
+      input = R.remaining reader;
+      out = record { before = W.contents out.old; after = W.contents out.new };
+      err = record { before = E.contents err.old; after = E.contents err.new };
+      status = result;
+    }) }
 {
     match options(alloc, words) {
         Ok(options) => run_replay(alloc, options.limit, reader, out, err),
-        Err(error) => tell(alloc, &error, out, err),
+        Err(error) => report(alloc, &error, out, err),
     }
 }
 
-// Replays the script, and tells its fault, if there is one.
+/// Replays the script, and reports its fault, if there is one.
 fn run_replay<R: Read + Drop, W: Write, E: Write>(
     alloc: Global,
     limit: u64,
@@ -53,8 +70,12 @@ fn run_replay<R: Read + Drop, W: Write, E: Write>(
     out: &mut W,
     err: &mut E,
 ) -> u8
-    ensures { Replays limit (R.remaining reader)
-        (W.contents out.old) (W.contents out.new) (E.contents err.old) (E.contents err.new) result }
+    ensures { Replays limit (record {
+      input = R.remaining reader;
+      out = record { before = W.contents out.old; after = W.contents out.new };
+      err = record { before = E.contents err.old; after = E.contents err.new };
+      status = result;
+    }) }
 {
     match replay(alloc, reader, out, limit) {
         Ok(()) => 0,
@@ -65,12 +86,16 @@ fn run_replay<R: Read + Drop, W: Write, E: Write>(
     }
 }
 
-// Tells why the command line gave no options.
-fn tell<W: Write, E: Write>(alloc: Global, error: &clap::Error, out: &mut W, err: &mut E) -> u8
-    ensures { Rejects (W.contents out.old) (W.contents out.new) result
-        ⊎ (((kind_of error.now ≡ DisplayHelp) × Helps (E.contents err.old) (E.contents err.new) result)
-        ⊎ ((kind_of error.now ≡ OutOfMemory)
-        × LacksMemory (W.contents out.old) (W.contents out.new) (E.contents err.old) (E.contents err.new) result)) }
+/// Reports why the command line gave no options, and returns the status.
+fn report<W: Write, E: Write>(alloc: Global, error: &clap::Error, out: &mut W, err: &mut E) -> u8
+    ensures { let run : RunData = record {
+      input = None;
+      out = record { before = W.contents out.old; after = W.contents out.new };
+      err = record { before = E.contents err.old; after = E.contents err.new };
+      status = result;
+    } in
+        Rejects run
+        ⊎ (((kind_of error.now ≡ DisplayHelp) × Helps run) ⊎ ((kind_of error.now ≡ OutOfMemory) × LacksMemory run)) }
 {
     match error.kind() {
         ErrorKind::DisplayHelp => {
@@ -88,28 +113,29 @@ fn tell<W: Write, E: Write>(alloc: Global, error: &clap::Error, out: &mut W, err
     }
 }
 
-// Writes the text of `clap`, or a part of it where memory or the writer refuses the rest.
+/// Writes the text of `clap`, or a part of it where memory or the writer refuses the rest.
 fn write_text<W: Write>(alloc: Global, writer: &mut W, error: &clap::Error) {
     if let Ok(text) = format!(in alloc; "{error}") {
-        let _ = write_whole(writer, text.as_bytes());
+        let _ = write_all(writer, text.as_bytes());
     }
 }
 
-// Memory was refused before the first record.
+/// Memory was refused before the script was read.
 const OUT_OF_MEMORY: ReplayFault = ReplayFault {
     number: None,
     code: 102,
 };
 
-// Writes the line of a fault, or a part of it where memory or the writer refuses the rest.
+/// Writes the line of a fault, or a part of it where memory or the writer refuses the rest.
 fn write_fault_line<E: Write>(alloc: Global, err: &mut E, fault: &ReplayFault)
     ensures { AppendsPart (E.contents err.old) (E.contents err.new) (fault_line fault.now) }
 {
     if let Ok(text) = fault_line(alloc, fault) {
-        let _ = write_whole(err, text.as_bytes());
+        let _ = write_all(err, text.as_bytes());
     }
 }
 
+/// The line of a fault, with the number of its record where there is one.
 fn fault_line(alloc: Global, fault: &ReplayFault) -> Result<String, AllocError>
     ensures { IfOk result (λ text. string_bytes text ≡ fault_line fault.now) }
 {

@@ -1,11 +1,23 @@
-//! The library of the program `camel_replay`: replays of scripts on one thread, and the command that runs them.
+//! The library of the program `camel_replay`, which replays a script of subscriber data updates and calls.
+//!
+//! - [`run`] is the whole program but for its streams: it reads the options of the command line, replays the script
+//!   that its reader gives, and returns the status. A fault is a line on standard error.
+//! - [`replay`] is the replay alone, on one thread: it reads a record, answers it over its store, writes the record's
+//!   line, and only then reads the next one. A call is decided over the published updates; an update is pending until
+//!   the next `publish`.
+//! - [`published_fronts`] is a law of every replay: what is published is a front, and only grows.
+//!
+//! Which records the bytes of a script give, and the text of each line, is stated in `camel_script`; the output of all
+//! records is stated in `specs/Output.antt`. The contracts of `replay` and `run` speak of it over a reader and a writer
+//! whose bytes a contract knows, as slices and vectors. What a file, a pipe or a terminal gives and takes, no contract
+//! can say.
 #![tactic(auto)]
 
 mod command;
 mod script_replay;
 
-pub use command::words::{CommandLine, MAX_LIMIT, options};
-pub use command::{FAULT_STATUS, REJECTED_STATUS, run};
+pub use command::words::{MAX_LIMIT, options};
+pub use command::{FAULT_STATUS, Options, REJECTED_STATUS, run};
 pub use script_replay::laws::published_fronts;
-pub use script_replay::write::{WriteFault, write_whole};
+pub use script_replay::write::{WriteFault, write_all};
 pub use script_replay::{MAX_RECORDS, ReplayFault, WRITE_FAULT, replay};

@@ -1,19 +1,22 @@
 //! Replays of scripts on one thread.
 
-ghost use Rattle.std.specs.Prelude.{◌≡◌, ◌≤◌, true, false, Some, IfErr, IfSome, OnErr, OnOk};
-ghost use Rattle.std.specs.Io.KnownBytes.{Appends};
+ghost use Rattle.std.specs.Prelude.{◌≡◌, ◌≢◌, ◌≤◌, ◌⊎◌, true, Some, IfErr, IfSome, OnOk};
+ghost use Rattle.std.specs.Io.KnownBytes.{Appends, Keeps};
 ghost use Rattle.camel_script.specs.Line.{line_text};
-ghost use Rattle.camel_script.specs.Script.{records_left, script, still_gives};
-ghost use Rattle.camel_replay_lib.specs.ReplayFault.{is_replay_code, is_text_code};
-ghost use Rattle.camel_replay_lib.specs.Store.{empty_store, store_after, store_line};
-ghost use Rattle.camel_replay_lib.specs.Written.{AppendsPart, Stopped, WroteAll};
+ghost use Rattle.camel_script.specs.Script.{Failed, records_left, script, still_gives};
+ghost use Rattle.camel_replay_lib.specs.Limits.{max_records};
+ghost use Rattle.camel_replay_lib.specs.ReplayFault.{is_replay_code};
+ghost use Rattle.camel_replay_lib.specs.Output.{line_of};
+ghost use Rattle.camel_replay_lib.specs.Store.{empty_store, store_after};
+ghost use Rattle.camel_replay_lib.specs.Written.{AppendsProperPart, Stops, WritesAll};
 
 pub(crate) mod laws;
 pub(crate) mod store;
+pub(crate) mod update_list;
 pub(crate) mod write;
 
 use crate::script_replay::store::Store;
-use crate::script_replay::write::write_whole;
+use crate::script_replay::write::write_all;
 use camel_script::{Record, Script, push_line};
 use std::alloc::Global;
 use std::io::{Read, Write};
@@ -28,19 +31,28 @@ pub const WRITE_FAULT: u16 = 208;
 /// Why a replay ended.
 #[derive(Clone, Copy, Debug, PartialEq, Eq)]
 pub struct ReplayFault {
-    /// The record that was being read or answered, from 1; for the flush at the end, the number of records
-    /// that were read.
+    /// The record that was being read or answered, from 1; for the flush at the end, the number of records that were
+    /// read. None where memory was refused before the script was read.
     pub number: Option<u64>,
-    /// The fault's number: 102, or one of 202 to 209.
+    /// The fault's number: 102 (out of memory), 202 to 207 (the script, and reading it) or 208 (writing).
     pub code: u16,
 }
 
-/// Replays a script on one thread: for each record its line is written before the next record is read.
+/// Replays a script on one thread: the line of a record is written before the next record is read.
 ///
-/// At most `limit` updates are taken. The faults are those of the script, 102 where memory was refused,
-/// and 208 where a write or the flush at the end failed, or a write took no octet. After a fault what was
-/// written is a part of the output of the records before the script's first fault, from its beginning; for
-/// 202 to 205 and 207 it is all of that output.
+/// At most `limit` updates are accepted. Ok: the script has no fault, and its whole output was written, with nothing
+/// else. After a fault a part of the output was written, from its beginning, and the fault names a record:
+///
+/// | Fault | Its number | What was written |
+/// |---|---|---|
+/// | 102 | the record that was being read or answered | the lines of the records before it |
+/// | 202 to 205, 207 | the script's record with that fault | the lines of all records before it |
+/// | 206 | the record that was being read, or one more than were read | the lines of the records before it |
+/// | 208, a write failed or took no octet | the record whose line was being written | also a part of its line |
+/// | 208, the flush at the end failed | the number of records that were read | all lines |
+///
+/// The clauses say so over a reader and a writer whose bytes a contract knows. Of others, as of the streams of the
+/// process, they say which codes a fault may have.
 ///
 /// The memory of the updates is not given back: it is for a process that replays one script, and ends.
 pub fn replay<R: Read + Drop, W: Write>(
@@ -50,9 +62,9 @@ pub fn replay<R: Read + Drop, W: Write>(
     limit: u64,
 ) -> Result<(), ReplayFault>
     ensures whole { OnOk result (IfSome (R.remaining reader) (λ bytes.
-        WroteAll (W.contents writer.old) (W.contents writer.new) limit (script bytes MAX_RECORDS))) }
+        WritesAll (W.contents writer.old) (W.contents writer.new) limit (script bytes max_records))) }
     ensures stopped { IfErr result (λ fault. IfSome (R.remaining reader) (λ bytes.
-        Stopped (W.contents writer.old) (W.contents writer.new) limit (script bytes MAX_RECORDS) fault)) }
+        Stops (W.contents writer.old) (W.contents writer.new) limit (script bytes max_records) fault)) }
     ensures codes { IfErr result (λ fault. is_replay_code fault.code ≡ true) }
 {
     let mut script = match Script::new(alloc, reader, MAX_RECORDS) {
@@ -66,30 +78,31 @@ pub fn replay<R: Read + Drop, W: Write>(
     ended
 }
 
-// Answers each record that the script still gives by the line of a store that is empty at first, and flushes.
+/// Answers each record that the script still gives by the line of a store that is empty at first, and flushes.
 fn answer_all<R: Read + Drop, W: Write>(
     alloc: Global,
     script: &mut Script<R>,
     store: &mut Store,
     writer: &mut W,
 ) -> Result<(), ReplayFault>
+    requires reads { script.old ≢ Failed }
     requires empty { store.old ≡ empty_store store.old.limit }
-    requires room { records_left script.old ≤ MAX_RECORDS }
+    requires room { records_left script.old ≤ max_records }
     ensures whole { OnOk result (IfSome (still_gives script.old) (λ given.
-        WroteAll (W.contents writer.old) (W.contents writer.new) store.old.limit given)) }
+        WritesAll (W.contents writer.old) (W.contents writer.new) store.old.limit given)) }
     ensures stopped { IfErr result (λ fault. IfSome (still_gives script.old) (λ given.
-        Stopped (W.contents writer.old) (W.contents writer.new) store.old.limit given fault)) }
+        Stops (W.contents writer.old) (W.contents writer.new) store.old.limit given fault)) }
     ensures codes { IfErr result (λ fault. is_replay_code fault.code ≡ true) }
 {
     let mut number = 1;
     let mut text = Vec::new(alloc);
     'records: loop {
-        let request = match script.read_record() {
-            Ok(Some(request)) => request,
+        let script_record = match script.read_record() {
+            Ok(Some(script_record)) => script_record,
             Ok(None) => break,
             Err(fault) => return Err(fault_at(number, fault.code())),
         };
-        match answer(alloc, store, writer, &mut text, request) {
+        match answer(alloc, store, writer, &mut text, script_record) {
             Ok(()) => number += 1,
             Err(code) => return Err(fault_at(number, code)),
         }
@@ -109,23 +122,24 @@ fn fault_at(number: u64, code: u16) -> ReplayFault
     }
 }
 
-// Answers a record, and writes its line or a part of it. The text is put together in the room of the last line.
+/// Answers a record, and writes its line. Where memory is refused, nothing of the line is written.
+///
+/// `text` is room for the line: what it holds is cleared.
 fn answer<W: Write>(
     alloc: Global,
     store: &mut Store,
     writer: &mut W,
     text: &mut Vec<u8>,
-    request: Record,
+    script_record: Record,
 ) -> Result<(), u16>
     ensures line { OnOk result (Appends (W.contents writer.old) (W.contents writer.new)
-        (line_text (store_line store.old request))) }
-    ensures after { OnOk result (store.new ≡ store_after store.old request) }
-    ensures part { OnErr result (AppendsPart (W.contents writer.old) (W.contents writer.new)
-        (line_text (store_line store.old request))) }
-    ensures code { IfErr result (λ code. is_text_code code ≡ false) }
-    ensures known { IfErr result (λ code. is_replay_code code ≡ true) }
+        (line_text (line_of store.old.limit store.old.updates script_record))) }
+    ensures after { OnOk result (store.new ≡ store_after store.old script_record) }
+    ensures stopped { IfErr result (λ code. ((code ≡ 102) × Keeps (W.contents writer.old) (W.contents writer.new))
+        ⊎ ((code ≡ 208) × AppendsProperPart (W.contents writer.old) (W.contents writer.new)
+        (line_text (line_of store.old.limit store.old.updates script_record)))) }
 {
-    let line = match store.answer(request) {
+    let line = match store.answer(script_record) {
         Ok(line) => line,
         Err(refusal) => return Err(refusal.code()),
     };
@@ -133,7 +147,7 @@ fn answer<W: Write>(
     if let Err(refusal) = push_line(alloc, text, &line) {
         return Err(refusal.code());
     }
-    match write_whole(writer, text.as_slice()) {
+    match write_all(writer, text.as_slice()) {
         Ok(()) => Ok(()),
         Err(_) => Err(WRITE_FAULT),
     }

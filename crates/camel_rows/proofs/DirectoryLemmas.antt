@@ -1,4 +1,4 @@
--- The CSIs that are stored decide about refusals as the data do, and go with them from update to update.
+-- A directory decides about refusals as the data do, and goes with them from update to update.
 use Rattle.std.proofs.Common.{◌≡◌, ◌∙◌, ℕ, Bool, true, false, List, Option, Some, None, cond, is_some, refl, sym, ap, ◌||◌}
 use Rattle.std.specs.Cmp.Lexicographic.{slice_cmp, nat_list_cmp_total}
 use Rattle.std.specs.FinMap as map
@@ -6,55 +6,39 @@ use Rattle.std.specs.Option.{option_map}
 use Rattle.std.specs.Ordering.{nat_cmp, eq_by_cmp}
 use Rattle.camel_rows.specs.TdpRow.{TdpRowData}
 use Rattle.camel_rows.specs.Records.{RecordsData}
-use Rattle.camel_rows.specs.Directory.{IsDirectoryOf, DirectoryData, csis_after, csis_of, csis_refusal, lacks_stored, with_csis}
-use Rattle.camel_rows.specs.Subscriber.{Half, SubscriberData}
-use Rattle.camel_rows.specs.Update.{records_after, half_after, half_without, lacks_csi, record_after, refusal, update_imsi, with_record}
-use Rattle.camel_rows.specs.declared.subscriber.directory.CsisPresent.{CsisPresent}
+use Rattle.camel_rows.specs.CsisPresent.{csis_after, csis_of, csis_refusal}
+use Rattle.camel_rows.specs.Directory.{IsDirectoryOf, DirectoryData, with_csis}
+use Rattle.camel_rows.specs.Subscriber.{StoredCsiData, SubscriberData}
+use Rattle.camel_rows.specs.Update.{records_after, csi_after, csi_unless, record_after, refusal, update_imsi, with_record}
+use Rattle.camel_rows.specs.declared.subscriber.csis_present.CsisPresent.{CsisPresent}
 use Rattle.camel_rows.specs.declared.subscriber.update.Update.{Update}
 use Rattle.camel_rows.specs.declared.subscriber.update.Update.TheVariants.{Register, Insert, Delete, Cancel}
 
-lacks : {Entry : Type 0} (half : Option (Half Entry)) (rows : Option (List TdpRowData)) (entries : Option (List Entry)) → lacks_stored (is_some half) rows entries ≡ lacks_csi half rows entries
-lacks None None None = refl
-lacks None None (Some entries) = refl
-lacks None (Some rows) None = refl
-lacks None (Some rows) (Some entries) = refl
-lacks (Some half) None None = refl
-lacks (Some half) None (Some entries) = refl
-lacks (Some half) (Some rows) None = refl
-lacks (Some half) (Some rows) (Some entries) = refl
+-- an update is refused by the directory as it is by the data
+pub same_refusal : (directory : DirectoryData) (m : RecordsData) (update : Update) → IsDirectoryOf directory m
+    → csis_refusal (map.get directory (update_imsi update)) update ≡ refusal m update
+same_refusal directory m update shown = rw (shown (update_imsi update)) refl
 
-csis_refusal-csis_of : (old : Option SubscriberData) (m : RecordsData) (update : Update) → map.get m (update_imsi update) ≡ old → csis_refusal (option_map csis_of old) update ≡ refusal m update
-csis_refusal-csis_of old m (Register imsi) e = refl
-csis_refusal-csis_of None m (Insert imsi o o_criteria vt t_criteria) e = rw e refl
-csis_refusal-csis_of (Some subscriber) m (Insert imsi o o_criteria vt t_criteria) e = rw (e, lacks subscriber.o o o_criteria, lacks subscriber.vt vt t_criteria) refl
-csis_refusal-csis_of None m (Delete imsi what) e = rw e refl
-csis_refusal-csis_of (Some subscriber) m (Delete imsi what) e = rw e refl
-csis_refusal-csis_of old m (Cancel imsi) e = refl
+csi_stays : {Entry : Type 0} (csi : Option (StoredCsiData Entry)) (rows : Option (List TdpRowData)) (entries : Option (List Entry)) → (is_some csi || is_some rows) ≡ is_some (csi_after csi rows entries)
+csi_stays None None None = refl
+csi_stays None None (Some entries) = refl
+csi_stays None (Some rows) None = refl
+csi_stays None (Some rows) (Some entries) = refl
+csi_stays (Some csi) None None = refl
+csi_stays (Some csi) None (Some entries) = refl
+csi_stays (Some csi) (Some rows) None = refl
+csi_stays (Some csi) (Some rows) (Some entries) = refl
 
--- an update is refused by the stored CSIs as it is by the data
-pub same_refusal : (stored : DirectoryData) (m : RecordsData) (update : Update) → IsDirectoryOf stored m → csis_refusal (map.get stored (update_imsi update)) update ≡ refusal m update
-same_refusal stored m update shown = rw (shown (update_imsi update)) (csis_refusal-csis_of (map.get m (update_imsi update)) m update refl)
-
-half_stays : {Entry : Type 0} (half : Option (Half Entry)) (rows : Option (List TdpRowData)) (entries : Option (List Entry)) → (is_some half || is_some rows) ≡ is_some (half_after half rows entries)
-half_stays None None None = refl
-half_stays None None (Some entries) = refl
-half_stays None (Some rows) None = refl
-half_stays None (Some rows) (Some entries) = refl
-half_stays (Some half) None None = refl
-half_stays (Some half) None (Some entries) = refl
-half_stays (Some half) (Some rows) None = refl
-half_stays (Some half) (Some rows) (Some entries) = refl
-
-half_goes : {Entry : Type 0} (is_named : Bool) (half : Option (Half Entry)) → cond is_named false (is_some half) ≡ is_some (half_without is_named half)
-half_goes true half = refl
-half_goes false half = refl
+csi_goes : {Entry : Type 0} (is_named : Bool) (csi : Option (StoredCsiData Entry)) → cond is_named false (is_some csi) ≡ is_some (csi_unless is_named csi)
+csi_goes true csi = refl
+csi_goes false csi = refl
 
 csis_after-csis_of : (old : Option SubscriberData) (update : Update) → csis_after (option_map csis_of old) update ≡ option_map csis_of (record_after old update)
 csis_after-csis_of old (Register imsi) = refl
 csis_after-csis_of None (Insert imsi o o_criteria vt t_criteria) = refl
-csis_after-csis_of (Some subscriber) (Insert imsi o o_criteria vt t_criteria) = rw (half_stays subscriber.o o o_criteria, half_stays subscriber.vt vt t_criteria) refl
+csis_after-csis_of (Some subscriber) (Insert imsi o o_criteria vt t_criteria) = rw (csi_stays subscriber.o o o_criteria, csi_stays subscriber.vt vt t_criteria) refl
 csis_after-csis_of None (Delete imsi what) = refl
-csis_after-csis_of (Some subscriber) (Delete imsi what) = rw (half_goes (what.o || what.everything) subscriber.o, half_goes (what.vt || what.everything) subscriber.vt) refl
+csis_after-csis_of (Some subscriber) (Delete imsi what) = rw (csi_goes (what.o || what.everything) subscriber.o, csi_goes (what.vt || what.everything) subscriber.vt) refl
 csis_after-csis_of old (Cancel imsi) = refl
 
 get-with_csis : (stored : DirectoryData) (key : List ℕ) (csis : Option CsisPresent) (imsi : List ℕ) → map.get (with_csis stored key csis) imsi ≡ cond (eq_by_cmp (slice_cmp nat_cmp) imsi key) csis (map.get stored imsi)
@@ -70,7 +54,7 @@ at_either : (is_there : Bool) (new old : Option SubscriberData) (new_csis old_cs
 at_either true new old new_csis old_csis there elsewhere = there
 at_either false new old new_csis old_csis there elsewhere = elsewhere
 
--- and after an update that is not refused they are still those of the data
+-- after an update that is not refused, the directory with the CSIs that it leaves is that of the data
 pub IsDirectoryOf-after : (stored : DirectoryData) (m : RecordsData) (update : Update) → IsDirectoryOf stored m → refusal m update ≡ None
     → IsDirectoryOf (with_csis stored (update_imsi update) (csis_after (map.get stored (update_imsi update)) update)) (records_after m update)
 IsDirectoryOf-after stored m update shown accepted imsi =
@@ -83,6 +67,6 @@ IsDirectoryOf-after stored m update shown accepted imsi =
     ∙ at_either (eq_by_cmp (slice_cmp nat_cmp) imsi key) new (map.get m imsi) new_csis (map.get stored imsi) there (shown imsi)
     ∙ ap (option_map csis_of) (sym (get-with_record m key new imsi)))
 
--- there are none where there are no records
+-- the empty directory is that of no records
 pub IsDirectoryOf-empty : IsDirectoryOf map.empty map.empty
 IsDirectoryOf-empty imsi = rw (map.get-empty {X = CsisPresent} (slice_cmp nat_cmp) imsi, map.get-empty {X = SubscriberData} (slice_cmp nat_cmp) imsi) refl

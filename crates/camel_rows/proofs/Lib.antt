@@ -1,5 +1,9 @@
+pub mod AdmissionLemmas
+pub mod ArrayLemmas
 pub mod DirectoryLemmas
-pub mod MeansLemmas
+pub mod PlacesLemmas
 pub mod ReceivedLemmas
 pub mod RecordsTable
+pub mod StandardLemmas
+pub mod StoreLemmas
 pub mod UpdateLemmas

@@ -8,7 +8,7 @@ use Rattle.std.specs.Ordering.{nat_cmp, is_eq, eq_by_cmp}
 use Rattle.std.specs.declared.cmp.Ordering.TheVariants.{Less, Equal, Greater}
 use Rattle.camel_criteria.specs.Criteria.{OCriteriaData, TCriteriaData}
 use Rattle.camel_rows.specs.TdpRow.{TdpRowData}
-use Rattle.camel_rows.specs.Means.{HasO, HasVt, half_of}
+use Rattle.camel_rows.specs.Standard.{HasO, HasVt, csi_with}
 use Rattle.camel_rows.specs.Records.{RecordsData}
 use Rattle.camel_rows.specs.Subscriber.{SubscriberData, empty_record}
 use Rattle.camel_rows.specs.Update.{AcceptedFrom, records_after, record_after, record_with_insert, refusal, records_from, update_imsi, with_record}
@@ -58,7 +58,7 @@ inserted m imsi o o_criteria vt t_criteria accepted =
 
 pub o_stands : (m : RecordsData) (imsi : List ℕ) (rows : List TdpRowData) (o_criteria : Option (List OCriteriaData)) (vt : Option (List TdpRowData)) (t_criteria : Option (List TCriteriaData))
     → refusal (records_after m (Register imsi)) (Insert imsi (Some rows) o_criteria vt t_criteria) ≡ None
-    → HasO (records_after (records_after m (Register imsi)) (Insert imsi (Some rows) o_criteria vt t_criteria)) imsi (half_of rows o_criteria)
+    → HasO (records_after (records_after m (Register imsi)) (Insert imsi (Some rows) o_criteria vt t_criteria)) imsi (csi_with rows o_criteria)
 o_stands m imsi rows o_criteria vt t_criteria accepted = record {
   subscriber = record_with_insert (Some rows) o_criteria vt t_criteria empty_record;
   registered = inserted m imsi (Some rows) o_criteria vt t_criteria accepted;
@@ -67,7 +67,7 @@ o_stands m imsi rows o_criteria vt t_criteria accepted = record {
 
 pub vt_stands : (m : RecordsData) (imsi : List ℕ) (rows : List TdpRowData) (t_criteria : Option (List TCriteriaData)) (o : Option (List TdpRowData)) (o_criteria : Option (List OCriteriaData))
     → refusal (records_after m (Register imsi)) (Insert imsi o o_criteria (Some rows) t_criteria) ≡ None
-    → HasVt (records_after (records_after m (Register imsi)) (Insert imsi o o_criteria (Some rows) t_criteria)) imsi (half_of rows t_criteria)
+    → HasVt (records_after (records_after m (Register imsi)) (Insert imsi o o_criteria (Some rows) t_criteria)) imsi (csi_with rows t_criteria)
 vt_stands m imsi rows t_criteria o o_criteria accepted = record {
   subscriber = record_with_insert o o_criteria (Some rows) t_criteria empty_record;
   registered = inserted m imsi o o_criteria (Some rows) t_criteria accepted;

@@ -1,18 +1,12 @@
--- Which CSIs are stored for which subscribers, which is all that decides whether an update is refused.
-use Rattle.std.specs.Prelude.{◌≡◌, ℕ, Bool, true, false, ◌||◌, List, Option, Some, None, is_some, if◌then◌else◌}
+-- Which CSIs are stored for which subscribers.
+use Rattle.std.specs.Prelude.{◌≡◌, ℕ, List, Option, Some, None}
 use Rattle.std.specs.Cmp.Lexicographic.{slice_cmp}
 use Rattle.std.specs.FinMap as map
 use Rattle.std.specs.Option.{option_map}
 use Rattle.std.specs.Ordering.{nat_cmp}
-use Rattle.camel_criteria.specs.Criteria.{OCriteriaData, TCriteriaData}
-use Rattle.camel_criteria.specs.declared.refusal.Refusal.{Refusal}
-use Rattle.camel_criteria.specs.declared.refusal.Refusal.TheVariants.{UnidentifiedSubscriber, DataMissing}
-use Rattle.camel_rows.specs.TdpRow.{TdpRowData}
+use Rattle.camel_rows.specs.CsisPresent.{csis_of}
 use Rattle.camel_rows.specs.Records.{RecordsData}
-use Rattle.camel_rows.specs.Subscriber.{SubscriberData}
-use Rattle.camel_rows.specs.declared.subscriber.directory.CsisPresent.{CsisPresent}
-use Rattle.camel_rows.specs.declared.subscriber.update.Update.{Update}
-use Rattle.camel_rows.specs.declared.subscriber.update.Update.TheVariants.{Register, Insert, Delete, Cancel}
+use Rattle.camel_rows.specs.declared.subscriber.csis_present.CsisPresent.{CsisPresent}
 
 -- a finite map from the IMSIs that have a record to the CSIs that are stored in it
 abbrev pub DirectoryData : Type 0
@@ -21,41 +15,11 @@ DirectoryData = map.FinMap (slice_cmp nat_cmp) CsisPresent
 abbrev pub empty_directory : DirectoryData
 empty_directory = map.empty
 
--- the CSIs that are stored in a record
-abbrev pub csis_of : SubscriberData → CsisPresent
-csis_of subscriber = record { o = is_some subscriber.o; vt = is_some subscriber.vt }
-
--- they are those of these data
+-- the directory is that of these data
 abbrev pub IsDirectoryOf : DirectoryData → RecordsData → Type 0
-IsDirectoryOf stored m = (imsi : List ℕ) → map.get stored imsi ≡ option_map csis_of (map.get m imsi)
+IsDirectoryOf directory m = (imsi : List ℕ) → map.get directory imsi ≡ option_map csis_of (map.get m imsi)
 
--- entries come without their CSI, and that CSI is not stored
-abbrev pub lacks_stored : {Entry : Type 0} → Bool → Option (List TdpRowData) → Option (List Entry) → Bool
-lacks_stored false None (Some entries) = true
-lacks_stored is_stored rows entries = false
-
--- why an Insert is refused, by the CSIs in the record of its IMSI
-abbrev pub insert_csis_refusal : Option CsisPresent → Option (List TdpRowData) → Option (List OCriteriaData) → Option (List TdpRowData) → Option (List TCriteriaData) → Option Refusal
-insert_csis_refusal None o o_criteria vt t_criteria = Some UnidentifiedSubscriber
-insert_csis_refusal (Some csis) o o_criteria vt t_criteria =
-    if lacks_stored csis.o o o_criteria || lacks_stored csis.vt vt t_criteria then Some DataMissing else None
-
--- why an update is refused, by the CSIs in the record of its IMSI
-abbrev pub csis_refusal : Option CsisPresent → Update → Option Refusal
-csis_refusal csis (Insert imsi o o_criteria vt t_criteria) = insert_csis_refusal csis o o_criteria vt t_criteria
-csis_refusal csis (Delete imsi what) = if is_some csis then None else Some UnidentifiedSubscriber
-csis_refusal csis update = None
-
--- the CSIs that an update which is not refused leaves in the record of its IMSI
-abbrev pub csis_after : Option CsisPresent → Update → Option CsisPresent
-csis_after csis (Register imsi) = Some (record { o = false; vt = false })
-csis_after csis (Insert imsi o o_criteria vt t_criteria) =
-    option_map (λ (old : CsisPresent). record { o = old.o || is_some o; vt = old.vt || is_some vt }) csis
-csis_after csis (Delete imsi what) =
-    option_map (λ (old : CsisPresent). record { o = if what.o || what.everything then false else old.o; vt = if what.vt || what.everything then false else old.vt }) csis
-csis_after csis (Cancel imsi) = None
-
--- with these CSIs, or with no record, at one IMSI
+-- the directory with these CSIs, or with no record, at one IMSI
 abbrev pub with_csis : DirectoryData → List ℕ → Option CsisPresent → DirectoryData
-with_csis stored imsi None = map.remove stored imsi
-with_csis stored imsi (Some csis) = map.insert stored imsi csis
+with_csis directory imsi None = map.remove directory imsi
+with_csis directory imsi (Some csis) = map.insert directory imsi csis

@@ -7,25 +7,24 @@ use Rattle.camel_rows.specs.TdpRow.{TdpRowData}
 use Rattle.camel_rows.specs.declared.subscriber.lent.Lent.{Lent}
 use Rattle.camel_rows.specs.declared.subscriber.lent.Lent.TheVariants as lent
 
--- one half: the TDP rows of a CSI with the entries of its criteria, both in the order received and
--- without the ignored items
-pub record Half (Entry : Type 0) : Type 0 where
+-- a stored CSI: its TDP rows and the entries of its criteria, both in the order received and without the ignored items
+pub record StoredCsiData (Entry : Type 0) : Type 0 where
   pub rows : List TdpRowData
   pub entries : List Entry
 
--- the two halves. A half that is not stored is none; one whose lists are empty is stored
+-- The O-CSI and the VT-CSI. One that is not stored is none; one whose lists are empty is stored.
 pub record SubscriberData : Type 0 where
-  pub o : Option (Half OCriteriaData)
-  pub vt : Option (Half TCriteriaData)
+  pub o : Option (StoredCsiData OCriteriaData)
+  pub vt : Option (StoredCsiData TCriteriaData)
 
 -- the record of a subscriber who has just registered
 abbrev pub empty_record : SubscriberData
 empty_record = record { o = None; vt = None }
 
-abbrev pub rows_of : {Entry : Type 0} → Half Entry → List TdpRowData
-rows_of half = half.rows
+abbrev pub rows_of : {Entry : Type 0} → StoredCsiData Entry → List TdpRowData
+rows_of csi = csi.rows
 
--- the rows of the half that a detection point is tested against, where it is stored
+-- the rows of the CSI that a detection point is tested against, where it is stored
 abbrev pub rows_tested_at : ℕ → SubscriberData → Option (List TdpRowData)
 rows_tested_at dp subscriber =
     if is_o_detection_point dp then option_map rows_of subscriber.o
@@ -50,16 +49,16 @@ abbrev pub entry_data : Lent → EntryData
 entry_data (lent.O entry) = O entry.now
 entry_data (lent.T entry) = T entry.now
 
--- the entry of a detection point among those of a half
-abbrev pub o_entry_of : ℕ → Half OCriteriaData → Option OCriteriaData
-o_entry_of dp half = find (λ entry. entry.dp == dp) half.entries
+-- the entry of a detection point among entries, that of each entry being given by `dp_of`
+abbrev pub entry_among : {Entry : Type 0} → (Entry → ℕ) → ℕ → List Entry → Option Entry
+entry_among dp_of dp entries = find (λ entry. dp_of entry == dp) entries
 
-abbrev pub t_entry_of : ℕ → Half TCriteriaData → Option TCriteriaData
-t_entry_of dp half = find (λ entry. entry.dp == dp) half.entries
+abbrev pub entry_of : {Entry : Type 0} → (Entry → ℕ) → ℕ → StoredCsiData Entry → Option Entry
+entry_of dp_of dp csi = entry_among dp_of dp csi.entries
 
--- the entry of a detection point, where the half that it is tested against has one
+-- the entry of a detection point, where the CSI that it is tested against has one
 abbrev pub entry_at : ℕ → SubscriberData → Option EntryData
 entry_at dp subscriber =
-    if is_o_detection_point dp then option_map O (option_and_then (o_entry_of dp) subscriber.o)
-    else if is_vt_detection_point dp then option_map T (option_and_then (t_entry_of dp) subscriber.vt)
+    if is_o_detection_point dp then option_map O (option_and_then (entry_of (λ entry. entry.dp) dp) subscriber.o)
+    else if is_vt_detection_point dp then option_map T (option_and_then (entry_of (λ entry. entry.dp) dp) subscriber.vt)
     else None

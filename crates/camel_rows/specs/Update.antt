@@ -1,15 +1,15 @@
 -- What updates make of the subscriber data. Insert, Delete and Cancel are InsertSubscriberData,
 -- DeleteSubscriberData and CancelLocation of TS 29.002; Register is profile 1's own, and so is what an update
--- leaves of a half that it does not name whole, that criteria without their CSI are refused where it is not stored,
+-- leaves of a CSI that it does not name whole, that criteria without their CSI are refused where it is not stored,
 -- and that an update which changes nothing is taken.
-use Rattle.std.specs.Prelude.{◌≡◌, ℕ, Bool, true, false, ◌||◌, List, [], ◌∷◌, Option, Some, None, is_some, unwrap_or, if◌then◌else◌}
+use Rattle.std.specs.Prelude.{◌≡◌, ℕ, Bool, ◌||◌, List, [], ◌∷◌, Option, Some, None, is_some, unwrap_or, if◌then◌else◌}
 use Rattle.std.specs.FinMap as map
 use Rattle.std.specs.Option.{option_map}
 use Rattle.camel_criteria.specs.Criteria.{OCriteriaData, TCriteriaData}
 use Rattle.camel_criteria.specs.declared.refusal.Refusal.{Refusal}
-use Rattle.camel_criteria.specs.declared.refusal.Refusal.TheVariants.{UnidentifiedSubscriber, DataMissing}
+use Rattle.camel_rows.specs.CsisPresent.{csis_of, csis_refusal}
 use Rattle.camel_rows.specs.TdpRow.{TdpRowData}
-use Rattle.camel_rows.specs.Subscriber.{Half, SubscriberData, empty_record}
+use Rattle.camel_rows.specs.Subscriber.{StoredCsiData, SubscriberData, empty_record}
 use Rattle.camel_rows.specs.Records.{RecordsData, no_records}
 use Rattle.camel_rows.specs.declared.subscriber.update.Update.{Update}
 use Rattle.camel_rows.specs.declared.subscriber.update.Update.TheVariants.{Register, Insert, Delete, Cancel}
@@ -22,42 +22,31 @@ update_imsi (Insert imsi o o_criteria vt t_criteria) = imsi
 update_imsi (Delete imsi what) = imsi
 update_imsi (Cancel imsi) = imsi
 
--- What an Insert leaves of a half. A CSI replaces rows and entries, by no entries where none come with
--- it; entries alone replace the entries; where neither comes, the half stays.
-abbrev pub half_after : {Entry : Type 0} → Option (Half Entry) → Option (List TdpRowData) → Option (List Entry) → Option (Half Entry)
-half_after half (Some rows) entries = Some (record { rows = rows; entries = unwrap_or entries [] })
-half_after (Some half) None (Some entries) = Some (record half { entries = entries })
-half_after half None entries = half
+-- why the data refuse an update, if they do: by the CSIs that are stored in the record of its IMSI
+abbrev pub refusal : RecordsData → Update → Option Refusal
+refusal m update = csis_refusal (option_map csis_of (map.get m (update_imsi update))) update
 
--- entries come without their CSI, and that CSI is not stored
-abbrev pub lacks_csi : {Entry : Type 0} → Option (Half Entry) → Option (List TdpRowData) → Option (List Entry) → Bool
-lacks_csi None None (Some entries) = true
-lacks_csi half rows entries = false
+-- What an Insert leaves of a CSI. A CSI replaces rows and entries, by no entries where none come with it; entries
+-- alone replace the entries; where neither comes, the CSI stays.
+abbrev pub csi_after : {Entry : Type 0} → Option (StoredCsiData Entry) → Option (List TdpRowData) → Option (List Entry)
+    → Option (StoredCsiData Entry)
+csi_after csi (Some rows) entries = Some (record { rows = rows; entries = unwrap_or entries [] })
+csi_after (Some csi) None (Some entries) = Some (record csi { entries = entries })
+csi_after csi None entries = csi
 
 -- what an Insert leaves of a record
-abbrev pub record_with_insert : Option (List TdpRowData) → Option (List OCriteriaData) → Option (List TdpRowData) → Option (List TCriteriaData) → SubscriberData → SubscriberData
+abbrev pub record_with_insert : Option (List TdpRowData) → Option (List OCriteriaData) → Option (List TdpRowData)
+    → Option (List TCriteriaData) → SubscriberData → SubscriberData
 record_with_insert o o_criteria vt t_criteria subscriber =
-    record { o = half_after subscriber.o o o_criteria; vt = half_after subscriber.vt vt t_criteria }
+    record { o = csi_after subscriber.o o o_criteria; vt = csi_after subscriber.vt vt t_criteria }
 
--- what a Delete leaves of a record: a half that it names, or everything, is removed
-abbrev pub half_without : {Entry : Type 0} → Bool → Option (Half Entry) → Option (Half Entry)
-half_without is_named half = if is_named then None else half
+-- what a Delete leaves of a record: a CSI that it names, or everything, is removed
+abbrev pub csi_unless : {Entry : Type 0} → Bool → Option (StoredCsiData Entry) → Option (StoredCsiData Entry)
+csi_unless is_named csi = if is_named then None else csi
 
 abbrev pub record_without : Withdrawal → SubscriberData → SubscriberData
 record_without what subscriber =
-    record { o = half_without (what.o || what.everything) subscriber.o; vt = half_without (what.vt || what.everything) subscriber.vt }
-
--- why an Insert is refused: 5 with no record, 35 with criteria that lack their CSI
-abbrev pub insert_refusal : Option SubscriberData → Option (List TdpRowData) → Option (List OCriteriaData) → Option (List TdpRowData) → Option (List TCriteriaData) → Option Refusal
-insert_refusal None o o_criteria vt t_criteria = Some UnidentifiedSubscriber
-insert_refusal (Some subscriber) o o_criteria vt t_criteria =
-    if lacks_csi subscriber.o o o_criteria || lacks_csi subscriber.vt vt t_criteria then Some DataMissing else None
-
--- why the data refuse an update, if they do
-abbrev pub refusal : RecordsData → Update → Option Refusal
-refusal m (Insert imsi o o_criteria vt t_criteria) = insert_refusal (map.get m imsi) o o_criteria vt t_criteria
-refusal m (Delete imsi what) = if is_some (map.get m imsi) then None else Some UnidentifiedSubscriber
-refusal m update = None
+    record { o = csi_unless (what.o || what.everything) subscriber.o; vt = csi_unless (what.vt || what.everything) subscriber.vt }
 
 -- the record that an update which is not refused leaves at its IMSI, over the one that is there
 abbrev pub record_after : Option SubscriberData → Update → Option SubscriberData

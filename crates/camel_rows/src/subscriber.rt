@@ -1,39 +1,47 @@
 //! What is stored: the record of a subscriber, the records of all, and the updates that change them.
 
-ghost use Rattle.std.specs.Prelude.{◌≡◌, ◌||◌, is_some, IfOk};
+ghost use Rattle.std.specs.Prelude.{◌≡◌, IfOk};
 ghost use Rattle.std.specs.Option.{option_copied, option_map};
-ghost use Rattle.camel_rows.specs.Change.{changed};
-ghost use Rattle.camel_rows.specs.Subscriber.{empty_record, entry_at, entry_data, row_at, rows_of, rows_tested_at};
-ghost use Rattle.camel_rows.specs.Update.{half_after, lacks_csi};
+ghost use Rattle.camel_rows.specs.CsiChange.{changed_by, with_changes};
+ghost use Rattle.camel_rows.specs.CsisPresent.{csis_of};
+ghost use Rattle.camel_rows.specs.Subscriber.{empty_record, entry_at, entry_data, row_at, rows_of};
+ghost use Rattle.camel_rows.specs.Update.{csi_after};
 
+pub(crate) mod admission;
 pub(crate) mod csi_change;
+pub(crate) mod csis_present;
 pub(crate) mod directory;
+pub(crate) mod laws;
 pub(crate) mod lent;
-pub(crate) mod o_half;
 pub(crate) mod records;
+pub(crate) mod stored_csi;
 pub(crate) mod update;
-pub(crate) mod vt_half;
 
-use crate::csi::o_criteria_set::OCriteriaSet;
-use crate::csi::o_csi::OCsi;
-use crate::csi::t_criteria_set::TCriteriaSet;
+use crate::csi::criteria_set::{OCriteriaSet, TCriteriaSet};
 use crate::csi::tdp_row::TdpRow;
-use crate::csi::vt_csi::VtCsi;
-use crate::subscriber::csi_change::{Change, make};
+use crate::csi::{OCsi, VtCsi};
+use crate::subscriber::csi_change::CsiChange;
+use crate::subscriber::csis_present::CsisPresent;
 use crate::subscriber::lent::Lent;
-use crate::subscriber::o_half::OHalf;
-use crate::subscriber::vt_half::VtHalf;
-use camel_criteria::{is_o_detection_point, is_vt_detection_point};
+use crate::subscriber::stored_csi::StoredCsi;
+use camel_criteria::{OCriteria, TCriteria, is_o_detection_point, is_vt_detection_point};
 use std::alloc::{AllocError, Global};
+use std::fmt;
 use std::marker::Model;
+
+/// A stored O-CSI with its criteria.
+pub(crate) type StoredOCsi = StoredCsi<2, OCriteria>;
+
+/// A stored VT-CSI with its criteria.
+pub(crate) type StoredVtCsi = StoredCsi<3, TCriteria>;
 
 /// The record of one subscriber: the O-CSI and the VT-CSI, where they are stored, each with its criteria.
 ///
-/// Contracts see the two halves, each none or the list of its rows with the list of its criteria entries.
-#[derive(Debug, Drop)]
+/// Contracts see the two, each none or the list of its rows with the list of its criteria entries.
+#[derive(Drop)]
 pub struct Subscriber {
-    o: Option<OHalf>,
-    vt: Option<VtHalf>,
+    o: Option<StoredOCsi>,
+    vt: Option<StoredVtCsi>,
 }
 
 impl Model for Subscriber {
@@ -45,7 +53,7 @@ impl Model for Subscriber {
 }
 
 impl Subscriber {
-    // The record of a subscriber who has just registered: nothing is stored.
+    /// The record of a subscriber who has just registered: nothing is stored.
     pub(crate) fn registered() -> Subscriber
         ensures { result ≡ empty_record }
     {
@@ -93,62 +101,60 @@ impl Subscriber {
         }
     }
 
-    /// Whether the CSI that a detection point is tested against is stored: the O-CSI for 2 and 4, the VT-CSI for 12, 13
-    /// and 14. No CSI is tested at any other.
-    pub fn has_csi(&self, dp: u8) -> bool
-        ensures { result ≡ is_some (rows_tested_at dp self.now) }
+    /// The O-CSI with its criteria, where it is stored.
+    pub(crate) fn stored_o(&self) -> Option<&StoredOCsi>
+        ensures { option_copied result ≡ self.now.o }
     {
-        if is_o_detection_point(dp) {
-            self.o.is_some()
-        } else {
-            is_vt_detection_point(dp) && self.vt.is_some()
+        self.o.as_ref()
+    }
+
+    /// The VT-CSI with its criteria, where it is stored.
+    pub(crate) fn stored_vt(&self) -> Option<&StoredVtCsi>
+        ensures { option_copied result ≡ self.now.vt }
+    {
+        self.vt.as_ref()
+    }
+
+    /// Which CSIs are stored.
+    pub(crate) fn csis(&self) -> CsisPresent
+        ensures { result ≡ csis_of self.now }
+    {
+        CsisPresent {
+            o: self.o.is_some(),
+            vt: self.vt.is_some(),
         }
     }
 
-    // Whether an Insert brings criteria without their CSI, and that CSI is not stored either.
-    pub(crate) fn lacks_csi(
-        &self,
-        o: &Option<OCsi>,
-        o_criteria: &Option<OCriteriaSet>,
-        vt: &Option<VtCsi>,
-        t_criteria: &Option<TCriteriaSet>,
-    ) -> bool
-        ensures { result ≡ (lacks_csi self.now.o o.now o_criteria.now || lacks_csi self.now.vt vt.now t_criteria.now) }
-    {
-        (self.o.is_none() && o.is_none() && o_criteria.is_some())
-            || (self.vt.is_none() && vt.is_none() && t_criteria.is_some())
-    }
-
-    // What an Insert makes of the half of the O-CSI.
-    pub(crate) fn o_inserted(
+    /// What an Insert makes of the O-CSI.
+    pub(crate) fn o_after_insert(
         &self,
         alloc: Global,
         csi: Option<OCsi>,
         criteria: &Option<OCriteriaSet>,
-    ) -> Result<Change<OHalf>, AllocError>
-        ensures { IfOk result (λ change. changed self.now.o change ≡ half_after self.now.o csi criteria.now) }
+    ) -> Result<CsiChange<StoredOCsi>, AllocError>
+        ensures { IfOk result (λ change. changed_by change self.now.o ≡ csi_after self.now.o csi criteria.now) }
     {
-        OHalf::inserted(alloc, self.o.as_ref(), csi, criteria)
+        StoredCsi::after_insert(alloc, self.o.as_ref(), csi, criteria)
     }
 
-    // What an Insert makes of the half of the VT-CSI.
-    pub(crate) fn vt_inserted(
+    /// What an Insert makes of the VT-CSI.
+    pub(crate) fn vt_after_insert(
         &self,
         alloc: Global,
         csi: Option<VtCsi>,
         criteria: &Option<TCriteriaSet>,
-    ) -> Result<Change<VtHalf>, AllocError>
-        ensures { IfOk result (λ change. changed self.now.vt change ≡ half_after self.now.vt csi criteria.now) }
+    ) -> Result<CsiChange<StoredVtCsi>, AllocError>
+        ensures { IfOk result (λ change. changed_by change self.now.vt ≡ csi_after self.now.vt csi criteria.now) }
     {
-        VtHalf::inserted(alloc, self.vt.as_ref(), csi, criteria)
+        StoredCsi::after_insert(alloc, self.vt.as_ref(), csi, criteria)
     }
 
-    // Changes both halves.
-    pub(crate) fn change(&mut self, o: Change<OHalf>, vt: Change<VtHalf>)
-        ensures { self.new ≡ record { o = changed self.old.o o; vt = changed self.old.vt vt } }
+    /// Changes both CSIs.
+    pub(crate) fn change(&mut self, o: CsiChange<StoredOCsi>, vt: CsiChange<StoredVtCsi>)
+        ensures { self.new ≡ with_changes o vt self.old }
     {
-        make(&mut self.o, o);
-        make(&mut self.vt, vt);
+        o.apply(&mut self.o);
+        vt.apply(&mut self.vt);
     }
 }
 
@@ -162,5 +168,19 @@ impl Clone for Subscriber {
             o: self.o.clone()?,
             vt: self.vt.clone()?,
         })
+    }
+}
+
+impl fmt::Debug for Subscriber {
+    fn fmt<W: fmt::Write>(&self, f: &mut fmt::Formatter<W>) -> fmt::Result {
+        f.debug_struct("Subscriber")
+            .field("o", &self.o())
+            .field("o_criteria", &self.o.as_ref().and_then(StoredCsi::criteria))
+            .field("vt", &self.vt())
+            .field(
+                "t_criteria",
+                &self.vt.as_ref().and_then(StoredCsi::criteria),
+            )
+            .finish()
     }
 }

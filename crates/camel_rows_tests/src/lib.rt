@@ -2,4 +2,16 @@
 #![tactic(auto)]
 
 #[cfg(test)]
-mod tests;
+mod copies;
+#[cfg(test)]
+mod criteria;
+#[cfg(test)]
+mod csis;
+#[cfg(test)]
+mod decisions;
+#[cfg(test)]
+mod events;
+#[cfg(test)]
+mod given;
+#[cfg(test)]
+mod updates;

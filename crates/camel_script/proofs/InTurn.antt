@@ -1,48 +1,89 @@
--- Texts in turn, as a loop takes them.
-use Rattle.std.proofs.Common.{◌≡◌, ◌∙◌, ℕ, zero, suc, ◌+◌, ◌<◌, ◌≤◌, List, [], ◌∷◌, length, drop, map, get_or, Bor, Result, Ok, Err, inl, inr, refl, sym, ap, arith, add-one, drop-cons}
-use Rattle.std.proofs.lemmas.List.{drop_all, get_or-map, length-map}
-use Rattle.camel_script.specs.Reading.{StopsAs, in_turn}
-use Rattle.camel_script.specs.declared.text.record_fault.Stop.{Stop}
+-- Sources in turn, as a loop takes them.
+use Rattle.std.proofs.Common.{◌≡◌, ◌∙◌, ℕ, suc, ◌+◌, ◌<◌, ◌≤◌, List, [], ◌∷◌, ◌++◌, length, drop, map, get_or, Bor, Result, Ok, Err, inl, inr, refl, sym, ap, add-one, drop-cons, Vec}
+use Rattle.std.proofs.lemmas.List.{drop_all}
+use Rattle.camel_script.specs.Parts.{elements_of}
+use Rattle.camel_script.specs.Reading.{◌>>=◌, FailsAs, ReadsAs, ReadsList, each_of, elements_as, in_turn, with_value}
+use Rattle.camel_script.specs.declared.text.record_fault.RecordFault.{RecordFault}
 
--- the lists from a place on begin with the one there
-pub drop-item : (lists : List (List ℕ)) (at : ℕ) (item : List ℕ) → at < length lists → item ≡ get_or lists at item → drop at lists ≡ item ∷ drop (suc at) lists
-drop-item lists at item lt is = drop-cons lists at item lt ∙ ap (λ (first : List ℕ). first ∷ drop (suc at) lists) (sym is)
+-- the sources from a place on begin with the one there
+pub drop-source : {S : Type 0} (sources : List S) (at : ℕ) (source : S)
+    → at < length sources → source ≡ get_or sources at source → drop at sources ≡ source ∷ drop (suc at) sources
+drop-source sources at source lt is =
+    drop-cons sources at source lt ∙ ap (λ (first : _). first ∷ drop (suc at) sources) (sym is)
 
--- the octets that each reference points to
-abbrev pub pointed : List (Bor (List ℕ)) → List (List ℕ)
-pointed texts = map (λ text. text.now) texts
-
-pub length-pointed : (texts : List (Bor (List ℕ))) → length (pointed texts) ≡ length texts
-length-pointed texts = simp length-map
-
-pub drop-pointed : (texts : List (Bor (List ℕ))) (at : ℕ) → at < length texts
-    → drop at (pointed texts) ≡ (get_or texts at record { ref_ptr = (0, 0); now = [] }).now ∷ drop (suc at) (pointed texts)
-drop-pointed texts at h =
-    rw (← get_or-map (λ text. text.now) texts at record { ref_ptr = (0, 0); now = [] } [] h)
-    (drop-cons (pointed texts) at [] (omega (arith, length-pointed texts)))
-
-module _ {A : Type 0} (take_text : A → List ℕ → Result A Stop) where
-  pub goes_on : (texts : List (List ℕ)) (at : ℕ) (text : List ℕ) (made next : A) (total : Result A Stop) → drop at texts ≡ text ∷ drop (suc at) texts
-      → take_text made text ≡ Ok next → in_turn take_text made (drop at texts) ≡ total → in_turn take_text next (drop (at + 1) texts) ≡ total
+module _ {A S : Type 0} (take_source : A → S → Result A RecordFault) where
+  pub goes_on : (sources : List S) (at : ℕ) (source : S) (made next : A) (total : Result A RecordFault)
+      → drop at sources ≡ source ∷ drop (suc at) sources → take_source made source ≡ Ok next
+      → in_turn take_source made (drop at sources) ≡ total → in_turn take_source next (drop (at + 1) sources) ≡ total
   unfolding in_turn
-  goes_on texts at text made next total here taken so_far =
-      let one : in_turn take_text made (drop at texts) ≡ in_turn take_text next (drop (suc at) texts) = rw (here, taken) refl in
+  goes_on sources at source made next total here taken so_far =
+      let one : in_turn take_source made (drop at sources) ≡ in_turn take_source next (drop (suc at) sources) =
+      rw (here, taken) refl in
       rw add-one (sym one ∙ so_far)
 
-  pub stops_here : (texts : List (List ℕ)) (at : ℕ) (text : List ℕ) (made : A) (stop : Stop) (total : Result A Stop) → drop at texts ≡ text ∷ drop (suc at) texts
-      → take_text made text ≡ Err stop → in_turn take_text made (drop at texts) ≡ total → total ≡ Err stop
+  pub fails_here : (sources : List S) (at : ℕ) (source : S) (made : A) (fault : RecordFault)
+      (total : Result A RecordFault)
+      → drop at sources ≡ source ∷ drop (suc at) sources → take_source made source ≡ Err fault
+      → in_turn take_source made (drop at sources) ≡ total → total ≡ Err fault
   unfolding in_turn
-  stops_here texts at text made stop total here stopped so_far =
-      let one : in_turn take_text made (drop at texts) ≡ Err stop = rw (here, stopped) refl in
+  fails_here sources at source made fault total here fails so_far =
+      let one : in_turn take_source made (drop at sources) ≡ Err fault = rw (here, fails) refl in
       sym so_far ∙ one
 
-  pub stops : (texts : List (List ℕ)) (at : ℕ) (text : List ℕ) (made : A) (stop : Stop) (total : Result A Stop) → drop at texts ≡ text ∷ drop (suc at) texts
-      → StopsAs stop (take_text made text) → in_turn take_text made (drop at texts) ≡ total → StopsAs stop total
-  stops texts at text made stop total here (inl memory) so_far = inl memory
-  stops texts at text made stop total here (inr stopped) so_far = inr (stops_here texts at text made stop total here stopped so_far)
+  pub fails_at : (sources : List S) (at : ℕ) (source : S) (made : A) (fault : RecordFault)
+      (total : Result A RecordFault)
+      → drop at sources ≡ source ∷ drop (suc at) sources → FailsAs fault (take_source made source)
+      → in_turn take_source made (drop at sources) ≡ total → FailsAs fault total
+  fails_at sources at source made fault total here (inl memory) so_far = inl memory
+  fails_at sources at source made fault total here (inr fails) so_far =
+      inr (fails_here sources at source made fault total here fails so_far)
 
-  pub is_done : (texts : List (List ℕ)) (at : ℕ) (made : A) (total : Result A Stop) → length texts ≤ at → in_turn take_text made (drop at texts) ≡ total → total ≡ Ok made
+  pub is_done : (sources : List S) (at : ℕ) (made : A) (total : Result A RecordFault)
+      → length sources ≤ at → in_turn take_source made (drop at sources) ≡ total → total ≡ Ok made
   unfolding in_turn
-  is_done texts at made total le so_far =
-      let one : in_turn take_text made (drop at texts) ≡ Ok made = rw (drop_all at texts le) refl in
+  is_done sources at made total le so_far =
+      let one : in_turn take_source made (drop at sources) ≡ Ok made = rw (drop_all at sources le) refl in
       sym so_far ∙ one
+
+-- a step, and equal ones after it
+after_step : {A : Type 0} (step : Result A RecordFault) (one other : A → Result A RecordFault)
+    → ((next : A) → one next ≡ other next) → (step >>= one) ≡ (step >>= other)
+after_step (Ok next) one other same = same next
+after_step (Err fault) one other same = refl
+
+-- sources in turn, each seen as another thing
+in_turn-map : {A S B : Type 0} (take_source : A → S → Result A RecordFault) (seen : B → S) (made : A)
+    (sources : List B) → in_turn take_source made (map seen sources)
+    ≡ in_turn (λ before source. take_source before (seen source)) made sources
+unfolding in_turn
+in_turn-map take_source seen made [] = refl
+in_turn-map take_source seen made (source ∷ more) =
+    after_step (take_source made (seen source)) (λ next. in_turn take_source next (map seen more))
+    (λ next. in_turn (λ before source. take_source before (seen source)) next more)
+    (λ next. in_turn-map take_source seen next more)
+
+-- a list that reads as each of the texts behind references is the one of the elements
+pub each_of-texts : {A G : Type 0} (value_of : List ℕ → Result A RecordFault) (answer : Result (Vec A G) RecordFault)
+    (texts : List (Bor (List ℕ))) (text : List ℕ)
+    → map (λ (element : Bor (List ℕ)). element.now) texts ≡ elements_of text
+    → ReadsList answer (each_of (λ (element : Bor (List ℕ)). value_of element.now) texts)
+    → ReadsList answer (elements_as value_of text)
+each_of-texts value_of answer texts text are reads =
+    rw (← are, in_turn-map (with_value value_of) (λ (element : Bor (List ℕ)). element.now) [] texts) reads
+
+-- a function that returns just what its source reads as
+pub reads_exactly : {A : Type 0} (answer reading : Result A RecordFault) → answer ≡ reading → ReadsAs answer reading
+reads_exactly (Ok value) reading is = sym is
+reads_exactly (Err fault) reading is = inr (sym is)
+
+module _ {A S : Type 0} (value_of : S → Result A RecordFault) (values : List A) where
+  -- the list grows by what a source stands for
+  pub with_read : (next : List A) (source : S) (value : A)
+      → value_of source ≡ Ok value → next ≡ values ++ value ∷ [] → with_value value_of values source ≡ Ok next
+  with_read next source value is pushed = rw (is, pushed) refl
+
+  -- the list fails with the fault of a source
+  pub fails_with : (source : S) (fault : RecordFault) → FailsAs fault (value_of source)
+      → FailsAs fault (with_value value_of values source)
+  fails_with source fault (inl memory) = inl memory
+  fails_with source fault (inr fails) = inr (rw fails refl)

@@ -4,7 +4,7 @@ use Rattle.csv.specs.Machine.{Read, next_record}
 use Rattle.csv.specs.Reading.{default_config, ReadsNext, ReadRecord, source_of}
 use Rattle.csv.specs.declared.parser.State.{State}
 use Rattle.csv.specs.declared.reader.Reader.{Reader}
-use Rattle.camel_script.specs.Csv.{Configured, csv_records}
+use Rattle.camel_script.specs.Csv.{IsConfigured, csv_records}
 use Rattle.camel_script.specs.Record.{record_of}
 use Rattle.camel_script.specs.Script.{FaultsAs, Gives, IsOnlyFault, ScriptData, first_then, script_of, the_end}
 use Rattle.camel_script.specs.declared.record.Record.{Record}
@@ -13,12 +13,12 @@ use Rattle.camel_script.specs.declared.script_fault.ScriptFault.TheVariants as f
 use Rattle.camel_script.proofs.CsvRecords.{csv_records-next, csv_records-none}
 
 -- what bytes still give, where they are known
-abbrev pub given : Option (List ℕ) → State → ℕ → Option ScriptData
-given source state most = option_map (λ bytes. script_of (csv_records state bytes) most) source
+abbrev pub known_data : Option (List ℕ) → State → ℕ → Option ScriptData
+known_data source state most = option_map (λ bytes. script_of (csv_records state bytes) most) source
 
 -- no further CSV record is the end of the script
 gives_end : (source after : Option (List ℕ)) (state next : State) (most : ℕ) (fields : List (List ℕ))
-    → ReadsNext default_config state source after false fields next → Gives (given source state most) (Some the_end) None
+    → ReadsNext default_config state source after false fields next → Gives (known_data source state most) (Some the_end) None
 unfolding script_of
 gives_end None after state next most fields reads = tt
 gives_end (Some bytes) None state next most fields reads = absurd reads
@@ -48,7 +48,7 @@ in_front (Some bytes) (Some rest) state next fields reads = by (next_record defa
 
 -- a CSV record past the last that may be read
 pub too_many : (source after : Option (List ℕ)) (state next : State) (fields : List (List ℕ)) (most : ℕ) → most ≡ 0
-    → StandsInFront source after state next fields → FaultsAs fault.TooManyRecords (given source state most)
+    → StandsInFront source after state next fields → FaultsAs fault.TooManyRecords (known_data source state most)
 unfolding script_of
 too_many None after state next fields most none front = inr tt
 too_many (Some bytes) None state next fields most none front = absurd front
@@ -56,7 +56,7 @@ too_many (Some bytes) (Some rest) state next fields most none front = inr (rw (f
 
 -- a CSV record that is a record of the script
 pub gives_record : (source after : Option (List ℕ)) (state next : State) (fields : List (List ℕ)) (most less : ℕ) (read : Record) → most ≡ suc less → record_of fields ≡ Ok read
-    → StandsInFront source after state next fields → Gives (given source state most) (given after next less) (Some read)
+    → StandsInFront source after state next fields → Gives (known_data source state most) (known_data after next less) (Some read)
 unfolding script_of
 gives_record None after state next fields most less read some is front = tt
 gives_record (Some bytes) None state next fields most less read some is front = front
@@ -66,7 +66,7 @@ gives_record (Some bytes) (Some rest) state next fields most less read some is f
 
 -- a CSV record with a fault of its text
 fault_of_text : (source after : Option (List ℕ)) (state next : State) (fields : List (List ℕ)) (most : ℕ) (e : ScriptFault) → 0 < most → record_of fields ≡ Err e
-    → StandsInFront source after state next fields → IsOnlyFault e (given source state most)
+    → StandsInFront source after state next fields → IsOnlyFault e (known_data source state most)
 unfolding script_of
 fault_of_text None after state next fields most e some is front = tt
 fault_of_text (Some bytes) None state next fields most e some is front = absurd front
@@ -74,21 +74,21 @@ fault_of_text (Some bytes) (Some rest) state next fields most e some is front =
     let one_more : most ≡ suc (most - 1) = omega arith in rw (front, one_more, is) refl
 
 pub fault_in_record : (source after : Option (List ℕ)) (state next : State) (fields : List (List ℕ)) (most : ℕ) (e : ScriptFault) → 0 < most → (e ≡ fault.OutOfMemory) ⊎ (record_of fields ≡ Err e)
-    → StandsInFront source after state next fields → FaultsAs e (given source state most)
+    → StandsInFront source after state next fields → FaultsAs e (known_data source state most)
 fault_in_record source after state next fields most e some (inl memory) front = inl (inl memory)
 fault_in_record source after state next fields most e some (inr is) front = inr (fault_of_text source after state next fields most e some is front)
 
 -- a read of a script's reader is of the next CSV record, and leaves the bytes after it
 reads_next : {R : Type 0} (remaining : R → Option (List ℕ)) (old new : Reader R) (found : Bool) (fields : List (List ℕ))
-    → Configured old → ReadRecord remaining old new found fields → ReadsNext default_config old.state (source_of remaining old) (source_of remaining new) found fields new.state
+    → IsConfigured old → ReadRecord remaining old new found fields → ReadsNext default_config old.state (source_of remaining old) (source_of remaining new) found fields new.state
 reads_next remaining old new found fields set_up reads = rw reads.1 (rw set_up.config at reads.0)
 
 pub read_none : {R : Type 0} (remaining : R → Option (List ℕ)) (old new : Reader R) (fields : List (List ℕ)) (most : ℕ)
-    → Configured old → ReadRecord remaining old new false fields → Gives (given (source_of remaining old) old.state most) (Some the_end) None
+    → IsConfigured old → ReadRecord remaining old new false fields → Gives (known_data (source_of remaining old) old.state most) (Some the_end) None
 read_none remaining old new fields most set_up reads =
     gives_end (source_of remaining old) (source_of remaining new) old.state new.state most fields (reads_next remaining old new false fields set_up reads)
 
 pub read_one : {R : Type 0} (remaining : R → Option (List ℕ)) (old new : Reader R) (fields : List (List ℕ))
-    → Configured old → ReadRecord remaining old new true fields → StandsInFront (source_of remaining old) (source_of remaining new) old.state new.state fields
+    → IsConfigured old → ReadRecord remaining old new true fields → StandsInFront (source_of remaining old) (source_of remaining new) old.state new.state fields
 read_one remaining old new fields set_up reads =
     in_front (source_of remaining old) (source_of remaining new) old.state new.state fields (reads_next remaining old new true fields set_up reads)

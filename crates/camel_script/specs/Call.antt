@@ -1,18 +1,18 @@
--- The calls of a script (profile 1's own format). The texts of all fields come before the data.
+-- The calls of a script (profile 1's own format). The texts of all fields are read before the data are checked.
 use Rattle.std.specs.Prelude.{ℕ, ◌==◌, not, nat_lt, List, length, codes, Result, Ok, Err, if◌then◌else◌}
 use Rattle.std.specs.Str.{bytes_eq}
-use Rattle.camel_rows.specs.declared.trigger.event.CallEvent.{CallEvent}
-use Rattle.camel_rows.specs.declared.trigger.event.CallEvent.TheVariants.{CollectedInfo, RouteSelectFailure, TerminatingAttempt, Busy, NoAnswer}
+use Rattle.camel_rows.specs.Event.{EventData}
+use Rattle.camel_rows.specs.declared.trigger.event.TdpEvent.TheVariants.{CollectedInfo, RouteSelectFailure, TerminatingAttempt, Busy, NoAnswer}
 use Rattle.camel_script.specs.Reading.{◌>>=◌}
 use Rattle.camel_script.specs.Field.{field}
 use Rattle.camel_script.specs.Texts.{basic_service_of, call_address_of, cause_of_value, decimal_of, imsi_of_text, is_forwarded_of, octets_of}
 use Rattle.camel_script.specs.declared.record.Record.{Record}
 use Rattle.camel_script.specs.declared.record.Record.TheVariants.{Call}
-use Rattle.camel_script.specs.declared.text.record_fault.Stop.{Stop}
-use Rattle.camel_script.specs.declared.text.record_fault.Stop.TheVariants as stop
+use Rattle.camel_script.specs.declared.text.record_fault.RecordFault.{RecordFault}
+use Rattle.camel_script.specs.declared.text.record_fault.RecordFault.TheVariants as record_fault
 
 -- call,2,IMSI,BASIC,DEST,TYPE
-unfoldable pub collected_info_of : List (List ℕ) → Result CallEvent Stop
+unfoldable pub collected_info_of : List (List ℕ) → Result EventData RecordFault
 collected_info_of fields = do
   imsi ← imsi_of_text (field fields 2)
   basic ← basic_service_of (field fields 3)
@@ -22,7 +22,7 @@ collected_info_of fields = do
   Ok (CollectedInfo imsi destination basic forwarded)
 
 -- call,4,IMSI,BASIC,DEST,TYPE,CAUSE
-unfoldable pub route_select_failure_of : List (List ℕ) → Result CallEvent Stop
+unfoldable pub route_select_failure_of : List (List ℕ) → Result EventData RecordFault
 route_select_failure_of fields = do
   imsi ← imsi_of_text (field fields 2)
   basic ← basic_service_of (field fields 3)
@@ -34,14 +34,14 @@ route_select_failure_of fields = do
   Ok (RouteSelectFailure imsi destination basic forwarded cause)
 
 -- call,12,IMSI,BASIC
-unfoldable pub terminating_attempt_of : List (List ℕ) → Result CallEvent Stop
+unfoldable pub terminating_attempt_of : List (List ℕ) → Result EventData RecordFault
 terminating_attempt_of fields = do
   imsi ← imsi_of_text (field fields 2)
   basic ← basic_service_of (field fields 3)
   Ok (TerminatingAttempt imsi basic)
 
 -- call,13,IMSI,BASIC,CAUSE
-unfoldable pub busy_of : List (List ℕ) → Result CallEvent Stop
+unfoldable pub busy_of : List (List ℕ) → Result EventData RecordFault
 busy_of fields = do
   imsi ← imsi_of_text (field fields 2)
   basic ← basic_service_of (field fields 3)
@@ -50,7 +50,7 @@ busy_of fields = do
   Ok (Busy imsi basic cause)
 
 -- call,14,IMSI,BASIC,CAUSE
-unfoldable pub no_answer_of : List (List ℕ) → Result CallEvent Stop
+unfoldable pub no_answer_of : List (List ℕ) → Result EventData RecordFault
 no_answer_of fields = do
   imsi ← imsi_of_text (field fields 2)
   basic ← basic_service_of (field fields 3)
@@ -58,20 +58,23 @@ no_answer_of fields = do
   cause ← cause_of_value value
   Ok (NoAnswer imsi basic cause)
 
--- a call of so many fields
-abbrev pub with_fields : ℕ → (List (List ℕ) → Result CallEvent Stop) → List (List ℕ) → Result CallEvent Stop
-with_fields count event_of fields = if not (length fields == count) then Err stop.FieldCount else event_of fields
+-- what a call of so many fields reads as
+abbrev pub with_fields : ℕ → (List (List ℕ) → Result EventData RecordFault) → List (List ℕ)
+    → Result EventData RecordFault
+with_fields count event_of fields =
+    if not (length fields == count) then Err record_fault.FieldCount else event_of fields
 
--- the second field is the detection point
-unfoldable pub event_of : List (List ℕ) → Result CallEvent Stop
+-- what a call reads as; its second field is the detection point, which says how many fields there are
+unfoldable pub event_of : List (List ℕ) → Result EventData RecordFault
 event_of fields =
-    if nat_lt (length fields) 2 then Err stop.FieldCount
+    if nat_lt (length fields) 2 then Err record_fault.FieldCount
     else if bytes_eq (field fields 1) (codes "2") then with_fields 6 collected_info_of fields
     else if bytes_eq (field fields 1) (codes "4") then with_fields 7 route_select_failure_of fields
     else if bytes_eq (field fields 1) (codes "12") then with_fields 4 terminating_attempt_of fields
     else if bytes_eq (field fields 1) (codes "13") then with_fields 5 busy_of fields
     else if bytes_eq (field fields 1) (codes "14") then with_fields 5 no_answer_of fields
-    else Err stop.Word
+    else Err record_fault.Word
 
-abbrev pub call_of : List (List ℕ) → Result Record Stop
+-- the record that a call is
+abbrev pub call_of : List (List ℕ) → Result Record RecordFault
 call_of fields = event_of fields >>= λ event. Ok (Call event)

@@ -10,26 +10,28 @@ use Rattle.camel_script.specs.Script.{ScriptState, Unread, Failed, Ended, script
 use Rattle.camel_script.specs.declared.script.Phase.{Phase}
 use Rattle.camel_script.specs.declared.script.Phase.TheVariants as phase
 
--- the CSV records of bytes, from a state of the parser on
+-- the CSV records that bytes hold, read from a state of the parser on
 abbrev pub csv_records : State → List ℕ → List (List (List ℕ))
 csv_records state bytes = records_from default_config (length bytes + 1) state bytes
 
--- what a `Script` is to its caller, by its fields
+-- the state of a `Script` that its caller sees, by its fields
 abbrev pub script_state_of : Phase → Option (List ℕ) → State → ℕ → ScriptState
-script_state_of phase.Reading source state most = Unread most (option_map (λ bytes. script_of (csv_records state bytes) most) source)
+script_state_of phase.Reading source state most =
+    Unread most (option_map (λ bytes. script_of (csv_records state bytes) most) source)
 script_state_of phase.Failed source state most = Failed
 script_state_of phase.Ended source state most = Ended
 
--- the reader has the crate's defaults but for the header row and the lengths, and has not failed
-pub record Configured {R : Type 0} (reader : Reader R) : Type 0 where
+-- the reader takes no header row and records of any lengths, has the crate's defaults else, and has not failed
+pub record IsConfigured {R : Type 0} (reader : Reader R) : Type 0 where
   pub config : reader_config reader ≡ default_config
   pub trim : reader_trim reader ≡ trim.None
   pub flexible : is_flexible reader ≡ true
   pub ready : Ready reader
   pub sound : has_failed reader ≡ false
 
+-- the reader is configured as long as it is read
 abbrev pub IsSetUp : {R : Type 0} → Phase → Reader R → Type 0
-IsSetUp phase.Reading reader = Configured reader
+IsSetUp phase.Reading reader = IsConfigured reader
 IsSetUp phase.Failed reader = ⊤
 IsSetUp phase.Ended reader = ⊤
 

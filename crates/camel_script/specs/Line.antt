@@ -13,10 +13,12 @@ use Rattle.camel_rows.specs.declared.trigger.outcome.Outcome.TheVariants.{Trigge
 use Rattle.camel_script.specs.declared.line.Line.{Line}
 use Rattle.camel_script.specs.declared.line.Line.TheVariants.{Accepted, Refused, Published, Decided}
 
+-- what is done with the call where the dialogue with the gsmSCF fails
 abbrev pub action_text : CallAction → List ℕ
 action_text Continue = codes "continue"
 action_text Release = codes "release"
 
+-- why no service is triggered
 abbrev pub reason_text : Reason → List ℕ
 reason_text Unknown = codes "unknown"
 reason_text NoCsi = codes "no-csi"
@@ -24,12 +26,16 @@ reason_text NotArmed = codes "not-armed"
 reason_text Emergency = codes "emergency"
 reason_text Criteria = codes "criteria"
 
--- the front, and the row's four values, the last as what is done with the call, or the reason
+-- the front of a decision, and either the triggered row's detection point, service key and gsmSCF address with what is
+-- done with the call on failure, or why no service is triggered
 abbrev pub decided_text : ℕ → Outcome → List ℕ
 decided_text front (Trigger dp key scf handling) =
-    codes "front " ++ decimal front ++ codes " trigger " ++ decimal dp ++ codes " " ++ decimal key ++ codes " " ++ encode_lower scf ++ codes " " ++ action_text (action_of handling) ++ codes "\n"
-decided_text front (NoTrigger reason) = codes "front " ++ decimal front ++ codes " none " ++ reason_text reason ++ codes "\n"
+    codes "front " ++ decimal front ++ codes " trigger " ++ decimal dp ++ codes " " ++ decimal key
+    ++ codes " " ++ encode_lower scf ++ codes " " ++ action_text (action_of handling) ++ codes "\n"
+decided_text front (NoTrigger reason) =
+    codes "front " ++ decimal front ++ codes " none " ++ reason_text reason ++ codes "\n"
 
+-- the text of a line
 abbrev pub line_text : Line → List ℕ
 line_text (Accepted number) = codes "accepted " ++ decimal number ++ codes "\n"
 line_text (Refused code) = codes "refused " ++ decimal code ++ codes "\n"

@@ -2,26 +2,27 @@
 use Rattle.std.specs.Prelude.{ℕ, ◌==◌, List, [], ◌∷◌, unwrap_or, slice_get}
 use Rattle.std.specs.List.{slice_split}
 
--- what stands between the parts of an item, `:`
+-- the parts of an item are separated by `:`
 abbrev pub item_separator : ℕ
 item_separator = 58
 
--- between the parts of NUMBER, `/`
+-- the parts of NUMBER are separated by `/`
 abbrev pub number_separator : ℕ
 number_separator = 47
 
--- and between the elements of a list, `+`
+-- the elements of a list are separated by `+`
 abbrev pub element_separator : ℕ
 element_separator = 43
 
--- the parts of a text
+-- the parts of a text, as a separator parts it
 abbrev pub parts_of : ℕ → List ℕ → List (List ℕ)
 parts_of separator text = slice_split (λ character. character == separator) text
 
--- the part at a place, from 0; empty past the last
+-- the part of a text at a place, from 0; empty past the last
 abbrev pub part : ℕ → List ℕ → ℕ → List ℕ
 part separator text at = unwrap_or (slice_get (parts_of separator text) at) []
 
+-- the part of an item at a place, from 0; empty past the last
 abbrev pub item_part : List ℕ → ℕ → List ℕ
 item_part item at = part item_separator item at
 

@@ -1,5 +1,5 @@
--- The record that the fields of a CSV record stand for (profile 1's own format). The checks are made in
--- the order in which they stand here.
+-- The record that the fields of a CSV record stand for (profile 1's own format). The checks are made in the order in
+-- which a definition names them.
 use Rattle.std.specs.Prelude.{ℕ, ◌==◌, not, nat_lt, true, false, List, [], ◌∷◌, length, drop, codes, Option, Some, None, Result, Ok, Err, if◌then◌else◌}
 use Rattle.std.specs.Str.{bytes_eq}
 use Rattle.camel_criteria.specs.declared.refusal.Refusal.{Refusal}
@@ -13,29 +13,33 @@ use Rattle.camel_script.specs.Field.{field}
 use Rattle.camel_script.specs.Texts.{imsi_of_text}
 use Rattle.camel_script.specs.declared.record.Record.{Record}
 use Rattle.camel_script.specs.declared.record.Record.TheVariants as record_of_script
+use Rattle.camel_script.specs.declared.record.RecordKind.{RecordKind}
+use Rattle.camel_script.specs.declared.record.RecordKind.TheVariants as kind
 use Rattle.camel_script.specs.declared.script_fault.ScriptFault.{ScriptFault}
 use Rattle.camel_script.specs.declared.script_fault.ScriptFault.TheVariants as fault
-use Rattle.camel_script.specs.declared.text.record_fault.Stop.{Stop}
-use Rattle.camel_script.specs.declared.text.record_fault.Stop.TheVariants as stop
+use Rattle.camel_script.specs.declared.text.record_fault.RecordFault.{RecordFault}
+use Rattle.camel_script.specs.declared.text.record_fault.RecordFault.TheVariants as record_fault
 
--- the IMSI of a record that has nothing else
-unfoldable pub imsi_alone_of : List (List ℕ) → Result (List ℕ) Stop
-imsi_alone_of fields = if not (length fields == 2) then Err stop.FieldCount else imsi_of_text (field fields 1)
+-- the IMSI of a record that has a word and an IMSI alone
+unfoldable pub imsi_alone_of : List (List ℕ) → Result (List ℕ) RecordFault
+imsi_alone_of fields = if not (length fields == 2) then Err record_fault.FieldCount else imsi_of_text (field fields 1)
 
 -- register,IMSI
-abbrev pub register_of : List (List ℕ) → Result Record Stop
+abbrev pub register_of : List (List ℕ) → Result Record RecordFault
 register_of fields = imsi_alone_of fields >>= λ imsi. Ok (record_of_script.Update (update.Register imsi))
 
 -- cancel,IMSI
-abbrev pub cancel_of : List (List ℕ) → Result Record Stop
+abbrev pub cancel_of : List (List ℕ) → Result Record RecordFault
 cancel_of fields = imsi_alone_of fields >>= λ imsi. Ok (record_of_script.Update (update.Cancel imsi))
 
--- the received list that these items are; where there are none, it is omitted
-abbrev pub received_list : {A : Type 0} → (List A → Result (List A) Refusal) → List A → Result (Option (List A)) Stop
+-- the received list that items make; without items the list is omitted
+abbrev pub received_list : {A : Type 0} → (List A → Result (List A) Refusal) → List A
+    → Result (Option (List A)) RecordFault
 received_list kept_of [] = Ok None
 received_list kept_of (first ∷ more) = or_refused (kept_of (first ∷ more)) >>= λ kept. Ok (Some kept)
 
-unfoldable pub insert_of_items : List ℕ → ItemsData → Result Record Stop
+-- the update Insert of an IMSI and the lists of its items
+unfoldable pub insert_of_items : List ℕ → ItemsData → Result Record RecordFault
 insert_of_items imsi items = do
   o ← received_list o_csi_of items.o
   o_criteria ← received_list o_criteria_set_of items.o_criteria
@@ -44,58 +48,73 @@ insert_of_items imsi items = do
   Ok (record_of_script.Update (update.Insert imsi o o_criteria vt t_criteria))
 
 -- insert,IMSI,ITEM..
-unfoldable pub insert_of : List (List ℕ) → Result Record Stop
+unfoldable pub insert_of : List (List ℕ) → Result Record RecordFault
 insert_of fields =
-    if nat_lt (length fields) 2 then Err stop.FieldCount
+    if nat_lt (length fields) 2 then Err record_fault.FieldCount
     else do
       imsi ← imsi_of_text (field fields 1)
       items ← items_of (drop 2 fields)
       insert_of_items imsi items
 
--- what a delete names
-unfoldable pub what_into : Withdrawal → List ℕ → Result Withdrawal Stop
-what_into what text =
+-- a withdrawal with one text more of what a delete names
+unfoldable pub withdrawal_with : Withdrawal → List ℕ → Result Withdrawal RecordFault
+withdrawal_with what text =
     if bytes_eq text (codes "o") then Ok (record what { o = true })
     else if bytes_eq text (codes "vt") then Ok (record what { vt = true })
     else if bytes_eq text (codes "all") then Ok (record what { everything = true })
-    else Err stop.Word
+    else Err record_fault.Word
 
-abbrev pub nothing : Withdrawal
-nothing = record { o = false; vt = false; everything = false }
+-- the withdrawal of nothing
+abbrev pub no_withdrawal : Withdrawal
+no_withdrawal = record { o = false; vt = false; everything = false }
 
 -- delete,IMSI,WHAT..
-unfoldable pub delete_of : List (List ℕ) → Result Record Stop
+unfoldable pub delete_of : List (List ℕ) → Result Record RecordFault
 delete_of fields =
-    if nat_lt (length fields) 3 then Err stop.FieldCount
+    if nat_lt (length fields) 3 then Err record_fault.FieldCount
     else do
       imsi ← imsi_of_text (field fields 1)
-      what ← in_turn what_into nothing (drop 2 fields)
+      what ← in_turn withdrawal_with no_withdrawal (drop 2 fields)
       Ok (record_of_script.Update (update.Delete imsi what))
 
 -- publish
-unfoldable pub publish_of : List (List ℕ) → Result Record Stop
-publish_of fields = if not (length fields == 1) then Err stop.FieldCount else Ok record_of_script.Publish
+unfoldable pub publish_of : List (List ℕ) → Result Record RecordFault
+publish_of fields = if not (length fields == 1) then Err record_fault.FieldCount else Ok record_of_script.Publish
 
--- the first field is the word
-unfoldable pub reading_of : List (List ℕ) → Result Record Stop
-reading_of fields =
-    if bytes_eq (field fields 0) (codes "register") then register_of fields
-    else if bytes_eq (field fields 0) (codes "insert") then insert_of fields
-    else if bytes_eq (field fields 0) (codes "delete") then delete_of fields
-    else if bytes_eq (field fields 0) (codes "cancel") then cancel_of fields
-    else if bytes_eq (field fields 0) (codes "publish") then publish_of fields
-    else if bytes_eq (field fields 0) (codes "call") then call_of fields
-    else Err stop.Word
+-- the kind of record that a word names
+unfoldable pub kind_of_word : List ℕ → Result RecordKind RecordFault
+kind_of_word word =
+    if bytes_eq word (codes "register") then Ok kind.Register
+    else if bytes_eq word (codes "insert") then Ok kind.Insert
+    else if bytes_eq word (codes "delete") then Ok kind.Delete
+    else if bytes_eq word (codes "cancel") then Ok kind.Cancel
+    else if bytes_eq word (codes "publish") then Ok kind.Publish
+    else if bytes_eq word (codes "call") then Ok kind.Call
+    else Err record_fault.Word
 
--- data that are refused make a record of their own; the faults of texts are the script's
-abbrev pub record_or_fault : Result Record Stop → Result Record ScriptFault
+-- what the fields of a record of each kind read as
+abbrev pub reading_of_kind : RecordKind → List (List ℕ) → Result Record RecordFault
+reading_of_kind kind.Register fields = register_of fields
+reading_of_kind kind.Insert fields = insert_of fields
+reading_of_kind kind.Delete fields = delete_of fields
+reading_of_kind kind.Cancel fields = cancel_of fields
+reading_of_kind kind.Publish fields = publish_of fields
+reading_of_kind kind.Call fields = call_of fields
+
+-- what fields read as; the first one is the word
+unfoldable pub reading_of : List (List ℕ) → Result Record RecordFault
+reading_of fields = kind_of_word (field fields 0) >>= λ kind. reading_of_kind kind fields
+
+-- a record whose data are refused is a record, and a fault of its text is the script's
+abbrev pub record_or_fault : Result Record RecordFault → Result Record ScriptFault
 record_or_fault (Ok read) = Ok read
-record_or_fault (Err (stop.Refused refusal)) = Ok (record_of_script.Refused refusal)
-record_or_fault (Err stop.OutOfMemory) = Err fault.OutOfMemory
-record_or_fault (Err stop.Word) = Err fault.Word
-record_or_fault (Err stop.FieldCount) = Err fault.FieldCount
-record_or_fault (Err stop.Hexadecimal) = Err fault.Hexadecimal
-record_or_fault (Err stop.Number) = Err fault.Number
+record_or_fault (Err (record_fault.Refused refusal)) = Ok (record_of_script.Refused refusal)
+record_or_fault (Err record_fault.OutOfMemory) = Err fault.OutOfMemory
+record_or_fault (Err record_fault.Word) = Err fault.Word
+record_or_fault (Err record_fault.FieldCount) = Err fault.FieldCount
+record_or_fault (Err record_fault.Hexadecimal) = Err fault.Hexadecimal
+record_or_fault (Err record_fault.Number) = Err fault.Number
 
+-- the record that fields are, or the fault of the script
 unfoldable pub record_of : List (List ℕ) → Result Record ScriptFault
 record_of fields = record_or_fault (reading_of fields)

@@ -12,9 +12,11 @@ pub record ScriptData : Type 0 where
   pub records : List Record
   pub fault : Option ScriptFault
 
+-- neither a record nor a fault
 abbrev pub the_end : ScriptData
 the_end = record { records = []; fault = None }
 
+-- a fault, and no record before it
 abbrev pub only_fault : ScriptFault → ScriptData
 only_fault e = record { records = []; fault = Some e }
 
@@ -47,7 +49,7 @@ still_gives (Unread most known) = known
 still_gives Failed = Some (only_fault fault.Failed)
 still_gives Ended = Some the_end
 
--- how many records it may still give
+-- how many records a `Script` may still give
 abbrev pub records_left : ScriptState → ℕ
 records_left (Unread most known) = most
 records_left Failed = 0
@@ -69,7 +71,7 @@ abbrev pub IsOnlyFault : ScriptFault → Option ScriptData → Type 0
 IsOnlyFault e None = ⊤
 IsOnlyFault e (Some old) = old ≡ only_fault e
 
--- want of memory, or a failed read of the reader underneath
+-- out of memory, or a failed read of the reader underneath
 abbrev pub IsMemoryOrReadFault : ScriptFault → Type 0
 IsMemoryOrReadFault e = (e ≡ fault.OutOfMemory) ⊎ (e ≡ fault.Read)
 

@@ -1,3 +1,5 @@
+//! The lines of output. Their texts are put together piece by piece: `format!` takes twice the time for a line.
+
 ghost use Rattle.std.specs.Prelude.{◌≡◌, ◌++◌, IfErr, IfOk, OnErr, OnOk, codes, string_bytes};
 ghost use Rattle.std.specs.Fmt.{decimal};
 ghost use Rattle.hex.specs.Hex.{encode_lower};
@@ -10,7 +12,7 @@ use camel_tbcd::IsdnAddress;
 use itoa::Buffer;
 use std::alloc::{AllocError, Global};
 
-// Room for any line that has not very great numbers, so that its text is put together in one place.
+/// Room for any line without very great numbers, so that its text takes memory once.
 const LINE_ROOM: usize = 96;
 
 /// A line of output, in the texts of docs/SCRIPT.md.
@@ -28,7 +30,7 @@ pub enum Line {
 
 /// Appends the text of a line, with its line feed.
 ///
-/// `OutOfMemory` (102) is answered where memory was refused; the bytes are then as before.
+/// Fails with `OutOfMemory` (102) alone; the bytes are then as before.
 pub fn push_line(alloc: Global, out: &mut Vec<u8>, line: &Line) -> Result<(), Refusal>
     ensures appended { OnOk result (out.new.items ≡ out.old.items ++ line_text line.now) }
     ensures unchanged { OnErr result (out.new.items ≡ out.old.items) }
@@ -39,6 +41,7 @@ pub fn push_line(alloc: Global, out: &mut Vec<u8>, line: &Line) -> Result<(), Re
     Ok(())
 }
 
+/// The text of a line.
 fn text_of(alloc: Global, line: &Line) -> Result<Vec<u8>, AllocError>
     ensures { IfOk result (λ text. text.items ≡ line_text line.now) }
 {
@@ -50,7 +53,7 @@ fn text_of(alloc: Global, line: &Line) -> Result<Vec<u8>, AllocError>
     }
 }
 
-// A line of a word and a number.
+/// The text of a line of a word and a number.
 fn numbered_text(alloc: Global, word: &str, number: u64) -> Result<Vec<u8>, AllocError>
     ensures { IfOk result (λ text. text.items ≡ word.now ++ decimal number ++ codes "\n") }
 {
@@ -61,6 +64,7 @@ fn numbered_text(alloc: Global, word: &str, number: u64) -> Result<Vec<u8>, Allo
     Ok(text)
 }
 
+/// The text of a decided call.
 fn decided_text(alloc: Global, answer: &Answer) -> Result<Vec<u8>, AllocError>
     ensures { IfOk result (λ text. text.items ≡ decided_text answer.now.front answer.now.outcome) }
 {
@@ -75,6 +79,7 @@ fn decided_text(alloc: Global, answer: &Answer) -> Result<Vec<u8>, AllocError>
     }
 }
 
+/// The text of a call that triggers a service.
 fn trigger_text(
     alloc: Global,
     front: u64,
@@ -100,12 +105,14 @@ fn trigger_text(
     Ok(text)
 }
 
+/// The octets of an address in lower-case hexadecimal.
 fn address_text(alloc: Global, address: &IsdnAddress) -> Result<String, AllocError>
     ensures { IfOk result (λ text. string_bytes text ≡ encode_lower address.now) }
 {
     hex::encode(alloc, address.lend().bytes())
 }
 
+/// The text of a call that triggers no service.
 fn no_trigger_text(alloc: Global, front: u64, reason: Reason) -> Result<Vec<u8>, AllocError>
     ensures { IfOk result (λ text. text.items ≡ decided_text front (Outcome.NoTrigger reason)) }
 {
@@ -118,12 +125,14 @@ fn no_trigger_text(alloc: Global, front: u64, reason: Reason) -> Result<Vec<u8>,
     Ok(text)
 }
 
+/// Appends a text.
 fn push_text(out: &mut Vec<u8>, text: &str) -> Result<(), AllocError>
     ensures { OnOk result (out.new.items ≡ out.old.items ++ text.now) }
 {
     out.extend_from_slice(text.as_bytes())
 }
 
+/// Appends a number in decimal digits.
 fn push_decimal(out: &mut Vec<u8>, number: u64) -> Result<(), AllocError>
     ensures { OnOk result (out.new.items ≡ out.old.items ++ decimal number) }
 {
@@ -131,6 +140,7 @@ fn push_decimal(out: &mut Vec<u8>, number: u64) -> Result<(), AllocError>
     push_text(out, digits.format(number))
 }
 
+/// What is done with the call where the dialogue with the gsmSCF fails.
 fn action_text(handling: Handling) -> &'static str
     ensures { result.now ≡ action_text (action_of handling) }
 {
@@ -140,6 +150,7 @@ fn action_text(handling: Handling) -> &'static str
     }
 }
 
+/// Why a call triggers no service.
 fn reason_text(reason: Reason) -> &'static str
     ensures { result.now ≡ reason_text reason }
 {

@@ -3,7 +3,7 @@
 ghost use Rattle.std.specs.Prelude.{◌≡◌, ◌⊎◌, IfErr, IfOk};
 ghost use Rattle.csv.specs.Records.{fields_of};
 ghost use Rattle.camel_script.specs.Reading.{ReadsAs};
-ghost use Rattle.camel_script.specs.Record.{cancel_of, imsi_alone_of, publish_of, reading_of, record_of, register_of};
+ghost use Rattle.camel_script.specs.Record.{cancel_of, imsi_alone_of, kind_of_word, publish_of, reading_of, record_of, register_of};
 ghost use Rattle.camel_script.specs.ScriptFault.{IsRecordFault};
 
 pub(crate) mod call;
@@ -11,13 +11,13 @@ pub(crate) mod delete;
 pub(crate) mod field;
 pub(crate) mod insert;
 
-use crate::record::call::call;
-use crate::record::delete::delete;
+use crate::record::call::parse_call;
+use crate::record::delete::parse_delete;
 use crate::record::field::field;
-use crate::record::insert::insert;
+use crate::record::insert::parse_insert;
 use crate::script_fault::ScriptFault;
-use crate::text::imsi;
-use crate::text::record_fault::Stop;
+use crate::text::parse_imsi;
+use crate::text::record_fault::RecordFault;
 use camel_criteria::Refusal;
 use camel_rows::{CallEvent, Update};
 use camel_tbcd::Imsi;
@@ -29,7 +29,7 @@ use std::alloc::Global;
 pub enum Record {
     /// An update of the subscriber data.
     Update(Update),
-    /// The pending updates are to be published.
+    /// The pending updates are published.
     Publish,
     /// A call at a trigger detection point.
     Call(CallEvent),
@@ -37,82 +37,99 @@ pub enum Record {
     Refused(Refusal),
 }
 
-// The record that the fields of a CSV record stand for, or the first fault of their texts.
+/// The kinds of record, each with a word of its own.
+#[derive(Clone, Copy)]
+enum RecordKind {
+    Register,
+    Insert,
+    Delete,
+    Cancel,
+    Publish,
+    Call,
+}
+
+/// Reads the record that the fields of a CSV record stand for. Fails with the first fault of their texts, or out of
+/// memory.
 #[tactic(auto, unfolding(crate::specs::Record::record_of))]
-pub fn record_from(alloc: Global, fields: &ByteRecord) -> Result<Record, ScriptFault>
+pub(crate) fn parse_record(alloc: Global, fields: &ByteRecord) -> Result<Record, ScriptFault>
     ensures record { IfOk result (λ read. record_of (fields_of fields.now) ≡ Ok read) }
     ensures fault { IfErr result (λ fault.
         (fault ≡ ScriptFault.OutOfMemory) ⊎ (record_of (fields_of fields.now) ≡ Err fault)) }
     ensures of_record { IfErr result IsRecordFault }
 {
-    match reading(alloc, fields) {
+    match parse_fields(alloc, fields) {
         Ok(read) => Ok(read),
-        Err(Stop::Refused(refusal)) => Ok(Record::Refused(refusal)),
-        Err(Stop::OutOfMemory) => Err(ScriptFault::OutOfMemory),
-        Err(Stop::Word) => Err(ScriptFault::Word),
-        Err(Stop::FieldCount) => Err(ScriptFault::FieldCount),
-        Err(Stop::Hexadecimal) => Err(ScriptFault::Hexadecimal),
-        Err(Stop::Number) => Err(ScriptFault::Number),
+        Err(RecordFault::Refused(refusal)) => Ok(Record::Refused(refusal)),
+        Err(RecordFault::OutOfMemory) => Err(ScriptFault::OutOfMemory),
+        Err(RecordFault::Word) => Err(ScriptFault::Word),
+        Err(RecordFault::FieldCount) => Err(ScriptFault::FieldCount),
+        Err(RecordFault::Hexadecimal) => Err(ScriptFault::Hexadecimal),
+        Err(RecordFault::Number) => Err(ScriptFault::Number),
     }
 }
 
+/// Reads a record by its word, the first field.
 #[tactic(auto, unfolding(crate::specs::Record::reading_of))]
-fn reading(alloc: Global, fields: &ByteRecord) -> Result<Record, Stop>
+fn parse_fields(alloc: Global, fields: &ByteRecord) -> Result<Record, RecordFault>
     ensures { ReadsAs result (reading_of (fields_of fields.now)) }
 {
-    let word = field(fields, 0);
-    if word == b"register".as_slice() {
-        return register(fields);
+    match parse_kind(field(fields, 0))? {
+        RecordKind::Register => parse_register(fields),
+        RecordKind::Insert => parse_insert(alloc, fields),
+        RecordKind::Delete => parse_delete(fields),
+        RecordKind::Cancel => parse_cancel(fields),
+        RecordKind::Publish => parse_publish(fields),
+        RecordKind::Call => parse_call(alloc, fields),
     }
-    if word == b"insert".as_slice() {
-        return insert(alloc, fields);
-    }
-    if word == b"delete".as_slice() {
-        return delete(fields);
-    }
-    if word == b"cancel".as_slice() {
-        return cancel(fields);
-    }
-    if word == b"publish".as_slice() {
-        return publish(fields);
-    }
-    if word == b"call".as_slice() {
-        return call(alloc, fields);
-    }
-    Err(Stop::Word)
 }
 
-// The IMSI of a record that has nothing else.
+/// Reads the word of a record.
+#[tactic(auto, unfolding(crate::specs::Record::kind_of_word))]
+fn parse_kind(word: &[u8]) -> Result<RecordKind, RecordFault>
+    ensures { result ≡ kind_of_word word.now }
+{
+    match word {
+        b"register" => Ok(RecordKind::Register),
+        b"insert" => Ok(RecordKind::Insert),
+        b"delete" => Ok(RecordKind::Delete),
+        b"cancel" => Ok(RecordKind::Cancel),
+        b"publish" => Ok(RecordKind::Publish),
+        b"call" => Ok(RecordKind::Call),
+        _ => Err(RecordFault::Word),
+    }
+}
+
+/// Reads the IMSI of a record that has a word and an IMSI alone.
 #[tactic(auto, unfolding(crate::specs::Record::imsi_alone_of))]
-fn imsi_alone(fields: &ByteRecord) -> Result<Imsi, Stop>
+fn parse_imsi_alone(fields: &ByteRecord) -> Result<Imsi, RecordFault>
     ensures { result ≡ imsi_alone_of (fields_of fields.now) }
 {
     if fields.len() != 2 {
-        return Err(Stop::FieldCount);
+        return Err(RecordFault::FieldCount);
     }
-    imsi(field(fields, 1))
+    parse_imsi(field(fields, 1))
 }
 
-fn register(fields: &ByteRecord) -> Result<Record, Stop>
+fn parse_register(fields: &ByteRecord) -> Result<Record, RecordFault>
     ensures { result ≡ register_of (fields_of fields.now) }
 {
-    let imsi = imsi_alone(fields)?;
+    let imsi = parse_imsi_alone(fields)?;
     Ok(Record::Update(Update::Register { imsi }))
 }
 
-fn cancel(fields: &ByteRecord) -> Result<Record, Stop>
+fn parse_cancel(fields: &ByteRecord) -> Result<Record, RecordFault>
     ensures { result ≡ cancel_of (fields_of fields.now) }
 {
-    let imsi = imsi_alone(fields)?;
+    let imsi = parse_imsi_alone(fields)?;
     Ok(Record::Update(Update::Cancel { imsi }))
 }
 
 #[tactic(auto, unfolding(crate::specs::Record::publish_of))]
-fn publish(fields: &ByteRecord) -> Result<Record, Stop>
+fn parse_publish(fields: &ByteRecord) -> Result<Record, RecordFault>
     ensures { result ≡ publish_of (fields_of fields.now) }
 {
     if fields.len() != 1 {
-        return Err(Stop::FieldCount);
+        return Err(RecordFault::FieldCount);
     }
     Ok(Record::Publish)
 }

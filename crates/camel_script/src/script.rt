@@ -1,9 +1,9 @@
-ghost use Rattle.std.specs.Prelude.{◌≡◌, ◌+◌, Ok, Err, None, IfErr, IfOk, IfSome, IsOk, IsTrue, OnErr, option_map};
+ghost use Rattle.std.specs.Prelude.{◌≡◌, ◌≢◌, ◌+◌, Ok, Err, None, IfErr, IfOk, IfSome, IsOk, IsTrue, OnErr, option_map};
 ghost use Rattle.csv.specs.Reading.{error_kind, is_io};
 ghost use Rattle.camel_script.specs.Csv.{IsMemoryOrIo};
 ghost use Rattle.camel_script.specs.Script.{Ended, Failed, FaultsAs, Gives, IsMemoryOrReadFault, Unread, records_left, script, still_gives};
 
-use crate::record::{Record, record_from};
+use crate::record::{Record, parse_record};
 use crate::script_fault::ScriptFault;
 use camel_criteria::Refusal;
 use csv::{ByteRecord, ErrorKind, Reader, ReaderBuilder};
@@ -11,7 +11,7 @@ use std::alloc::Global;
 use std::io::Read;
 use std::marker::Model;
 
-// What the reads so far have come to.
+/// What the reads so far have come to.
 #[derive(Clone, Copy, PartialEq, Eq)]
 enum Phase {
     Reading,
@@ -21,8 +21,7 @@ enum Phase {
 
 /// A script that is read record by record, in the form that docs/SCRIPT.md states.
 ///
-/// Contracts see what it still gives: records and then a fault or the end, where the bytes of the reader
-/// are known.
+/// Contracts see what it still gives where the bytes of the reader are known: records, and then a fault or the end.
 #[derive(Drop)]
 pub struct Script<R: Read> {
     alloc: Global,
@@ -39,7 +38,8 @@ impl<R: Read> Model for Script<R> {
 
     ghost Value = { ScriptState };
 
-    ghost view = { λ a. script_state_of a.phase (source_of R.remaining a.reader) (reader_state a.reader) a.records_left };
+    ghost view = { λ a.
+        script_state_of a.phase (source_of R.remaining a.reader) (reader_state a.reader) a.records_left };
 
     ghost invariant = { λ a. IsSetUp a.phase a.reader };
 }
@@ -47,8 +47,7 @@ impl<R: Read> Model for Script<R> {
 impl<R: Read> Script<R> {
     /// A script of which nothing is read yet, and of which at most `max_records` records are read.
     ///
-    /// It takes no memory, and is always Ok; a reader that kept a buffer of its own would answer
-    /// `OutOfMemory` (102).
+    /// It takes no memory, and is always Ok; a reader with a buffer of its own would fail with `OutOfMemory` (102).
     pub fn new(alloc: Global, reader: R, max_records: u64) -> Result<Script<R>, Refusal>
         ensures made { IsOk result }
         ensures unread { IfOk result (λ made. made ≡
@@ -69,19 +68,20 @@ impl<R: Read> Script<R> {
 
     /// The next record, or None at the end of the script.
     ///
-    /// A fault of a record's text is one of 202 to 205, in the order of docs/SCRIPT.md. `TooManyRecords`
-    /// (207) is answered for one record more than `max_records`, before any other fault of it, `Read` (206)
-    /// where the reader failed, and `OutOfMemory` (102) where memory was refused. After any fault each later
-    /// call answers `Failed` (209), and after None each answers None.
+    /// Fails with `Word` (202), `FieldCount` (203), `Hexadecimal` (204) or `Number` (205) for the first fault of a
+    /// record's text, in the order of docs/SCRIPT.md; with `TooManyRecords` (207) for one record more than
+    /// `max_records`, before any other fault of it; with `Read` (206) where the reader failed; and with `OutOfMemory`
+    /// (102). After any fault each later call fails with `Failed` (209), and after None each returns None.
     pub fn read_record(&mut self) -> Result<Option<Record>, ScriptFault>
         ensures gives { IfOk result (λ read. Gives (still_gives self.old) (still_gives self.new) read) }
         ensures faults { IfErr result (λ fault. FaultsAs fault (still_gives self.old)) }
         ensures counts { IfOk result (λ read. IfSome read (λ _. records_left self.old ≡ records_left self.new + 1)) }
 
-        // After a fault comes `Failed` for good, and never else; after the end comes None for good.
+        // `Failed` comes after a fault alone, and then for good. None is returned for good after the end.
         ensures fails { OnErr result (self.new ≡ Failed) }
         ensures failed { self.old ≡ Failed → result ≡ Err ScriptFault.Failed }
         ensures failed_only { result ≡ Err ScriptFault.Failed → self.old ≡ Failed }
+        ensures reads_on { IfOk result (λ read. IfSome read (λ _. self.new ≢ Failed)) }
         ensures ends { result ≡ Ok None → self.new ≡ Ended }
         ensures ended { self.old ≡ Ended → result ≡ Ok None }
     {
@@ -94,7 +94,7 @@ impl<R: Read> Script<R> {
             Ok(found) => found,
             Err(error) => {
                 self.phase = Phase::Failed;
-                return Err(read_fault(&error));
+                return Err(fault_of(&error));
             }
         };
         if !found {
@@ -105,7 +105,7 @@ impl<R: Read> Script<R> {
             self.phase = Phase::Failed;
             return Err(ScriptFault::TooManyRecords);
         }
-        match record_from(self.alloc, &self.fields) {
+        match parse_record(self.alloc, &self.fields) {
             Ok(read) => {
                 self.records_left -= 1;
                 Ok(Some(read))
@@ -118,8 +118,8 @@ impl<R: Read> Script<R> {
     }
 }
 
-// Want of memory, or a failure of the reader underneath: a flexible reader of byte records has no other.
-fn read_fault(error: &csv::Error) -> ScriptFault
+/// The fault of a CSV error, which is of memory or of the reader: a flexible reader of byte records has no other.
+fn fault_of(error: &csv::Error) -> ScriptFault
     requires { IsMemoryOrIo (error_kind error.now) }
     ensures memory { error_kind error.now ≡ ErrorKind.OutOfMemory → result ≡ ScriptFault.OutOfMemory }
     ensures read { IsTrue (is_io (error_kind error.now)) → result ≡ ScriptFault.Read }

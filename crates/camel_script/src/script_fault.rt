@@ -3,14 +3,14 @@ ghost use Rattle.camel_script.specs.ScriptFault.{script_fault_code};
 
 use thiserror::Error;
 
-/// Why a script could not be read on. After any of them each later read answers `Failed`.
+/// Why a script can't be read on. After any of them each later read fails with `Failed`.
 #[derive(Clone, Copy, Debug, PartialEq, Eq, Error)]
 pub enum ScriptFault {
-    /// 102: memory was refused.
+    /// 102: out of memory.
     #[error("out of memory")]
     OutOfMemory,
-    /// 202: a word, the detection point of a call, the name of an item, the letter of a basic service or the
-    /// type of a call is not one of the format.
+    /// 202: a word, the detection point of a call, the name of an item, a match type, the letter of a basic service, a
+    /// call type or what a delete names is none of the format.
     #[error("unknown word")]
     Word,
     /// 203: a record has too few or too many fields, or an item too few or too many parts.
@@ -28,7 +28,7 @@ pub enum ScriptFault {
     /// 207: there is one record more than may be read.
     #[error("too many records")]
     TooManyRecords,
-    /// 209: an earlier read of this script answered a fault.
+    /// 209: an earlier read of this script failed.
     #[error("an earlier read had a fault")]
     Failed,
 }

@@ -10,7 +10,7 @@ pub(crate) mod lists;
 pub(crate) mod parts;
 pub(crate) mod record_fault;
 
-use crate::text::record_fault::Stop;
+use crate::text::record_fault::RecordFault;
 use camel_criteria::{BasicService, CallType, Cause, MatchType, Refusal};
 use camel_tbcd::{CallAddress, Imsi, IsdnAddress, MAX_IMSI_DIGITS, MIN_IMSI_DIGITS};
 use hex::FromHexError;
@@ -18,56 +18,56 @@ use std::alloc::Global;
 use std::marker::Model;
 
 /// The greatest number of digits of a decimal, leading zeros among them.
-pub const MAX_DECIMAL_DIGITS: usize = 10;
+pub(crate) const MAX_DECIMAL_DIGITS: usize = 10;
 
 /// The letter of a teleservice.
-pub const TELESERVICE: u8 = b't';
+pub(crate) const TELESERVICE: u8 = b't';
 
 /// The letter of a bearer service.
-pub const BEARER_SERVICE: u8 = b'b';
+pub(crate) const BEARER_SERVICE: u8 = b'b';
 
-/// An IMSI: 5 to 15 characters `0` to `9`.
+/// Reads an IMSI: 5 to 15 characters `0` to `9`.
 #[tactic(auto, unfolding(crate::specs::Texts::imsi_of_text))]
-pub fn imsi(text: &[u8]) -> Result<Imsi, Stop>
+pub(crate) fn parse_imsi(text: &[u8]) -> Result<Imsi, RecordFault>
     ensures { result ≡ imsi_of_text text.now }
 {
     if text.len() < MIN_IMSI_DIGITS || text.len() > MAX_IMSI_DIGITS || !is_digits(text) {
-        return Err(Stop::Number);
+        return Err(RecordFault::Number);
     }
     let values = digit_values(text);
     match Imsi::from_digits(&values[..text.len()]) {
         Ok(imsi) => Ok(imsi),
-        Err(_) => Err(Stop::Number),
+        Err(_) => Err(RecordFault::Number),
     }
 }
 
-/// A decimal: 1 to 10 characters `0` to `9`, of a value not over the greatest.
+/// Reads a decimal: 1 to 10 characters `0` to `9`, of a value not over the greatest.
 #[tactic(auto, unfolding(crate::specs::Texts::decimal_of))]
-pub fn decimal(text: &[u8], greatest: u32) -> Result<u32, Stop>
+pub(crate) fn parse_decimal(text: &[u8], greatest: u32) -> Result<u32, RecordFault>
     ensures value { result ≡ decimal_of greatest text.now }
     ensures range { IfOk result (λ value. value ≤ greatest) }
 {
     if text.is_empty() || text.len() > MAX_DECIMAL_DIGITS || !is_digits(text) {
-        return Err(Stop::Number);
+        return Err(RecordFault::Number);
     }
-    let value = number(text);
+    let value = decimal_value(text);
     if value > u64::from(greatest) {
-        return Err(Stop::Number);
+        return Err(RecordFault::Number);
     }
     Ok(value as u32)
 }
 
-/// A decimal of value 0 to 255.
-pub fn small_decimal(text: &[u8]) -> Result<u8, Stop>
+/// Reads a decimal of value 0 to 255.
+pub(crate) fn parse_small_decimal(text: &[u8]) -> Result<u8, RecordFault>
     ensures { result ≡ decimal_of 255 text.now }
 {
-    let value = decimal(text, 255)?;
+    let value = parse_decimal(text, 255)?;
     Ok(value as u8)
 }
 
-/// The octets of an address, before it is looked at how many there are.
+/// The octets of an address, whose number is not checked yet.
 #[derive(Drop)]
-pub struct Octets {
+pub(crate) struct Octets {
     items: Vec<u8>,
 }
 
@@ -79,128 +79,125 @@ impl Model for Octets {
     ghost view = { λ a. a.items.items };
 }
 
-/// The octets of an address: an even number of hexadecimal digits of either case, possibly none.
+/// Reads the octets of an address: an even number of hexadecimal digits of either case, possibly none.
 #[tactic(auto, unfolding(crate::specs::Texts::octets_of))]
-pub fn octets_from(alloc: Global, text: &[u8]) -> Result<Octets, Stop>
+pub(crate) fn parse_octets(alloc: Global, text: &[u8]) -> Result<Octets, RecordFault>
     ensures { ReadsAs result (octets_of text.now) }
 {
     match hex::decode(alloc, text) {
         Ok(items) => Ok(Octets { items }),
-        Err(FromHexError::OutOfMemory) => Err(Stop::OutOfMemory),
-        Err(_) => Err(Stop::Hexadecimal),
+        Err(FromHexError::OutOfMemory) => Err(RecordFault::OutOfMemory),
+        Err(_) => Err(RecordFault::Hexadecimal),
     }
 }
 
-/// A basic service: `t` or `b`, then two hexadecimal digits.
+/// Reads a basic service: `t` or `b`, then two hexadecimal digits.
 #[tactic(auto, unfolding(crate::specs::Texts::basic_service_of))]
-pub fn basic_service(text: &[u8]) -> Result<BasicService, Stop>
+pub(crate) fn parse_basic_service(text: &[u8]) -> Result<BasicService, RecordFault>
     ensures { result ≡ basic_service_of text.now }
 {
     let Some((letter, code)) = text.split_first() else {
-        return Err(Stop::Word);
+        return Err(RecordFault::Word);
     };
     match *letter {
-        TELESERVICE => Ok(BasicService::Tele(octet(code)?)),
-        BEARER_SERVICE => Ok(BasicService::Bearer(octet(code)?)),
-        _ => Err(Stop::Word),
+        TELESERVICE => Ok(BasicService::Tele(parse_octet(code)?)),
+        BEARER_SERVICE => Ok(BasicService::Bearer(parse_octet(code)?)),
+        _ => Err(RecordFault::Word),
     }
 }
 
-// One octet: two hexadecimal digits.
+/// Reads one octet: two hexadecimal digits.
 #[tactic(auto, unfolding(crate::specs::Texts::octet_of))]
-fn octet(text: &[u8]) -> Result<u8, Stop>
+fn parse_octet(text: &[u8]) -> Result<u8, RecordFault>
     ensures { result ≡ octet_of text.now }
 {
     let mut octets = [0; 1];
     match hex::decode_to_slice(text, &mut octets) {
         Ok(()) => Ok(octets[0]),
-        Err(_) => Err(Stop::Hexadecimal),
+        Err(_) => Err(RecordFault::Hexadecimal),
     }
 }
 
-/// Whether a call is forwarded: `f` or `n`.
+/// Reads whether a call is forwarded: `f` or `n`.
 #[tactic(auto, unfolding(crate::specs::Texts::is_forwarded_of))]
-pub fn is_forwarded(text: &[u8]) -> Result<bool, Stop>
+pub(crate) fn parse_forwarded(text: &[u8]) -> Result<bool, RecordFault>
     ensures { result ≡ is_forwarded_of text.now }
 {
-    if text == b"f".as_slice() {
-        return Ok(true);
+    match text {
+        b"f" => Ok(true),
+        b"n" => Ok(false),
+        _ => Err(RecordFault::Word),
     }
-    if text == b"n".as_slice() {
-        return Ok(false);
-    }
-    Err(Stop::Word)
 }
 
-/// The call type criterion of an item: `f` or `n`, or empty for none.
+/// Reads the call type criterion of an item: `f` or `n`, or empty for none.
 #[tactic(auto, unfolding(crate::specs::Texts::call_type_of))]
-pub fn call_type(text: &[u8]) -> Result<Option<CallType>, Stop>
+pub(crate) fn parse_call_type(text: &[u8]) -> Result<Option<CallType>, RecordFault>
     ensures { result ≡ call_type_of text.now }
 {
     if text.is_empty() {
         return Ok(None);
     }
-    Ok(Some(if is_forwarded(text)? {
+    Ok(Some(if parse_forwarded(text)? {
         CallType::Forwarded
     } else {
         CallType::NotForwarded
     }))
 }
 
-/// The match type of a destination number criterion: `e` or `i`.
+/// Reads the match type of a destination number criterion: `e` or `i`.
 #[tactic(auto, unfolding(crate::specs::Texts::match_type_of))]
-pub fn match_type(text: &[u8]) -> Result<MatchType, Stop>
+pub(crate) fn parse_match_type(text: &[u8]) -> Result<MatchType, RecordFault>
     ensures { result ≡ match_type_of text.now }
 {
-    if text == b"e".as_slice() {
-        return Ok(MatchType::Enabling);
+    match text {
+        b"e" => Ok(MatchType::Enabling),
+        b"i" => Ok(MatchType::Inhibiting),
+        _ => Err(RecordFault::Word),
     }
-    if text == b"i".as_slice() {
-        return Ok(MatchType::Inhibiting);
-    }
-    Err(Stop::Word)
 }
 
-/// The cause of a call of this value.
+/// The cause of a call of this value; over 127 it is refused.
 #[tactic(auto, unfolding(crate::specs::Texts::cause_of_value))]
-pub fn cause(value: u8) -> Result<Cause, Stop>
+pub(crate) fn make_cause(value: u8) -> Result<Cause, RecordFault>
     ensures { result ≡ cause_of_value value }
 {
     match Cause::new(value) {
         Some(cause) => Ok(cause),
-        None => Err(Stop::Refused(Refusal::UnexpectedDataValue)),
+        None => Err(RecordFault::Refused(Refusal::UnexpectedDataValue)),
     }
 }
 
-/// The gsmSCF address of these octets.
+/// The gsmSCF address of these octets, 1 to 9; else it is refused.
 #[tactic(auto, unfolding(crate::specs::Texts::isdn_address_of))]
-pub fn isdn_address(octets: &Octets) -> Result<IsdnAddress, Stop>
+pub(crate) fn make_isdn_address(octets: &Octets) -> Result<IsdnAddress, RecordFault>
     ensures { result ≡ isdn_address_of octets.now }
 {
     match IsdnAddress::from_bytes(octets.items.as_slice()) {
         Ok(address) => Ok(address),
-        Err(_) => Err(Stop::Refused(Refusal::UnexpectedDataValue)),
+        Err(_) => Err(RecordFault::Refused(Refusal::UnexpectedDataValue)),
     }
 }
 
-/// The destination of these octets.
+/// The destination of these octets, 1 to 20; else it is refused.
 #[tactic(auto, unfolding(crate::specs::Texts::call_address_of))]
-pub fn call_address(octets: &Octets) -> Result<CallAddress, Stop>
+pub(crate) fn make_call_address(octets: &Octets) -> Result<CallAddress, RecordFault>
     ensures { result ≡ call_address_of octets.now }
 {
     match CallAddress::from_bytes(octets.items.as_slice()) {
         Ok(address) => Ok(address),
-        Err(_) => Err(Stop::Refused(Refusal::UnexpectedDataValue)),
+        Err(_) => Err(RecordFault::Refused(Refusal::UnexpectedDataValue)),
     }
 }
 
+/// Whether the characters are `0` to `9` alone.
 fn is_digits(text: &[u8]) -> bool
     ensures { result ≡ is_digits text.now }
 {
     text.iter().all(|character| character.is_ascii_digit())
 }
 
-// The values of the digits, and 0 after them.
+/// The values of the digits of an IMSI, and 0 behind them.
 fn digit_values(text: &[u8]) -> [u8; MAX_IMSI_DIGITS]
     requires digits { IsTrue (is_digits text.now) }
     requires few { length text.now ≤ 15 }
@@ -213,8 +210,8 @@ fn digit_values(text: &[u8]) -> [u8; MAX_IMSI_DIGITS]
     values
 }
 
-// The number that the digits stand for.
-fn number(text: &[u8]) -> u64
+/// The number that the digits stand for.
+fn decimal_value(text: &[u8]) -> u64
     requires digits { IsTrue (is_digits text.now) }
     requires few { length text.now ≤ 10 }
     ensures { result ≡ number_of text.now }

@@ -2,4 +2,14 @@
 #![tactic(auto)]
 
 #[cfg(test)]
-mod tests;
+mod calls;
+#[cfg(test)]
+mod given;
+#[cfg(test)]
+mod lines;
+#[cfg(test)]
+mod reads;
+#[cfg(test)]
+mod records;
+#[cfg(test)]
+mod updates;

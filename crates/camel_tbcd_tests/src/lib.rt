@@ -2,4 +2,6 @@
 #![tactic(auto)]
 
 #[cfg(test)]
-mod tests;
+mod addresses;
+#[cfg(test)]
+mod imsis;

@@ -5,7 +5,7 @@ use mathlib.Core.List.{IsPrefix}
 use prog.Atomic.{either}
 use Rattle.logbook.specs.Pages.{Away, Cell, Goes, Moves, Nib, adds, cell, gives, may_write, no_nib, step}
 use Rattle.camel_rows.specs.declared.subscriber.update.Update.{Update}
-use Rattle.camel_vlr.specs.Chain.{AddedLink, AllUsedUp, IsUsedUp, MadeCell, UsedUp, limit_of, list_of, root_of, tail_of}
+use Rattle.camel_vlr.specs.Chain.{AddsLink, AllUsedUp, IsUsedUp, MakesCell, UsedUp, limit_of, list_of, root_of, tail_of}
 use Rattle.camel_vlr.specs.declared.history.link.Link.{Link}
 
 -- ---- cells
@@ -131,7 +131,7 @@ head-stays others zero n away = absurd (cc away)
 head-stays others (suc key) n away = (slice_set others key (n, true), refl)
 
 making : (seen links : List Link) (ask : Link) (others : List Cell) → AllUsedUp ((0, true) ∷ others) links
-    → Goes UsedUp nothing_shown nothing_moved 0 (seen, (no_nib, None)) same_word (MadeCell (step 0 0 0 ask) (seen, (no_nib, None))) ((0, true) ∷ others) links
+    → Goes UsedUp nothing_shown nothing_moved 0 (seen, (no_nib, None)) same_word (MakesCell (step 0 0 0 ask) (seen, (no_nib, None))) ((0, true) ∷ others) links
 making seen links ask others all =
     let cells : List Cell = (0, true) ∷ others in
     let link : Link = record { cell = 0; updates = []; next = length cells; limit = ask.limit } in
@@ -146,13 +146,13 @@ making seen links ask others all =
       record { right = refl; list = none.0; tail = none.1; root = root-push links link; limit = limit-push links link },
     )
 
-pub makes : (seen : List Link) (ask : Link) → Moves UsedUp nothing_shown nothing_moved 0 (seen, (no_nib, None)) same_word (MadeCell (step 0 0 0 ask) (seen, (no_nib, None)))
+pub makes : (seen : List Link) (ask : Link) → Moves UsedUp nothing_shown nothing_moved 0 (seen, (no_nib, None)) same_word (MakesCell (step 0 0 0 ask) (seen, (no_nib, None)))
 makes seen ask cells links kept prefix away =
-    let P : List Cell → Type 0 = λ c. (0 < length c) × ((cell c 0).1 ≡ true) × Goes UsedUp nothing_shown nothing_moved 0 (seen, (no_nib, None)) same_word (MadeCell (step 0 0 0 ask) (seen, (no_nib, None))) c links in
+    let P : List Cell → Type 0 = λ c. (0 < length c) × ((cell c 0).1 ≡ true) × Goes UsedUp nothing_shown nothing_moved 0 (seen, (no_nib, None)) same_word (MakesCell (step 0 0 0 ask) (seen, (no_nib, None))) c links in
     subst P (sym kept.head) (omega arith, refl, making seen links ask kept.others (subst (λ (c : List Cell). AllUsedUp c links) kept.head kept.each))
 
 adding : (seen links : List Link) (updates : List Update) (next : ℕ) (ask : Link) (right_to : Nib) (others : List Cell) → right_to.right ≡ may_write → Away right_to ((0, true) ∷ others) → IsPrefix seen links → AllUsedUp ((0, true) ∷ others) links
-    → Goes UsedUp nothing_shown nothing_moved 0 (seen, (right_to, None)) same_word (AddedLink updates next (step 0 0 0 ask) (seen, (right_to, None))) ((0, true) ∷ others) links
+    → Goes UsedUp nothing_shown nothing_moved 0 (seen, (right_to, None)) same_word (AddsLink updates next (step 0 0 0 ask) (seen, (right_to, None))) ((0, true) ∷ others) links
 adding seen links updates next ask right_to others right away prefix all =
     let cells : List Cell = (0, true) ∷ others in
     let out = away right in
@@ -177,9 +177,9 @@ adding seen links updates next ask right_to others right away prefix all =
     )
 
 pub adds_link : (seen : List Link) (updates : List Update) (next : ℕ) (ask : Link) (right_to : Nib) → right_to.right ≡ may_write
-    → Moves UsedUp nothing_shown nothing_moved 0 (seen, (right_to, None)) same_word (AddedLink updates next (step 0 0 0 ask) (seen, (right_to, None)))
+    → Moves UsedUp nothing_shown nothing_moved 0 (seen, (right_to, None)) same_word (AddsLink updates next (step 0 0 0 ask) (seen, (right_to, None)))
 adds_link seen updates next ask right_to right cells links kept prefix away =
-    let P : List Cell → Type 0 = λ c. (0 < length c) × ((cell c 0).1 ≡ true) × Goes UsedUp nothing_shown nothing_moved 0 (seen, (right_to, None)) same_word (AddedLink updates next (step 0 0 0 ask) (seen, (right_to, None))) c links in
+    let P : List Cell → Type 0 = λ c. (0 < length c) × ((cell c 0).1 ≡ true) × Goes UsedUp nothing_shown nothing_moved 0 (seen, (right_to, None)) same_word (AddsLink updates next (step 0 0 0 ask) (seen, (right_to, None))) c links in
     subst P (sym kept.head) (
       omega arith,
       refl,

@@ -1,5 +1,5 @@
--- The directory of stored CSIs after an entry that was undone.
-use Rattle.std.proofs.Common.{◌≡◌, ◌≢◌, ◌∙◌, ℕ, Bool, true, false, List, Option, Some, None, cond, refl, sym, ap, subst}
+-- The directory and the admission after an entry that was undone.
+use Rattle.std.proofs.Common.{◌≡◌, ◌∙◌, ℕ, ◌+◌, ◌-◌, Bool, true, false, List, Option, Some, None, cond, refl, sym, ap, arith}
 use Rattle.std.proofs.lemmas.Map.Lookups.{exact_bytes}
 use Rattle.std.specs.Cmp.{eq_by_cmp_equiv}
 use Rattle.std.specs.Cmp.Lexicographic.{slice_cmp, nat_list_cmp_total}
@@ -7,8 +7,9 @@ use Rattle.std.specs.FinMap as map
 use Rattle.std.specs.FinMap.{same_map}
 use Rattle.std.specs.Ordering.{nat_cmp, is_eq, eq_by_cmp}
 use Rattle.std.specs.declared.cmp.Ordering.TheVariants.{Less, Equal, Greater}
+use Rattle.camel_rows.specs.Admission.{AdmissionData, with_admission}
 use Rattle.camel_rows.specs.Directory.{DirectoryData, with_csis}
-use Rattle.camel_rows.specs.declared.subscriber.directory.CsisPresent.{CsisPresent}
+use Rattle.camel_rows.specs.declared.subscriber.csis_present.CsisPresent.{CsisPresent}
 
 -- at a key what was there, and elsewhere what is there
 by_key : (imsi key : List ℕ) (P : Bool → Type 0) → (imsi ≡ key → P true) → P false → P (eq_by_cmp (slice_cmp nat_cmp) imsi key)
@@ -40,3 +41,13 @@ put_back-same d key new = by_entry (map.get d key) refl
 
 pub get-put : (d : DirectoryData) (key : List ℕ) (new : CsisPresent) → map.get (map.insert d key new) key ≡ Some new
 get-put d key new = map.get-insert nat_list_cmp_total d key new key ∙ ap (λ b. cond b (Some new) (map.get d key)) ((eq_by_cmp_equiv nat_list_cmp_total).refl key)
+
+-- an acceptance that is taken back leaves the admission before it
+pub taken_back : (d : AdmissionData) (imsi : List ℕ) (csis : CsisPresent)
+    → record (with_admission d imsi (Some csis)) {
+      accepted = d.accepted + 1 - 1;
+      directory = with_csis (map.insert d.directory imsi csis) imsi (map.get d.directory imsi);
+    } ≡ d
+taken_back d imsi csis =
+    let back : d.accepted + 1 - 1 ≡ d.accepted = omega arith in
+    rw (back, put_back-same d.directory imsi csis) refl

@@ -1,29 +1,26 @@
 -- Fronts that extend others.
-use Rattle.std.proofs.Common.{◌≡◌, ◌∙◌, ℕ, ◌<◌, All, List, [], ◌∷◌, ◌++◌, None, length, refl, sym, ap, subst, arith, append_assoc, append-nil, length-append}
+use base.Growing.{prefix_trans}
+use Rattle.std.proofs.Common.{◌≡◌, ◌∙◌, ℕ, ◌<◌, ◌≤◌, All, List, [], ◌∷◌, ◌++◌, None, length, sym, ap, subst, arith, append_assoc, append-nil, length-append}
 use Rattle.std.proofs.lemmas.List.Elements.{All-head, All-nil, All-push, All-tail, All-weaker}
+use Rattle.std.proofs.lemmas.List.{nil_from_length}
 use Rattle.camel_rows.proofs.UpdateLemmas.{AcceptedFrom-push, records_from-append}
 use Rattle.camel_rows.specs.Front.{Extends, IsFront}
 use Rattle.camel_rows.specs.Records.{no_records}
 use Rattle.camel_rows.specs.Update.{records_after, refusal, records_of}
 use Rattle.camel_rows.specs.declared.subscriber.update.Update.{Update}
-use Rattle.camel_vlr.specs.Fronts.{ExtendsAll}
+use Rattle.camel_vlr.specs.Session.{ExtendsAll}
 
-pub extends_itself : (front : List Update) → Extends front front
-extends_itself front = ([], sym (append-nil front))
-
-pub extends_further : (f g h : List Update) → Extends f g → Extends g h → Extends f h
-extends_further f g h (r, p) (s, q) = (s ++ r, p ∙ (ap (λ x. x ++ r) q ∙ append_assoc h s r))
+pub extends_length : (f g : List Update) → Extends f g → length g ≤ length f
+extends_length f g (r, p) = omega (arith, ap length p, length-append g r)
 
 -- a front as long as one that it extends is that one
-pub same_length : (f g : List Update) → Extends f g → length f ≡ length g → f ≡ g
-same_length f g (r, p) same = p ∙ (ap (λ x. g ++ x) (none r (omega (arith, same, ap length p, length-append g r))) ∙ append-nil g)
-  where
-    none : (xs : List Update) → length xs ≡ 0 → xs ≡ []
-    none [] e = refl
-    none (x ∷ xs) e = absurd (omega arith)
+pub same_front : (f g : List Update) → Extends f g → length f ≡ length g → f ≡ g
+same_front f g (r, p) same =
+    let none : r ≡ [] = nil_from_length r (omega (arith, same, ap length p, length-append g r)) in
+    sym p ∙ ap (λ x. g ++ x) none ∙ append-nil g
 
 pub all_further : (f g : List Update) (earlier : List (List Update)) → Extends f g → ExtendsAll g earlier → ExtendsAll f earlier
-all_further f g earlier more all = record { each = All-weaker (Extends g) (Extends f) (λ h. extends_further f g h more) earlier all.each }
+all_further f g earlier more all = record { each = All-weaker (Extends g) (Extends f) (λ h is. prefix_trans h g f is more) earlier all.each }
 
 pub all_push : (f : List Update) (earlier : List (List Update)) (h : List Update) → ExtendsAll f earlier → Extends f h → ExtendsAll f (earlier ++ h ∷ [])
 all_push f earlier h all more = record { each = All-push (Extends f) earlier h all.each more }

@@ -1,9 +1,8 @@
 pub mod ChainLemmas
-pub mod ChangeLemmas
 pub mod DirectoryLemmas
 pub mod FrontLemmas
+pub mod OperationLemmas
 pub mod OwnUpdatesLemmas
 pub mod PrefixLemmas
 pub mod PublicationLemmas
 pub mod RuleLemmas
-pub mod SubmissionLemmas

@@ -1,27 +1,23 @@
 -- What the updates of one subscriber alone leave.
-use Rattle.std.proofs.Common.{◌≡◌, ◌≢◌, ◌∙◌, ℕ, ◌≤◌, ◌+◌, Bool, true, false, List, [], ◌∷◌, None, is_some, length, refl, sym, ap, subst, arith}
+use Rattle.std.proofs.Common.{◌≡◌, ◌≢◌, ◌∙◌, ℕ, ◌≤◌, Bool, true, false, List, [], ◌∷◌, None, length, refl, sym, ap, subst, arith}
 use Rattle.std.proofs.lemmas.Bool.Decides.{not_from_Decides}
 use Rattle.std.proofs.lemmas.Slice.Eq.{bytes_eq-Decides}
 use Rattle.std.specs.FinMap as map
 use Rattle.std.specs.Str.{bytes_eq}
-use Rattle.camel_criteria.specs.declared.refusal.Refusal.{Refusal}
 use Rattle.camel_rows.proofs.UpdateLemmas.{other_record, own_record}
+use Rattle.std.specs.Option.{option_map}
+use Rattle.camel_rows.specs.CsisPresent.{csis_of, csis_refusal}
 use Rattle.camel_rows.specs.Decision.{by_record, decision}
-use Rattle.camel_rows.specs.Event.{event_imsi}
+use Rattle.camel_rows.specs.Event.{EventData, event_imsi}
 use Rattle.camel_rows.specs.Front.{IsFront}
 use Rattle.camel_rows.specs.Records.{RecordsData, no_records}
-use Rattle.camel_rows.specs.Update.{AcceptedFrom, records_after, insert_refusal, record_after, refusal, records_of, records_from, update_imsi}
-use Rattle.camel_rows.specs.declared.trigger.event.CallEvent.{CallEvent}
+use Rattle.camel_rows.specs.Update.{AcceptedFrom, records_after, record_after, refusal, records_of, records_from, update_imsi}
 use Rattle.camel_rows.specs.declared.subscriber.update.Update.{Update}
-use Rattle.camel_rows.specs.declared.subscriber.update.Update.TheVariants.{Cancel, Delete, Insert, Register}
 use Rattle.camel_vlr.specs.OwnUpdates.{DecidedByOwn, own_updates}
 
 -- what refuses an update is its own subscriber's record
 same_refusal : (m n : RecordsData) (update : Update) → map.get m (update_imsi update) ≡ map.get n (update_imsi update) → refusal m update ≡ refusal n update
-same_refusal m n (Register imsi) same = refl
-same_refusal m n (Insert imsi o o_criteria vt t_criteria) same = ap (λ old. insert_refusal old o o_criteria vt t_criteria) same
-same_refusal m n (Delete imsi what) same = rw same refl
-same_refusal m n (Cancel imsi) same = refl
+same_refusal m n update same = ap (λ old. csis_refusal (option_map csis_of old) update) same
 
 -- from the same record on, a subscriber's own updates are accepted where they are among others, and leave the same record
 record OwnLeave (imsi : List ℕ) (m n : RecordsData) (updates : List Update) : Type 0 where
@@ -57,7 +53,7 @@ fewer imsi (update ∷ updates) = by_test (fewer imsi updates) (bytes_eq (update
     by_test rest true e = rw e (omega (arith, rest))
     by_test rest false e = rw e (omega (arith, rest))
 
-pub decided_by_own : (limit : ℕ) (front : List Update) (event : CallEvent) → IsFront limit front → DecidedByOwn limit front event (decision (records_of front) event)
+pub decided_by_own : (limit : ℕ) (front : List Update) (event : EventData) → IsFront limit front → DecidedByOwn limit front event (decision (records_of front) event)
 decided_by_own limit front event is =
     let own = own_leave (event_imsi event) no_records no_records front is.accepted refl in record {
       own_front = record { accepted = own.accepted; few = omega (arith, is.few, fewer (event_imsi event) front) };

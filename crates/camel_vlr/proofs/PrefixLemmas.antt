@@ -1,10 +1,10 @@
--- Beginnings of one list.
+-- Prefixes of one list.
 use Rattle.std.proofs.Common.{◌≡◌, List, [], ◌∷◌, refl, ◌⊎◌, inl, inr, ⊎_elim}
 use mathlib.Core.List.{IsPrefix}
 use Rattle.camel_rows.specs.Front.{Extends}
 use Rattle.camel_rows.specs.declared.subscriber.update.Update.{Update}
 
--- of two beginnings of one list one extends the other
+-- of two prefixes of one list one extends the other
 pub one_extends : (first second whole : List Update) → IsPrefix first whole → IsPrefix second whole → Extends second first ⊎ Extends first second
 one_extends [] second whole p q = inl (second, refl)
 one_extends (x ∷ first) [] whole p q = inr (x ∷ first, refl)

@@ -1,37 +1,38 @@
 -- One publication keeps the rule.
 use Rattle.std.proofs.Common.{◌≡◌, ◌∙◌, ℕ, ◌+◌, ◌≤◌, List, [], ◌∷◌, ◌++◌, length, length-append, fold, sym, ap, subst, arith, append-nil, Result, Ok, Err, MatchResult, OnOk}
 use Rattle.std.proofs.lemmas.List.Sums.{fold-append}
-use Rattle.camel_vlr.specs.Beginning.{BeginningData}
+use Rattle.camel_vlr.specs.Prefix.{PrefixData}
 use Rattle.camel_rows.proofs.UpdateLemmas.{records_from-append}
 use Rattle.camel_rows.specs.Front.{IsFront}
 use Rattle.camel_rows.specs.Records.{no_records}
 use Rattle.camel_rows.specs.Update.{records_of, records_from}
-use Rattle.camel_vlr.proofs.ChangeLemmas.{fold_changed, updates_among-append}
-use Rattle.camel_vlr.specs.Change.{CopyData, changed, updates_among}
+use Rattle.camel_vlr.proofs.OperationLemmas.{fold-copy_after, updates_among-append}
+use Rattle.camel_vlr.specs.Operation.{CopyData, copy_after, updates_among}
 use Rattle.camel_vlr.specs.PublishedCopy.{IsOfItsFront}
-use Rattle.camel_vlr.specs.Rule.{Knows, Published}
-use Rattle.camel_vlr.specs.declared.writer.operation.Change.{Change}
-use Rattle.camel_vlr.specs.declared.writer.operation.Change.TheVariants as change
+use Rattle.camel_vlr.specs.Rule.{Knows, Publishes}
+use Rattle.camel_vlr.specs.declared.writer.TheConstants.{MAX_UPDATES}
+use Rattle.camel_vlr.specs.declared.writer.operation.Operation.{Operation}
+use Rattle.camel_vlr.specs.declared.writer.operation.Operation.TheVariants as operation
 use Rattle.camel_vlr.specs.declared.published_copy.PublishedCopy.{PublishedCopy}
-use Rattle.camel_vlr.specs.declared.history.rule.View.{View}
+use Rattle.camel_vlr.specs.declared.history.rule.Known.{Known}
 
 abbrev pub data_of : PublishedCopy → CopyData
 data_of copy = (copy.records, copy.count, copy.front)
 
 -- a copy to which all that was pending was applied, its front last, is of that front
-pub next_copy : (old new : PublishedCopy) (front : BeginningData) (changes : List Change) → IsOfItsFront old
-    → front.updates ≡ old.front.updates ++ updates_among (changes ++ change.Front front ∷ []) → IsFront front.store.limit front.updates → front.store.limit ≤ 1000000
-    → data_of new ≡ fold changed (data_of old) (changes ++ change.Front front ∷ []) → (IsOfItsFront new) × (new.front ≡ front)
-next_copy old new front changes is updates is_front greatest now =
-    let more = updates_among changes in
-    let list : front.updates ≡ old.front.updates ++ more = updates ∙ ap (λ w. old.front.updates ++ w) (updates_among-append changes (change.Front front ∷ []) ∙ append-nil more) in
-    let few : old.count + length more ≤ 1000000 = omega (arith, is.count, is_front.few, greatest, ap length list, length-append old.front.updates more) in
-    let all = now ∙ fold-append changed (data_of old) changes (change.Front front ∷ []) in
-    let each = fold_changed (data_of old) changes few in
+pub next_copy : (old new : PublishedCopy) (front : PrefixData) (operations : List Operation) → IsOfItsFront old
+    → front.updates ≡ old.front.updates ++ updates_among (operations ++ operation.Front front ∷ []) → IsFront front.store.limit front.updates → front.store.limit ≤ MAX_UPDATES
+    → data_of new ≡ fold copy_after (data_of old) (operations ++ operation.Front front ∷ []) → (IsOfItsFront new) × (new.front ≡ front)
+next_copy old new front operations is updates is_front greatest now =
+    let more = updates_among operations in
+    let list : front.updates ≡ old.front.updates ++ more = updates ∙ ap (λ w. old.front.updates ++ w) (updates_among-append operations (operation.Front front ∷ []) ∙ append-nil more) in
+    let few : old.count + length more ≤ MAX_UPDATES = omega (arith, is.count, is_front.few, greatest, ap length list, length-append old.front.updates more) in
+    let all = now ∙ fold-append copy_after (data_of old) operations (operation.Front front ∷ []) in
+    let each = fold-copy_after (data_of old) operations few in
     let same : new.front ≡ front = ap (λ s. s.2) all in
     let new_list : new.front.updates ≡ old.front.updates ++ more = ap (λ x. x.updates) same ∙ list in (
       record {
-        front = subst (λ (x : BeginningData). IsFront x.store.limit x.updates) (sym same) is_front;
+        front = subst (λ (x : PrefixData). IsFront x.store.limit x.updates) (sym same) is_front;
         records = ap (λ s. s.0) all ∙ (each.0 ∙ (ap (λ m. records_from m more) is.records ∙ (sym (records_from-append no_records old.front.updates more) ∙ ap records_of (sym new_list))));
         count = ap (λ s. s.1) all ∙ (each.1 ∙ (ap (λ (k : ℕ). k + length more) is.count ∙ (sym (length-append old.front.updates more) ∙ ap length (sym new_list))));
       },
@@ -46,9 +47,9 @@ pub both_ok : {T E : Type 0} (r : Result T E) (A B A' B' C : Type 0) → MatchRe
 both_ok (Ok x) A B A' B' C m n f = f m n
 both_ok (Err e) A B A' B' C m n f = tt
 
-pub knows_published : (copy : PublishedCopy) (front : BeginningData) (view : View) → Published view copy copy view → copy.front ≡ front → Knows view front.store front.updates
-knows_published copy front view is same =
-    subst (λ (v : View). Knows v front.store front.updates) (sym is) (ap (λ x. x.store) same, ([], ap (λ x. x.updates) same ∙ sym (append-nil front.updates)))
+pub knows_published : (copy : PublishedCopy) (front : PrefixData) (own : Known) → Publishes own copy copy own → copy.front ≡ front → Knows own front.store front.updates
+knows_published copy front own is same =
+    subst (λ (v : Known). Knows v front.store front.updates) (sym is) (ap (λ x. x.store) same, ([], append-nil front.updates ∙ sym (ap (λ x. x.updates) same)))
 
 pub where_ok : {T E : Type 0} (r : Result T E) (x : T) (A : Type 0) → r ≡ Ok x → OnOk r A → A
 where_ok (Ok y) x A is h = h

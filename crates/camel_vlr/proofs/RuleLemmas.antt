@@ -1,40 +1,40 @@
 -- Each step keeps the publication rule.
-use Rattle.std.proofs.Common.{◌≡◌, ◌∙◌, ◌≢◌, ℕ, List, [], ◌∷◌, ◌++◌, set, sym, refl, ap, subst, ⊎_elim, Option, Some, None, IfSome, true}
+use base.Growing.{prefix_refl, prefix_trans}
+use Rattle.std.proofs.Common.{◌≡◌, ◌∙◌, ◌≢◌, ℕ, List, [], ◌∷◌, ◌++◌, set, sym, refl, ap, subst, ⊎_elim, Option, Some, None, IfSome, IsSomeAnd, true}
 use mathlib.Core.Option.{some}
 use lib.ListN.{get_elem?}
 use Rattle.atomic_table.proofs.Lists.{at_set, at_snoc}
 use Rattle.crossbeam_utils.specs.Register.{Admits, Forks, Merges, TurnsAt}
-use Rattle.camel_vlr.specs.Beginning.{BeginningData, StoreId}
+use Rattle.camel_vlr.specs.Prefix.{PrefixData, StoreId}
 use Rattle.camel_rows.specs.Front.{Extends, IsFront}
 use Rattle.camel_rows.specs.declared.subscriber.update.Update.{Update}
-use Rattle.camel_vlr.proofs.FrontLemmas.{extends_itself, extends_further}
-use Rattle.camel_vlr.specs.Fronts.{ExtendsAll}
+use Rattle.camel_vlr.specs.Session.{ExtendsAll}
 use Rattle.camel_vlr.specs.PublishedCopy.{IsOfItsFront}
-use Rattle.camel_vlr.specs.Rule.{HasSome, IsBehind, IsBeginningOf, IsKept, Knows, Looked, Published, newcomer}
+use Rattle.camel_vlr.specs.Rule.{IsBehind, IsPrefixOf, IsKept, Knows, Looks, Publishes, newcomer}
 use Rattle.camel_vlr.specs.Session.{Sees, SessionData}
 use Rattle.camel_vlr.specs.declared.published_copy.PublishedCopy.{PublishedCopy}
-use Rattle.camel_vlr.specs.declared.history.rule.View.{View}
+use Rattle.camel_vlr.specs.declared.history.rule.Known.{Known}
 
-abbrev pub AllBehind : PublishedCopy → List View → Type 0
-AllBehind copy known = (seat : ℕ) (view : View) → get_elem? known seat ≡ some view → IsBehind view copy
+abbrev pub AllBehind : PublishedCopy → List Known → Type 0
+AllBehind copy known = (seat : ℕ) (own : Known) → get_elem? known seat ≡ some own → IsBehind own copy
 
 pub knows_of : (copy : PublishedCopy) → IsBehind (record { front = Some copy.front }) copy
-knows_of copy = (refl, extends_itself copy.front.updates)
+knows_of copy = (refl, prefix_refl copy.front.updates)
 
--- with one view changed, and with one view more
-pub behind_set : (copy : PublishedCopy) (known : List View) (seat : ℕ) (new : View) → IsBehind new copy → AllBehind copy known → AllBehind copy (set known seat new)
-behind_set copy known seat new is all other view at =
-    ⊎_elim (λ (t : (other ≡ seat) × (new ≡ view)). subst (λ (w : View). IsBehind w copy) t.1 is) (λ (t : (other ≢ seat) × (get_elem? known other ≡ some view)). all other view t.1) (at_set known seat other new view at)
+-- what holds of what each seat knows still holds with one of them changed, and with one more
+pub behind_set : (copy : PublishedCopy) (known : List Known) (seat : ℕ) (new : Known) → IsBehind new copy → AllBehind copy known → AllBehind copy (set known seat new)
+behind_set copy known seat new is all other own at =
+    ⊎_elim (λ (t : (other ≡ seat) × (new ≡ own)). subst (λ (w : Known). IsBehind w copy) t.1 is) (λ (t : (other ≢ seat) × (get_elem? known other ≡ some own)). all other own t.1) (at_set known seat other new own at)
 
-pub behind_push : (copy : PublishedCopy) (known : List View) (new : View) → IsBehind new copy → AllBehind copy known → AllBehind copy (known ++ new ∷ [])
-behind_push copy known new is all other view at =
-    ⊎_elim (all other view) (λ (t : new ≡ view). subst (λ (w : View). IsBehind w copy) t is) (at_snoc known new view other at)
+pub behind_push : (copy : PublishedCopy) (known : List Known) (new : Known) → IsBehind new copy → AllBehind copy known → AllBehind copy (known ++ new ∷ [])
+behind_push copy known new is all other own at =
+    ⊎_elim (all other own) (λ (t : new ≡ own). subst (λ (w : Known). IsBehind w copy) t is) (at_snoc known new own other at)
 
 if_weaker : {A : Type 0} (o : Option A) (P Q : A → Type 0) → ((x : A) → P x → Q x) → IfSome o P → IfSome o Q
 if_weaker None P Q f h = tt
 if_weaker (Some x) P Q f h = f x h
 
-has_if : {A : Type 0} (o : Option A) (P Q : A → Type 0) (C : Type 0) → ((x : A) → P x → Q x → C) → HasSome o P → IfSome o Q → C
+has_if : {A : Type 0} (o : Option A) (P Q : A → Type 0) (C : Type 0) → ((x : A) → P x → Q x → C) → IsSomeAnd o P → IfSome o Q → C
 has_if None P Q C f h i = absurd h
 has_if (Some x) P Q C f h i = f x h i
 
@@ -43,31 +43,31 @@ has_if (Some x) P Q C f h i = f x h i
 pub admits : Admits IsKept newcomer
 admits copy known kept = record { is_of_front = kept.is_of_front; each = behind_push copy known newcomer tt kept.each }
 
-pub looks : (seat : ℕ) (view : View) (copy : PublishedCopy) → TurnsAt IsKept seat view copy copy Looked
-looks seat view copy known kept at = let new : View = record { front = Some copy.front } in (
+pub looks : (seat : ℕ) (own : Known) (copy : PublishedCopy) → TurnsAt IsKept seat own copy copy Looks
+looks seat own copy known kept at = let new : Known = record { front = Some copy.front } in (
   new,
   record { is_of_front = kept.is_of_front; each = behind_set copy known seat new (knows_of copy) kept.each },
-  record { is_of_front = kept.is_of_front; behind = kept.each seat view at; known = refl },
+  record { is_of_front = kept.is_of_front; behind = kept.each seat own at; known = refl },
 )
 
-pub tells : (seat : ℕ) (view : View) → Forks IsKept seat view view view
-tells seat view copy known kept at =
-    let is = kept.each seat view at in
-    record { is_of_front = kept.is_of_front; each = behind_push copy (set known seat view) view is (behind_set copy known seat view is kept.each) }
+pub tells : (seat : ℕ) (own : Known) → Forks IsKept seat own own own
+tells seat own copy known kept at =
+    let is = kept.each seat own at in
+    record { is_of_front = kept.is_of_front; each = behind_push copy (set known seat own) own is (behind_set copy known seat own is kept.each) }
 
-pub learns : (seat : ℕ) (view : View) (other : ℕ) (note : View) → Merges IsKept seat view other note note newcomer
-learns seat view other note copy known kept at apart there =
+pub learns : (seat : ℕ) (own : Known) (other : ℕ) (note : Known) → Merges IsKept seat own other note note newcomer
+learns seat own other note copy known kept at apart there =
     let is : IsBehind note copy =
     ⊎_elim (λ (t : (other ≡ seat) × (note ≡ note)). absurd (apart t.0)) (λ (t : (other ≢ seat) × (get_elem? known other ≡ some note)). kept.each other note t.1) (at_set known seat other note note there) in
     record { is_of_front = kept.is_of_front; each = behind_set copy (set known seat note) other newcomer tt (behind_set copy known seat note is kept.each) }
 
-behind_more : (old new : PublishedCopy) → new.front.store ≡ old.front.store → Extends new.front.updates old.front.updates → (view : View) → IsBehind view old → IsBehind view new
-behind_more old new store more view =
-    if_weaker view.front (λ front. IsBeginningOf front old.front) (λ front. IsBeginningOf front new.front)
-    (λ front is. (is.0 ∙ sym store, extends_further new.front.updates old.front.updates front.updates more is.1))
+behind_more : (old new : PublishedCopy) → new.front.store ≡ old.front.store → Extends new.front.updates old.front.updates → (own : Known) → IsBehind own old → IsBehind own new
+behind_more old new store more own =
+    if_weaker own.front (λ front. IsPrefixOf front old.front) (λ front. IsPrefixOf front new.front)
+    (λ front is. (is.0 ∙ sym store, prefix_trans front.updates old.front.updates new.front.updates is.1 more))
 
-pub publishes : (seat : ℕ) (view : View) (old new : PublishedCopy) → IsOfItsFront new → new.front.store ≡ old.front.store → Extends new.front.updates old.front.updates → TurnsAt IsKept seat view old new Published
-publishes seat view old new is store more known kept at = let next : View = record { front = Some new.front } in (
+pub publishes : (seat : ℕ) (own : Known) (old new : PublishedCopy) → IsOfItsFront new → new.front.store ≡ old.front.store → Extends new.front.updates old.front.updates → TurnsAt IsKept seat own old new Publishes
+publishes seat own old new is store more known kept at = let next : Known = record { front = Some new.front } in (
   next,
   record { is_of_front = is; each = behind_set new known seat next (knows_of new) (λ other w e. behind_more old new store more w (kept.each other w e)) },
   refl,
@@ -76,20 +76,20 @@ publishes seat view old new is store more known kept at = let next : View = reco
 -- ---- what a session makes of a look
 
 -- whoever knows that a store published something, and finds a copy, finds that store's, and no less
-pub knows_less : (copy : PublishedCopy) (view : View) (store : StoreId) (updates : List Update) → Knows view store updates → IsBehind view copy → (copy.front.store ≡ store) × Extends copy.front.updates updates
-knows_less copy view store updates =
-    has_if view.front (λ front. (front.store ≡ store) × Extends front.updates updates) (λ front. IsBeginningOf front copy.front) ((copy.front.store ≡ store) × Extends copy.front.updates updates)
-    (λ front knows is. (sym is.0 ∙ knows.0, extends_further copy.front.updates front.updates updates is.1 knows.1))
+pub knows_less : (copy : PublishedCopy) (own : Known) (store : StoreId) (updates : List Update) → Knows own store updates → IsBehind own copy → (copy.front.store ≡ store) × Extends copy.front.updates updates
+knows_less copy own store updates =
+    has_if own.front (λ front. (front.store ≡ store) × Extends front.updates updates) (λ front. IsPrefixOf front copy.front) ((copy.front.store ≡ store) × Extends copy.front.updates updates)
+    (λ front knows is. (sym is.0 ∙ knows.0, prefix_trans updates front.updates copy.front.updates knows.1 is.1))
 
-pub sees : (before : SessionData) (copy : PublishedCopy) (old new : View) → Knows old before.store before.seen → Looked old copy copy new
-    → (receipt : BeginningData) → receipt ≡ copy.front → ExtendsAll receipt.updates before.told
+pub sees : (before : SessionData) (copy : PublishedCopy) (old new : Known) → Knows old before.store before.seen → Looks old copy copy new
+    → (receipt : PrefixData) → receipt ≡ copy.front → ExtendsAll receipt.updates before.told
     → Sees before (record { store = receipt.store; seen = receipt.updates; told = before.told; looks = true })
 sees before copy old new knows looked receipt same told =
     let less = knows_less copy old before.store before.seen knows looked.behind in record {
       looks = refl;
       store = ap (λ x. x.store) same ∙ less.0;
-      front = subst (λ (x : BeginningData). IsFront x.store.limit x.updates) (sym same) looked.is_of_front.front;
-      later = subst (λ (x : BeginningData). Extends x.updates before.seen) (sym same) less.1;
+      front = subst (λ (x : PrefixData). IsFront x.store.limit x.updates) (sym same) looked.is_of_front.front;
+      later = subst (λ (x : PrefixData). Extends x.updates before.seen) (sym same) less.1;
       told = told;
       keeps = refl;
     }

@@ -1,5 +1,6 @@
 -- The updates of a history as a chain of links, each of which uses up the cell that the link before it names. So
 -- the chain from a cell on can only grow at its end, by whoever has the right to the cell that its last link names.
+-- It is for the proof: no promise cites it.
 use Rattle.std.specs.Prelude.{ℕ, ◌≡◌, ◌==◌, ◌<◌, true, List, [], ◌∷◌, ◌++◌, length, if◌then◌else◌}
 use Rattle.logbook.specs.Pages.{Book, Cell, Named, Step, View, cell, may_make}
 use Rattle.camel_rows.specs.declared.subscriber.update.Update.{Update}
@@ -33,26 +34,27 @@ abbrev pub tail_of : ℕ → List Link → ℕ
 tail_of start [] = start
 tail_of start (link ∷ links) = if link.cell == start then tail_of link.next links else tail_of start links
 
--- the cell that the last link names, and its limit
+-- the cell that the last link names
 abbrev pub root_of : List Link → ℕ
 root_of [] = 0
 root_of (link ∷ []) = link.next
 root_of (link ∷ second ∷ links) = root_of (second ∷ links)
 
+-- the limit that the last link names
 abbrev pub limit_of : List Link → ℕ
 limit_of [] = 0
 limit_of (link ∷ []) = link.limit
 limit_of (link ∷ second ∷ links) = limit_of (second ∷ links)
 
--- after the step there is a new cell, which no link has used up and the last link names, with the limit that was asked
-pub record MadeCell (step : Step Link) (before : View Link ℕ) (found : ℕ) (after : View Link ℕ) : Type 0 where
+-- the step makes a new cell, which no link has used up and the last link names, with the limit that was asked
+pub record MakesCell (step : Step Link) (before : View Link ℕ) (found : ℕ) (after : View Link ℕ) : Type 0 where
   pub right : after.1.0.right ≡ may_make
   pub list : list_of after.1.0.key after.0 ≡ []
   pub tail : tail_of after.1.0.key after.0 ≡ after.1.0.key
   pub root : root_of after.0 ≡ after.1.0.key
   pub limit : limit_of after.0 ≡ step.ask.limit
 
--- after the step the updates stand behind the chain whose next cell was the pen's, and the chain goes on at `next`
-abbrev pub AddedLink : List Update → ℕ → Step Link → View Link ℕ → ℕ → View Link ℕ → Type 0
-AddedLink updates next step before found after =
+-- the step puts the updates behind the chain whose next cell was the pen's, and the chain goes on at `next`
+abbrev pub AddsLink : List Update → ℕ → Step Link → View Link ℕ → ℕ → View Link ℕ → Type 0
+AddsLink updates next step before found after =
     (start : ℕ) → tail_of start before.0 ≡ before.1.0.key → (list_of start after.0 ≡ list_of start before.0 ++ updates) × (tail_of start after.0 ≡ next)

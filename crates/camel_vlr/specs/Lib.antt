@@ -1,15 +1,12 @@
-pub mod Beginning
 pub mod Chain
-pub mod Change
-pub mod Fronts
 pub mod History
+pub mod Operation
 pub mod OwnUpdates
+pub mod Prefix
 pub mod PublishedCopy
-pub mod Receipt
 pub mod Rule
 pub mod Seat
 pub mod Session
 pub mod SessionFields
 pub mod Store
 pub mod StoreFields
-pub mod Told

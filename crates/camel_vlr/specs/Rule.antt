@@ -1,45 +1,42 @@
--- The publication rule: what the sessions and the writer know, and the copy that is published.
-use Rattle.std.specs.Prelude.{◌≡◌, ℕ, List, Option, Some, None, IfSome}
+-- The publication rule: what the sessions and the writer know, and the copy that is published. It is for the proof: no
+-- promise cites it.
+use Rattle.std.specs.Prelude.{◌≡◌, ℕ, List, Some, None, IfSome, IsSomeAnd}
 use mathlib.Core.Option.{some}
 use lib.ListN.{get_elem?}
-use Rattle.camel_vlr.specs.Beginning.{BeginningData, StoreId}
+use Rattle.camel_vlr.specs.Prefix.{PrefixData, StoreId}
 use Rattle.camel_rows.specs.Front.{Extends}
 use Rattle.camel_rows.specs.declared.subscriber.update.Update.{Update}
 use Rattle.camel_vlr.specs.PublishedCopy.{IsOfItsFront}
 use Rattle.camel_vlr.specs.declared.published_copy.PublishedCopy.{PublishedCopy}
-use Rattle.camel_vlr.specs.declared.history.rule.View.{View}
+use Rattle.camel_vlr.specs.declared.history.rule.Known.{Known}
 
--- one beginning is of the other's store, and begins it
-abbrev pub IsBeginningOf : BeginningData → BeginningData → Type 0
-IsBeginningOf earlier front = (earlier.store ≡ front.store) × Extends front.updates earlier.updates
+-- the two are of one store, and the first is a prefix of the second
+abbrev pub IsPrefixOf : PrefixData → PrefixData → Type 0
+IsPrefixOf earlier front = (earlier.store ≡ front.store) × Extends front.updates earlier.updates
 
--- what is known is a beginning of the copy's front
-abbrev pub IsBehind : View → PublishedCopy → Type 0
-IsBehind known copy = IfSome known.front (λ front. IsBeginningOf front copy.front)
+-- what is known is a prefix of the copy's front
+abbrev pub IsBehind : Known → PublishedCopy → Type 0
+IsBehind known copy = IfSome known.front (λ front. IsPrefixOf front copy.front)
 
 -- The published copy is of its front, and that front extends all that anyone knows of its store.
-pub record IsKept (copy : PublishedCopy) (known : List View) : Type 0 where
+pub record IsKept (copy : PublishedCopy) (known : List Known) : Type 0 where
   pub is_of_front : IsOfItsFront copy
-  pub each : (seat : ℕ) (view : View) → get_elem? known seat ≡ some view → IsBehind view copy
+  pub each : (seat : ℕ) (own : Known) → get_elem? known seat ≡ some own → IsBehind own copy
 
 -- a session that knows of no store yet
-abbrev pub newcomer : View
+abbrev pub newcomer : Known
 newcomer = record { front = None }
 
 -- whoever takes the copy that is published knew nothing beyond it, and knows its front
-pub record Looked (old : View) (before after : PublishedCopy) (new : View) : Type 0 where
+pub record Looks (old : Known) (before after : PublishedCopy) (new : Known) : Type 0 where
   pub is_of_front : IsOfItsFront after
   pub behind : IsBehind old after
   pub known : new ≡ record { front = Some after.front }
 
 -- whoever publishes a copy knows its front
-abbrev pub Published : View → PublishedCopy → PublishedCopy → View → Type 0
-Published old before after new = new ≡ record { front = Some after.front }
-
-abbrev pub HasSome : {A : Type 0} → Option A → (A → Type 0) → Type 0
-HasSome None P = ⊥
-HasSome (Some x) P = P x
+abbrev pub Publishes : Known → PublishedCopy → PublishedCopy → Known → Type 0
+Publishes old before after new = new ≡ record { front = Some after.front }
 
 -- it is known that this store has published a front which extends this one
-abbrev pub Knows : View → StoreId → List Update → Type 0
-Knows view store updates = HasSome view.front (λ front. (front.store ≡ store) × Extends front.updates updates)
+abbrev pub Knows : Known → StoreId → List Update → Type 0
+Knows own store updates = IsSomeAnd own.front (λ front. (front.store ≡ store) × Extends front.updates updates)

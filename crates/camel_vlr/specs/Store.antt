@@ -1,25 +1,20 @@
--- The store: what is published, and what is accepted and not yet published.
-use Rattle.std.specs.Prelude.{◌==◌, List, [], ◌++◌, Option, length}
+-- The store, as its public calls see it.
+use Rattle.std.specs.Prelude.{[], Option}
 use Rattle.camel_criteria.specs.declared.refusal.Refusal.{Refusal}
-use Rattle.camel_vlr.specs.Beginning.{StoreId}
-use Rattle.camel_rows.specs.Front.{refusal_or_full}
-use Rattle.camel_rows.specs.Update.{refusal, records_of}
+use Rattle.camel_rows.specs.Store.{Updates, store_refusal}
 use Rattle.camel_rows.specs.declared.subscriber.update.Update.{Update}
-use Rattle.camel_vlr.specs.Session.{SessionData, untold}
+use Rattle.camel_vlr.specs.Prefix.{StoreId}
+use Rattle.camel_vlr.specs.Session.{SessionData, session_told_nothing}
 
+-- which store it is, and the updates that it has accepted
 pub record StoreData : Type 0 where
   pub store : StoreId
-  pub published : List Update
-  pub pending : List Update
+  pub updates : Updates
 
--- all that was accepted
-abbrev pub accepted : StoreData → List Update
-accepted store = store.published ++ store.pending
-
--- why an update is not accepted: by the data that all accepted updates leave, or since they are as many as the limit
+-- why an update is not accepted
 abbrev pub submission_refusal : StoreData → Update → Option Refusal
-submission_refusal store update = refusal_or_full (refusal (records_of (accepted store)) update) (length (accepted store) == store.store.limit)
+submission_refusal store update = store_refusal store.store.limit store.updates update
 
--- a session of this store that has seen and been told nothing
-abbrev pub fresh : StoreId → SessionData
-fresh store = untold store []
+-- a session of this store that has seen and learnt nothing
+abbrev pub fresh_session : StoreId → SessionData
+fresh_session store = session_told_nothing store []

@@ -1,34 +1,40 @@
--- What the fields of a store say.
-use Rattle.std.specs.Prelude.{◌≡◌, ◌≤◌, List, ◌++◌, drop, length}
+-- The data of a store from its fields, and what the fields keep.
+use Rattle.std.specs.Prelude.{◌≡◌, ℕ, ◌≤◌, List, length}
 use Rattle.left_right.specs.Sides.{view}
 use Rattle.camel_rows.specs.Front.{Extends, IsFront}
-use Rattle.camel_rows.specs.Directory.{IsDirectoryOf}
+use Rattle.camel_rows.specs.Admission.{IsAdmissionOf}
+use Rattle.camel_rows.specs.Store.{Updates, accepted_updates}
 use Rattle.camel_rows.specs.Update.{records_of}
 use Rattle.camel_rows.specs.declared.subscriber.update.Update.{Update}
-use Rattle.camel_vlr.specs.Change.{updates_among}
+use Rattle.camel_vlr.specs.Operation.{pending_operations, updates_among}
 use Rattle.camel_vlr.specs.PublishedCopy.{IsOfItsFront}
 use Rattle.camel_vlr.specs.Rule.{Knows}
 use Rattle.camel_vlr.specs.Store.{StoreData}
+use Rattle.camel_vlr.specs.declared.writer.TheConstants.{MAX_UPDATES}
 use Rattle.camel_vlr.specs.declared.writer.Vlr.TheInside.{Inside}
 
 abbrev pub published_in : Inside → List Update
 published_in a = a.writer.desk.shown.value.front.updates
 
 abbrev pub pending_in : Inside → List Update
-pending_in a = updates_among (drop a.writer.behind a.writer.log.items)
+pending_in a = updates_among (pending_operations a.writer)
+
+abbrev pub updates_in : Inside → Updates
+updates_in a = record { published = published_in a; pending = pending_in a }
+
+abbrev pub limit_in : Inside → ℕ
+limit_in a = a.writer.desk.shown.value.front.store.limit
 
 abbrev pub store_of : Inside → StoreData
-store_of a = record { store = a.writer.desk.shown.value.front.store; published = published_in a; pending = pending_in a }
+store_of a = record { store = a.writer.desk.shown.value.front.store; updates = updates_in a }
 
 pub record IsStore (a : Inside) : Type 0 where
   pub shown : IsOfItsFront a.writer.desk.shown.value
-  pub all : IsFront a.writer.desk.shown.value.front.store.limit (published_in a ++ pending_in a)
-  pub limit : a.limit ≡ a.writer.desk.shown.value.front.store.limit
-  pub greatest : a.limit ≤ 1000000
-  pub count : a.pending ≡ length (pending_in a)
+  pub all : IsFront (limit_in a) (accepted_updates (updates_in a))
+  pub admits : IsAdmissionOf a.admission (limit_in a) (length (accepted_updates (updates_in a))) (records_of (accepted_updates (updates_in a)))
+  pub greatest : limit_in a ≤ MAX_UPDATES
   pub seat : Knows (view a.writer.desk.place) a.writer.desk.shown.value.front.store (published_in a)
   pub store : a.history.store ≡ a.writer.desk.shown.value.front.store
   -- the history goes beyond what is published, and not beyond what is pending
-  pub within : Extends (published_in a ++ pending_in a) a.history.updates
+  pub within : Extends (accepted_updates (updates_in a)) a.history.updates
   pub beyond : Extends a.history.updates (published_in a)
-  pub directory : IsDirectoryOf a.directory (records_of (published_in a ++ pending_in a))

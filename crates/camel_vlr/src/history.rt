@@ -8,15 +8,15 @@ pub(crate) mod prefix;
 pub(crate) mod rule;
 pub(crate) mod told;
 
-use crate::history::link::{Head, Link, Log, NoGain, OneChain, WithLimit, cell};
-use crate::history::prefix::Beginning;
+use crate::history::link::{Head, Link, NoGain, OneChain, SeenLinks, WithLimit, make_cell};
+use crate::history::prefix::Prefix;
 use camel_rows::Update;
 use logbook::{Offer, Pen, Play, Seen, Start, Word};
 use std::marker::{Brand, Model, PhantomData};
 
 /// The updates by which a history grows, and the cell at which it goes on. Each call of [`History::grow`] chooses it,
 /// in clauses alone.
-pub trait Growth {
+pub(crate) trait Growth {
     ghost use Rattle.std.specs.Prelude.{List, ℕ};
     ghost use Rattle.camel_rows.specs.declared.subscriber.update.Update.{Update};
 
@@ -34,48 +34,48 @@ impl Growth for Brand {
 }
 
 /// A step that adds a link with these updates.
-struct Adds<G> {
+struct AddLink<G> {
     growth: PhantomData<G>,
 }
 
-impl<G: Growth> Play<Link, u64> for Adds<G> {
-    ghost use Rattle.camel_vlr.specs.Chain.{AddedLink};
+impl<G: Growth> Play<Link, u64> for AddLink<G> {
+    ghost use Rattle.camel_vlr.specs.Chain.{AddsLink};
 
-    ghost then = { AddedLink G.updates G.next };
+    ghost then = { AddsLink G.updates G.next };
 }
 
 /// The one place that makes the list of a store's updates longer. Of the list itself nothing is kept at run time.
 ///
 /// Contracts see which store it is, and the updates.
 #[derive(Drop)]
-pub struct History {
+pub(crate) struct History {
     head: Head,
-    seen: Log,
-    start: Log,
-    // The right to add the next link.
+    seen: SeenLinks,
+    start: SeenLinks,
+    /// The right to add the next link.
     pen: Pen,
 }
 
 impl Model for History {
-    ghost use Rattle.camel_vlr.specs.Beginning.{BeginningData, beginning_in};
+    ghost use Rattle.camel_vlr.specs.Prefix.{PrefixData, prefix_in};
     ghost use Rattle.camel_vlr.specs.History.{IsHistory};
 
-    ghost Value = { BeginningData };
+    ghost Value = { PrefixData };
 
-    ghost view = { λ a. beginning_in a.seen.book a.start.log a.seen.log };
+    ghost view = { λ a. prefix_in a.seen.book a.start.log a.seen.log };
 
     ghost invariant = { IsHistory };
 }
 
 impl History {
     /// An empty history of a store of its own, which is to take at most `limit` updates.
-    pub fn new(limit: u64) -> History
+    pub(crate) fn new(limit: u64) -> History
         ensures updates { result.updates ≡ [] }
         ensures limit { result.store.limit ≡ limit }
     {
         let (mut seen, mut first, _second) = Seen::open(Start::alone(), 0, 0);
         let head = Word::tracked(0, &mut first);
-        let pen = cell(&head, &mut seen, limit);
+        let pen = make_cell(&head, &mut seen, limit);
         let start = seen.again();
         History {
             head,
@@ -85,26 +85,26 @@ impl History {
         }
     }
 
-    /// The whole history, as the beginning of the one that it will be.
-    pub fn beginning(&self) -> Beginning
+    /// The whole history, as a prefix of the one that it will be.
+    pub(crate) fn prefix(&self) -> Prefix
         ensures { result ≡ self.now }
     {
-        Beginning {
+        Prefix {
             seen: self.seen.again(),
             start: self.start.again(),
         }
     }
 
     /// The right to add a link after the next one, for [`History::grow`].
-    pub fn pen(&self) -> Pen
+    pub(crate) fn pen(&self) -> Pen
         ensures { (result.book ≡ self.now.store.book) × (result.nib.right ≡ may_write) }
     {
         let mut seen = self.seen.again();
-        cell(&self.head, &mut seen, 0)
+        make_cell(&self.head, &mut seen, 0)
     }
 
     /// Puts the updates of `G` behind the history. There is no case in which it fails.
-    pub fn grow<G: Growth>(&mut self, next: Pen)
+    pub(crate) fn grow<G: Growth>(&mut self, next: Pen)
         requires { (next.book ≡ self.old.store.book) × (next.nib.right ≡ may_write) × (next.nib.key ≡ G.next) }
         ensures { self.new ≡ record self.old { updates = self.old.updates ++ G.updates } }
     {
@@ -113,7 +113,7 @@ impl History {
             &0,
         );
         self.head
-            .compare_exchange::<Adds<G>, NoGain>(0, 0, &mut seen, &mut offer, &mut self.pen);
+            .compare_exchange::<AddLink<G>, NoGain>(0, 0, &mut seen, &mut offer, &mut self.pen);
         self.seen = seen;
         self.pen = next;
     }

@@ -1,11 +1,11 @@
 ghost use Rattle.std.specs.Prelude.{◌≡◌, ◌+◌, ◌-◌, ◌^◌, min};
 ghost use Rattle.camel_rows.specs.Records.{no_records};
-ghost use Rattle.camel_vlr.specs.Change.{changed};
+ghost use Rattle.camel_vlr.specs.Operation.{copy_after};
 ghost use Rattle.camel_vlr.specs.PublishedCopy.{IsOfItsFront};
 
-use crate::history::prefix::Beginning;
+use crate::history::prefix::Prefix;
 use crate::receipt::Receipt;
-use crate::writer::operation::Change;
+use crate::writer::operation::Operation;
 use camel_criteria::Refusal;
 use camel_rows::Records;
 use left_right::Absorb;
@@ -13,15 +13,15 @@ use std::alloc::{AllocError, Global};
 
 /// One of the two copies: the data that a front leaves, how many updates it has, and the front, which takes no bytes.
 #[derive(Drop)]
-pub struct PublishedCopy {
+pub(crate) struct PublishedCopy {
     pub records: Records,
     pub count: u64,
-    pub front: Beginning,
+    pub front: Prefix,
 }
 
 impl PublishedCopy {
-    // A copy of no records.
-    pub(crate) fn empty(alloc: Global, front: Beginning) -> PublishedCopy
+    /// A copy of no records.
+    pub(crate) fn empty(alloc: Global, front: Prefix) -> PublishedCopy
         ensures records { result.records ≡ no_records }
         ensures count { result.count ≡ 0 }
         ensures front { result.front ≡ front }
@@ -33,36 +33,40 @@ impl PublishedCopy {
         }
     }
 
-    // A receipt of its front.
+    /// A receipt of its front.
     pub(crate) fn receipt(&self) -> Receipt
         requires { IsOfItsFront self.now }
         ensures { result ≡ self.now.front }
     {
         Receipt {
             count: self.count,
-            beginning: self.front.copy(),
+            prefix: self.front.copy(),
         }
     }
 }
 
-impl Absorb<Change> for PublishedCopy {
-    type State = (Records, u64, Beginning);
+impl Absorb<Operation> for PublishedCopy {
+    type State = (Records, u64, Prefix);
 
     ghost state = { λ s. (s.records, s.count, s.front) };
 
-    ghost applied = { changed };
+    ghost applied = { copy_after };
 
-    fn absorb_first(&mut self, change: &Change, _other: &PublishedCopy) -> Result<(), AllocError> {
-        match change {
-            Change::Update(update) => match self.records.apply(update) {
+    fn absorb_first(
+        &mut self,
+        operation: &Operation,
+        _other: &PublishedCopy,
+    ) -> Result<(), AllocError> {
+        match operation {
+            Operation::Update(update) => match self.records.apply(update) {
                 Err(Refusal::OutOfMemory) => Err(AllocError),
-                // An update that is refused by its data is not among the changes; it would leave the data.
+                // No update among the operations is refused by its data; one that is would leave the data.
                 Ok(()) | Err(_) => {
                     self.count = self.count.saturating_add(1);
                     Ok(())
                 }
             },
-            Change::Front(front) => {
+            Operation::Front(front) => {
                 self.front = front.copy();
                 Ok(())
             }

@@ -1,13 +1,13 @@
 //! The sessions of a store.
 
-ghost use Rattle.std.specs.Prelude.{◌≡◌, [], true, false, length, IfOk};
-ghost use Rattle.camel_rows.specs.Front.{IsFront};
+ghost use Rattle.std.specs.Prelude.{◌≡◌, ◌↔◌, [], true, false, length, IfOk, IsTrue};
+ghost use Rattle.camel_rows.specs.Front.{Extends, IsFront};
 ghost use Rattle.camel_rows.specs.Update.{records_of};
 
 pub(crate) mod look;
 pub(crate) mod seat;
 
-use crate::history::rule::{Looking, PublicationRule, View};
+use crate::history::rule::{Known, Looking, PublicationRule};
 use crate::history::told::Told;
 use crate::published_copy::PublishedCopy;
 use crate::receipt::Receipt;
@@ -18,18 +18,18 @@ use std::marker::Model;
 use std::mem;
 use std::snapshot::Snapshot;
 
-/// What a call-control thread asks its store through. Each look of a session extends all that the session saw before,
-/// and all that it was told of.
+/// A call-control thread's access to its store. The front of each look extends all that the session saw
+/// before, and all that it learnt.
 ///
-/// Contracts see of which store it is, the front of its last look, the fronts that it was told of, and whether it is
+/// Contracts see of which store it is, the front of its last look, the fronts that it learnt, and whether it is
 /// looking.
 #[derive(Drop)]
 pub struct Session {
     seat: Seat,
     seen: Receipt,
-    // The longest front that it was told of.
+    /// The longest front that it has learnt, which extends the others.
     longest: Receipt,
-    // Each front that it was told of.
+    /// Each front that it has learnt.
     told: Snapshot<Told>,
 }
 
@@ -49,42 +49,56 @@ impl Session {
     ghost use Rattle.left_right.specs.Sides.{view};
     ghost use Rattle.camel_vlr.specs.contracts.session.Session.{the_row};
     ghost use Rattle.camel_vlr.specs.Rule.{Knows};
-    ghost use Rattle.camel_vlr.specs.Session.{Ended, Learns, Sees, untold};
+    ghost use Rattle.camel_vlr.specs.Session.{LeavesLook, Learns, Sees, session_told_nothing};
 
-    // A session that has seen this front, and been told nothing.
-    pub(crate) fn of(reader: Reader<PublishedCopy, View, PublicationRule>, seen: Receipt) -> Session
+    /// A session that has seen this front, and has learnt nothing.
+    pub(crate) fn new(
+        reader: Reader<PublishedCopy, Known, PublicationRule>,
+        seen: Receipt,
+    ) -> Session
         requires { Knows (view reader.place) seen.store seen.updates }
-        ensures { result ≡ untold seen.store seen.updates }
+        ensures { result ≡ session_told_nothing seen.store seen.updates }
     {
         let longest = seen.copy();
         Session {
-            seat: Seat::Out(reader),
+            seat: Seat::Idle(reader),
             seen,
             longest,
-            told: Told::nothing(),
+            told: Told::none(),
         }
     }
 
-    /// Tells the session of a front: its later looks extend it. The receipt has to be of the session's own store. It
-    /// takes no memory, and reads nothing that threads share.
+    /// Lets the session learn the front of a receipt: its later looks extend it. The receipt has to be of the session's
+    /// own store. It takes no memory, and reads nothing that threads share.
     pub fn learn(&mut self, receipt: Receipt)
         requires { receipt.store ≡ self.old.store }
         ensures { Learns self.old receipt self.new }
     {
         self.leave();
-        let before = mem::replace(&mut self.told, Told::nothing());
-        self.told = Told::and(before, &receipt);
-        if self.longest.begins(&receipt) {
+        let before = mem::replace(&mut self.told, Told::none());
+        self.told = Told::with(before, &receipt);
+        if self.longest.is_prefix_of(&receipt) {
             self.longest = receipt;
         }
     }
 
-    /// A look at the front that is published now, which extends all that the session saw and was told of. It takes no
-    /// lock, does not wait, and takes no memory.
+    /// Whether the front that was last seen extends that of a receipt. If it does not, the receipt's front extends it:
+    /// of two fronts of one store one extends the other. The receipt has to be of the session's own store.
+    pub fn has_seen(&self, receipt: &Receipt) -> bool
+        requires { receipt.now.store ≡ self.now.store }
+        ensures seen { IsTrue result ↔ Extends self.now.seen receipt.now.updates }
+        ensures ahead { result ≡ false → Extends receipt.now.updates self.now.seen }
+    {
+        receipt.is_prefix_of(&self.seen)
+    }
+
+    /// A look at a front that extends all that the session saw and learnt. It takes no lock, does not wait, and takes no
+    /// memory.
     ///
-    /// [`NoLook`] is answered where the store was ended; the session keeps what it had seen and been told.
+    /// It fails with [`NoLook`] where the store has ended, or, which no run meets, where the published copy is older than
+    /// what the session was told of. Then the session keeps what it had seen and learnt.
     pub fn look(&mut self) -> Result<Look<'_>, NoLook>
-        ensures* refused { sem 𝓛 (RestsIfErr the_row self.entry (λ l. l.session.ghost_name) result (Ended self.old)) }
+        ensures* refused { sem 𝓛 (RestsIfErr the_row self.entry (λ l. l.session.ghost_name) result (LeavesLook self.old)) }
         ensures same_session { IfOk result (λ l. l.session.ghost_name ≡ self.entry.ghost_name) }
         ensures sees { IfOk result (λ l. Sees self.old l.session.now) }
     {
@@ -95,50 +109,50 @@ impl Session {
         }
     }
 
-    // Takes the copy that is published. Whether it has one then.
+    /// Takes the copy that is published. Returns whether it has one then.
     fn enter(&mut self) -> bool
         ensures looks { self.new.looks ≡ result }
         ensures yes { result ≡ true → Sees self.old self.new }
-        ensures no { result ≡ false → Ended self.old self.new }
+        ensures no { result ≡ false → LeavesLook self.old self.new }
     {
-        let reader = mem::replace(&mut self.seat, Seat::Between).into_reader();
+        let reader = mem::replace(&mut self.seat, Seat::Taken).into_reader();
         match reader.enter_as::<Looking>() {
             Ok(reading) => {
                 let front = reading.get().receipt();
-                if self.longest.begins(&front) {
+                if self.longest.is_prefix_of(&front) {
                     self.seen = front;
-                    self.seat = Seat::In(reading);
+                    self.seat = Seat::Reading(reading);
                     true
                 } else {
                     // No run comes here: docs/DECISIONS.md says why it stands.
-                    self.seat = Seat::Out(reading.leave());
+                    self.seat = Seat::Idle(reading.leave());
                     false
                 }
             }
             Err(reader) => {
-                self.seat = Seat::Out(reader);
+                self.seat = Seat::Idle(reader);
                 false
             }
         }
     }
 
-    // Gives the copy of a look back.
+    /// Gives the copy of a look back.
     pub(crate) fn leave(&mut self)
-        ensures { Ended self.old self.new }
+        ensures { LeavesLook self.old self.new }
     {
-        let reader = mem::replace(&mut self.seat, Seat::Between).into_reader();
-        self.seat = Seat::Out(reader);
+        let reader = mem::replace(&mut self.seat, Seat::Taken).into_reader();
+        self.seat = Seat::Idle(reader);
     }
 
-    // The copy of the look.
-    pub(crate) fn copy_at_hand(&self) -> &PublishedCopy
+    /// The copy of the look.
+    pub(crate) fn published(&self) -> &PublishedCopy
         requires { self.now.looks ≡ true }
         ensures records { result.now.records ≡ records_of self.now.seen }
         ensures count { result.now.count ≡ length self.now.seen }
         ensures front { IsFront self.now.store.limit self.now.seen }
     {
         match &self.seat {
-            Seat::In(reading) => reading.get(),
+            Seat::Reading(reading) => reading.get(),
             _ => unreachable!(),
         }
     }

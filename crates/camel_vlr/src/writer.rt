@@ -1,7 +1,9 @@
 //! The writer of a store.
 
 ghost use Rattle.std.specs.Prelude.{◌≡◌, ◌+◌, ◌≤◌, ◌⊎◌, [], ◌∷◌, ◌++◌, Some, None, length, true, false, vec_len, All, IfErr, IfOk, IfSome, OnErr, OnOk};
-ghost use Rattle.camel_vlr.specs.Store.{accepted, fresh, submission_refusal};
+ghost use Rattle.camel_rows.specs.Front.{IsFront};
+ghost use Rattle.camel_rows.specs.Store.{accepted_updates, all_published, no_updates, with_update};
+ghost use Rattle.camel_vlr.specs.Store.{fresh_session, submission_refusal};
 
 pub(crate) mod closing;
 pub(crate) mod operation;
@@ -13,29 +15,32 @@ use crate::history::rule::Introducing;
 use crate::published_copy::PublishedCopy;
 use crate::receipt::Receipt;
 use crate::session::Session;
-use crate::writer::operation::Change;
-use crate::writer::publication::{StoreWriter, publish_all, record_all, seal};
-use crate::writer::submission::take;
+use crate::writer::operation::Operation;
+use crate::writer::publication::{StoreWriter, append_front, extend_history, publish_all};
+use crate::writer::submission::accept;
 use camel_criteria::Refusal;
-use camel_rows::{Directory, Update};
+use camel_rows::{Admission, Update};
 use core::mem::replace_with;
 use left_right::writer::Writer;
 use std::alloc::Global;
 use std::marker::Model;
 use std::sync::Wait;
 
+/// The most updates that a store may take.
+pub const MAX_UPDATES: u64 = 1_000_000;
+
+/// The most sessions that a store may have.
+pub const MAX_PLACES: usize = 64;
+
 /// The store's one writer. It takes updates, and publishes them.
 ///
 /// Contracts see which store it is, with the most updates that it takes, and the lists of the updates that are
-/// published and pending. It is not let go of: [`Vlr::close`] or [`Vlr::end`] ends it.
+/// published and pending. It can't be dropped: [`Vlr::close`] or [`Vlr::end`] ends it.
 pub struct Vlr {
     writer: StoreWriter,
     history: History,
-    // Who has a record by all accepted updates, and which CSIs are stored in it.
-    directory: Directory,
-    // How many updates are pending.
-    pending: u64,
-    limit: u64,
+    /// Which updates are accepted, by the published and the pending ones.
+    admission: Admission,
 }
 
 impl Model for Vlr {
@@ -50,22 +55,23 @@ impl Model for Vlr {
 }
 
 impl Vlr {
-    /// An empty store that takes at most `limit` updates (1 to 1,000,000), and `places` sessions (1 to 64), none of which
-    /// has seen or been told anything.
+    /// An empty store that takes at most `limit` updates (1 to [`MAX_UPDATES`]), and `places` sessions (1 to
+    /// [`MAX_PLACES`]), none of which has seen or learnt anything.
     ///
-    /// `OutOfMemory` (102) is answered where memory was refused, and `NoPlace` (103) where a session got no place;
-    /// then nothing remains. It waits for nobody, since nobody looks yet.
+    /// It fails with `OutOfMemory` (102) where memory was refused, and with `NoPlace` (103) where a session got no place;
+    /// then nothing remains. It takes `Wait`, and nobody looks yet. What its clauses say holds if it returns; that it
+    /// returns is not proved.
     pub fn open<R: Wait>(
         rt: &R,
         alloc: Global,
         places: usize,
         limit: u64,
     ) -> Result<(Vlr, Vec<Session>), Refusal>
-        requires places { (1 ≤ places) × (places ≤ 64) }
-        requires limit { (1 ≤ limit) × (limit ≤ 1000000) }
-        ensures empty { IfOk result (λ r. (r.0.published ≡ []) × (r.0.pending ≡ []) × (r.0.store.limit ≡ limit)) }
+        requires places { (1 ≤ places) × (places ≤ MAX_PLACES) }
+        requires limit { (1 ≤ limit) × (limit ≤ MAX_UPDATES) }
+        ensures empty { IfOk result (λ r. (r.0.updates ≡ no_updates) × (r.0.store.limit ≡ limit)) }
         ensures places { IfOk result (λ r. vec_len r.1 ≡ places) }
-        ensures sessions { IfOk result (λ r. All (λ s. s ≡ fresh r.0.store) r.1.items) }
+        ensures sessions { IfOk result (λ r. All (λ s. s ≡ fresh_session r.0.store) r.1.items) }
         ensures only { IfErr result (λ why. (why ≡ Refusal.OutOfMemory) ⊎ (why ≡ Refusal.NoPlace)) }
     {
         let Ok(mut sessions) = Vec::with_capacity(alloc, places) else {
@@ -82,21 +88,21 @@ impl Vlr {
         Ok((store, sessions))
     }
 
-    // The first publication, of nothing, lets the writer know which store it is.
+    /// The first publication, of nothing, lets the writer know which store it is.
     fn empty<R: Wait>(rt: &R, alloc: Global, places: usize, limit: u64) -> Result<Vlr, Refusal>
-        requires places { (1 ≤ places) × (places ≤ 64) }
-        requires limit { (1 ≤ limit) × (limit ≤ 1000000) }
-        ensures empty { IfOk result (λ r. (r.published ≡ []) × (r.pending ≡ []) × (r.store.limit ≡ limit)) }
+        requires places { (1 ≤ places) × (places ≤ MAX_PLACES) }
+        requires limit { (1 ≤ limit) × (limit ≤ MAX_UPDATES) }
+        ensures empty { IfOk result (λ r. (r.updates ≡ no_updates) × (r.store.limit ≡ limit)) }
         ensures only { IfErr result (λ why. why ≡ Refusal.OutOfMemory) }
     {
         let history = History::new(limit);
-        let front = history.beginning();
+        let front = history.prefix();
         let first = PublishedCopy::empty(alloc, front.copy());
         let second = PublishedCopy::empty(alloc, front.copy());
         let Ok(mut writer) = Writer::new(alloc, first, second, places) else {
             return Err(Refusal::OutOfMemory);
         };
-        if !seal(&mut writer, &front) {
+        if !append_front(&mut writer, &front) {
             drop(writer.take(rt));
             return Err(Refusal::OutOfMemory);
         }
@@ -105,9 +111,7 @@ impl Vlr {
             Ok(()) => Ok(Vlr {
                 writer,
                 history,
-                directory: Directory::new(alloc),
-                pending: 0,
-                limit,
+                admission: Admission::new(alloc, limit),
             }),
             Err(_) => {
                 drop(writer.take(rt));
@@ -116,105 +120,87 @@ impl Vlr {
         }
     }
 
-    // A session that knows which store it is of.
+    /// A session that knows which store it is of.
     fn seat(&mut self) -> Option<Session>
-        requires { self.old.published ≡ [] }
+        requires { self.old.updates.published ≡ [] }
         ensures same { self.new ≡ self.old }
-        ensures session { IfSome result (λ s. s ≡ fresh self.new.store) }
+        ensures session { IfSome result (λ s. s ≡ fresh_session self.new.store) }
     {
         let mut reader = self.writer.factory().reader().ok()?;
         reader.learn::<Introducing>(self.writer.tell::<Introducing>());
-        Some(Session::of(reader, self.receipt()))
+        Some(Session::new(reader, self.receipt()))
     }
 
-    /// Takes an update behind those that are pending, and answers its number, the first being 1.
+    /// Accepts an update behind those that are pending, and returns its number, the first being 1.
     ///
-    /// It is refused, by the data that all accepted updates leave: `UnidentifiedSubscriber` (5) and `DataMissing`
-    /// (35) as `Records::apply` says, then `HistoryFull` (101) where the store has taken as many updates as it may, then
-    /// `OutOfMemory` (102). A refused update is as if it had not been sent.
+    /// It is rejected, by the data that all accepted updates leave, with `UnidentifiedSubscriber` (5) or `DataMissing`
+    /// (35) as `Records::apply` says, then with `HistoryFull` (101) where the store has accepted as many updates as its
+    /// limit, then with `OutOfMemory` (102). A rejected update is as if it had not been submitted.
     pub fn submit(&mut self, update: Update) -> Result<u64, Refusal>
         ensures refused { IfSome (submission_refusal self.old update) (λ why. result ≡ Err why) }
         ensures only { IfErr result (λ why. (why ≡ Refusal.OutOfMemory) ⊎ (submission_refusal self.old update ≡ Some why)) }
-        ensures taken { OnOk result (self.new ≡ record self.old { pending = self.old.pending ++ update ∷ [] }) }
-        ensures number { IfOk result (λ number. number ≡ length (accepted self.new)) }
+        ensures accepted { OnOk result (self.new ≡ record self.old { updates = with_update self.old.updates update }) }
+        ensures number { IfOk result (λ number. number ≡ length (accepted_updates self.new.updates)) }
         ensures unchanged { OnErr result (self.new ≡ self.old) }
     {
-        let csis = self.directory.after(&update)?;
-        let number = self.writer.published().count + self.pending;
-        if number == self.limit {
-            return Err(Refusal::HistoryFull);
-        }
-        take(&mut self.writer, &mut self.directory, update, csis)?;
-        self.pending += 1;
-        Ok(number + 1)
+        let csis = self.admission.check(&update)?;
+        accept(&mut self.writer, &mut self.admission, update, csis)?;
+        Ok(self.admission.accepted())
     }
 
     /// Publishes all that is pending, at once, also where nothing is. It waits for each look at the copy that is to be
-    /// changed. The receipt is of all that is published then.
+    /// changed. The receipt is of all that is published then. What its clauses say holds if it returns; that it returns is
+    /// not proved.
     ///
-    /// `OutOfMemory` (102) is answered where memory was refused: nothing was published, all is pending as before, and it
-    /// may be tried again.
+    /// It fails with `OutOfMemory` (102) where memory was refused: nothing was published, all is pending as before, and
+    /// it may be tried again.
     pub fn publish<R: Wait>(&mut self, rt: &R) -> Result<Receipt, Refusal>
-        ensures published { OnOk result (self.new ≡ record self.old { published = accepted self.old; pending = [] }) }
-        ensures receipt { IfOk result (λ receipt. receipt ≡ record { store = self.old.store; updates = self.new.published }) }
+        ensures published { OnOk result (self.new ≡ record self.old { updates = all_published self.old.updates }) }
+        ensures receipt { IfOk result (λ receipt. receipt ≡ record { store = self.old.store; updates = self.new.updates.published }) }
+        ensures front { OnOk result (IsFront self.new.store.limit self.new.updates.published) }
         ensures unchanged { OnErr result (self.new ≡ self.old) }
         ensures only { IfErr result (λ why. why ≡ Refusal.OutOfMemory) }
     {
-        if self.publish_pending(rt) {
-            Ok(self.receipt())
-        } else {
-            Err(Refusal::OutOfMemory)
-        }
-    }
-
-    // Whether there was memory.
-    fn publish_pending<R: Wait>(&mut self, rt: &R) -> bool
-        ensures yes { result ≡ true → self.new ≡ record self.old { published = accepted self.old; pending = [] } }
-        ensures no { result ≡ false → self.new ≡ self.old }
-    {
-        record_all(&mut self.history, &self.writer);
-        let front = self.history.beginning();
-        if !seal(&mut self.writer, &front) {
-            return false;
+        extend_history(&mut self.history, &self.writer);
+        let front = self.history.prefix();
+        if !append_front(&mut self.writer, &front) {
+            return Err(Refusal::OutOfMemory);
         }
         match replace_with(&mut self.writer, (rt, front), publish_all) {
-            Ok(()) => {
-                self.pending = 0;
-                true
-            }
-            Err(_) => false,
+            Ok(()) => Ok(self.receipt()),
+            Err(_) => Err(Refusal::OutOfMemory),
         }
     }
 
     /// A receipt of all that is published, as often as it is asked for. It takes no memory.
     pub fn receipt(&self) -> Receipt
-        ensures { result ≡ record { store = self.now.store; updates = self.now.published } }
+        ensures receipt { result ≡ record { store = self.now.store; updates = self.now.updates.published } }
+        ensures front { IsFront self.now.store.limit self.now.updates.published }
     {
         self.writer.published().receipt()
     }
 
     /// How many updates are published.
     pub fn published(&self) -> u64
-        ensures { result ≡ length self.now.published }
+        ensures { result ≡ length self.now.updates.published }
     {
         self.writer.published().count
     }
 
     /// How many updates are pending.
     pub fn pending(&self) -> u64
-        ensures { result ≡ length self.now.pending }
+        ensures { result ≡ length self.now.updates.pending }
     {
-        self.pending
+        self.admission.accepted() - self.writer.published().count
     }
 
-    /// Ends the store, and gives nothing. What is pending is dropped. It waits for the looks that are not left.
+    /// Ends the store, and gives nothing. What is pending is dropped. It waits for the looks that are held; that it returns
+    /// is not proved.
     pub fn end<R: Wait>(self, rt: &R) {
         let Vlr {
             writer,
             history: _history,
-            directory: _directory,
-            pending: _,
-            limit: _,
+            admission: _admission,
         } = self;
         drop(writer.take(rt));
     }

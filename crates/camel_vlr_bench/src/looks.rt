@@ -1,7 +1,6 @@
 use crate::data::{EVENTS, events, imsi_of, insert};
 use crate::publications::{Concerned, batches, filled, with_csi};
 use camel_rows::{CallEvent, Decision, Records, Update, decide_in};
-use camel_tbcd::Address;
 use camel_vlr::Session;
 use std::alloc::Global;
 use std::rt::Clock;
@@ -35,7 +34,6 @@ pub(crate) fn over_records<R: Clock>(
 }
 
 fn decided(records: &Records, events: &[CallEvent]) -> u64 {
-    let _: Option<Address> = None;
     let mut triggers: u64 = 0;
     for event in events {
         if let Decision::Trigger { .. } = decide_in(records, &event.lend()) {
@@ -79,7 +77,6 @@ fn looked<R: Clock>(rt: &R, session: Session, events: &[CallEvent], rounds: u64)
 }
 
 fn decided_by_looks(session: &mut Session, events: &[CallEvent]) -> u64 {
-    let _: Option<Address> = None;
     let mut triggers: u64 = 0;
     for event in events {
         let Ok(look) = session.look() else {

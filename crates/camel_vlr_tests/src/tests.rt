@@ -1,20 +1,19 @@
 ghost use Rattle.std.specs.Prelude.{◌≡◌, ◌≤◌, All, IfOk, vec_len};
-ghost use Rattle.camel_vlr.specs.Store.{fresh};
+ghost use Rattle.camel_vlr.specs.Store.{fresh_session};
 
 mod closing;
 mod integration;
 mod limits;
 mod looking;
 mod memory;
-mod refusals;
 mod threads;
 
 use camel_criteria::{BasicService, Handling, MatchType, NumberCriterion, OCriteria, Refusal};
 use camel_rows::{
     CallEvent, Decision, Lent, OCriteriaSet, OCsi, Reason, Records, TdpRow, Update, Withdrawal,
 };
-use camel_tbcd::{Address, AddressFault, CallAddress, Imsi, ImsiFault, IsdnAddress};
-use camel_vlr::{CloseRefused, Receipt, Session, Vlr};
+use camel_tbcd::{AddressFault, CallAddress, Imsi, ImsiFault, IsdnAddress};
+use camel_vlr::{CloseRefused, MAX_PLACES, MAX_UPDATES, Receipt, Session, Vlr};
 use std::alloc::Global;
 use std::process::Abort;
 use std::sync::Wait;
@@ -193,10 +192,10 @@ fn opened<R: Wait>(
     places: usize,
     limit: u64,
 ) -> Result<(Vlr, Vec<Session>), Refusal>
-    requires places { (1 ≤ places) × (places ≤ 64) }
-    requires limit { (1 ≤ limit) × (limit ≤ 1000000) }
+    requires places { (1 ≤ places) × (places ≤ MAX_PLACES) }
+    requires limit { (1 ≤ limit) × (limit ≤ MAX_UPDATES) }
     ensures places { IfOk result (λ r. vec_len r.1 ≡ places) }
-    ensures sessions { IfOk result (λ r. All (λ s. s ≡ fresh r.0.store) r.1.items) }
+    ensures sessions { IfOk result (λ r. All (λ s. s ≡ fresh_session r.0.store) r.1.items) }
 {
     for _ in 1..TURNS {
         match Vlr::open(rt, alloc, places, limit) {
@@ -214,10 +213,10 @@ fn opened_with_last<R: Wait>(
     places: usize,
     limit: u64,
 ) -> Result<(Vlr, Vec<Session>, Session), Refusal>
-    requires places { (1 ≤ places) × (places ≤ 64) }
-    requires limit { (1 ≤ limit) × (limit ≤ 1000000) }
-    ensures others { IfOk result (λ r. All (λ s. s ≡ fresh r.0.store) r.1.items) }
-    ensures last { IfOk result (λ r. r.2 ≡ fresh r.0.store) }
+    requires places { (1 ≤ places) × (places ≤ MAX_PLACES) }
+    requires limit { (1 ≤ limit) × (limit ≤ MAX_UPDATES) }
+    ensures others { IfOk result (λ r. All (λ s. s ≡ fresh_session r.0.store) r.1.items) }
+    ensures last { IfOk result (λ r. r.2 ≡ fresh_session r.0.store) }
 {
     let (store, mut sessions) = opened(rt, alloc, places, limit)?;
     let Some(last) = sessions.pop() else {
@@ -229,8 +228,8 @@ fn opened_with_last<R: Wait>(
 
 // A store with one session.
 fn opened_with_one<R: Wait>(rt: &R, alloc: Global, limit: u64) -> Result<(Vlr, Session), Refusal>
-    requires limit { (1 ≤ limit) × (limit ≤ 1000000) }
-    ensures session { IfOk result (λ r. r.1 ≡ fresh r.0.store) }
+    requires limit { (1 ≤ limit) × (limit ≤ MAX_UPDATES) }
+    ensures session { IfOk result (λ r. r.1 ≡ fresh_session r.0.store) }
 {
     let (store, _, session) = opened_with_last(rt, alloc, 1, limit)?;
     Ok((store, session))
@@ -242,9 +241,9 @@ fn opened_with_two<R: Wait>(
     alloc: Global,
     limit: u64,
 ) -> Result<(Vlr, Session, Session), Refusal>
-    requires limit { (1 ≤ limit) × (limit ≤ 1000000) }
-    ensures first { IfOk result (λ r. r.1 ≡ fresh r.0.store) }
-    ensures second { IfOk result (λ r. r.2 ≡ fresh r.0.store) }
+    requires limit { (1 ≤ limit) × (limit ≤ MAX_UPDATES) }
+    ensures first { IfOk result (λ r. r.1 ≡ fresh_session r.0.store) }
+    ensures second { IfOk result (λ r. r.2 ≡ fresh_session r.0.store) }
 {
     let (store, mut others, second) = opened_with_last(rt, alloc, 2, limit)?;
     let Some(first) = others.pop() else {
@@ -261,8 +260,6 @@ fn asked_once(session: &mut Session, call: &CallEvent) -> Option<(u64, Told)>
     let Ok(look) = session.look() else {
         return None;
     };
-    // The check of a lent event needs this type named: docs/DECISIONS.md says why.
-    let _: Option<Address> = None;
     let event = call.lend();
     let told = told(&look.decide(&event));
     let front = look.front();

@@ -3,6 +3,7 @@ ghost use Rattle.clap.specs.Words.{app_of, kind_of};
 ghost use Rattle.clap.specs.declared.error.kind.ErrorKind.TheVariants.{DisplayHelp, OutOfMemory};
 ghost use Rattle.camel_replay_lib.specs.CommandLine.{AsksForHelp, HoldsLimit, LimitOf, the_program};
 
+use crate::command::Options;
 use clap::builder::ValueParser;
 use clap::error::ErrorKind;
 use clap::{Arg, ArgMatches, Command, Error};
@@ -11,17 +12,10 @@ use std::alloc::Global;
 /// The greatest limit of updates.
 pub const MAX_LIMIT: u64 = 1_000_000;
 
-/// What the command line asks for.
-#[derive(Clone, Copy, Debug, PartialEq, Eq)]
-pub struct CommandLine {
-    /// How many updates are accepted at most, 1 to 1000000.
-    pub limit: u64,
-}
-
 /// The options of the words with which the program was started, its name first.
 ///
-/// The error is that of `clap`: a mistake in the words, the request for help, or want of memory.
-pub fn options(alloc: Global, words: &[String]) -> Result<CommandLine, Error>
+/// The error is that of `clap`: a mistake in the words, a request for help, or out of memory.
+pub fn options(alloc: Global, words: &[String]) -> Result<Options, Error>
     ensures limit { IfOk result (λ options. LimitOf (map string_bytes words.now) options.limit) }
     ensures help { IfErr result (λ error.
         kind_of error ≡ DisplayHelp → AsksForHelp (map string_bytes words.now)) }
@@ -29,12 +23,13 @@ pub fn options(alloc: Global, words: &[String]) -> Result<CommandLine, Error>
     let mut command = command(alloc)?;
     let matches = command.try_get_matches_from_mut(words)?;
     match limit(&matches) {
-        Some(limit) => Ok(CommandLine { limit }),
-        // The parser of the value has taken it, so this is not met.
+        Some(limit) => Ok(Options { limit }),
+        // `clap` has checked the range, so no command line comes here.
         None => Err(command.error(ErrorKind::ValueValidation, "the limit is not 1 to 1000000")?),
     }
 }
 
+/// The command line as `clap` sees it.
 fn command<'a>(alloc: Global) -> Result<Command<'a>, Error>
     ensures program { IfOk result (λ command. app_of command ≡ the_program) }
     ensures only { IfErr result (λ error. kind_of error ≡ OutOfMemory) }
@@ -52,7 +47,7 @@ fn command<'a>(alloc: Global) -> Result<Command<'a>, Error>
     Ok(command)
 }
 
-// The limit that the matches hold.
+/// The limit that the matches hold.
 fn limit(matches: &ArgMatches) -> Option<u64>
     ensures { IfSome result (HoldsLimit matches.now) }
 {

@@ -1,7 +1,7 @@
 ghost use Rattle.camel_replay_lib.specs.Fronts.{PublishedGrows, PublishedIsFront};
 
-/// A law of every run, whatever its records: what is published is a front at every moment, and a later one
-/// extends an earlier one. It does nothing when it is called.
+/// A law of every replay, whatever its records: what is published after some of them is a front, and what is published
+/// later extends it. A call does nothing; its contract is the law.
 pub fn published_fronts()
     ensures front { PublishedIsFront }
     ensures grows { PublishedGrows }

@@ -1,26 +1,26 @@
-ghost use Rattle.std.specs.Prelude.{◌≡◌, ◌+◌, ◌⊎◌, [], ◌∷◌, ◌++◌, Some, None, IfErr, IfOk, OnErr, OnOk, length};
-ghost use Rattle.camel_rows.specs.Directory.{with_csis};
-ghost use Rattle.camel_rows.specs.Update.{update_imsi};
-ghost use Rattle.camel_replay_lib.specs.Store.{StoreData, empty_store, store_after, store_answer, store_line, store_refusal, update_count};
+ghost use Rattle.std.specs.Prelude.{◌≡◌, ◌+◌, ◌⊎◌, Some, None, IfErr, IfOk, OnErr, OnOk, length};
+ghost use Rattle.camel_rows.specs.Store.{accepted_updates, all_published, store_refusal, with_update};
+ghost use Rattle.camel_replay_lib.specs.Output.{answer_of, line_of};
+ghost use Rattle.camel_replay_lib.specs.Store.{StoreData, empty_store, store_after};
 
+use crate::script_replay::update_list::UpdateList;
 use camel_criteria::Refusal;
-use camel_rows::{Answer, CallEvent, CsisPresent, Directory, Outcome, Records, Update};
+use camel_rows::{Admission, Answer, CallEvent, Outcome, Records, Update};
 use camel_script::{Line, Record};
 use std::alloc::Global;
 use std::collections::VecDeque;
 use std::marker::Model;
+use std::snapshot::Snapshot;
 
 /// The subscriber data of one thread: what is published, and the accepted updates that are pending.
 ///
-/// Contracts see the limit, how many updates are published, the data that they leave, and the pending
-/// updates.
+/// Contracts see the limit, and the lists of the published and of the pending updates.
 #[derive(Drop)]
 pub struct Store {
-    limit: u64,
-    front: u64,
-    published: Records,
-    // The CSIs that are stored with the pending updates too, by which updates are refused.
-    stored: Directory,
+    admission: Admission,
+    records: Records,
+    /// The updates that leave the records, for contracts alone.
+    published: Snapshot<UpdateList>,
     pending: VecDeque<Update>,
 }
 
@@ -32,34 +32,36 @@ impl Model for Store {
 
     ghost coded = { store_code };
 
-    ghost view = { λ a. record { limit = a.limit; front = a.front; published = a.published; pending = a.pending.items } };
+    ghost view = { λ a. record {
+      limit = a.admission.limit;
+      updates = record { published = a.published.value; pending = a.pending.items };
+    } };
 
-    ghost invariant = { λ a. IsSound a.limit a.front a.published a.stored a.pending.items };
+    ghost invariant = { λ a. IsSound a.admission a.records (record { published = a.published.value; pending = a.pending.items }) };
 }
 
 impl Store {
-    /// A store that takes at most `limit` updates, with no records.
+    /// A store that accepts at most `limit` updates, with no records.
     pub fn new(alloc: Global, limit: u64) -> Store
         ensures { result ≡ empty_store limit }
     {
         Store {
-            limit,
-            front: 0,
-            published: Records::new(alloc),
-            stored: Directory::new(alloc),
+            admission: Admission::new(alloc, limit),
+            records: Records::new(alloc),
+            published: UpdateList::none(),
             pending: VecDeque::new(alloc),
         }
     }
 
-    /// Answers a record of a script by its line.
+    /// The line of a record of a script, after which the store holds what the record asks.
     ///
-    /// `OutOfMemory` is answered where memory was refused; the store is then not to be used again.
-    pub fn answer(&mut self, request: Record) -> Result<Line, Refusal>
-        ensures line { IfOk result (λ line. line ≡ store_line self.old request) }
-        ensures after { OnOk result (self.new ≡ store_after self.old request) }
+    /// Fails with `OutOfMemory` alone. The store may then hold a part of a publication, so it is not used again.
+    pub fn answer(&mut self, script_record: Record) -> Result<Line, Refusal>
+        ensures line { IfOk result (λ line. line ≡ line_of self.old.limit self.old.updates script_record) }
+        ensures after { OnOk result (self.new ≡ store_after self.old script_record) }
         ensures only { IfErr result (λ why. why ≡ Refusal.OutOfMemory) }
     {
-        match request {
+        match script_record {
             Record::Update(update) => self.line_of_update(update),
             Record::Publish => Ok(Line::Published(self.publish()?)),
             Record::Call(event) => Ok(Line::Decided(self.decide(&event))),
@@ -67,8 +69,9 @@ impl Store {
         }
     }
 
+    /// Submits an update, and returns its line.
     fn line_of_update(&mut self, update: Update) -> Result<Line, Refusal>
-        ensures line { IfOk result (λ line. line ≡ store_line self.old (Record.Update update)) }
+        ensures line { IfOk result (λ line. line ≡ line_of self.old.limit self.old.updates (Record.Update update)) }
         ensures after { OnOk result (self.new ≡ store_after self.old (Record.Update update)) }
         ensures only { IfErr result (λ why. why ≡ Refusal.OutOfMemory) }
     {
@@ -79,65 +82,48 @@ impl Store {
         }
     }
 
-    // Takes an update as pending, and answers its number.
+    /// Accepts an update as pending, and returns its number, counted from 1.
+    ///
+    /// It is refused by the data that all accepted updates leave, then where they are as many as the limit. A refused
+    /// update leaves the store as it was, and so does `OutOfMemory`.
     fn submit(&mut self, update: Update) -> Result<u64, Refusal>
-        ensures number { IfOk result (λ number. number ≡ update_count self.old + 1) }
-        ensures accepted { OnOk result (store_refusal self.old update ≡ None) }
-        ensures taken { OnOk result (self.new ≡ record self.old { pending = self.old.pending ++ update ∷ [] }) }
+        ensures number { IfOk result (λ number. number ≡ length (accepted_updates self.old.updates) + 1) }
+        ensures accepted { OnOk result (store_refusal self.old.limit self.old.updates update ≡ None) }
+        ensures pending { OnOk result (self.new ≡ record self.old { updates = with_update self.old.updates update }) }
         ensures unchanged { OnErr result (self.new ≡ self.old) }
         ensures refused { IfErr result (λ why.
-            (why ≡ Refusal.OutOfMemory) ⊎ (store_refusal self.old update ≡ Some why)) }
+            (why ≡ Refusal.OutOfMemory) ⊎ (store_refusal self.old.limit self.old.updates update ≡ Some why)) }
     {
-        let csis = self.stored.after(&update)?;
-        let count = self.front + self.pending.len() as u64;
-        if count == self.limit {
-            return Err(Refusal::HistoryFull);
-        }
-        take(&mut self.stored, &mut self.pending, update, csis)?;
-        Ok(count + 1)
+        let csis = self.admission.check(&update)?;
+        self.pending.reserve(1)?;
+        self.admission.accept(update.imsi(), csis)?;
+        self.pending.push_back_reserved(update);
+        Ok(self.admission.accepted())
     }
 
-    // Publishes the pending updates, and answers how many updates are published. They are published one by
-    // one, so that want of memory leaves a store whose fields agree.
+    /// Publishes the pending updates, and returns how many updates are published.
+    ///
+    /// They are published one by one, so that a store whose memory was refused still has fields that agree.
     fn publish(&mut self) -> Result<u64, Refusal>
-        ensures front { IfOk result (λ front. front ≡ update_count self.old) }
-        ensures published { OnOk result (self.new ≡ store_after self.old Record.Publish) }
+        ensures front { IfOk result (λ front. front ≡ length (accepted_updates self.old.updates)) }
+        ensures published { OnOk result (self.new ≡ record self.old { updates = all_published self.old.updates }) }
         ensures only { IfErr result (λ why. why ≡ Refusal.OutOfMemory) }
     {
         'updates: while let Some(update) = self.pending.front() {
-            self.published.apply(update)?;
+            self.records.apply(update)?;
+            UpdateList::push(&mut self.published, update);
             self.pending.pop_front();
-            self.front += 1;
         }
-        Ok(self.front)
+        Ok(self.admission.accepted())
     }
 
-    // Decides a call over the published data.
+    /// Decides a call over the published data.
     fn decide(&self, event: &CallEvent) -> Answer
-        ensures { result ≡ store_answer self.now event.now }
+        ensures { result ≡ answer_of self.now.updates event.now }
     {
         Answer {
-            front: self.front,
-            outcome: Outcome::decide(&self.published, event),
+            front: self.admission.accepted() - self.pending.len() as u64,
+            outcome: Outcome::decide(&self.records, event),
         }
     }
-}
-
-// Puts an update at the end of the pending ones, and the CSIs that it leaves in the record of its IMSI. An error
-// leaves both as they are.
-fn take(
-    stored: &mut Directory,
-    pending: &mut VecDeque<Update>,
-    update: Update,
-    csis: Option<CsisPresent>,
-) -> Result<(), Refusal>
-    ensures put { OnOk result (stored.new ≡ with_csis stored.old (update_imsi update) csis) }
-    ensures pushed { OnOk result (pending.new.items ≡ pending.old.items ++ update ∷ []) }
-    ensures unchanged { OnErr result ((stored.new ≡ stored.old) × (pending.new.items ≡ pending.old.items)) }
-    ensures only { IfErr result (λ why. why ≡ Refusal.OutOfMemory) }
-{
-    pending.reserve(1)?;
-    stored.put(update.imsi(), csis)?;
-    pending.push_back_reserved(update);
-    Ok(())
 }

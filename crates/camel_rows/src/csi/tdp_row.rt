@@ -2,7 +2,7 @@ ghost use Rattle.std.specs.Prelude.{◌≡◌, ◌<◌, ◌≤◌, ◌↔◌, Is
 ghost use Rattle.camel_tbcd.specs.Address.{octets};
 ghost use Rattle.camel_rows.specs.TdpRow.{max_service_key, tdp_row_of};
 
-use camel_criteria::{Handling, Refusal};
+use camel_criteria::{AtDetectionPoint, Handling, Refusal};
 use camel_tbcd::{Address, IsdnAddress};
 use std::marker::Model;
 
@@ -35,7 +35,7 @@ impl Model for TdpRow {
 impl TdpRow {
     /// A row of a detection point, a service key, a gsmSCF address and a default call handling.
     ///
-    /// `UnexpectedDataValue` (36) is answered for a service key over 2147483647.
+    /// Fails with `UnexpectedDataValue` (36) for a service key over 2147483647.
     pub fn new(dp: u8, key: u32, scf: IsdnAddress, handling: Handling) -> Result<TdpRow, Refusal>
         ensures answer { result ≡ tdp_row_of dp key scf handling }
         ensures refused { IsErr result ↔ (max_service_key < key) }
@@ -85,5 +85,13 @@ impl TdpRow {
         ensures { result ≡ self.now.scf }
     {
         self.scf
+    }
+}
+
+impl AtDetectionPoint for TdpRow {
+    ghost dp_of = { λ row. row.dp };
+
+    fn detection_point(&self) -> u8 {
+        self.dp()
     }
 }

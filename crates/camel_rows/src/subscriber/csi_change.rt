@@ -1,34 +1,36 @@
 ghost use Rattle.std.specs.Prelude.{◌≡◌};
-ghost use Rattle.camel_rows.specs.Change.{changed, removal};
+ghost use Rattle.camel_rows.specs.CsiChange.{changed_by, removal_if};
 
-// What an update makes of one half of a record.
+/// What an update makes of a stored CSI.
 #[derive(Drop)]
-pub(crate) enum Change<H> {
-    // It stays as it is.
+pub(crate) enum CsiChange<C> {
+    /// It stays as it is.
     Keep,
-    // It is not stored any more.
+    /// It is not stored any more.
     Remove,
-    // This one is stored.
-    Put(H),
+    /// This one is stored in its place.
+    Replace(C),
 }
 
-pub(crate) fn make<H: Drop>(half: &mut Option<H>, change: Change<H>)
-    ensures { half.new ≡ changed half.old change }
-{
-    match change {
-        Change::Keep => {}
-        Change::Remove => *half = None,
-        Change::Put(new) => *half = Some(new),
+impl<C: Drop> CsiChange<C> {
+    /// Removes a CSI that a Delete names.
+    pub(crate) fn removal_if(is_named: bool) -> CsiChange<C>
+        ensures { result ≡ removal_if is_named }
+    {
+        if is_named {
+            CsiChange::Remove
+        } else {
+            CsiChange::Keep
+        }
     }
-}
 
-// Removes a half that a Delete names.
-pub(crate) fn removal<H: Drop>(is_named: bool) -> Change<H>
-    ensures { result ≡ removal is_named }
-{
-    if is_named {
-        Change::Remove
-    } else {
-        Change::Keep
+    pub(crate) fn apply(self, stored: &mut Option<C>)
+        ensures { stored.new ≡ changed_by self stored.old }
+    {
+        match self {
+            CsiChange::Keep => {}
+            CsiChange::Remove => *stored = None,
+            CsiChange::Replace(csi) => *stored = Some(csi),
+        }
     }
 }

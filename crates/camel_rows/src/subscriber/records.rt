@@ -1,19 +1,16 @@
 ghost use Rattle.std.specs.Prelude.{◌≡◌, ◌⊎◌, Some, IfErr, IfNone, IfOk, IfSome, IsOk, IsSome, OnErr, OnOk};
 ghost use Rattle.std.specs.FinMap as map;
 ghost use Rattle.std.specs.Option.{option_copied, option_map};
-ghost use Rattle.camel_rows.specs.Change.{with_changes};
+ghost use Rattle.camel_rows.specs.CsiChange.{with_changes};
 ghost use Rattle.camel_rows.specs.Records.{no_records};
 ghost use Rattle.camel_rows.specs.Update.{records_after, record_with_insert, record_without, refusal, with_record};
 
-use crate::csi::o_criteria_set::OCriteriaSet;
-use crate::csi::o_csi::OCsi;
-use crate::csi::t_criteria_set::TCriteriaSet;
-use crate::csi::vt_csi::VtCsi;
-use crate::subscriber::Subscriber;
-use crate::subscriber::csi_change::{Change, removal};
-use crate::subscriber::o_half::OHalf;
+use crate::csi::criteria_set::{OCriteriaSet, TCriteriaSet};
+use crate::csi::{OCsi, VtCsi};
+use crate::subscriber::csi_change::CsiChange;
+use crate::subscriber::csis_present::check_update;
 use crate::subscriber::update::{Update, Withdrawal};
-use crate::subscriber::vt_half::VtHalf;
+use crate::subscriber::{StoredOCsi, StoredVtCsi, Subscriber};
 use camel_criteria::Refusal;
 use camel_tbcd::Imsi;
 use std::alloc::{AllocError, Global};
@@ -64,37 +61,18 @@ impl Records {
 
     /// Whether an update may be applied.
     ///
-    /// `UnidentifiedSubscriber` (5) is answered for an Insert or a Delete where the IMSI has no record, and
+    /// Fails with `UnidentifiedSubscriber` (5) for an Insert or a Delete where the IMSI has no record, and with
     /// `DataMissing` (35) for an Insert of criteria without their CSI where that CSI is not stored.
     pub fn check(&self, update: &Update) -> Result<(), Refusal>
         ensures refused { IfSome (refusal self.now update.now) (λ why. result ≡ Err why) }
         ensures accepted { IfNone (refusal self.now update.now) (IsOk result) }
     {
-        match update {
-            Update::Register { .. } | Update::Cancel { .. } => Ok(()),
-            Update::Delete { imsi, .. } => match self.get(imsi) {
-                Some(_) => Ok(()),
-                None => Err(Refusal::UnidentifiedSubscriber),
-            },
-            Update::Insert {
-                imsi,
-                o,
-                o_criteria,
-                vt,
-                t_criteria,
-            } => match self.get(imsi) {
-                Some(subscriber) if subscriber.lacks_csi(o, o_criteria, vt, t_criteria) => {
-                    Err(Refusal::DataMissing)
-                }
-                Some(_) => Ok(()),
-                None => Err(Refusal::UnidentifiedSubscriber),
-            },
-        }
+        check_update(self.get(&update.imsi()).map(Subscriber::csis), update)
     }
 
     /// Applies an update.
     ///
-    /// It answers the refusals of [`Records::check`], and `OutOfMemory` (102) where memory was refused. After a
+    /// Fails with the refusals of [`Records::check`], and with `OutOfMemory` (102) where memory is refused. After a
     /// refusal the records are as before.
     pub fn apply(&mut self, update: &Update) -> Result<(), Refusal>
         ensures refused { IfSome (refusal self.old update.now) (λ why. result ≡ Err why) }
@@ -119,7 +97,7 @@ impl Records {
         Ok(())
     }
 
-    /// Equal records. `OutOfMemory` (102) is answered where memory was refused.
+    /// Equal records. Fails with `OutOfMemory` (102) where memory is refused.
     pub fn copy(&self) -> Result<Records, Refusal>
         ensures equal { IfOk result (λ copied. copied ≡ self.now) }
         ensures only { IfErr result (λ why. why ≡ Refusal.OutOfMemory) }
@@ -127,7 +105,7 @@ impl Records {
         Ok(self.clone()?)
     }
 
-    // Puts what an Insert brings into the record of its IMSI.
+    /// Puts what an Insert brings into the record of its IMSI.
     fn insert(
         &mut self,
         imsi: &Imsi,
@@ -142,25 +120,25 @@ impl Records {
         ensures unchanged { OnErr result (self.new ≡ self.old) }
     {
         if let Some(subscriber) = self.get(imsi) {
-            let o = subscriber.o_inserted(self.alloc, o, o_criteria)?;
-            let vt = subscriber.vt_inserted(self.alloc, vt, t_criteria)?;
+            let o = subscriber.o_after_insert(self.alloc, o, o_criteria)?;
+            let vt = subscriber.vt_after_insert(self.alloc, vt, t_criteria)?;
             self.change(imsi, o, vt);
         }
         Ok(())
     }
 
-    // Removes what a Delete names from the record of its IMSI.
+    /// Removes what a Delete names from the record of its IMSI.
     fn withdraw(&mut self, imsi: &Imsi, what: Withdrawal)
         requires { IsSome (map.get self.old imsi.now) }
         ensures { self.new ≡ with_record self.old imsi.now (option_map (record_without what) (map.get self.old imsi.now)) }
     {
-        let o = removal(what.o || what.everything);
-        let vt = removal(what.vt || what.everything);
+        let o = CsiChange::removal_if(what.o || what.everything);
+        let vt = CsiChange::removal_if(what.vt || what.everything);
         self.change(imsi, o, vt);
     }
 
-    // Changes the record of an IMSI in its place.
-    fn change(&mut self, imsi: &Imsi, o: Change<OHalf>, vt: Change<VtHalf>)
+    /// Changes the record of an IMSI in its place.
+    fn change(&mut self, imsi: &Imsi, o: CsiChange<StoredOCsi>, vt: CsiChange<StoredVtCsi>)
         requires { IsSome (map.get self.old imsi.now) }
         ensures { self.new ≡ with_record self.old imsi.now (option_map (with_changes o vt) (map.get self.old imsi.now)) }
     {
@@ -168,7 +146,7 @@ impl Records {
         subscriber.change(o, vt);
     }
 
-    // Puts a record in the place of the one that is there.
+    /// Puts a record in the place of the one that is there.
     fn put(&mut self, imsi: Imsi, subscriber: Subscriber) -> Result<(), AllocError>
         ensures put { OnOk result (self.new ≡ map.insert self.old imsi subscriber) }
         ensures unchanged { OnErr result (self.new ≡ self.old) }
@@ -177,7 +155,7 @@ impl Records {
         Ok(())
     }
 
-    // Takes the record of an IMSI out, if there is one.
+    /// Takes the record of an IMSI out, if there is one.
     fn take_out(&mut self, imsi: &Imsi)
         ensures { self.new ≡ map.remove self.old imsi.now }
     {

@@ -1,10 +1,8 @@
 ghost use Rattle.std.specs.Prelude.{◌≡◌, IfErr, IfOk};
 ghost use Rattle.camel_rows.specs.Update.{update_imsi};
 
-use crate::csi::o_criteria_set::OCriteriaSet;
-use crate::csi::o_csi::OCsi;
-use crate::csi::t_criteria_set::TCriteriaSet;
-use crate::csi::vt_csi::VtCsi;
+use crate::csi::criteria_set::{OCriteriaSet, TCriteriaSet};
+use crate::csi::{OCsi, VtCsi};
 use camel_criteria::Refusal;
 use camel_tbcd::Imsi;
 use std::alloc::AllocError;
@@ -67,7 +65,7 @@ impl Update {
         }
     }
 
-    /// An equal update. `OutOfMemory` (102) is answered where memory was refused.
+    /// An equal update. Fails with `OutOfMemory` (102) where memory is refused.
     pub fn copy(&self) -> Result<Update, Refusal>
         ensures equal { IfOk result (λ copied. copied ≡ self.now) }
         ensures only { IfErr result (λ why. why ≡ Refusal.OutOfMemory) }

@@ -1,13 +1,17 @@
-ghost use Rattle.std.specs.Prelude.{◌≡◌};
-ghost use Rattle.camel_rows.specs.Decision.{decision, decision_data, meets};
+ghost use Rattle.std.specs.Prelude.{◌≡◌, Bool};
+ghost use Rattle.std.specs.Option.{option_copied};
+ghost use Rattle.camel_criteria.specs.Event.{o_event_data};
+ghost use Rattle.camel_criteria.specs.Met.{o_met, t_met};
+ghost use Rattle.camel_rows.specs.Decision.{by_csi, decision, decision_data};
 ghost use Rattle.camel_rows.specs.Event.{event_data};
-ghost use Rattle.camel_rows.specs.Subscriber.{entry_data};
+ghost use Rattle.camel_rows.specs.Subscriber.{EntryData, O, T, entry_data};
 
 use crate::csi::tdp_row::TdpRow;
 use crate::subscriber::lent::Lent;
 use crate::subscriber::records::Records;
-use crate::trigger::event::Event;
-use camel_criteria::{o_met, t_met};
+use crate::subscriber::stored_csi::StoredCsi;
+use crate::trigger::event::{Event, Shown};
+use camel_criteria::{CriteriaEntry, OCriteria, OEvent, TCriteria, TEvent, o_met, t_met};
 
 /// Why an event triggers nothing, in the order in which the reasons are looked at.
 #[derive(Clone, Copy, Debug, PartialEq, Eq)]
@@ -41,34 +45,87 @@ pub enum Decision<'r> {
 pub fn decide_in<'r>(records: &'r Records, event: &Event) -> Decision<'r>
     ensures { decision_data result ≡ decision records.now (event_data event.now) }
 {
-    let dp = event.dp();
     let Some(subscriber) = records.get(&event.imsi()) else {
         return Decision::NoTrigger(Reason::Unknown);
     };
-    if !subscriber.has_csi(dp) {
-        return Decision::NoTrigger(Reason::NoCsi);
+    match event.shown() {
+        Shown::O(shown) => decide_by(subscriber.stored_o(), event, &shown),
+        Shown::T(shown) => decide_by(subscriber.stored_vt(), event, &shown),
     }
-    let Some(row) = subscriber.row(dp) else {
+}
+
+/// Decides an event by the CSI that it is tested against, to whose criteria it shows `shown`.
+fn decide_by<'r, const MOST: usize, E: CriteriaEntry, S: ShownTo<E>>(
+    csi: Option<&'r StoredCsi<MOST, E>>,
+    event: &Event,
+    shown: &S,
+) -> Decision<'r>
+    ensures { decision_data result
+        ≡ by_csi E.dp_of (S.is_met shown.now) S.entry_as (event_data event.now) (option_copied csi.entry) }
+{
+    let Some(csi) = csi else {
+        return Decision::NoTrigger(Reason::NoCsi);
+    };
+    let dp = event.dp();
+    let Some(row) = csi.row(dp) else {
         return Decision::NoTrigger(Reason::NotArmed);
     };
     if event.basic().is_emergency() {
         return Decision::NoTrigger(Reason::Emergency);
     }
-    match subscriber.criteria(dp) {
-        Some(entry) if !meets(event, entry) => Decision::NoTrigger(Reason::Criteria),
-        criteria => Decision::Trigger { row, criteria },
+    match csi.entry(dp) {
+        None => Decision::Trigger {
+            row,
+            criteria: None,
+        },
+        Some(entry) if shown.meets(entry) => Decision::Trigger {
+            row,
+            criteria: Some(S::lend(entry)),
+        },
+        Some(_) => Decision::NoTrigger(Reason::Criteria),
     }
 }
 
-// Whether an event meets an entry of its detection point.
-fn meets(event: &Event, entry: Lent) -> bool
-    ensures { result ≡ meets (event_data event.now) (entry_data entry.entry) }
-{
-    match entry {
-        Lent::O(entry) => match event.o_event() {
-            Some(shown) => o_met(entry, &shown),
-            None => false,
-        },
-        Lent::T(entry) => t_met(entry, &event.t_event()),
+/// What an event shows to the entries of one CSI.
+trait ShownTo<E> {
+    ghost is_met: { Self → E → Bool };
+
+    ghost entry_as: { E → EntryData };
+
+    /// Whether it meets an entry.
+    fn meets(&self, entry: &E) -> bool
+        ensures { result ≡ is_met self.now entry.now };
+
+    fn lend<'r>(entry: &'r E) -> Lent<'r>
+        ensures { entry_data result ≡ entry_as entry.now };
+}
+
+impl ShownTo<OCriteria> for OEvent<'_> {
+    ghost is_met = { λ shown entry. o_met entry (o_event_data shown) };
+
+    ghost entry_as = { O };
+
+    fn meets(&self, entry: &OCriteria) -> bool {
+        o_met(entry, self)
+    }
+
+    fn lend<'r>(entry: &'r OCriteria) -> Lent<'r>
+        ensures { entry_data result ≡ O entry.now }
+    {
+        Lent::O(entry)
+    }
+}
+
+impl ShownTo<TCriteria> for TEvent {
+    ghost is_met = { λ shown entry. t_met entry shown };
+
+    ghost entry_as = { T };
+
+    fn meets(&self, entry: &TCriteria) -> bool {
+        t_met(entry, self)
+    }
+
+    fn lend<'r>(entry: &'r TCriteria) -> Lent<'r> {
+        Lent::T(entry)
     }
 }

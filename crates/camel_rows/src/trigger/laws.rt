@@ -1,39 +1,25 @@
-ghost use Rattle.std.specs.Prelude.{◌≡◌, ◌≢◌, ◌↔◌, ℕ, List, Option, Some, None};
-ghost use Rattle.std.specs.FinMap as map;
-ghost use Rattle.camel_criteria.specs.Criteria.{OCriteriaData, TCriteriaData};
+ghost use Rattle.std.specs.Prelude.{◌≡◌, ◌↔◌, Option};
 ghost use Rattle.camel_rows.specs.TdpRow.{TdpRowData};
-ghost use Rattle.camel_rows.specs.Decision.{Triggers, decision};
-ghost use Rattle.camel_rows.specs.Means.{HasO, HasVt, Invokes, half_of};
+ghost use Rattle.camel_rows.specs.Decision.{Triggers, TriggersNothing, decision};
+ghost use Rattle.camel_rows.specs.Event.{EventData};
+ghost use Rattle.camel_rows.specs.Standard.{FailsCriteria, Invokes, IsEmergencyCall, IsNotArmed, IsUnknown, LacksCsi};
 ghost use Rattle.camel_rows.specs.Records.{RecordsData};
 ghost use Rattle.camel_rows.specs.Subscriber.{EntryData};
-ghost use Rattle.camel_rows.specs.Update.{records_after, refusal, update_imsi};
-ghost use Rattle.camel_rows.specs.declared.trigger.event.CallEvent.{CallEvent};
-ghost use Rattle.camel_rows.specs.declared.subscriber.update.Update.{Update};
+ghost use Rattle.camel_rows.specs.declared.trigger.decision.Reason.{Reason};
 
-/// A law of the definitions: a service is invoked exactly where the words of TS 23.078 say so. It does nothing when
-/// it is called.
+/// A law of the definitions: a service is invoked, and each reason is given why none is, exactly where the words of
+/// TS 23.078 say so. It does nothing when it is called.
 pub fn decisions_mean()
-    ensures { (m : RecordsData) (event : CallEvent) (row : TdpRowData) (entry : Option EntryData)
+    ensures triggers { (m : RecordsData) (event : EventData) (row : TdpRowData) (entry : Option EntryData)
         → (decision m event ≡ Triggers row entry) ↔ Invokes m event row entry }
-{}
-
-/// A law of the definitions: an update changes the record of its own IMSI alone. It does nothing when it is called.
-pub fn updates_change_one_record()
-    ensures { (m : RecordsData) (update : Update) (imsi : List ℕ)
-        → imsi ≢ update_imsi update → map.get (records_after m update) imsi ≡ map.get m imsi }
-{}
-
-/// A law of the definitions: where a subscriber registers, and an Insert then brings a CSI and is not refused, that
-/// CSI stands with the criteria that came with it, whatever stood before. It does nothing when it is called.
-pub fn inserted_csi_stands()
-    ensures o { (m : RecordsData) (imsi : List ℕ) (rows : List TdpRowData) (o_criteria : Option (List OCriteriaData))
-        (vt : Option (List TdpRowData)) (t_criteria : Option (List TCriteriaData))
-        → refusal (records_after m (Update.Register imsi)) (Update.Insert imsi (Some rows) o_criteria vt t_criteria) ≡ None
-        → HasO (records_after (records_after m (Update.Register imsi)) (Update.Insert imsi (Some rows) o_criteria vt t_criteria))
-        imsi (half_of rows o_criteria) }
-    ensures vt { (m : RecordsData) (imsi : List ℕ) (rows : List TdpRowData) (t_criteria : Option (List TCriteriaData))
-        (o : Option (List TdpRowData)) (o_criteria : Option (List OCriteriaData))
-        → refusal (records_after m (Update.Register imsi)) (Update.Insert imsi o o_criteria (Some rows) t_criteria) ≡ None
-        → HasVt (records_after (records_after m (Update.Register imsi)) (Update.Insert imsi o o_criteria (Some rows) t_criteria))
-        imsi (half_of rows t_criteria) }
+    ensures unknown { (m : RecordsData) (event : EventData)
+        → (decision m event ≡ TriggersNothing Reason.Unknown) ↔ IsUnknown m event }
+    ensures no_csi { (m : RecordsData) (event : EventData)
+        → (decision m event ≡ TriggersNothing Reason.NoCsi) ↔ LacksCsi m event }
+    ensures not_armed { (m : RecordsData) (event : EventData)
+        → (decision m event ≡ TriggersNothing Reason.NotArmed) ↔ IsNotArmed m event }
+    ensures emergency { (m : RecordsData) (event : EventData)
+        → (decision m event ≡ TriggersNothing Reason.Emergency) ↔ IsEmergencyCall m event }
+    ensures criteria { (m : RecordsData) (event : EventData)
+        → (decision m event ≡ TriggersNothing Reason.Criteria) ↔ FailsCriteria m event }
 {}

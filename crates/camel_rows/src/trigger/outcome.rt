@@ -6,7 +6,7 @@ use crate::subscriber::records::Records;
 use crate::trigger::decision::{Decision, Reason, decide_in};
 use crate::trigger::event::CallEvent;
 use camel_criteria::Handling;
-use camel_tbcd::{Address, IsdnAddress};
+use camel_tbcd::IsdnAddress;
 
 /// A decision with the row's four values, or the reason why no service is invoked.
 #[derive(Clone, Copy, Debug)]
@@ -28,8 +28,6 @@ impl Outcome {
     pub fn decide(records: &Records, event: &CallEvent) -> Outcome
         ensures { result ≡ outcome_of (decision records.now event.now) }
     {
-        // The check of a lent event needs this type named: docs/DECISIONS.md says why.
-        let _: Option<Address> = None;
         Outcome::of(&decide_in(records, &event.lend()))
     }
 

@@ -5,60 +5,52 @@ ghost use Rattle.camel_script.specs.Reading.{ReadsAs};
 
 use crate::record::Record;
 use crate::record::field::field;
-use crate::text::record_fault::Stop;
+use crate::text::record_fault::RecordFault;
 use crate::text::{
-    basic_service, call_address, cause, imsi, is_forwarded, octets_from, small_decimal,
+    make_call_address, make_cause, parse_basic_service, parse_forwarded, parse_imsi, parse_octets,
+    parse_small_decimal,
 };
 use camel_rows::CallEvent;
 use csv::ByteRecord;
 use std::alloc::Global;
 
-// A call at a trigger detection point.
-pub fn call(alloc: Global, fields: &ByteRecord) -> Result<Record, Stop>
+/// Reads a call at a trigger detection point.
+pub(crate) fn parse_call(alloc: Global, fields: &ByteRecord) -> Result<Record, RecordFault>
     ensures { ReadsAs result (call_of (fields_of fields.now)) }
 {
-    Ok(Record::Call(event(alloc, fields)?))
+    Ok(Record::Call(parse_by_detection_point(alloc, fields)?))
 }
 
-// The detection point is looked at before the count of fields, which depends on it.
+/// Reads a call by its detection point, which says how many fields there are.
 #[tactic(auto, unfolding(crate::specs::Call::event_of))]
-fn event(alloc: Global, fields: &ByteRecord) -> Result<CallEvent, Stop>
+fn parse_by_detection_point(alloc: Global, fields: &ByteRecord) -> Result<CallEvent, RecordFault>
     ensures { ReadsAs result (event_of (fields_of fields.now)) }
 {
     if fields.len() < 2 {
-        return Err(Stop::FieldCount);
+        return Err(RecordFault::FieldCount);
     }
-    let dp = field(fields, 1);
-    if dp == b"2".as_slice() {
-        return collected_info(alloc, fields);
+    match field(fields, 1) {
+        b"2" => parse_collected_info(alloc, fields),
+        b"4" => parse_route_select_failure(alloc, fields),
+        b"12" => parse_terminating_attempt(fields),
+        b"13" => parse_busy(fields),
+        b"14" => parse_no_answer(fields),
+        _ => Err(RecordFault::Word),
     }
-    if dp == b"4".as_slice() {
-        return route_select_failure(alloc, fields);
-    }
-    if dp == b"12".as_slice() {
-        return terminating_attempt(fields);
-    }
-    if dp == b"13".as_slice() {
-        return busy(fields);
-    }
-    if dp == b"14".as_slice() {
-        return no_answer(fields);
-    }
-    Err(Stop::Word)
 }
 
 #[tactic(auto, unfolding(crate::specs::Call::collected_info_of))]
-fn collected_info(alloc: Global, fields: &ByteRecord) -> Result<CallEvent, Stop>
+fn parse_collected_info(alloc: Global, fields: &ByteRecord) -> Result<CallEvent, RecordFault>
     ensures { ReadsAs result (with_fields 6 collected_info_of (fields_of fields.now)) }
 {
     if fields.len() != 6 {
-        return Err(Stop::FieldCount);
+        return Err(RecordFault::FieldCount);
     }
-    let imsi = imsi(field(fields, 2))?;
-    let basic = basic_service(field(fields, 3))?;
-    let octets = octets_from(alloc, field(fields, 4))?;
-    let forwarded = is_forwarded(field(fields, 5))?;
-    let destination = call_address(&octets)?;
+    let imsi = parse_imsi(field(fields, 2))?;
+    let basic = parse_basic_service(field(fields, 3))?;
+    let octets = parse_octets(alloc, field(fields, 4))?;
+    let forwarded = parse_forwarded(field(fields, 5))?;
+    let destination = make_call_address(&octets)?;
     Ok(CallEvent::CollectedInfo {
         imsi,
         destination,
@@ -68,19 +60,19 @@ fn collected_info(alloc: Global, fields: &ByteRecord) -> Result<CallEvent, Stop>
 }
 
 #[tactic(auto, unfolding(crate::specs::Call::route_select_failure_of))]
-fn route_select_failure(alloc: Global, fields: &ByteRecord) -> Result<CallEvent, Stop>
+fn parse_route_select_failure(alloc: Global, fields: &ByteRecord) -> Result<CallEvent, RecordFault>
     ensures { ReadsAs result (with_fields 7 route_select_failure_of (fields_of fields.now)) }
 {
     if fields.len() != 7 {
-        return Err(Stop::FieldCount);
+        return Err(RecordFault::FieldCount);
     }
-    let imsi = imsi(field(fields, 2))?;
-    let basic = basic_service(field(fields, 3))?;
-    let octets = octets_from(alloc, field(fields, 4))?;
-    let forwarded = is_forwarded(field(fields, 5))?;
-    let value = small_decimal(field(fields, 6))?;
-    let destination = call_address(&octets)?;
-    let cause = cause(value)?;
+    let imsi = parse_imsi(field(fields, 2))?;
+    let basic = parse_basic_service(field(fields, 3))?;
+    let octets = parse_octets(alloc, field(fields, 4))?;
+    let forwarded = parse_forwarded(field(fields, 5))?;
+    let value = parse_small_decimal(field(fields, 6))?;
+    let destination = make_call_address(&octets)?;
+    let cause = make_cause(value)?;
     Ok(CallEvent::RouteSelectFailure {
         imsi,
         destination,
@@ -91,41 +83,41 @@ fn route_select_failure(alloc: Global, fields: &ByteRecord) -> Result<CallEvent,
 }
 
 #[tactic(auto, unfolding(crate::specs::Call::terminating_attempt_of))]
-fn terminating_attempt(fields: &ByteRecord) -> Result<CallEvent, Stop>
+fn parse_terminating_attempt(fields: &ByteRecord) -> Result<CallEvent, RecordFault>
     ensures { result ≡ with_fields 4 terminating_attempt_of (fields_of fields.now) }
 {
     if fields.len() != 4 {
-        return Err(Stop::FieldCount);
+        return Err(RecordFault::FieldCount);
     }
-    let imsi = imsi(field(fields, 2))?;
-    let basic = basic_service(field(fields, 3))?;
+    let imsi = parse_imsi(field(fields, 2))?;
+    let basic = parse_basic_service(field(fields, 3))?;
     Ok(CallEvent::TerminatingAttempt { imsi, basic })
 }
 
 #[tactic(auto, unfolding(crate::specs::Call::busy_of))]
-fn busy(fields: &ByteRecord) -> Result<CallEvent, Stop>
+fn parse_busy(fields: &ByteRecord) -> Result<CallEvent, RecordFault>
     ensures { result ≡ with_fields 5 busy_of (fields_of fields.now) }
 {
     if fields.len() != 5 {
-        return Err(Stop::FieldCount);
+        return Err(RecordFault::FieldCount);
     }
-    let imsi = imsi(field(fields, 2))?;
-    let basic = basic_service(field(fields, 3))?;
-    let value = small_decimal(field(fields, 4))?;
-    let cause = cause(value)?;
+    let imsi = parse_imsi(field(fields, 2))?;
+    let basic = parse_basic_service(field(fields, 3))?;
+    let value = parse_small_decimal(field(fields, 4))?;
+    let cause = make_cause(value)?;
     Ok(CallEvent::Busy { imsi, basic, cause })
 }
 
 #[tactic(auto, unfolding(crate::specs::Call::no_answer_of))]
-fn no_answer(fields: &ByteRecord) -> Result<CallEvent, Stop>
+fn parse_no_answer(fields: &ByteRecord) -> Result<CallEvent, RecordFault>
     ensures { result ≡ with_fields 5 no_answer_of (fields_of fields.now) }
 {
     if fields.len() != 5 {
-        return Err(Stop::FieldCount);
+        return Err(RecordFault::FieldCount);
     }
-    let imsi = imsi(field(fields, 2))?;
-    let basic = basic_service(field(fields, 3))?;
-    let value = small_decimal(field(fields, 4))?;
-    let cause = cause(value)?;
+    let imsi = parse_imsi(field(fields, 2))?;
+    let basic = parse_basic_service(field(fields, 3))?;
+    let value = parse_small_decimal(field(fields, 4))?;
+    let cause = make_cause(value)?;
     Ok(CallEvent::NoAnswer { imsi, basic, cause })
 }

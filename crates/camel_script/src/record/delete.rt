@@ -1,31 +1,31 @@
 ghost use Rattle.std.specs.Prelude.{◌≡◌, drop};
 ghost use Rattle.csv.specs.Records.{fields_of};
 ghost use Rattle.camel_script.specs.Reading.{in_turn};
-ghost use Rattle.camel_script.specs.Record.{delete_of, nothing, what_into};
+ghost use Rattle.camel_script.specs.Record.{delete_of, no_withdrawal, withdrawal_with};
 
 use crate::record::Record;
 use crate::record::field::field;
-use crate::text::imsi;
-use crate::text::record_fault::Stop;
+use crate::text::parse_imsi;
+use crate::text::record_fault::RecordFault;
 use camel_rows::{Update, Withdrawal};
 use csv::ByteRecord;
 
-// A delete with what it names.
+/// Reads a delete with what it names.
 #[tactic(auto, unfolding(crate::specs::Record::delete_of))]
-pub fn delete(fields: &ByteRecord) -> Result<Record, Stop>
+pub(crate) fn parse_delete(fields: &ByteRecord) -> Result<Record, RecordFault>
     ensures { result ≡ delete_of (fields_of fields.now) }
 {
     if fields.len() < 3 {
-        return Err(Stop::FieldCount);
+        return Err(RecordFault::FieldCount);
     }
-    let imsi = imsi(field(fields, 1))?;
-    let what = withdrawal(fields)?;
+    let imsi = parse_imsi(field(fields, 1))?;
+    let what = parse_withdrawal(fields)?;
     Ok(Record::Update(Update::Delete { imsi, what }))
 }
 
-// What is named, from the third field on.
-fn withdrawal(fields: &ByteRecord) -> Result<Withdrawal, Stop>
-    ensures { result ≡ in_turn what_into nothing (drop 2 (fields_of fields.now)) }
+/// Reads what a delete names, from its third field on.
+fn parse_withdrawal(fields: &ByteRecord) -> Result<Withdrawal, RecordFault>
+    ensures { result ≡ in_turn withdrawal_with no_withdrawal (drop 2 (fields_of fields.now)) }
 {
     let mut what = Withdrawal {
         o: false,
@@ -33,29 +33,22 @@ fn withdrawal(fields: &ByteRecord) -> Result<Withdrawal, Stop>
         everything: false,
     };
     for at in 2..fields.len() {
-        match with_named(what, field(fields, at)) {
-            Ok(more) => what = more,
-            Err(stop) => return Err(stop),
-        }
+        what = withdraw_named(what, field(fields, at))?;
     }
     Ok(what)
 }
 
-#[tactic(auto, unfolding(crate::specs::Record::what_into))]
-fn with_named(what: Withdrawal, text: &[u8]) -> Result<Withdrawal, Stop>
-    ensures { result ≡ what_into what text.now }
+#[tactic(auto, unfolding(crate::specs::Record::withdrawal_with))]
+fn withdraw_named(what: Withdrawal, text: &[u8]) -> Result<Withdrawal, RecordFault>
+    ensures { result ≡ withdrawal_with what text.now }
 {
-    if text == b"o".as_slice() {
-        return Ok(Withdrawal { o: true, ..what });
-    }
-    if text == b"vt".as_slice() {
-        return Ok(Withdrawal { vt: true, ..what });
-    }
-    if text == b"all".as_slice() {
-        return Ok(Withdrawal {
+    match text {
+        b"o" => Ok(Withdrawal { o: true, ..what }),
+        b"vt" => Ok(Withdrawal { vt: true, ..what }),
+        b"all" => Ok(Withdrawal {
             everything: true,
             ..what
-        });
+        }),
+        _ => Err(RecordFault::Word),
     }
-    Err(Stop::Word)
 }

@@ -4,8 +4,8 @@ ghost use Rattle.camel_script.specs.Field.{field};
 
 use csv::ByteRecord;
 
-// The field at a place, from 0; empty past the last.
-pub fn field(fields: &ByteRecord, at: usize) -> &[u8]
+/// The field of a record at a place, from 0; empty past the last.
+pub(crate) fn field(fields: &ByteRecord, at: usize) -> &[u8]
     ensures { result.now ≡ field (fields_of fields.now) at }
 {
     match fields.get(at) {

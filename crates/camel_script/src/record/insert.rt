@@ -8,48 +8,45 @@ ghost use Rattle.camel_script.specs.Record.{insert_of, insert_of_items, received
 use crate::item::Items;
 use crate::record::Record;
 use crate::record::field::field;
-use crate::text::imsi;
-use crate::text::record_fault::Stop;
+use crate::text::parse_imsi;
+use crate::text::record_fault::RecordFault;
 use camel_criteria::{OCriteria, TCriteria};
 use camel_rows::{OCriteriaSet, OCsi, TCriteriaSet, TdpRow, Update, VtCsi};
 use camel_tbcd::Imsi;
 use csv::ByteRecord;
 use std::alloc::Global;
 
-// An insert with its items, if any.
+/// Reads an insert with its items, if any.
 #[tactic(auto, unfolding(crate::specs::Record::insert_of))]
-pub fn insert(alloc: Global, fields: &ByteRecord) -> Result<Record, Stop>
+pub(crate) fn parse_insert(alloc: Global, fields: &ByteRecord) -> Result<Record, RecordFault>
     ensures { ReadsAs result (insert_of (fields_of fields.now)) }
 {
     if fields.len() < 2 {
-        return Err(Stop::FieldCount);
+        return Err(RecordFault::FieldCount);
     }
-    let imsi = imsi(field(fields, 1))?;
-    insert_of_items(imsi, items(alloc, fields)?)
+    let imsi = parse_imsi(field(fields, 1))?;
+    make_insert(imsi, parse_items(alloc, fields)?)
 }
 
-// The items, from the third field on.
-fn items(alloc: Global, fields: &ByteRecord) -> Result<Items, Stop>
+/// Reads the items of an insert, from its third field on.
+fn parse_items(alloc: Global, fields: &ByteRecord) -> Result<Items, RecordFault>
     ensures { ReadsAs result (items_of (drop 2 (fields_of fields.now))) }
 {
     let mut items = Items::new(alloc);
     for at in 2..fields.len() {
-        match items.take(alloc, field(fields, at)) {
-            Ok(()) => {}
-            Err(stop) => return Err(stop),
-        }
+        items.push(alloc, field(fields, at))?;
     }
     Ok(items)
 }
 
 #[tactic(auto, unfolding(crate::specs::Record::insert_of_items))]
-fn insert_of_items(imsi: Imsi, items: Items) -> Result<Record, Stop>
+fn make_insert(imsi: Imsi, items: Items) -> Result<Record, RecordFault>
     ensures { ReadsAs result (insert_of_items imsi items) }
 {
-    let o = o_csi(&items.o)?;
-    let o_criteria = o_criteria_set(items.o_criteria)?;
-    let vt = vt_csi(&items.vt)?;
-    let t_criteria = t_criteria_set(items.t_criteria)?;
+    let o = make_o_csi(&items.o)?;
+    let o_criteria = make_o_criteria_set(items.o_criteria)?;
+    let vt = make_vt_csi(&items.vt)?;
+    let t_criteria = make_t_criteria_set(items.t_criteria)?;
     Ok(Record::Update(Update::Insert {
         imsi,
         o,
@@ -59,7 +56,7 @@ fn insert_of_items(imsi: Imsi, items: Items) -> Result<Record, Stop>
     }))
 }
 
-fn o_csi(rows: &[TdpRow]) -> Result<Option<OCsi>, Stop>
+fn make_o_csi(rows: &[TdpRow]) -> Result<Option<OCsi>, RecordFault>
     ensures { ReadsAs result (received_list o_csi_of rows.now) }
 {
     if rows.is_empty() {
@@ -68,7 +65,7 @@ fn o_csi(rows: &[TdpRow]) -> Result<Option<OCsi>, Stop>
     Ok(Some(OCsi::new(rows)?))
 }
 
-fn o_criteria_set(entries: Vec<OCriteria>) -> Result<Option<OCriteriaSet>, Stop>
+fn make_o_criteria_set(entries: Vec<OCriteria>) -> Result<Option<OCriteriaSet>, RecordFault>
     ensures { ReadsAs result (received_list o_criteria_set_of entries.items) }
 {
     if entries.is_empty() {
@@ -77,7 +74,7 @@ fn o_criteria_set(entries: Vec<OCriteria>) -> Result<Option<OCriteriaSet>, Stop>
     Ok(Some(OCriteriaSet::new(entries)?))
 }
 
-fn vt_csi(rows: &[TdpRow]) -> Result<Option<VtCsi>, Stop>
+fn make_vt_csi(rows: &[TdpRow]) -> Result<Option<VtCsi>, RecordFault>
     ensures { ReadsAs result (received_list vt_csi_of rows.now) }
 {
     if rows.is_empty() {
@@ -86,7 +83,7 @@ fn vt_csi(rows: &[TdpRow]) -> Result<Option<VtCsi>, Stop>
     Ok(Some(VtCsi::new(rows)?))
 }
 
-fn t_criteria_set(entries: Vec<TCriteria>) -> Result<Option<TCriteriaSet>, Stop>
+fn make_t_criteria_set(entries: Vec<TCriteria>) -> Result<Option<TCriteriaSet>, RecordFault>
     ensures { ReadsAs result (received_list t_criteria_set_of entries.items) }
 {
     if entries.is_empty() {

@@ -5,23 +5,24 @@ ghost use Rattle.camel_script.specs.Parts.{part, parts_of};
 
 use std::alloc::{AllocError, Global};
 
-/// What stands between the parts of an item.
-pub const ITEM_SEPARATOR: u8 = b':';
+/// The separator of the parts of an item.
+pub(crate) const ITEM_SEPARATOR: u8 = b':';
 
-/// What stands between the parts of NUMBER.
-pub const NUMBER_SEPARATOR: u8 = b'/';
+/// The separator of the parts of NUMBER.
+pub(crate) const NUMBER_SEPARATOR: u8 = b'/';
 
-/// What stands between the elements of a list.
-pub const ELEMENT_SEPARATOR: u8 = b'+';
+/// The separator of the elements of a list.
+pub(crate) const ELEMENT_SEPARATOR: u8 = b'+';
 
-pub fn part_count(text: &[u8], separator: u8) -> usize
+/// How many parts a text has, at least one.
+pub(crate) fn part_count(text: &[u8], separator: u8) -> usize
     ensures { result ≡ length (parts_of separator text.now) }
 {
     text.split(|character| *character == separator).count()
 }
 
-// The part at a place, from 0; empty past the last.
-pub fn part(text: &[u8], separator: u8, at: usize) -> &[u8]
+/// The part of a text at a place, from 0; empty past the last.
+pub(crate) fn part(text: &[u8], separator: u8, at: usize) -> &[u8]
     ensures { result.now ≡ part separator text.now at }
 {
     match part_at(text, separator, at) {
@@ -30,13 +31,15 @@ pub fn part(text: &[u8], separator: u8, at: usize) -> &[u8]
     }
 }
 
+/// The part of a text at a place, from 0; None past the last.
 fn part_at(text: &[u8], separator: u8, at: usize) -> Option<&[u8]>
     ensures { option_map (λ text. text.now) result ≡ slice_get (parts_of separator text.now) at }
 {
     text.split(|character| *character == separator).nth(at)
 }
 
-pub fn parts(alloc: Global, text: &[u8], separator: u8) -> Result<Vec<&[u8]>, AllocError>
+/// All parts of a text.
+pub(crate) fn parts(alloc: Global, text: &[u8], separator: u8) -> Result<Vec<&[u8]>, AllocError>
     ensures { IfOk result (λ texts. map (λ text. text.now) texts.items ≡ parts_of separator text.now) }
 {
     text.split(|character| *character == separator)

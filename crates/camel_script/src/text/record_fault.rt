@@ -1,10 +1,10 @@
 use camel_criteria::Refusal;
 use std::alloc::{AllocError, AllocFailed};
 
-/// Why the reading of one record stops.
+/// Why a record of a script can't be read: out of memory, a fault of its text, or data that are refused.
 #[derive(Clone, Copy, Debug, PartialEq, Eq)]
-pub enum Stop {
-    /// Memory was refused.
+pub(crate) enum RecordFault {
+    /// Out of memory.
     OutOfMemory,
     /// A word, or a text that is one of few, is none of the format.
     Word,
@@ -18,38 +18,38 @@ pub enum Stop {
     Refused(Refusal),
 }
 
-impl From<AllocError> for Stop {
+impl From<AllocError> for RecordFault {
     ghost use Rattle.std.specs.Prelude.{◌≡◌};
-    ghost use Rattle.camel_script.specs.declared.text.record_fault.Stop.{Stop};
+    ghost use Rattle.camel_script.specs.declared.text.record_fault.RecordFault.{RecordFault};
 
-    ghost from_gives = { λ _ stop. stop ≡ Stop.OutOfMemory };
+    ghost from_gives = { λ _ fault. fault ≡ RecordFault.OutOfMemory };
 
-    fn from(_error: AllocError) -> Stop {
-        Stop::OutOfMemory
+    fn from(_error: AllocError) -> RecordFault {
+        RecordFault::OutOfMemory
     }
 }
 
-impl<T: Drop> From<AllocFailed<T>> for Stop {
+impl<T: Drop> From<AllocFailed<T>> for RecordFault {
     ghost use Rattle.std.specs.Prelude.{◌≡◌};
-    ghost use Rattle.camel_script.specs.declared.text.record_fault.Stop.{Stop};
+    ghost use Rattle.camel_script.specs.declared.text.record_fault.RecordFault.{RecordFault};
 
-    ghost from_gives = { λ _ stop. stop ≡ Stop.OutOfMemory };
+    ghost from_gives = { λ _ fault. fault ≡ RecordFault.OutOfMemory };
 
-    fn from(_error: AllocFailed<T>) -> Stop {
-        Stop::OutOfMemory
+    fn from(_error: AllocFailed<T>) -> RecordFault {
+        RecordFault::OutOfMemory
     }
 }
 
-impl From<Refusal> for Stop {
+impl From<Refusal> for RecordFault {
     ghost use Rattle.std.specs.Prelude.{◌≡◌};
-    ghost use Rattle.camel_script.specs.Reading.{stop_of};
+    ghost use Rattle.camel_script.specs.Reading.{record_fault_of};
 
-    ghost from_gives = { λ refusal stop. stop ≡ stop_of refusal };
+    ghost from_gives = { λ refusal fault. fault ≡ record_fault_of refusal };
 
-    fn from(refusal: Refusal) -> Stop {
+    fn from(refusal: Refusal) -> RecordFault {
         match refusal {
-            Refusal::OutOfMemory => Stop::OutOfMemory,
-            refusal => Stop::Refused(refusal),
+            Refusal::OutOfMemory => RecordFault::OutOfMemory,
+            refusal => RecordFault::Refused(refusal),
         }
     }
 }

@@ -8,7 +8,7 @@ use std::collections::LinkedList;
 
 /// A link of a chain: the cell that it uses up, the updates that it adds, and the cell that the link after it has to
 /// use up. `limit` is that of the history which begins at `next`. No value of it is made.
-pub struct Link {
+pub(crate) struct Link {
     pub cell: u64,
     pub updates: LinkedList<Update>,
     pub next: u64,
@@ -16,7 +16,7 @@ pub struct Link {
 }
 
 /// Each link uses up a cell of its own, so no two links follow the same one.
-pub struct OneChain;
+pub(crate) struct OneChain;
 
 impl Rule<Link, u64> for OneChain {
     ghost use Rattle.std.specs.Prelude.{[]};
@@ -36,8 +36,8 @@ impl Rule<Link, u64> for OneChain {
     ghost moves = { λ ask before after answer. Unit {0} };
 }
 
-/// What is known of the links.
-pub(crate) type Log = Seen<Link, u64, OneChain>;
+/// The links that were seen.
+pub(crate) type SeenLinks = Seen<Link, u64, OneChain>;
 
 /// The word that each step is made at. It holds 0 for good.
 pub(crate) type Head = Word<Link, u64, OneChain>;
@@ -63,16 +63,16 @@ impl Plain<u64, Link, u64> for WithLimit {
 }
 
 /// A step that makes a cell.
-struct Cells;
+struct MakeCell;
 
-impl Play<Link, u64> for Cells {
-    ghost use Rattle.camel_vlr.specs.Chain.{MadeCell};
+impl Play<Link, u64> for MakeCell {
+    ghost use Rattle.camel_vlr.specs.Chain.{MakesCell};
 
-    ghost then = { MadeCell };
+    ghost then = { MakesCell };
 }
 
 /// A cell that no link has used up, and that the last link names.
-pub(crate) fn cell(head: &Head, seen: &mut Log, limit: u64) -> Pen
+pub(crate) fn make_cell(head: &Head, seen: &mut SeenLinks, limit: u64) -> Pen
     requires { head.now ≡ head_of seen.old.book }
     ensures book { (result.book ≡ seen.old.book) × (seen.new.book ≡ seen.old.book) }
     ensures right { result.nib.right ≡ may_write }
@@ -85,7 +85,7 @@ pub(crate) fn cell(head: &Head, seen: &mut Log, limit: u64) -> Pen
         &limit,
     );
     let mut pen = seen.no_pen();
-    head.compare_exchange::<Cells, NoGain>(0, 0, seen, &mut offer, &mut pen);
+    head.compare_exchange::<MakeCell, NoGain>(0, 0, seen, &mut offer, &mut pen);
     let word: Head = Word::tracked(0, &mut pen);
     drop(word);
     pen

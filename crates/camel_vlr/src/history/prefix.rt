@@ -1,40 +1,40 @@
 ghost use Rattle.std.specs.Prelude.{◌≡◌, ◌⊎◌};
 ghost use Rattle.camel_rows.specs.Front.{Extends};
 
-use crate::history::link::Log;
+use crate::history::link::SeenLinks;
 use std::marker::Model;
 
-/// A beginning of a store's history, which the history had reached when this was made. It takes no bytes.
+/// A prefix of a store's history: what the history was when this was made. It takes no bytes.
 ///
 /// Contracts see of which store it is, and its updates.
 #[derive(Drop)]
-pub struct Beginning {
-    pub(crate) seen: Log,
-    // The links of which the last one names the cell at which the history begins.
-    pub(crate) start: Log,
+pub(crate) struct Prefix {
+    pub(crate) seen: SeenLinks,
+    /// The links of which the last one names the cell at which the history begins.
+    pub(crate) start: SeenLinks,
 }
 
-impl Model for Beginning {
-    ghost use Rattle.camel_vlr.specs.Beginning.{BeginningData, beginning_in};
+impl Model for Prefix {
+    ghost use Rattle.camel_vlr.specs.Prefix.{PrefixData, prefix_in};
 
-    ghost Value = { BeginningData };
+    ghost Value = { PrefixData };
 
-    ghost view = { λ a. beginning_in a.seen.book a.start.log a.seen.log };
+    ghost view = { λ a. prefix_in a.seen.book a.start.log a.seen.log };
 }
 
-impl Beginning {
-    /// The same beginning.
-    pub fn copy(&self) -> Beginning
+impl Prefix {
+    /// The same prefix.
+    pub(crate) fn copy(&self) -> Prefix
         ensures { result ≡ self.now }
     {
-        Beginning {
+        Prefix {
             seen: self.seen.again(),
             start: self.start.again(),
         }
     }
 
-    /// Of two beginnings of one store's history, one extends the other. It does nothing when it is called.
-    pub fn compare(&self, other: &Beginning)
+    /// Of two prefixes of one store's history, one extends the other. It does nothing at run time.
+    pub(crate) fn are_comparable(&self, other: &Prefix)
         requires { other.now.store ≡ self.now.store }
         ensures { Extends other.now.updates self.now.updates ⊎ Extends self.now.updates other.now.updates }
     {

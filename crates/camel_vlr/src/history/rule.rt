@@ -1,18 +1,18 @@
-use crate::history::prefix::Beginning;
+use crate::history::prefix::Prefix;
 use crate::published_copy::PublishedCopy;
 use atomic_table::{Join, Split};
 use crossbeam_utils::rule::{Outcome, Protocol};
 
 /// What a session or the writer knows to be published: a front, which also says which store it is. No value of it is
 /// made.
-pub struct View {
-    pub front: Option<Beginning>,
+pub(crate) struct Known {
+    pub front: Option<Prefix>,
 }
 
 /// The publication rule: what is known has been published, and only grows.
-pub struct PublicationRule;
+pub(crate) struct PublicationRule;
 
-impl Protocol<PublishedCopy, View> for PublicationRule {
+impl Protocol<PublishedCopy, Known> for PublicationRule {
     ghost use Rattle.camel_vlr.specs.Rule.{IsKept, newcomer};
 
     ghost holds = { IsKept };
@@ -23,31 +23,31 @@ impl Protocol<PublishedCopy, View> for PublicationRule {
 /// The step in which a session takes the copy that is published.
 pub(crate) struct Looking;
 
-impl Outcome<PublishedCopy, View> for Looking {
-    ghost use Rattle.camel_vlr.specs.Rule.{Looked};
+impl Outcome<PublishedCopy, Known> for Looking {
+    ghost use Rattle.camel_vlr.specs.Rule.{Looks};
 
-    ghost then = { Looked };
+    ghost then = { Looks };
 }
 
 /// The step in which the writer publishes a copy.
 pub(crate) struct Publishing;
 
-impl Outcome<PublishedCopy, View> for Publishing {
-    ghost use Rattle.camel_vlr.specs.Rule.{Published};
+impl Outcome<PublishedCopy, Known> for Publishing {
+    ghost use Rattle.camel_vlr.specs.Rule.{Publishes};
 
-    ghost then = { Published };
+    ghost then = { Publishes };
 }
 
 /// The writer tells a new session what it knows itself, and so which store it is.
 pub(crate) struct Introducing;
 
-impl Split<View> for Introducing {
+impl Split<Known> for Introducing {
     ghost left = { λ v. v };
 
     ghost right = { λ v. v };
 }
 
-impl Join<View> for Introducing {
+impl Join<Known> for Introducing {
     ghost use Rattle.camel_vlr.specs.Rule.{newcomer};
 
     ghost both = { λ v w. w };

@@ -2,22 +2,22 @@ use crate::receipt::Receipt;
 use std::marker::Model;
 use std::snapshot::Snapshot;
 
-/// The fronts that a session was told of: those before, and the last one. A session keeps a snapshot of it, so that
+/// The fronts that a session has learnt: those before, and the last one. A session keeps a snapshot of it, so that
 /// clauses alone read it, and it takes no bytes.
 #[derive(Drop)]
-pub struct Told {
+pub(crate) struct Told {
     last: Option<(Snapshot<Told>, Snapshot<Receipt>)>,
 }
 
 impl Model for Told {
     ghost use Rattle.std.specs.Prelude.{List, length, ◌++◌, ◌∷◌, []};
+    ghost use Rattle.std.specs.Option.{option_map_or};
     ghost use Rattle.camel_rows.specs.declared.subscriber.update.Update.{Update};
-    ghost use Rattle.camel_vlr.specs.Told.{list_or_none};
     ghost use Rattle.std.proofs.Common.{arith, length-append};
 
     ghost Value = { List (List Update) };
 
-    ghost view = { λ a. list_or_none a.last (λ p. p.0.value ++ p.1.value.updates ∷ []) };
+    ghost view = { λ a. option_map_or (λ p. p.0.value ++ p.1.value.updates ∷ []) a.last [] };
 
     ghost size = { length };
 
@@ -27,15 +27,15 @@ impl Model for Told {
 impl Told {
     ghost use Rattle.std.specs.Prelude.{◌≡◌, ◌++◌, ◌∷◌, []};
 
-    /// Told of nothing.
-    pub fn nothing() -> Snapshot<Told>
+    /// No front.
+    pub(crate) fn none() -> Snapshot<Told>
         ensures { result.value ≡ [] }
     {
         Snapshot::of(&Told { last: None })
     }
 
-    /// Told of one front more.
-    pub fn and(before: Snapshot<Told>, receipt: &Receipt) -> Snapshot<Told>
+    /// Those fronts, and behind them the one of a receipt.
+    pub(crate) fn with(before: Snapshot<Told>, receipt: &Receipt) -> Snapshot<Told>
         ensures { result.value ≡ before.value ++ receipt.now.updates ∷ [] }
     {
         let told = Told {

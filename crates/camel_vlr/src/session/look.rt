@@ -12,20 +12,21 @@ use camel_criteria::Refusal;
 use camel_rows::{Decision, Event, Lent, Records, TdpRow, decide_in};
 use camel_tbcd::Imsi;
 
-/// A look was not had: the store was ended.
+/// The look failed: the store has ended, or, which no run meets, the published copy is older than what the session was
+/// told of.
 #[derive(Clone, Copy, Debug)]
 pub struct NoLook;
 
-/// A look at one front. All that it answers is of this front, whatever is published meanwhile.
+/// A look at one front. All that it returns is of this front, whatever is published meanwhile.
 ///
-/// It borrows its session, and all that it lends borrows from it. Until it is left, a publication may have to wait for
-/// it. No function of it takes memory.
+/// It borrows its session, and all that it lends borrows from it. Until it is dropped, the second publication after it
+/// waits for it. No public function of it takes memory.
 pub struct Look<'s> {
     pub(crate) session: &'s mut Session,
 }
 
 impl Look<'_> {
-    ghost use Rattle.camel_vlr.specs.Session.{Ended};
+    ghost use Rattle.camel_vlr.specs.Session.{LeavesLook};
 
     /// Decides an event by the trigger rules of TS 23.078, over the data of the front. The row and the entry that it
     /// lends are the stored ones. The updates of the event's subscriber alone would leave the same decision.
@@ -35,7 +36,7 @@ impl Look<'_> {
         ensures own { DecidedByOwn self.now.session.now.store.limit self.now.session.now.seen (event_data event.now)
             (decision_data result) }
     {
-        decide_in(&self.session.copy_at_hand().records, event)
+        decide_in(&self.session.published().records, event)
     }
 
     /// How many updates the front has.
@@ -43,7 +44,7 @@ impl Look<'_> {
         requires { self.now.session.now.looks ≡ true }
         ensures { result ≡ length self.now.session.now.seen }
     {
-        self.session.copy_at_hand().count
+        self.session.published().count
     }
 
     /// The TDP row of a subscriber at a detection point, where it is armed.
@@ -51,7 +52,7 @@ impl Look<'_> {
         requires { self.now.session.now.looks ≡ true }
         ensures { option_copied result ≡ option_and_then (row_at dp) (map.get (records_of self.now.session.now.seen) imsi.now) }
     {
-        self.session.copy_at_hand().records.get(imsi)?.row(dp)
+        self.session.published().records.get(imsi)?.row(dp)
     }
 
     /// The criteria entry of a subscriber at a detection point, where there is one.
@@ -59,30 +60,30 @@ impl Look<'_> {
         requires { self.now.session.now.looks ≡ true }
         ensures { option_map entry_data result ≡ option_and_then (entry_at dp) (map.get (records_of self.now.session.now.seen) imsi.now) }
     {
-        self.session.copy_at_hand().records.get(imsi)?.criteria(dp)
+        self.session.published().records.get(imsi)?.criteria(dp)
     }
 
-    // Equal records.
+    /// Equal records.
     pub(crate) fn records(&self) -> Result<Records, Refusal>
         requires { self.now.session.now.looks ≡ true }
         ensures equal { IfOk result (λ records. records ≡ records_of self.now.session.now.seen) }
         ensures only { IfErr result (λ why. why ≡ Refusal.OutOfMemory) }
     {
-        self.session.copy_at_hand().records.copy()
+        self.session.published().records.copy()
     }
 
-    /// Ends the look, as letting go of it does.
+    /// Ends the look, as dropping it does.
     pub fn leave(self)
-        ensures { Ended self.entry.session.now self.exit.0.now }
+        ensures { LeavesLook self.entry.session.now self.exit.0.now }
     {}
 }
 
 impl Drop for Look<'_> {
     ghost use Rattle.std.specs.Prelude.{◌≡◌};
-    ghost use Rattle.camel_vlr.specs.Session.{Ended};
+    ghost use Rattle.camel_vlr.specs.Session.{LeavesLook};
 
     fn drop(self)
-        ensures { Ended self.entry.session.now self.exit.0.now }
+        ensures { LeavesLook self.entry.session.now self.exit.0.now }
     {
         let Look { session } = self;
         session.leave();

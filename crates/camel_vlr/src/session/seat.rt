@@ -1,31 +1,31 @@
-use crate::history::rule::{PublicationRule, View};
+use crate::history::rule::{Known, PublicationRule};
 use crate::published_copy::PublishedCopy;
 use left_right::reader::{Reader, Reading};
 
 /// A session's place at its store.
 pub(crate) enum Seat {
-    /// With no copy at hand.
-    Out(Reader<PublishedCopy, View, PublicationRule>),
-    /// With the copy of a look at hand.
-    In(Reading<PublishedCopy, View, PublicationRule>),
+    /// With no copy.
+    Idle(Reader<PublishedCopy, Known, PublicationRule>),
+    /// With the copy of a look.
+    Reading(Reading<PublishedCopy, Known, PublicationRule>),
     /// Only inside a function.
-    Between,
+    Taken,
 }
 
 impl Seat {
     ghost use Rattle.std.specs.Prelude.{◌≡◌};
     ghost use Rattle.left_right.specs.Sides.{view};
-    ghost use Rattle.camel_vlr.specs.Seat.{IsSeated, view_of};
+    ghost use Rattle.camel_vlr.specs.Seat.{IsSeated, known_of};
 
-    // Gives the copy back, where there is one at hand.
-    pub(crate) fn into_reader(self) -> Reader<PublishedCopy, View, PublicationRule>
+    /// Gives the copy back, where there is one.
+    pub(crate) fn into_reader(self) -> Reader<PublishedCopy, Known, PublicationRule>
         requires { IsSeated self }
-        ensures { view result.place ≡ view_of self }
+        ensures { view result.place ≡ known_of self }
     {
         match self {
-            Seat::Out(reader) => reader,
-            Seat::In(reading) => reading.leave(),
-            Seat::Between => unreachable!(),
+            Seat::Idle(reader) => reader,
+            Seat::Reading(reading) => reading.leave(),
+            Seat::Taken => unreachable!(),
         }
     }
 }
@@ -33,9 +33,9 @@ impl Seat {
 impl Drop for Seat {
     fn drop(self) {
         match self {
-            Seat::Out(reader) => drop(reader),
-            Seat::In(reading) => drop(reading.leave()),
-            Seat::Between => {}
+            Seat::Idle(reader) => drop(reader),
+            Seat::Reading(reading) => drop(reading.leave()),
+            Seat::Taken => {}
         }
     }
 }

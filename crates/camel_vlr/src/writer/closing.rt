@@ -1,7 +1,7 @@
 ghost use Rattle.std.specs.Prelude.{◌≡◌, ◌⊎◌, [], ◌∷◌, ◌++◌, length, IfErr, IfOk, OnOk};
 ghost use Rattle.camel_rows.specs.Front.{Extends};
 ghost use Rattle.camel_rows.specs.Update.{records_of};
-ghost use Rattle.camel_vlr.specs.Fronts.{ExtendsAll};
+ghost use Rattle.camel_vlr.specs.Session.{ExtendsAll};
 
 use crate::session::Session;
 use crate::writer::Vlr;
@@ -11,23 +11,27 @@ use std::sync::Wait;
 
 /// A store that was not closed, as it was, and why.
 pub struct CloseRefused {
+    /// 102 or 104.
     pub why: Refusal,
+    /// With all that is published and pending.
     pub store: Vlr,
 }
 
 impl Vlr {
     /// Ends the store, and gives the records that the published updates leave. What is pending is dropped. It waits for
-    /// the looks that are not left. The session has to be of the same store; it is told of all that is published.
+    /// the looks that are held. The session has to be of the same store; it learns all that is published. What the clauses
+    /// say holds if it returns; that it returns is not proved.
     ///
-    /// `OutOfMemory` (102) is answered where memory was refused, and `NoGuard` (104) where the session got no look; then
-    /// the store comes back with all that is published and pending.
+    /// It fails with `OutOfMemory` (102) where memory was refused, and with `NoGuard` (104) where the session got no look,
+    /// or, which no run meets, one at another front; then the store comes back with all that is published and pending. The store has not ended there, so a look fails
+    /// only where the published copy is older than what the session was told of, which no run meets.
     pub fn close<R: Wait>(self, rt: &R, session: &mut Session) -> Result<Records, CloseRefused>
         requires { session.old.store ≡ self.store }
-        ensures records { IfOk result (λ records. records ≡ records_of self.published) }
+        ensures records { IfOk result (λ records. records ≡ records_of self.updates.published) }
         ensures unchanged { IfErr result (λ refused. refused.store ≡ self) }
         ensures only { IfErr result (λ refused. (refused.why ≡ Refusal.OutOfMemory) ⊎ (refused.why ≡ Refusal.NoGuard)) }
         ensures same_store { session.new.store ≡ session.old.store }
-        ensures told { session.new.told ≡ session.old.told ++ self.published ∷ [] }
+        ensures told { session.new.told ≡ session.old.told ++ self.updates.published ∷ [] }
         ensures later { Extends session.new.seen session.old.seen }
     {
         let store = self;
@@ -42,7 +46,7 @@ impl Vlr {
     }
 }
 
-// The records of a look at a front that has so many updates.
+/// The records of a look at a front that has so many updates.
 fn records_at(session: &mut Session, front: u64) -> Result<Records, Refusal>
     ensures same_store { session.new.store ≡ session.old.store }
     ensures keeps { session.new.told ≡ session.old.told }

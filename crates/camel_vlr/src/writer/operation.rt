@@ -1,9 +1,9 @@
-use crate::history::prefix::Beginning;
+use crate::history::prefix::Prefix;
 use camel_rows::Update;
 
 /// What the writer does to a copy: an update, and behind the updates of a publication the front that they make.
 #[derive(Drop)]
-pub enum Change {
+pub(crate) enum Operation {
     Update(Update),
-    Front(Beginning),
+    Front(Prefix),
 }

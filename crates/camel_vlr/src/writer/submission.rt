@@ -1,76 +1,80 @@
-ghost use Rattle.std.specs.Prelude.{◌≡◌, [], ◌∷◌, ◌++◌, Some, drop, MatchResult, OnErr, OnOk};
-ghost use Rattle.camel_rows.specs.Directory.{with_csis};
+ghost use Rattle.std.specs.Prelude.{◌≡◌, ◌<◌, [], ◌∷◌, ◌++◌, Some, MatchResult, OnErr, OnOk};
+ghost use Rattle.camel_rows.specs.Admission.{with_admission};
 ghost use Rattle.camel_rows.specs.Update.{update_imsi};
-ghost use Rattle.camel_vlr.specs.declared.writer.operation.Change.TheVariants as change;
+ghost use Rattle.camel_vlr.specs.Operation.{pending_operations};
+ghost use Rattle.camel_vlr.specs.declared.writer.operation.Operation.TheVariants as operation;
 
-use crate::writer::operation::Change;
+use crate::writer::operation::Operation;
 use crate::writer::publication::StoreWriter;
-use camel_rows::{CsisPresent, Directory, Update};
+use camel_rows::{Admission, CsisPresent, Update};
 use camel_tbcd::Imsi;
 use std::alloc::AllocError;
 
-/// Puts an update behind what is pending, and the CSIs that it leaves in the record of its IMSI into the directory.
-/// Where memory is refused, both are as before.
-pub(crate) fn take(
+/// Puts an update behind what is pending, and accepts it with the CSIs that it leaves in the record of its IMSI. Where
+/// memory is refused, both are as before.
+pub(crate) fn accept(
     writer: &mut StoreWriter,
-    directory: &mut Directory,
+    admission: &mut Admission,
     update: Update,
     csis: Option<CsisPresent>,
 ) -> Result<(), AllocError>
+    requires { admission.old.accepted < admission.old.limit }
     ensures desk { writer.new.desk ≡ writer.old.desk }
     ensures pending { MatchResult result
-        (λ _. drop writer.new.behind writer.new.log.items
-        ≡ drop writer.old.behind writer.old.log.items ++ change.Update update ∷ [])
-        (λ _. drop writer.new.behind writer.new.log.items ≡ drop writer.old.behind writer.old.log.items) }
-    ensures put { OnOk result (directory.new ≡ with_csis directory.old (update_imsi update) csis) }
-    ensures unchanged { OnErr result (directory.new ≡ directory.old) }
+        (λ _. pending_operations writer.new
+        ≡ pending_operations writer.old ++ operation.Update update ∷ [])
+        (λ _. pending_operations writer.new ≡ pending_operations writer.old) }
+    ensures accepted { OnOk result (admission.new ≡ with_admission admission.old (update_imsi update) csis) }
+    ensures unchanged { OnErr result (admission.new ≡ admission.old) }
 {
     let imsi = update.imsi();
     match csis {
-        Some(csis) => take_with_entry(writer, directory, update, imsi, csis),
+        Some(csis) => accept_with_entry(writer, admission, update, imsi, csis),
         None => {
             append(writer, update)?;
-            directory.take_out(&imsi);
+            admission.accept_removal(&imsi);
             Ok(())
         }
     }
 }
 
-// The entry first, since the way back from it takes no memory.
-fn take_with_entry(
+/// The admission is first, since to take it back takes no memory.
+fn accept_with_entry(
     writer: &mut StoreWriter,
-    directory: &mut Directory,
+    admission: &mut Admission,
     update: Update,
     imsi: Imsi,
     csis: CsisPresent,
 ) -> Result<(), AllocError>
+    requires { admission.old.accepted < admission.old.limit }
     ensures desk { writer.new.desk ≡ writer.old.desk }
     ensures pending { MatchResult result
-        (λ _. drop writer.new.behind writer.new.log.items
-        ≡ drop writer.old.behind writer.old.log.items ++ change.Update update ∷ [])
-        (λ _. drop writer.new.behind writer.new.log.items ≡ drop writer.old.behind writer.old.log.items) }
-    ensures put { OnOk result (directory.new ≡ with_csis directory.old imsi (Some csis)) }
-    ensures unchanged { OnErr result (directory.new ≡ directory.old) }
+        (λ _. pending_operations writer.new
+        ≡ pending_operations writer.old ++ operation.Update update ∷ [])
+        (λ _. pending_operations writer.new ≡ pending_operations writer.old) }
+    ensures accepted { OnOk result (admission.new ≡ with_admission admission.old imsi (Some csis)) }
+    ensures unchanged { OnErr result (admission.new ≡ admission.old) }
 {
-    let before = directory.get(&imsi);
-    directory.put(imsi, Some(csis))?;
+    let before = admission.csis(&imsi);
+    admission.accept(imsi, Some(csis))?;
     match append(writer, update) {
         Ok(()) => Ok(()),
         Err(error) => {
-            directory.put_back(&imsi, before);
+            admission.take_back(&imsi, before);
             Err(error)
         }
     }
 }
 
+/// Puts an update behind what is pending.
 fn append(writer: &mut StoreWriter, update: Update) -> Result<(), AllocError>
     ensures desk { writer.new.desk ≡ writer.old.desk }
     ensures pending { MatchResult result
-        (λ _. drop writer.new.behind writer.new.log.items
-        ≡ drop writer.old.behind writer.old.log.items ++ change.Update update ∷ [])
-        (λ _. drop writer.new.behind writer.new.log.items ≡ drop writer.old.behind writer.old.log.items) }
+        (λ _. pending_operations writer.new
+        ≡ pending_operations writer.old ++ operation.Update update ∷ [])
+        (λ _. pending_operations writer.new ≡ pending_operations writer.old) }
 {
-    match writer.append(Change::Update(update)) {
+    match writer.append(Operation::Update(update)) {
         Ok(()) => Ok(()),
         Err(_) => Err(AllocError),
     }

@@ -1,9 +1,11 @@
-ghost use Rattle.std.specs.Prelude.{◌≡◌, IfOk};
+ghost use Rattle.std.specs.Prelude.{◌≡◌, ◌≤◌, length, IfOk, IfSome, OnSome};
+ghost use Rattle.camel_rows.specs.Front.{Extends};
+ghost use Rattle.camel_vlr.specs.Session.{ExtendsAll};
 
 use super::{call_of, check_asked, imsi_of, opened_with_one, row_update};
 use camel_criteria::Refusal;
 use camel_rows::{CallEvent, Outcome, Update};
-use camel_tbcd::{Address, Imsi};
+use camel_tbcd::Imsi;
 use camel_vlr::{Receipt, Session, Vlr};
 use std::process::Abort;
 use std::sync::Wait;
@@ -37,7 +39,7 @@ fn call_loop(session: Session, told: Receipt, call: &CallEvent) -> (Session, boo
     ensures { result.0.store ≡ session.store }
 {
     let mut session = session;
-    // From here on each look shows at least what the receipt tells of.
+    // From here on the front of each look extends the receipt's.
     session.learn(told);
     let mut served: usize = 0;
     for _ in 0..LOOKS {
@@ -58,10 +60,8 @@ fn call_loop(session: Session, told: Receipt, call: &CallEvent) -> (Session, boo
 fn outcome_of(session: &mut Session, call: &CallEvent) -> Option<Outcome>
     ensures { session.new.store ≡ session.old.store }
 {
-    // The check of a lent event needs this type named: docs/DECISIONS.md says why.
-    let _: Option<Address> = None;
     let Ok(look) = session.look() else {
-        // The store was ended: the call goes on without a service.
+        // The store has ended: the call goes on without a service.
         return None;
     };
     let event = call.lend();
@@ -105,6 +105,46 @@ fn switch<R: Threads + Wait + Abort + Sync>(
     all_is_seen(rt, session, written?, &call)
 }
 
+/// How many updates the front of a look has. It extends the front of the look before, and all that was learnt.
+fn front_of_look(session: &mut Session) -> Option<u64>
+    ensures store { session.new.store ≡ session.old.store }
+    ensures count { IfSome result (λ front. front ≡ length session.new.seen) }
+    ensures later { Extends session.new.seen session.old.seen }
+    ensures told { OnSome result (ExtendsAll session.new.seen session.old.told) }
+{
+    let Ok(look) = session.look() else {
+        return None;
+    };
+    let front = look.front();
+    look.leave();
+    Some(front)
+}
+
+/// How many updates the front of a look has after a receipt: no fewer than the receipt's, which it extends.
+fn front_after(session: &mut Session, receipt: Receipt) -> Option<u64>
+    requires { receipt.store ≡ session.old.store }
+    ensures store { session.new.store ≡ session.old.store }
+    ensures count { IfSome result (λ front. front ≡ length session.new.seen) }
+    ensures not_shorter { IfSome result (λ front. length receipt.updates ≤ front) }
+    ensures extends { OnSome result (Extends session.new.seen receipt.updates) }
+{
+    session.learn(receipt);
+    let front = front_of_look(session)?;
+    Some(front)
+}
+
+/// How many updates the fronts of two looks after a receipt have: the second look extends the first, and so the receipt.
+fn fronts_after(session: &mut Session, receipt: Receipt) -> Option<(u64, u64)>
+    requires { receipt.store ≡ session.old.store }
+    ensures not_shorter { IfSome result (λ fronts. length receipt.updates ≤ fronts.0) }
+    ensures second { IfSome result (λ fronts. fronts.0 ≤ fronts.1) }
+    ensures extends { OnSome result (Extends session.new.seen receipt.updates) }
+{
+    let first = front_after(session, receipt)?;
+    let second = front_of_look(session)?;
+    Some((first, second))
+}
+
 // A receipt that comes back with the writer's result tells the session of all that was published.
 fn all_is_seen<R: Abort>(
     rt: &R,
@@ -116,7 +156,10 @@ fn all_is_seen<R: Abort>(
 {
     let mut session = session;
     assert_eq!(rt; receipt.front(), 102);
-    session.learn(receipt);
+    if let Some((first, second)) = fronts_after(&mut session, receipt) {
+        assert_eq!(rt; first, 102);
+        assert_eq!(rt; second, 102);
+    }
     check_asked(rt, &mut session, call, 102, Ok((100, None)));
     Ok(())
 }

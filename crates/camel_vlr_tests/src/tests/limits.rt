@@ -1,51 +1,17 @@
 ghost use Rattle.std.specs.Prelude.{◌≡◌, IfOk};
 
 use super::{
-    ARMED, UNKNOWN, call_of, check_asked, check_lent, check_row, check_submit, imsi_of,
-    opened_with_last, opened_with_one, receipt_of, tell,
+    UNKNOWN, call_of, check_asked, check_row, check_submit, imsi_of, opened_with_last, receipt_of,
 };
 use camel_criteria::Refusal;
-use camel_rows::{Reason, Update, Withdrawal};
-use camel_vlr::{Beginning, Receipt, Session, Vlr};
+use camel_rows::{Reason, Update};
+use camel_vlr::{Receipt, Session, Vlr};
 use std::mem::size_of;
 use std::process::Abort;
 use std::sync::Wait;
 use std::test::Fail;
 
 const FULL: Result<u64, Refusal> = Err(Refusal::HistoryFull);
-
-#[test]
-fn the_data_refuse_an_update_before_the_limit_does(rt: HostRuntime) -> Result<(), Fail> {
-    let (mut store, mut session) = opened_with_one(&rt, rt.alloc(), 3)?;
-    let done = data_refuse_before_the_limit(&rt, &mut store, &mut session);
-    store.end(&rt);
-    done
-}
-
-fn data_refuse_before_the_limit<R: Wait + Abort>(
-    rt: &R,
-    store: &mut Vlr,
-    session: &mut Session,
-) -> Result<(), Fail>
-    requires { session.old.store ≡ store.old.store }
-{
-    let (first, second, third) = (imsi_of(1)?, imsi_of(2)?, imsi_of(3)?);
-    let what = Withdrawal {
-        o: false,
-        vt: false,
-        everything: true,
-    };
-    check_submit(rt, store, Update::Register { imsi: first }, Ok(1));
-    check_submit(rt, store, Update::Register { imsi: second }, Ok(2));
-    check_row(rt, store, first, Ok(3));
-    check_submit(rt, store, Update::Cancel { imsi: first }, FULL);
-    check_submit(rt, store, Update::Delete { imsi: third, what }, UNKNOWN);
-    tell(rt, store, session, 3)?;
-    let call = call_of(first)?;
-    check_asked(rt, session, &call, 3, Ok((100, None)));
-    check_lent(rt, session, &first, 2, (3, Some(ARMED), None));
-    Ok(())
-}
 
 #[test]
 fn the_last_of_64_sessions_looks_where_the_others_are_gone(rt: HostRuntime) -> Result<(), Fail> {
@@ -90,5 +56,4 @@ fn takes_one_update<R: Wait + Abort>(rt: &R, store: &mut Vlr) -> Result<Receipt,
 #[test]
 fn a_receipt_has_the_bytes_of_its_number_alone(rt: HostRuntime) {
     assert_eq!(rt; size_of::<Receipt>(), 8);
-    assert_eq!(rt; size_of::<Beginning>(), 0);
 }

@@ -1,5 +1,5 @@
 ghost use Rattle.std.specs.Prelude.{◌≡◌, IfOk};
-ghost use Rattle.camel_vlr.specs.Store.{fresh};
+ghost use Rattle.camel_vlr.specs.Store.{fresh_session};
 
 use super::{
     ARMED, Kind, LISTED, Sent, TURNS, Told, UNKNOWN, asked, call_of, check_asked, check_counts,
@@ -29,7 +29,7 @@ fn update_again(alloc: Global, imsi: Imsi, kind: Kind) -> Result<Update, Refusal
 
 // A store with one session. After a refusal nothing remains.
 fn opened_again<R: Wait>(rt: &R, alloc: Global) -> Result<(Vlr, Session), Refusal>
-    ensures { IfOk result (λ r. r.1 ≡ fresh r.0.store) }
+    ensures { IfOk result (λ r. r.1 ≡ fresh_session r.0.store) }
 {
     for _ in 1..TURNS {
         match opened_with_one(rt, alloc, 10) {

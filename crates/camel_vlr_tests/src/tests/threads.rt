@@ -3,7 +3,7 @@ use super::{
 };
 use camel_criteria::Refusal;
 use camel_rows::{CallEvent, Records, Update, decide_in};
-use camel_tbcd::{Address, Imsi};
+use camel_tbcd::Imsi;
 use camel_vlr::{Session, Vlr};
 use std::alloc::Global;
 use std::process::Abort;
@@ -165,8 +165,6 @@ fn update_by(alloc: Global, imsis: &Three<Imsi>, number: u64) -> Result<Update, 
 }
 
 fn told_in(records: &Records, call: &CallEvent) -> Told {
-    // The check of a lent event needs this type named: docs/DECISIONS.md says why.
-    let _: Option<Address> = None;
     let event = call.lend();
     told(&decide_in(records, &event))
 }

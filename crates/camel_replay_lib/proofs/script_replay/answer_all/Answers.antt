@@ -1,19 +1,26 @@
-use Rattle.std.proofs.Common.{arith, refl}
+use Rattle.std.proofs.Common.{◌≢◌, Err, ap, arith, refl}
 use Rattle.camel_script.specs.Script.{still_gives}
-use Rattle.camel_replay_lib.proofs.Progress.{progress_at_first, progress_by_one, stopped_at_flush, stopped_by_script, stopped_in_line, wrote_all}
+use Rattle.camel_script.specs.declared.script_fault.ScriptFault.{ScriptFault}
+use Rattle.camel_script.specs.declared.script_fault.ScriptFault.TheVariants as fault
+use Rattle.camel_replay_lib.proofs.Progress.{is_replay_code-of_script, progress_at_first, progress_by_one, stopped_at_flush, stopped_by_script}
+use Rattle.camel_replay_lib.proofs.Progress.{stopped_in_record, wrote_all}
 use Rattle.camel_replay_lib.proofs.script_replay.answer_all.Goals as goal
 
 pub records-init : goal.records-init
 records-init g c = record {
+  reads = c.requires.reads;
   place = omega arith;
   room = omega (arith, c.requires.room);
-  so_far = rw c.requires.empty (progress_at_first (g.W.Write.contents c.args.writer.now) (still_gives c.args.script.now) c.args.store.now.limit);
+  so_far = rw c.requires.empty (progress_at_first (g.W.Write.contents c.args.writer.now)
+      (still_gives c.args.script.now) c.args.store.now.limit);
 }
 
 pub returns-in-Err-clause-stopped : goal.returns-in-Err-clause-stopped
 returns-in-Err-clause-stopped g c =
     let held = g.W.Write.contents in
-    stopped_by_script (still_gives c.args.script.now) (held c.args.writer.now) (held c.records.writer) (still_gives c.records.script) c.args.store.now.limit c.records.number c.records.store c.in-Err.fault c.fault_at.result c.records.invariant.so_far
+    stopped_by_script (still_gives c.args.script.now) (held c.args.writer.now) (held c.records.writer)
+    (still_gives c.records.script) c.args.store.now.limit c.records.number c.records.store c.in-Err.fault
+    c.fault_at.result c.records.invariant.so_far
     (rw c.code.ensures at c.fault_at.ensures) c.in-Err.ensures.faults
 
 pub records-preserved : goal.records-preserved
@@ -23,28 +30,47 @@ records-preserved g c =
     let gives = rw c.in-Ok-Some.field-0-is at c.in-Ok-Some.ensures.gives in
     let counts = rw c.in-Ok-Some.field-0-is at c.in-Ok-Some.ensures.counts in
     record {
+      reads = rw c.in-Ok-Some.field-0-is at c.in-Ok-Some.ensures.reads_on;
       place = omega arith;
       room = omega (arith, counts);
-      so_far = rw c.in-Ok.ensures.after (progress_by_one (held c.args.writer.now) (held c.records.writer) (held c.answer.new.writer) known (still_gives c.records.script) (still_gives c.read_record.new.self) c.args.store.now.limit c.records.number c.records.store c.in-Ok-Some.request c.records.invariant.so_far gives c.in-Ok.ensures.line);
+      so_far = rw c.in-Ok.ensures.after (progress_by_one (held c.args.writer.now) (held c.records.writer)
+          (held c.answer.new.writer) known (still_gives c.records.script)
+          (still_gives c.read_record.new.self) c.args.store.now.limit c.records.number c.records.store
+          c.in-Ok-Some.script_record c.records.invariant.so_far gives c.in-Ok.ensures.line);
     }
 
 pub returns-in-Err-answer-clause-stopped : goal.returns-in-Err-answer-clause-stopped
 returns-in-Err-answer-clause-stopped g c =
     let held = g.W.Write.contents in
     let gives = rw c.in-Ok-Some.field-0-is at c.in-Ok-Some.ensures.gives in
-    stopped_in_line (still_gives c.args.script.now) (held c.args.writer.now) (held c.records.writer) (held c.answer.new.writer) (still_gives c.records.script) (still_gives c.read_record.new.self) c.args.store.now.limit c.records.number c.records.store c.in-Ok-Some.request c.fault_at-in-Err-answer.result
-    c.records.invariant.so_far gives c.in-Err-answer.ensures.part (rw c.fault_at-in-Err-answer.ensures c.in-Err-answer.ensures.code) (rw c.fault_at-in-Err-answer.ensures refl)
+    stopped_in_record (still_gives c.args.script.now) (held c.args.writer.now) (held c.records.writer)
+    (held c.answer.new.writer) (still_gives c.records.script)
+    (still_gives c.read_record.new.self) c.args.store.now.limit c.records.number c.records.store
+    c.in-Ok-Some.script_record c.fault_at-in-Err-answer.result
+    c.records.invariant.so_far gives (rw c.fault_at-in-Err-answer.ensures c.in-Err-answer.ensures.stopped)
+    (rw c.fault_at-in-Err-answer.ensures refl)
 
 pub returns-in-Ok-flush-clause-whole : goal.returns-in-Ok-flush-clause-whole
 returns-in-Ok-flush-clause-whole g c =
     let held = g.W.Write.contents in
     let gives = rw c.in-Ok-None.field-0-is at c.in-Ok-None.ensures.gives in
-    wrote_all (still_gives c.args.script.now) (held c.args.writer.now) (held c.records.writer) (held c.flush.new.self) (still_gives c.records.script) (still_gives c.read_record.new.self) c.args.store.now.limit c.records.number c.records.store c.records.invariant.so_far
+    wrote_all (still_gives c.args.script.now) (held c.args.writer.now) (held c.records.writer) (held c.flush.new.self)
+    (still_gives c.records.script) (still_gives c.read_record.new.self) c.args.store.now.limit c.records.number
+    c.records.store c.records.invariant.so_far
     gives c.flush.ensures.bytes
 
 pub returns-clause-stopped : goal.returns-clause-stopped
 returns-clause-stopped g c =
     let held = g.W.Write.contents in
     let gives = rw c.in-Ok-None.field-0-is at c.in-Ok-None.ensures.gives in
-    stopped_at_flush (still_gives c.args.script.now) (held c.args.writer.now) (held c.records.writer) (held c.flush.new.self) (still_gives c.records.script) (still_gives c.read_record.new.self) c.args.store.now.limit c.records.number c.records.store c.fault_at-in-Err-flush.result c.records.invariant.so_far
+    stopped_at_flush (still_gives c.args.script.now) (held c.args.writer.now) (held c.records.writer)
+    (held c.flush.new.self) (still_gives c.records.script)
+    (still_gives c.read_record.new.self) c.args.store.now.limit c.records.number c.records.store
+    c.fault_at-in-Err-flush.result c.records.invariant.so_far
     gives c.flush.ensures.bytes c.fault_at-in-Err-flush.ensures
+
+pub returns-in-Err-clause-codes : goal.returns-in-Err-clause-codes
+returns-in-Err-clause-codes g c =
+    let unfailed : c.in-Err.fault ≢ fault.Failed =
+    λ failed. c.records.invariant.reads (c.in-Err.ensures.failed_only (ap (λ (e : ScriptFault). Err e) failed)) in
+    rw (c.fault_at.ensures, c.code.ensures) (is_replay_code-of_script c.in-Err.fault unfailed)

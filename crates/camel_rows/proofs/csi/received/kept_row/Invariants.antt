@@ -6,4 +6,4 @@ use Rattle.camel_rows.proofs.csi.received.kept_row.Given as goal
 abbrev pub invariant-loop-row : goal.invariant-loop-row
 invariant-loop-row l =
     slice_get (filter (λ row. is_among l.points row.dp) (drop l.row-index l.received)) l.left
-    ≡ slice_get (filter (λ row. is_among l.points row.dp) l.received) l.fn.at
+    ≡ slice_get (filter (λ row. is_among l.points row.dp) l.received) l.fn.place

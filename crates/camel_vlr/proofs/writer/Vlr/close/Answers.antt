@@ -1,9 +1,9 @@
 use Rattle.std.proofs.Common.{◌≡◌, ◌∙◌, [], ◌∷◌, ◌++◌, ap, subst}
-use Rattle.camel_vlr.specs.Beginning.{BeginningData}
+use Rattle.camel_vlr.specs.Prefix.{PrefixData}
 use Rattle.camel_rows.specs.Front.{Extends}
 use Rattle.camel_rows.specs.Update.{records_of}
-use Rattle.camel_vlr.proofs.FrontLemmas.{all_last, same_length}
-use Rattle.camel_vlr.specs.Fronts.{ExtendsAll}
+use Rattle.camel_vlr.proofs.FrontLemmas.{all_last, same_front}
+use Rattle.camel_vlr.specs.Session.{ExtendsAll}
 use Rattle.camel_vlr.proofs.writer.Vlr.close.Goals as goal
 
 pub returns-in-Ok-clause-records : goal.returns-in-Ok-clause-records
@@ -11,6 +11,6 @@ returns-in-Ok-clause-records g c =
     let seen = c.records_at.new.session.seen in
     let store = c.args.self in
     let told : ExtendsAll seen (c.args.session.now.told ++ c.receipt.result.updates ∷ []) = subst (ExtendsAll seen) (ap (λ s. s.told) c.learn.ensures) c.in-Ok.ensures.told in
-    let more : Extends seen store.published = subst (λ (r : BeginningData). Extends seen r.updates) c.receipt.ensures (all_last seen _ c.receipt.result.updates told) in
-    let same : seen ≡ store.published = same_length seen store.published more (c.in-Ok.ensures.front ∙ c.published.ensures) in
+    let more : Extends seen store.updates.published = subst (λ (r : PrefixData). Extends seen r.updates) c.receipt.ensures.receipt (all_last seen _ c.receipt.result.updates told) in
+    let same : seen ≡ store.updates.published = same_front seen store.updates.published more (c.in-Ok.ensures.front ∙ c.published.ensures) in
     c.in-Ok.ensures.records ∙ ap records_of same

@@ -1,15 +1,15 @@
-use Rattle.std.proofs.Common.{◌≡◌, ◌-◌, ◌≤◌, [], vec_len, vec_capacity, All}
-use Rattle.camel_vlr.specs.Store.{fresh}
+use Rattle.std.proofs.Common.{◌≡◌, ◌-◌, ◌≤◌, vec_len, vec_capacity, All}
+use Rattle.camel_rows.specs.Store.{no_updates}
+use Rattle.camel_vlr.specs.Store.{fresh_session}
 use Rattle.camel_vlr.proofs.writer.Vlr.open.Given as goal
 
 abbrev pub invariant-loop-store : goal.invariant-loop-store
 invariant-loop-store g l = record {
-  published : l.store.published ≡ [];
-  pending : l.store.pending ≡ [];
+  empty : l.store.updates ≡ no_updates;
   limit : l.store.store.limit ≡ l.limit;
   few : vec_len l.sessions ≤ l.places;
   room : l.places ≤ vec_capacity l.sessions;
-  fresh_all : All (λ s. s ≡ fresh l.store.store) l.sessions.items;
+  fresh_all : All (λ s. s ≡ fresh_session l.store.store) l.sessions.items;
 }
 
 abbrev pub decreases-loop-store : goal.decreases-loop-store

@@ -2,7 +2,7 @@ use Rattle.std.proofs.Common.{◌≡◌, ◌∙◌, ap, subst, sym, IsSome, Opti
 use Rattle.std.specs.FinMap as map
 use Rattle.std.specs.Option.{option_copied_mut}
 use Rattle.camel_rows.proofs.RecordsTable.{get-entries, insert-entries}
-use Rattle.camel_rows.specs.declared.subscriber.directory.CsisPresent.{CsisPresent}
+use Rattle.camel_rows.specs.declared.subscriber.csis_present.CsisPresent.{CsisPresent}
 use Rattle.camel_rows.proofs.subscriber.directory.Directory.put_back.Goals as goal
 
 -- what is lent is there where the entry is

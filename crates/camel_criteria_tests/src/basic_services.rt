@@ -1,0 +1,58 @@
+use camel_criteria::{BasicService, covers};
+use std::process::Abort;
+
+/// A listed octet, octets of a call that it covers, and octets that it doesn't cover.
+type Group = (u8, &'static [u8], &'static [u8]);
+
+const TELESERVICES: [Group; 5] = [
+    (0x00, &[0x00, 0x11, 0x62, 0xff], &[]),
+    (0x10, &[0x10, 0x11, 0x12], &[0x00, 0x0f, 0x13]),
+    (0x60, &[0x60, 0x61, 0x62, 0x63], &[0x5f, 0x64]),
+    (0x80, &[0x11, 0x1f, 0x23, 0x80, 0xff], &[0x20, 0x21, 0x22]),
+    (0x11, &[0x11], &[0x10, 0x12]),
+];
+
+const BEARER_SERVICES: [Group; 4] = [
+    (0x00, &[0x00, 0x11, 0xff], &[]),
+    (0x10, &[0x10, 0x11, 0x17], &[0x0f, 0x18]),
+    (0x18, &[0x18, 0x19, 0x1f], &[0x17, 0x20]),
+    (0x60, &[0x60], &[0x61]),
+];
+
+/// The basic service of this octet, a teleservice or a bearer service.
+fn service(is_tele: bool, octet: u8) -> BasicService {
+    if is_tele {
+        BasicService::Tele(octet)
+    } else {
+        BasicService::Bearer(octet)
+    }
+}
+
+fn check_groups(rt: &impl Abort, is_tele: bool, groups: &[Group]) {
+    for (listed, covered, others) in groups {
+        let listed = service(is_tele, *listed);
+        for octet in *covered {
+            check_covers(rt, listed, service(is_tele, *octet), true);
+        }
+        for octet in *others {
+            check_covers(rt, listed, service(is_tele, *octet), false);
+        }
+    }
+}
+
+fn check_covers(rt: &impl Abort, listed: BasicService, call: BasicService, wanted: bool) {
+    assert_eq!(rt; covers(listed, call), wanted, "{listed:?} and {call:?}");
+}
+
+#[test]
+fn a_group_covers_itself_and_its_members(rt: HostRuntime) {
+    check_groups(&rt, true, &TELESERVICES);
+    check_groups(&rt, false, &BEARER_SERVICES);
+}
+
+#[test]
+fn no_service_covers_one_of_the_other_kind(rt: HostRuntime) {
+    let (tele, bearer) = (BasicService::Tele(0x00), BasicService::Bearer(0x00));
+    check_covers(&rt, tele, bearer, false);
+    check_covers(&rt, bearer, tele, false);
+}

@@ -1,0 +1,131 @@
+//! Criteria and their copies. A call that fails for want of memory is made again, so that these tests pass where any
+//! one request for memory is refused.
+
+use camel_criteria::{
+    BasicService, CallType, MatchType, NumberCriterion, OCriteria, Refusal, TCriteria,
+};
+use camel_fixtures::number_of;
+use std::alloc::Global;
+use std::process::Abort;
+use std::test::Fail;
+
+/// Three numbers, no two octets of which are alike after the first, so that a lost or moved one shows.
+const NUMBERS: [&[u8]; 3] = [&[0x91, 0x21, 0x43], &[0xa1, 0x65, 0xf7], &[0x91, 0x98]];
+
+/// A criterion of so many of the three numbers.
+fn number_criterion(alloc: Global, count: usize) -> Result<NumberCriterion, Refusal> {
+    let numbers = [
+        number_of(NUMBERS[0])?,
+        number_of(NUMBERS[1])?,
+        number_of(NUMBERS[2])?,
+    ];
+    match numbers.get(..count) {
+        Some(listed) => NumberCriterion::new(alloc, MatchType::Inhibiting, listed, &[7, 3]),
+        None => Err(Refusal::UnexpectedDataValue),
+    }
+}
+
+fn number_criterion_again(alloc: Global, count: usize) -> Result<NumberCriterion, Refusal> {
+    match number_criterion(alloc, count) {
+        Err(Refusal::OutOfMemory) => number_criterion(alloc, count),
+        made => made,
+    }
+}
+
+fn check_number_criterion(
+    rt: &impl Abort,
+    criterion: &NumberCriterion,
+    count: usize,
+) -> Result<(), Fail> {
+    assert_eq!(rt; criterion.match_type(), MatchType::Inhibiting);
+    assert_eq!(rt; criterion.lengths(), [7, 3].as_slice());
+    assert_eq!(rt; criterion.numbers().len(), count);
+    for at in 0..count.min(NUMBERS.len()) {
+        let lent = criterion.number(at).ok_or("too few numbers")?;
+        assert_eq!(rt; lent.bytes(), NUMBERS[at]);
+    }
+    assert!(rt; criterion.number(count).is_none());
+    Ok(())
+}
+
+/// One or two numbers are stored in place, and three apart.
+#[test]
+fn reads_and_copies_a_number_criterion(rt: HostRuntime) -> Result<(), Fail> {
+    for count in 1..=3 {
+        let criterion = number_criterion_again(rt.alloc(), count)?;
+        let copied = match criterion.clone() {
+            Ok(copied) => copied,
+            Err(_) => criterion.clone()?,
+        };
+        check_number_criterion(&rt, &criterion, count)?;
+        check_number_criterion(&rt, &copied, count)?;
+    }
+    Ok(())
+}
+
+const CODES: [BasicService; 2] = [BasicService::Tele(0x10), BasicService::Bearer(0x18)];
+
+fn o_entry(alloc: Global) -> Result<OCriteria, Refusal> {
+    let number = number_criterion(alloc, 2)?;
+    OCriteria::new(
+        alloc,
+        4,
+        Some(number),
+        &CODES,
+        Some(CallType::Forwarded),
+        &[18, 17],
+    )
+}
+
+fn o_entry_again(alloc: Global) -> Result<OCriteria, Refusal> {
+    match o_entry(alloc) {
+        Err(Refusal::OutOfMemory) => o_entry(alloc),
+        made => made,
+    }
+}
+
+fn check_o_entry(rt: &impl Abort, entry: &OCriteria) -> Result<(), Fail> {
+    assert_eq!(rt; entry.dp(), 4);
+    let number = entry.number().ok_or("no number criterion")?;
+    check_number_criterion(rt, number, 2)?;
+    assert_eq!(rt; entry.basic(), CODES.as_slice());
+    assert_eq!(rt; entry.call_type(), Some(CallType::Forwarded));
+    assert_eq!(rt; entry.causes(), [18, 17].as_slice());
+    Ok(())
+}
+
+#[test]
+fn reads_and_copies_an_entry_of_the_o_csi(rt: HostRuntime) -> Result<(), Fail> {
+    let entry = o_entry_again(rt.alloc())?;
+    let copied = match entry.clone() {
+        Ok(copied) => copied,
+        Err(_) => entry.clone()?,
+    };
+    check_o_entry(&rt, &entry)?;
+    check_o_entry(&rt, &copied)
+}
+
+fn t_entry_again(alloc: Global) -> Result<TCriteria, Refusal> {
+    match TCriteria::new(alloc, 13, &CODES, &[18, 17]) {
+        Err(Refusal::OutOfMemory) => TCriteria::new(alloc, 13, &CODES, &[18, 17]),
+        made => made,
+    }
+}
+
+fn check_t_entry(rt: &impl Abort, entry: &TCriteria) {
+    assert_eq!(rt; entry.dp(), 13);
+    assert_eq!(rt; entry.basic(), CODES.as_slice());
+    assert_eq!(rt; entry.causes(), [18, 17].as_slice());
+}
+
+#[test]
+fn reads_and_copies_an_entry_of_the_vt_csi(rt: HostRuntime) -> Result<(), Fail> {
+    let entry = t_entry_again(rt.alloc())?;
+    let copied = match entry.clone() {
+        Ok(copied) => copied,
+        Err(_) => entry.clone()?,
+    };
+    check_t_entry(&rt, &entry);
+    check_t_entry(&rt, &copied);
+    Ok(())
+}

@@ -1,0 +1,165 @@
+use camel_criteria::{
+    BasicService, CallType, Cause, MatchType, NumberCriterion, OCriteria, OEvent, TCriteria,
+    TEvent, criteria_mean, o_met, t_met,
+};
+use camel_fixtures::{DESTINATION, TELEPHONY, numbers_of};
+use camel_tbcd::Address;
+use std::alloc::Global;
+use std::process::Abort;
+use std::test::Fail;
+
+/// The listed numbers and the lengths of a criterion, a destination, and whether a call to it meets the criterion.
+type NumberCase = (&'static [&'static [u8]], &'static [u8], &'static [u8], bool);
+
+const ONE_TWO_THREE: &[u8] = &[0x91, 0x21, 0xf3];
+
+/// By TS 23.078 a listed number matches a destination of its nature that begins with its digits. Bit 8 of octet 1 and
+/// the numbering plan are not compared.
+const ENABLING: [NumberCase; 9] = [
+    (&[ONE_TWO_THREE], &[], &[0x91, 0x21, 0x43], true),
+    (&[&[0x91, 0x21, 0x43]], &[], &[0x91, 0x21, 0xf3], false),
+    (&[&[0x91, 0x21, 0x43]], &[], &[0xa1, 0x21, 0x43], false),
+    (&[&[0x91]], &[], &[0x91, 0x21, 0x43], true),
+    (&[&[0x91]], &[], &[0xa1, 0x21, 0x43], false),
+    (&[&[0x11, 0x21, 0xf3]], &[], &[0x91, 0x21, 0x43], true),
+    (&[ONE_TWO_THREE], &[], &[0x98, 0x21, 0x43], true),
+    (&[], &[4], &[0x91, 0xf1, 0x43], false),
+    (&[], &[4], &[0x91, 0x21, 0x43], true),
+];
+
+/// An inhibiting criterion is met where the destination is not listed.
+const INHIBITING: [NumberCase; 3] = [
+    (
+        &[&[0x91, 0x55], ONE_TWO_THREE],
+        &[],
+        &[0x91, 0x21, 0x43],
+        false,
+    ),
+    (
+        &[&[0x91, 0x55], ONE_TWO_THREE],
+        &[],
+        &[0x91, 0x99, 0x99],
+        true,
+    ),
+    (&[&[0x91, 0x55]], &[4], &[0x91, 0x99, 0x99], false),
+];
+
+/// An entry that asks for a number alone.
+fn number_entry(
+    alloc: Global,
+    match_type: MatchType,
+    listed: &[&[u8]],
+    lengths: &[u8],
+) -> Result<OCriteria, Fail> {
+    let numbers = numbers_of(alloc, listed)?;
+    let number = NumberCriterion::new(alloc, match_type, &numbers, lengths)?;
+    Ok(OCriteria::new(alloc, 2, Some(number), &[], None, &[])?)
+}
+
+fn check_numbers(
+    rt: &impl Abort,
+    alloc: Global,
+    match_type: MatchType,
+    cases: &[NumberCase],
+) -> Result<(), Fail> {
+    for (listed, lengths, destination, wanted) in cases {
+        let event = OEvent {
+            destination: Address::new(destination)?,
+            basic: TELEPHONY,
+            forwarded: false,
+            cause: None,
+        };
+        let entry = number_entry(alloc, match_type, listed, lengths)?;
+        assert_eq!(rt; o_met(&entry, &event), *wanted, "{entry:?} and {event:?}");
+    }
+    Ok(())
+}
+
+#[test]
+fn meets_a_number_criterion(rt: HostRuntime) -> Result<(), Fail> {
+    criteria_mean();
+    check_numbers(&rt, rt.alloc(), MatchType::Enabling, &ENABLING)?;
+    check_numbers(&rt, rt.alloc(), MatchType::Inhibiting, &INHIBITING)
+}
+
+const SPEECH: &[BasicService] = &[BasicService::Tele(0x10)];
+
+const FORWARDED: Option<CallType> = Some(CallType::Forwarded);
+
+const NOT_FORWARDED: Option<CallType> = Some(CallType::NotForwarded);
+
+/// The codes, the call type and the causes of an entry of the O-CSI; the code of a call, whether it is forwarded, and
+/// its cause; and whether it meets the entry.
+type OCase = (
+    &'static [BasicService],
+    Option<CallType>,
+    &'static [u8],
+    u8,
+    bool,
+    Option<u8>,
+    bool,
+);
+
+const O_CASES: [OCase; 11] = [
+    (&[], None, &[], 0x62, true, Some(17), true),
+    (SPEECH, None, &[], 0x11, false, None, true),
+    (SPEECH, None, &[], 0x62, false, None, false),
+    (&[], FORWARDED, &[], 0x11, true, None, true),
+    (&[], FORWARDED, &[], 0x11, false, None, false),
+    (&[], NOT_FORWARDED, &[], 0x11, true, None, false),
+    (&[], None, &[17, 18], 0x11, false, Some(18), true),
+    (&[], None, &[17, 18], 0x11, false, Some(19), false),
+    (&[], None, &[17, 18], 0x11, false, None, false),
+    (SPEECH, FORWARDED, &[17], 0x11, true, Some(17), true),
+    (SPEECH, FORWARDED, &[17], 0x11, true, Some(18), false),
+];
+
+fn check_o_entries(rt: &impl Abort, alloc: Global, cases: &[OCase]) -> Result<(), Fail> {
+    for (codes, call_type, causes, code, forwarded, cause, wanted) in cases {
+        let event = OEvent {
+            destination: Address::new(&DESTINATION)?,
+            basic: BasicService::Tele(*code),
+            forwarded: *forwarded,
+            cause: cause.and_then(Cause::new),
+        };
+        let entry = OCriteria::new(alloc, 4, None, codes, *call_type, causes)?;
+        assert_eq!(rt; o_met(&entry, &event), *wanted, "{entry:?} and {event:?}");
+    }
+    Ok(())
+}
+
+/// By TS 23.078 an event meets an entry where it meets each criterion of it.
+#[test]
+fn meets_an_entry_of_the_o_csi_by_each_criterion(rt: HostRuntime) -> Result<(), Fail> {
+    check_o_entries(&rt, rt.alloc(), &O_CASES)
+}
+
+const FACSIMILE: &[BasicService] = &[BasicService::Tele(0x60)];
+
+/// The codes and the causes of an entry of the VT-CSI; the code and the cause of a call; and whether it meets the entry.
+type TCase = (&'static [BasicService], &'static [u8], u8, Option<u8>, bool);
+
+const T_CASES: [TCase; 5] = [
+    (&[], &[], 0x11, None, true),
+    (FACSIMILE, &[17], 0x62, Some(17), true),
+    (FACSIMILE, &[17], 0x11, Some(17), false),
+    (FACSIMILE, &[17], 0x62, Some(18), false),
+    (FACSIMILE, &[17], 0x62, None, false),
+];
+
+fn check_t_entries(rt: &impl Abort, alloc: Global, cases: &[TCase]) -> Result<(), Fail> {
+    for (codes, causes, code, cause, wanted) in cases {
+        let entry = TCriteria::new(alloc, 13, codes, causes)?;
+        let event = TEvent {
+            basic: BasicService::Tele(*code),
+            cause: cause.and_then(Cause::new),
+        };
+        assert_eq!(rt; t_met(&entry, &event), *wanted, "{entry:?} and {event:?}");
+    }
+    Ok(())
+}
+
+#[test]
+fn meets_an_entry_of_the_vt_csi_by_each_criterion(rt: HostRuntime) -> Result<(), Fail> {
+    check_t_entries(&rt, rt.alloc(), &T_CASES)
+}

@@ -1,0 +1,16 @@
+//! Subscribers, updates and calls that the tests of `camel_criteria` and `camel_rows` are made of, and what they
+//! compare of the data that are borrowed from a store.
+#![tactic(auto)]
+
+mod calls;
+mod summaries;
+mod updates;
+
+pub use calls::{DESTINATION, TELEPHONY, call_of, imsi_of, number_of, numbers_of};
+pub use summaries::{
+    ARMED, EntrySummary, LISTED, ListedNumbers, RowSummary, StoredSummary, entry_summary,
+    first_octet, listed_numbers, row_summary, stored_summary,
+};
+pub use updates::{
+    O_ALONE, SCF, criteria_update, entry_update, one_entry, one_row, row_of, row_update,
+};

@@ -1,0 +1,39 @@
+use crate::fixtures::words;
+use camel_replay_lib::{Options, options};
+use std::alloc::Global;
+use std::test::Fail;
+
+// Options, and the limit that is read of them; None where they are rejected.
+const LIMITS: [(&[&str], Option<u64>); 16] = [
+    (&[], Some(1_000_000)),
+    (&["--limit", "1"], Some(1)),
+    (&["--limit", "1000000"], Some(1_000_000)),
+    (&["--limit=3"], Some(3)),
+    (&["--limit", "+5"], Some(5)),
+    (&["--limit", "007"], Some(7)),
+    (&["--limit", "0"], None),
+    (&["--limit", "1000001"], None),
+    (&["--limit", "18446744073709551616"], None),
+    (&["--limit", "-1"], None),
+    (&["--limit", "ten"], None),
+    (&["--limit", ""], None),
+    (&["--limit"], None),
+    (&["--limit", "1", "--limit", "2"], None),
+    (&["--threads", "2"], None),
+    (&["script.csv"], None),
+];
+
+fn limit_read(alloc: Global, given: &[&str]) -> Result<Option<u64>, Fail> {
+    match options(alloc, &words(alloc, given)?) {
+        Ok(Options { limit }) => Ok(Some(limit)),
+        Err(_) => Ok(None),
+    }
+}
+
+#[test]
+fn reads_the_limit_as_it_may_stand(rt: HostRuntime) -> Result<(), Fail> {
+    for (given, limit) in &LIMITS {
+        assert_eq!(rt; limit_read(rt.alloc(), given)?, *limit, "{given:?}");
+    }
+    Ok(())
+}

@@ -1,0 +1,26 @@
+-- An admission refuses an update as the data do, or since the store is full, and goes with them from update to update.
+use Rattle.std.proofs.Common.{◌≡◌, ◌+◌, ◌==◌, ℕ, None, refl, ap}
+use Rattle.std.specs.FinMap as map
+use Rattle.camel_rows.proofs.DirectoryLemmas.{IsDirectoryOf-after, IsDirectoryOf-empty, same_refusal}
+use Rattle.camel_rows.specs.Admission.{AdmissionData, IsAdmissionOf, admission_refusal, no_admissions, refusal_or_full, with_admission}
+use Rattle.camel_rows.specs.CsisPresent.{csis_after}
+use Rattle.camel_rows.specs.Records.{RecordsData, no_records}
+use Rattle.camel_rows.specs.Update.{records_after, refusal, update_imsi}
+use Rattle.camel_rows.specs.declared.subscriber.update.Update.{Update}
+
+pub admission-refusal : (admission : AdmissionData) (limit count : ℕ) (m : RecordsData) (update : Update) → IsAdmissionOf admission limit count m
+    → admission_refusal admission update ≡ refusal_or_full (refusal m update) (count == limit)
+admission-refusal admission limit count m update is =
+    rw (same_refusal admission.directory m update is.directory, is.same_limit, is.same_count) refl
+
+pub IsAdmissionOf-after : (admission : AdmissionData) (limit count : ℕ) (m : RecordsData) (update : Update) → IsAdmissionOf admission limit count m
+    → refusal m update ≡ None
+    → IsAdmissionOf (with_admission admission (update_imsi update) (csis_after (map.get admission.directory (update_imsi update)) update)) limit (count + 1) (records_after m update)
+IsAdmissionOf-after admission limit count m update is accepted = record {
+  same_limit = is.same_limit;
+  same_count = ap (λ n. n + 1) is.same_count;
+  directory = IsDirectoryOf-after admission.directory m update is.directory accepted;
+}
+
+pub IsAdmissionOf-empty : (limit : ℕ) → IsAdmissionOf (no_admissions limit) limit 0 no_records
+IsAdmissionOf-empty limit = record { same_limit = refl; same_count = refl; directory = IsDirectoryOf-empty }

@@ -1,0 +1,14 @@
+-- How a proof tells the values of `AdmissionData` apart.
+use Rattle.std.specs.Prelude.{ℕ, refl}
+use Rattle.std.specs.Coded.{Coded, code_by, coded_ℕ, coded×}
+use Rattle.camel_rows.specs.Admission.{AdmissionData}
+use Rattle.camel_rows.specs.Directory.{DirectoryData}
+use Rattle.camel_rows.specs.contracts.subscriber.directory.Directory as directory
+
+-- they are told apart as the tuple of their parts
+abbrev pub admission_code : Coded AdmissionData
+admission_code =
+    code_by (ℕ × (ℕ × DirectoryData)) (coded× coded_ℕ (coded× coded_ℕ directory.the_row.coded))
+    (λ admission. (admission.limit, (admission.accepted, admission.directory)))
+    (λ parts. record { limit = parts.0; accepted = parts.1.0; directory = parts.1.1 })
+    (λ _. refl)

@@ -1,0 +1,122 @@
+ghost use Rattle.std.specs.Prelude.{◌≡◌, ◌<◌, ◌≤◌, ◌-◌, Some, None, IfErr, IfOk, IsSome, OnErr, OnOk};
+ghost use Rattle.std.specs.FinMap as map;
+ghost use Rattle.camel_rows.specs.Admission.{admission_refusal, no_admissions, with_admission};
+ghost use Rattle.camel_rows.specs.CsisPresent.{csis_after};
+ghost use Rattle.camel_rows.specs.Directory.{with_csis};
+ghost use Rattle.camel_rows.specs.Update.{update_imsi};
+
+use crate::subscriber::csis_present::{CsisPresent, check_update, csis_after};
+use crate::subscriber::directory::Directory;
+use crate::subscriber::update::Update;
+use camel_criteria::Refusal;
+use camel_tbcd::Imsi;
+use std::alloc::{AllocError, Global};
+use std::marker::Model;
+
+/// Decides which updates a store accepts, by the CSIs that all accepted updates leave and by the store's limit.
+///
+/// Contracts see the limit, how many updates are accepted, and a finite map from the IMSIs that have a record to the
+/// CSIs that are stored in it.
+#[derive(Debug, Drop)]
+pub struct Admission {
+    directory: Directory,
+    accepted: u64,
+    limit: u64,
+}
+
+impl Model for Admission {
+    ghost use Rattle.std.specs.Prelude.{◌≤◌};
+    ghost use Rattle.camel_rows.specs.Admission.{AdmissionData};
+    ghost use Rattle.camel_rows.specs.AdmissionCode.{admission_code};
+
+    ghost Value = { AdmissionData };
+
+    ghost coded = { admission_code };
+
+    ghost view = { λ a. record { limit = a.limit; accepted = a.accepted; directory = a.directory } };
+
+    ghost invariant = { λ a. a.accepted ≤ a.limit };
+}
+
+impl Admission {
+    /// No update is accepted yet, and at most `limit` ever are. It takes no memory yet.
+    pub fn new(alloc: Global, limit: u64) -> Admission
+        ensures { result ≡ no_admissions limit }
+    {
+        Admission {
+            directory: Directory::new(alloc),
+            accepted: 0,
+            limit,
+        }
+    }
+
+    /// How many updates are accepted.
+    pub fn accepted(&self) -> u64
+        ensures { result ≡ self.now.accepted }
+    {
+        self.accepted
+    }
+
+    /// The CSIs that an update leaves in the record of its IMSI, where it may be accepted; None where it leaves no
+    /// record. Nothing changes.
+    ///
+    /// Fails as `Records::check` with `UnidentifiedSubscriber` (5) and `DataMissing` (35) over the data that all accepted
+    /// updates leave, and then with `HistoryFull` (101) where as many are accepted as the limit.
+    pub fn check(&self, update: &Update) -> Result<Option<CsisPresent>, Refusal>
+        ensures refused { IfErr result (λ why. admission_refusal self.now update.now ≡ Some why) }
+        ensures taken { OnOk result (admission_refusal self.now update.now ≡ None) }
+        ensures room { OnOk result (self.now.accepted < self.now.limit) }
+        ensures csis { IfOk result (λ csis. csis ≡ csis_after (map.get self.now.directory (update_imsi update.now)) update.now) }
+    {
+        let csis = self.csis(&update.imsi());
+        check_update(csis, update)?;
+        if self.accepted == self.limit {
+            return Err(Refusal::HistoryFull);
+        }
+        Ok(csis_after(csis, update))
+    }
+
+    /// The CSIs that are stored in the record of an IMSI; None where there is no record.
+    pub fn csis(&self, imsi: &Imsi) -> Option<CsisPresent>
+        ensures { result ≡ map.get self.now.directory imsi.now }
+    {
+        self.directory.get(imsi)
+    }
+
+    /// Accepts an update that leaves a record with these CSIs, or no record. Fails with `AllocError` where memory is
+    /// refused; then it is not accepted.
+    pub fn accept(&mut self, imsi: Imsi, csis: Option<CsisPresent>) -> Result<(), AllocError>
+        requires { self.old.accepted < self.old.limit }
+        ensures accepted { OnOk result (self.new ≡ with_admission self.old imsi csis) }
+        ensures unchanged { OnErr result (self.new ≡ self.old) }
+    {
+        match csis {
+            Some(csis) => self.directory.insert(imsi, csis)?,
+            None => self.directory.remove(&imsi),
+        }
+        self.accepted += 1;
+        Ok(())
+    }
+
+    /// Accepts an update that leaves no record. It takes no memory.
+    pub fn accept_removal(&mut self, imsi: &Imsi)
+        requires { self.old.accepted < self.old.limit }
+        ensures { self.new ≡ with_admission self.old imsi.now None }
+    {
+        self.directory.remove(imsi);
+        self.accepted += 1;
+    }
+
+    /// Takes back the update that was accepted last and left a record, over the CSIs before it. It takes no memory.
+    pub fn take_back(&mut self, imsi: &Imsi, before: Option<CsisPresent>)
+        requires there { IsSome (map.get self.old.directory imsi.now) }
+        requires accepted { 1 ≤ self.old.accepted }
+        ensures { self.new ≡ record self.old {
+          accepted = self.old.accepted - 1;
+          directory = with_csis self.old.directory imsi.now before;
+        } }
+    {
+        self.directory.put_back(imsi, before);
+        self.accepted -= 1;
+    }
+}

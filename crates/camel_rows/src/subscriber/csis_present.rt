@@ -1,0 +1,85 @@
+ghost use Rattle.std.specs.Prelude.{◌≡◌, Some, None, IfErr, OnOk};
+ghost use Rattle.camel_rows.specs.CsisPresent.{csis_after, csis_refusal, lacks_csi};
+
+use crate::csi::Csi;
+use crate::csi::criteria_set::CriteriaSet;
+use crate::subscriber::update::Update;
+use camel_criteria::{CriteriaEntry, Refusal};
+
+/// Which CSIs are stored in the record of a subscriber.
+#[derive(Clone, Copy, Debug, PartialEq, Eq)]
+pub struct CsisPresent {
+    /// The O-CSI.
+    pub o: bool,
+    /// The VT-CSI.
+    pub vt: bool,
+}
+
+/// Whether an update may be applied to a record with these CSIs, or where there is no record.
+///
+/// Fails with `UnidentifiedSubscriber` (5) for an Insert or a Delete where there is no record, and with `DataMissing`
+/// (35) for an Insert of criteria without their CSI where that CSI is not stored.
+pub(crate) fn check_update(csis: Option<CsisPresent>, update: &Update) -> Result<(), Refusal>
+    ensures refused { IfErr result (λ why. csis_refusal csis update.now ≡ Some why) }
+    ensures accepted { OnOk result (csis_refusal csis update.now ≡ None) }
+{
+    match (update, csis) {
+        (Update::Register { .. } | Update::Cancel { .. }, _) => Ok(()),
+        (_, None) => Err(Refusal::UnidentifiedSubscriber),
+        (Update::Delete { .. }, Some(_)) => Ok(()),
+        (
+            Update::Insert {
+                o,
+                o_criteria,
+                vt,
+                t_criteria,
+                ..
+            },
+            Some(csis),
+        ) => {
+            if lacks_csi(csis.o, o, o_criteria) || lacks_csi(csis.vt, vt, t_criteria) {
+                return Err(Refusal::DataMissing);
+            }
+            Ok(())
+        }
+    }
+}
+
+/// Whether criteria come without their CSI, and that CSI is not stored.
+fn lacks_csi<const MOST: usize, E: CriteriaEntry>(
+    is_stored: bool,
+    csi: &Option<Csi<MOST>>,
+    criteria: &Option<CriteriaSet<E>>,
+) -> bool
+    ensures { result ≡ lacks_csi is_stored csi.now criteria.now }
+{
+    !is_stored && csi.is_none() && criteria.is_some()
+}
+
+/// The CSIs that an update which is not refused leaves in a record with these, or where there is no record; None where
+/// it leaves no record.
+pub(crate) fn csis_after(csis: Option<CsisPresent>, update: &Update) -> Option<CsisPresent>
+    ensures { result ≡ csis_after csis update.now }
+{
+    match update {
+        Update::Register { .. } => Some(CsisPresent {
+            o: false,
+            vt: false,
+        }),
+        Update::Insert { o, vt, .. } => {
+            let old = csis?;
+            Some(CsisPresent {
+                o: old.o || o.is_some(),
+                vt: old.vt || vt.is_some(),
+            })
+        }
+        Update::Delete { what, .. } => {
+            let old = csis?;
+            Some(CsisPresent {
+                o: old.o && !(what.o || what.everything),
+                vt: old.vt && !(what.vt || what.everything),
+            })
+        }
+        Update::Cancel { .. } => None,
+    }
+}

@@ -1,0 +1,29 @@
+ghost use Rattle.std.specs.Prelude.{◌≡◌, ◌≢◌, List, ℕ, Option, Some, None};
+ghost use Rattle.std.specs.FinMap as map;
+ghost use Rattle.camel_criteria.specs.Criteria.{OCriteriaData, TCriteriaData};
+ghost use Rattle.camel_rows.specs.TdpRow.{TdpRowData};
+ghost use Rattle.camel_rows.specs.Standard.{HasO, HasVt, csi_with};
+ghost use Rattle.camel_rows.specs.Records.{RecordsData};
+ghost use Rattle.camel_rows.specs.Update.{records_after, refusal, update_imsi};
+ghost use Rattle.camel_rows.specs.declared.subscriber.update.Update.{Update};
+
+/// A law of the definitions: an update changes the record of its own IMSI alone. It does nothing when it is called.
+pub fn updates_change_one_record()
+    ensures { (m : RecordsData) (update : Update) (imsi : List ℕ)
+        → imsi ≢ update_imsi update → map.get (records_after m update) imsi ≡ map.get m imsi }
+{}
+
+/// A law of the definitions: where a subscriber registers, and an Insert then brings a CSI and is not refused, that
+/// CSI stands with the criteria that came with it, whatever stood before. It does nothing when it is called.
+pub fn inserted_csi_stands()
+    ensures o { (m : RecordsData) (imsi : List ℕ) (rows : List TdpRowData) (o_criteria : Option (List OCriteriaData))
+        (vt : Option (List TdpRowData)) (t_criteria : Option (List TCriteriaData))
+        → refusal (records_after m (Update.Register imsi)) (Update.Insert imsi (Some rows) o_criteria vt t_criteria) ≡ None
+        → HasO (records_after (records_after m (Update.Register imsi)) (Update.Insert imsi (Some rows) o_criteria vt t_criteria))
+        imsi (csi_with rows o_criteria) }
+    ensures vt { (m : RecordsData) (imsi : List ℕ) (rows : List TdpRowData) (t_criteria : Option (List TCriteriaData))
+        (o : Option (List TdpRowData)) (o_criteria : Option (List OCriteriaData))
+        → refusal (records_after m (Update.Register imsi)) (Update.Insert imsi o o_criteria (Some rows) t_criteria) ≡ None
+        → HasVt (records_after (records_after m (Update.Register imsi)) (Update.Insert imsi o o_criteria (Some rows) t_criteria))
+        imsi (csi_with rows t_criteria) }
+{}

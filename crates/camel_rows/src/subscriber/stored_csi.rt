@@ -1,0 +1,93 @@
+ghost use Rattle.std.specs.Prelude.{◌≡◌, ◌≤◌, IfOk};
+ghost use Rattle.std.specs.Option.{option_copied};
+ghost use Rattle.camel_rows.specs.CsiChange.{changed_by};
+ghost use Rattle.camel_rows.specs.Subscriber.{entry_among, row_among};
+ghost use Rattle.camel_rows.specs.Update.{csi_after};
+
+use crate::csi::Csi;
+use crate::csi::criteria_set::CriteriaSet;
+use crate::csi::tdp_row::TdpRow;
+use crate::subscriber::csi_change::CsiChange;
+use camel_criteria::CriteriaEntry;
+use std::alloc::{AllocError, Global};
+use std::marker::Model;
+
+/// A CSI that is stored, with its criteria, if it has some.
+#[derive(Drop)]
+pub(crate) struct StoredCsi<const MOST: usize, E> {
+    // Boxed, so that the records of many subscribers lie close together in their table.
+    csi: Box<Csi<MOST>>,
+    criteria: Option<CriteriaSet<E>>,
+}
+
+impl<const MOST: usize, E> Model for StoredCsi<MOST, E> {
+    ghost use Rattle.std.specs.Prelude.{◌≤◌, [], unwrap_or};
+    ghost use Rattle.camel_rows.specs.Subscriber.{StoredCsiData};
+
+    ghost Value = { StoredCsiData E };
+
+    ghost view = { λ a. record { rows = a.csi.value; entries = unwrap_or a.criteria [] } };
+
+    ghost invariant = { λ a. MOST ≤ 3 };
+}
+
+impl<const MOST: usize, E: CriteriaEntry> StoredCsi<MOST, E> {
+    /// What an Insert makes of a stored CSI, where it brings this CSI and these criteria, if any.
+    pub(crate) fn after_insert(
+        alloc: Global,
+        stored: Option<&StoredCsi<MOST, E>>,
+        csi: Option<Csi<MOST>>,
+        criteria: &Option<CriteriaSet<E>>,
+    ) -> Result<CsiChange<StoredCsi<MOST, E>>, AllocError>
+        requires { MOST ≤ 3 }
+        ensures { IfOk result (λ change.
+            changed_by change (option_copied stored.entry) ≡ csi_after (option_copied stored.entry) csi.entry criteria.now) }
+    {
+        let csi = match (csi, stored, criteria) {
+            (Some(csi), _, _) => csi,
+            (None, Some(stored), Some(_)) => *stored.csi,
+            _ => return Ok(CsiChange::Keep),
+        };
+        Ok(CsiChange::Replace(StoredCsi {
+            csi: Box::new(alloc, csi)?,
+            criteria: criteria.clone()?,
+        }))
+    }
+
+    pub(crate) fn csi(&self) -> &Csi<MOST>
+        ensures { result.now ≡ self.now.rows }
+    {
+        &self.csi
+    }
+
+    pub(crate) fn criteria(&self) -> Option<&CriteriaSet<E>> {
+        self.criteria.as_ref()
+    }
+
+    /// The row of a detection point, where it is armed.
+    pub(crate) fn row(&self, dp: u8) -> Option<&TdpRow>
+        ensures { option_copied result ≡ row_among dp self.now.rows }
+    {
+        self.csi.row(dp)
+    }
+
+    /// The entry of a detection point, where there is one.
+    pub(crate) fn entry(&self, dp: u8) -> Option<&E>
+        ensures { option_copied result ≡ entry_among E.dp_of dp self.now.entries }
+    {
+        self.criteria.as_ref()?.entry(dp)
+    }
+}
+
+impl<const MOST: usize, E: CriteriaEntry> Clone for StoredCsi<MOST, E> {
+    ghost use Rattle.std.specs.Prelude.{◌≡◌};
+
+    ghost is_clone = { λ old new. new ≡ old };
+
+    fn clone(&self) -> Result<StoredCsi<MOST, E>, AllocError> {
+        Ok(StoredCsi {
+            csi: self.csi.clone()?,
+            criteria: self.criteria.clone()?,
+        })
+    }
+}

@@ -1,9 +1,0 @@
-use Rattle.std.proofs.Common.{◌≡◌, drop}
-use Rattle.csv.specs.Records.{fields_of}
-use Rattle.camel_script.specs.Reading.{in_turn}
-use Rattle.camel_script.specs.Record.{nothing, what_into}
-use Rattle.camel_script.proofs.record.delete.withdrawal.Given as goal
-
--- what is named so far, with the texts that are left, is what all texts name
-abbrev pub invariant-loop-at : goal.invariant-loop-at
-invariant-loop-at l = in_turn what_into l.what (drop l.at (fields_of l.fields)) ≡ in_turn what_into nothing (drop 2 (fields_of l.fields))

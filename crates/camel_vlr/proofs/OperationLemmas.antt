@@ -1,0 +1,30 @@
+-- Operations, and the updates among them.
+use Rattle.std.proofs.Common.{◌≡◌, ◌∙◌, ◌+◌, ◌-◌, ◌^◌, ◌≤◌, List, [], ◌∷◌, ◌++◌, length, drop, fold, min, sym, refl, ap, subst, arith, add-zero}
+use Rattle.std.proofs.Math.Seq.{drop-append_seam}
+use Rattle.camel_rows.specs.Front.{Extends}
+use Rattle.camel_rows.specs.Update.{records_from}
+use Rattle.camel_rows.specs.declared.subscriber.update.Update.{Update}
+use Rattle.camel_vlr.specs.Operation.{CopyData, copy_after, updates_among}
+use Rattle.camel_vlr.specs.declared.writer.TheConstants.{MAX_UPDATES}
+use Rattle.camel_vlr.specs.declared.writer.operation.Operation.{Operation}
+use Rattle.camel_vlr.specs.declared.writer.operation.Operation.TheVariants as operation
+
+pub updates_among-append : (first second : List Operation) → updates_among (first ++ second) ≡ updates_among first ++ updates_among second
+updates_among-append [] second = refl
+updates_among-append (operation.Update update ∷ first) second = ap (λ updates. update ∷ updates) (updates_among-append first second)
+updates_among-append (operation.Front front ∷ first) second = updates_among-append first second
+
+-- all operations leave the data that their updates leave, and count them
+pub fold-copy_after : (copy : CopyData) (operations : List Operation) → copy.1 + length (updates_among operations) ≤ MAX_UPDATES
+    → ((fold copy_after copy operations).0 ≡ records_from copy.0 (updates_among operations)) × ((fold copy_after copy operations).1 ≡ copy.1 + length (updates_among operations))
+fold-copy_after copy [] few = (refl, sym (add-zero copy.1))
+fold-copy_after copy (operation.Update update ∷ operations) few =
+    let next : min (copy.1 + 1) (2 ^ 64 - 1) ≡ copy.1 + 1 = omega arith in
+    let rest = fold-copy_after (copy_after copy (operation.Update update)) operations (omega (arith, next)) in
+    (rest.0, rest.1 ∙ omega (arith, next))
+fold-copy_after copy (operation.Front front ∷ operations) few = fold-copy_after (copy.0, copy.1, front) operations few
+
+-- what stands behind a list in one that extends it
+pub behind : (all list : List Update) → Extends all list → list ++ drop (length list) all ≡ all
+behind all list (r, p) =
+    subst (λ (z : List Update). list ++ drop (length list) z ≡ z) p (ap (λ z. list ++ z) (drop-append_seam list r))

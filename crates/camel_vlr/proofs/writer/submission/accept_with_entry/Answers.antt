@@ -1,0 +1,13 @@
+use Rattle.std.proofs.Common.{◌∙◌, rules}
+use Rattle.camel_vlr.proofs.DirectoryLemmas.{get-put, taken_back}
+use Rattle.camel_vlr.proofs.writer.submission.accept_with_entry.Goals as goal
+
+pub take_back-requires-clause-there : goal.take_back-requires-clause-there
+take_back-requires-clause-there c =
+    let d = c.args.admission.now.directory in
+    rw (c.in_ok-accept.ensures.accepted, get-put d c.args.imsi c.args.csis) (search rules)
+
+pub returns-in-Err-clause-unchanged : goal.returns-in-Err-clause-unchanged
+returns-in-Err-clause-unchanged c =
+    let d = c.args.admission.now in
+    c.take_back.ensures ∙ rw (c.in_ok-accept.ensures.accepted, c.csis-before.ensures) (taken_back d c.args.imsi c.args.csis)

@@ -1,0 +1,29 @@
+-- What an operation of the writer does to a copy.
+use Rattle.std.specs.Prelude.{ℕ, ◌+◌, ◌-◌, ◌^◌, min, List, [], ◌∷◌, drop}
+use Rattle.left_right.specs.declared.Absorb.{Ghosts}
+use Rattle.left_right.specs.declared.writer.Writer.{Writer}
+use Rattle.camel_vlr.specs.Prefix.{PrefixData}
+use Rattle.camel_rows.specs.Records.{RecordsData}
+use Rattle.camel_rows.specs.Update.{records_after}
+use Rattle.camel_rows.specs.declared.subscriber.update.Update.{Update}
+use Rattle.camel_vlr.specs.declared.writer.operation.Operation.{Operation}
+use Rattle.camel_vlr.specs.declared.writer.operation.Operation.TheVariants as operation
+
+-- the data of a copy, its count of updates, and its front
+abbrev pub CopyData : Type 0
+CopyData = RecordsData × ℕ × PrefixData
+
+-- an update changes the data, and counts; the count stays at the greatest u64, which no front reaches
+abbrev pub copy_after : CopyData → Operation → CopyData
+copy_after copy (operation.Update update) = (records_after copy.0 update, min (copy.1 + 1) (2 ^ 64 - 1), copy.2)
+copy_after copy (operation.Front front) = (copy.0, copy.1, front)
+
+-- the updates among operations
+abbrev pub updates_among : List Operation → List Update
+updates_among [] = []
+updates_among (operation.Update update ∷ operations) = update ∷ updates_among operations
+updates_among (operation.Front front ∷ operations) = updates_among operations
+
+-- the operations that are pending
+abbrev pub pending_operations : {T O V P A S : Type 0} {g : Ghosts T O S} → Writer T O V P A S g → List O
+pending_operations writer = drop writer.behind writer.log.items
