@@ -4,7 +4,9 @@ use crate::given::{
 };
 use camel_criteria::{BasicService, Handling};
 use camel_fixtures::{DESTINATION, TELEPHONY, imsi_of};
-use camel_rows::{Reason, Records, Update, decisions_mean, on_failure};
+use camel_rows::{
+    CallEvent, Decision, Reason, Records, Update, decide_in, decisions_mean, on_failure,
+};
 use camel_tbcd::Imsi;
 use std::alloc::Global;
 use std::process::Abort;
@@ -115,7 +117,20 @@ fn a_call_is_decided_by_the_record_of_its_own_subscriber(rt: HostRuntime) -> Res
 fn check_call_of(rt: &impl Abort, records: &Records, imsi: Imsi, wanted: Told) -> Result<(), Fail> {
     let call = call_at(2, imsi, TELEPHONY, &DESTINATION, 0)?;
     assert_eq!(rt; told(rt, records, &call), wanted, "{imsi:?}");
+    assert_eq!(rt;
+        key_in(records, &call),
+        wanted.map(|(_, key, _)| key),
+        "{imsi:?}"
+    );
     Ok(())
+}
+
+/// The service key of the row that triggers, borrowed from the records, or the reason.
+fn key_in(records: &Records, call: &CallEvent) -> Result<u32, Reason> {
+    match decide_in(records, &call.lend()) {
+        Decision::Trigger { row, .. } => Ok(row.key()),
+        Decision::NoTrigger(reason) => Err(reason),
+    }
 }
 
 #[test]

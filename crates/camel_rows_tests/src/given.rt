@@ -3,10 +3,10 @@
 use camel_criteria::{
     BasicService, CallType, Cause, MatchType, NumberCriterion, OCriteria, Refusal, TCriteria,
 };
-use camel_fixtures::{DESTINATION, SCF, first_octet, imsi_of, numbers_of, row_of};
+use camel_fixtures::{DESTINATION, SCF, imsi_of, numbers_of, row_of};
 use camel_rows::{
-    CallAction, CallEvent, Lent, OCriteriaSet, OCsi, Outcome, Reason, Records, Subscriber,
-    TCriteriaSet, TdpRow, Update, VtCsi, decide_in, on_failure,
+    CallAction, CallEvent, OCriteriaSet, OCsi, Outcome, Reason, Records, TCriteriaSet, TdpRow,
+    Update, VtCsi, on_failure,
 };
 use camel_tbcd::{CallAddress, Imsi};
 use std::alloc::Global;
@@ -223,8 +223,7 @@ pub(crate) type Told = Result<(u8, u32, CallAction), Reason>;
 
 /// What is told of an event. Each service is at the one gsmSCF address.
 pub(crate) fn told(rt: &impl Abort, records: &Records, call: &CallEvent) -> Told {
-    let event = call.lend();
-    match Outcome::of(&decide_in(records, &event)) {
+    match Outcome::decide(records, call) {
         Outcome::Trigger {
             dp,
             key,
@@ -248,70 +247,4 @@ pub(crate) fn check_calls(rt: &impl Abort, records: &Records, calls: &[Call]) ->
         assert_eq!(rt; told(rt, records, &call), *wanted, "{call:?}");
     }
     Ok(())
-}
-
-/// A half where it is stored: the service key and the mark of the entry of one of its detection points.
-pub(crate) type Half = Option<(Option<u32>, Option<u8>)>;
-
-/// Both halves of a record, that of the O-CSI at detection point 2 and that of the VT-CSI at 12.
-pub(crate) fn halves_in(records: &Records, imsi: &Imsi) -> Option<(Half, Half)> {
-    let subscriber = records.get(imsi)?;
-    Some((
-        half_at(subscriber, subscriber.o().is_some(), 2),
-        half_at(subscriber, subscriber.vt().is_some(), 12),
-    ))
-}
-
-pub(crate) fn half_at(subscriber: &Subscriber, is_stored: bool, dp: u8) -> Half {
-    if !is_stored {
-        return None;
-    }
-    let mark = match subscriber.criteria(dp) {
-        Some(Lent::O(entry)) => first_octet(entry.basic()),
-        Some(Lent::T(entry)) => first_octet(entry.basic()),
-        None => None,
-    };
-    Some((subscriber.row(dp).map(|row| row.key()), mark))
-}
-
-/// The Insert of an O-CSI, its criteria, a VT-CSI and its criteria, where they are told. Each has one item: a row
-/// at detection point 2 or 12 with this service key, or an entry there with this mark. 0 is an ignored item.
-pub(crate) fn marked_insert(
-    alloc: Global,
-    imsi: Imsi,
-    brought: [Option<u8>; 4],
-) -> Result<Update, Refusal> {
-    let [key, mark, vt_key, t_mark] = brought;
-    let (row, entry) = (marked_row(key, 2), marked_o(mark));
-    let (vt_row, t_entry) = (marked_row(vt_key, 12), marked_t(t_mark));
-    let items = Items {
-        o: row.as_slice(),
-        o_criteria: entry.as_slice(),
-        vt: vt_row.as_slice(),
-        t_criteria: t_entry.as_slice(),
-    };
-    insert(alloc, imsi, &items)
-}
-
-pub(crate) fn marked_row(key: Option<u8>, dp: u8) -> Option<PlainRow> {
-    let key = key?;
-    Some(PlainRow(point_of(key, dp), u32::from(key), 0))
-}
-
-pub(crate) fn marked_o(mark: Option<u8>) -> Option<PlainO> {
-    let mark = mark?;
-    Some(PlainO {
-        dp: point_of(mark, 2),
-        basic: Some(BasicService::Tele(mark)),
-        ..BARE
-    })
-}
-
-pub(crate) fn marked_t(mark: Option<u8>) -> Option<PlainT> {
-    let mark = mark?;
-    Some(PlainT(point_of(mark, 12), Some(BasicService::Tele(mark)), None))
-}
-
-pub(crate) fn point_of(number: u8, dp: u8) -> u8 {
-    if number == 0 { 3 } else { dp }
 }

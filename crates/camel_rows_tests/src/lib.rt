@@ -14,4 +14,6 @@ mod events;
 #[cfg(test)]
 mod given;
 #[cfg(test)]
+mod marked;
+#[cfg(test)]
 mod updates;

@@ -1,7 +1,7 @@
 use crate::given::{
-    BARE, CONTINUE, Half, Items, NOTHING, ONE_ROW, OTHERS, PlainO, PlainRow, base, bring,
-    check_calls, halves_in, marked_insert,
+    BARE, CONTINUE, Items, NOTHING, ONE_ROW, OTHERS, PlainO, PlainRow, base, bring, check_calls,
 };
+use crate::marked::{Stored, csis_in, marked_insert};
 use camel_criteria::Refusal;
 use camel_fixtures::{O_ALONE, TELEPHONY, imsi_of};
 use camel_rows::{
@@ -44,16 +44,16 @@ fn criteria_without_their_csi_are_refused_with_all_that_comes_with_them(
     check_calls(&rt, &records, &[(12, TELEPHONY, 0, Err(Reason::NoCsi))])
 }
 
-/// A half with a row, with a row and an entry, and with an entry alone.
-fn bare(key: u32) -> Half {
+/// A stored CSI with a row, with a row and an entry, and with an entry alone.
+fn bare(key: u32) -> Stored {
     Some((Some(key), None))
 }
 
-fn held(key: u32, mark: u8) -> Half {
+fn held(key: u32, mark: u8) -> Stored {
     Some((Some(key), Some(mark)))
 }
 
-fn mark(mark: u8) -> Half {
+fn mark(mark: u8) -> Stored {
     Some((None, Some(mark)))
 }
 
@@ -66,13 +66,13 @@ fn an_insert_replaces_what_it_brings_and_leaves_the_rest(rt: HostRuntime) -> Res
 }
 
 fn check_all_inserts(rt: &impl Abort, alloc: Global, records: &mut Records) -> Result<(), Fail> {
-    check_inserts_of_one_half(rt, alloc, records)?;
+    check_inserts_of_one_csi(rt, alloc, records)?;
     check_inserts_of_both(rt, alloc, records)?;
     check_inserts_of_ignored_items(rt, alloc, records)
 }
 
-/// What an Insert brings, of the O-CSI, its criteria, the VT-CSI and its criteria; the answer; and both halves after it.
-type InsertCase = ([Option<u8>; 4], Result<(), u16>, Half, Half);
+/// What an Insert brings, of the O-CSI, its criteria, the VT-CSI and its criteria; the answer; and both CSIs after it.
+type InsertCase = ([Option<u8>; 4], Result<(), u16>, Stored, Stored);
 
 /// Each Insert follows those before it.
 fn check_inserts(
@@ -88,12 +88,12 @@ fn check_inserts(
         assert_eq!(rt; checked, *wanted, "{brought:?}");
         let applied = numbered(records.apply(&update));
         assert_eq!(rt; applied, *wanted, "{brought:?}");
-        assert_eq!(rt; halves_in(records, &imsi), Some((*o, *vt)), "{brought:?}");
+        assert_eq!(rt; csis_in(records, &imsi), Some((*o, *vt)), "{brought:?}");
     }
     Ok(())
 }
 
-fn check_inserts_of_one_half(
+fn check_inserts_of_one_csi(
     rt: &impl Abort,
     alloc: Global,
     records: &mut Records,
@@ -147,7 +147,7 @@ fn check_inserts_of_ignored_items(
     alloc: Global,
     records: &mut Records,
 ) -> Result<(), Fail> {
-    let empty: Half = Some((None, None));
+    let empty: Stored = Some((None, None));
     check_inserts(
         rt,
         alloc,
@@ -160,7 +160,7 @@ fn check_inserts_of_ignored_items(
     )
 }
 
-const NEITHER_HALF: Withdrawal = Withdrawal {
+const NEITHER_CSI: Withdrawal = Withdrawal {
     o: false,
     vt: false,
     everything: false,
@@ -168,10 +168,10 @@ const NEITHER_HALF: Withdrawal = Withdrawal {
 
 const VT_ALONE: Withdrawal = Withdrawal {
     vt: true,
-    ..NEITHER_HALF
+    ..NEITHER_CSI
 };
 
-const BOTH_HALVES: Withdrawal = Withdrawal {
+const BOTH_CSIS: Withdrawal = Withdrawal {
     vt: true,
     ..O_ALONE
 };
@@ -185,20 +185,20 @@ const fn everything(what: Withdrawal) -> Withdrawal {
 }
 
 #[test]
-fn a_withdrawal_removes_each_half_that_it_names(rt: HostRuntime) -> Result<(), Fail> {
+fn a_withdrawal_removes_each_csi_that_it_names(rt: HostRuntime) -> Result<(), Fail> {
     let (o, vt) = (held(1, 2), held(3, 4));
     check_withdrawals(
         &rt,
         rt.alloc(),
         &[
-            (NEITHER_HALF, (o, vt)),
+            (NEITHER_CSI, (o, vt)),
             (O_ALONE, (None, vt)),
             (VT_ALONE, (o, None)),
-            (BOTH_HALVES, (None, None)),
-            (everything(NEITHER_HALF), (None, None)),
+            (BOTH_CSIS, (None, None)),
+            (everything(NEITHER_CSI), (None, None)),
             (everything(O_ALONE), (None, None)),
             (everything(VT_ALONE), (None, None)),
-            (everything(BOTH_HALVES), (None, None)),
+            (everything(BOTH_CSIS), (None, None)),
         ],
     )
 }
@@ -206,30 +206,30 @@ fn a_withdrawal_removes_each_half_that_it_names(rt: HostRuntime) -> Result<(), F
 fn check_withdrawals(
     rt: &impl Abort,
     alloc: Global,
-    cases: &[(Withdrawal, (Half, Half))],
+    cases: &[(Withdrawal, (Stored, Stored))],
 ) -> Result<(), Fail> {
-    for (what, halves) in cases {
+    for (what, csis) in cases {
         let mut records = base(alloc, &NOTHING)?;
-        check_withdrawal(rt, alloc, &mut records, *what, Some(*halves))?;
+        check_withdrawal(rt, alloc, &mut records, *what, Some(*csis))?;
     }
     Ok(())
 }
 
-/// A subscriber who has registered is sent both halves, and then the withdrawal twice.
+/// A subscriber who has registered is sent both CSIs, and then the withdrawal twice.
 fn check_withdrawal(
     rt: &impl Abort,
     alloc: Global,
     records: &mut Records,
     what: Withdrawal,
-    halves: Option<(Half, Half)>,
+    csis: Option<(Stored, Stored)>,
 ) -> Result<(), Fail> {
     let imsi = imsi_of(1)?;
     records.apply(&marked_insert(alloc, imsi, [Some(1), Some(2), Some(3), Some(4)])?)?;
     records.apply(&Update::Delete { imsi, what })?;
-    assert_eq!(rt; halves_in(records, &imsi), halves, "{what:?}");
+    assert_eq!(rt; csis_in(records, &imsi), csis, "{what:?}");
     // What is named and not there any more is no fault.
     assert_eq!(rt; records.apply(&Update::Delete { imsi, what }), Ok(()));
-    assert_eq!(rt; halves_in(records, &imsi), halves, "{what:?}");
+    assert_eq!(rt; csis_in(records, &imsi), csis, "{what:?}");
     Ok(())
 }
 
@@ -281,13 +281,13 @@ fn check_cancelled(rt: &impl Abort, records: &mut Records) -> Result<(), Fail> {
 }
 
 #[test]
-fn one_half_comes_and_goes_without_the_other(rt: HostRuntime) -> Result<(), Fail> {
+fn one_csi_comes_and_goes_without_the_other(rt: HostRuntime) -> Result<(), Fail> {
     let mut records = base(rt.alloc(), &ONE_ROW)?;
-    check_halves(&rt, rt.alloc(), &mut records)
+    check_both_csis(&rt, rt.alloc(), &mut records)
 }
 
 /// The VT-CSI comes to the O-CSI, which is then withdrawn, and a new registration leaves neither.
-fn check_halves(rt: &impl Abort, alloc: Global, records: &mut Records) -> Result<(), Fail> {
+fn check_both_csis(rt: &impl Abort, alloc: Global, records: &mut Records) -> Result<(), Fail> {
     let imsi = imsi_of(1)?;
     let items = Items {
         vt: &[PlainRow(12, 300, 0)],

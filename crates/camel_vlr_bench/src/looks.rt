@@ -1,5 +1,6 @@
-use crate::data::{EVENTS, events, imsi_of, insert};
+use crate::data::{EVENTS, events};
 use crate::publications::{Concerned, batches, filled, with_csi};
+use camel_fixtures::{criteria_update, imsi_of};
 use camel_rows::{CallEvent, Decision, Records, Update, decide_in};
 use camel_vlr::Session;
 use std::alloc::Global;
@@ -17,10 +18,10 @@ pub(crate) fn over_records<R: Clock>(
 ) -> Option<u64> {
     let mut records = Records::new(alloc);
     for number in 0..subscribers {
-        let imsi = imsi_of(number)?;
+        let imsi = imsi_of(number).ok()?;
         records.apply(&Update::Register { imsi }).ok()?;
         if number < with_csi(subscribers) {
-            records.apply(&insert(alloc, imsi).ok()?).ok()?;
+            records.apply(&criteria_update(alloc, imsi).ok()?).ok()?;
         }
     }
     let events = events(alloc, subscribers)?;

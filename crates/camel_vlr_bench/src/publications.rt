@@ -1,4 +1,5 @@
-use crate::data::{imsi_of, insert, next};
+use crate::data::next;
+use camel_fixtures::{criteria_update, imsi_of};
 use camel_rows::Update;
 use camel_vlr::{Session, Vlr};
 use std::alloc::Global;
@@ -52,10 +53,10 @@ pub(crate) fn with_csi(subscribers: u64) -> u64 {
 
 fn fill<R: Wait>(rt: &R, alloc: Global, store: &mut Vlr, subscribers: u64) -> Option<()> {
     for number in 0..subscribers {
-        let imsi = imsi_of(number)?;
+        let imsi = imsi_of(number).ok()?;
         store.submit(Update::Register { imsi }).ok()?;
         if number < with_csi(subscribers) {
-            store.submit(insert(alloc, imsi).ok()?).ok()?;
+            store.submit(criteria_update(alloc, imsi).ok()?).ok()?;
         }
         if number % 1000 == 999 {
             store.publish(rt).ok()?;
@@ -106,8 +107,8 @@ fn submitted(
     let mut state = state;
     for _ in 0..updates {
         state = next(state);
-        let imsi = imsi_of(concerned.one(state))?;
-        store.submit(insert(alloc, imsi).ok()?).ok()?;
+        let imsi = imsi_of(concerned.one(state)).ok()?;
+        store.submit(criteria_update(alloc, imsi).ok()?).ok()?;
     }
     Some(state)
 }
