@@ -12,7 +12,7 @@ pub const MAX_ISDN_ADDRESS_LENGTH: usize = 9;
 /// An ISDN-AddressString of TS 29.002, as a gsmSCF address or a number of a criterion: 1 to 9 octets.
 ///
 /// Contracts see it as the list of its octets.
-#[derive(Clone, Copy, Debug)]
+#[derive(Clone, Copy, Debug, PartialEq, Eq)]
 pub struct IsdnAddress {
     octets: ShortList<MAX_ISDN_ADDRESS_LENGTH>,
 }

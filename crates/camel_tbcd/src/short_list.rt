@@ -5,7 +5,7 @@ use std::marker::Model;
 /// At most `MOST` octets or digits, which contracts see as a list.
 ///
 /// They are kept in place, so that a list of them is `Copy` and takes no memory.
-#[derive(Clone, Copy, Debug)]
+#[derive(Clone, Copy, Debug, PartialEq, Eq)]
 pub struct ShortList<const MOST: usize> {
     // The items, and 0 from `len` on, so that equal lists have equal fields.
     room: [u8; MOST],

@@ -9,7 +9,7 @@ use camel_criteria::Handling;
 use camel_tbcd::IsdnAddress;
 
 /// A decision with the row's four values, or the reason why no service is invoked.
-#[derive(Clone, Copy, Debug)]
+#[derive(Clone, Copy, Debug, PartialEq, Eq)]
 pub enum Outcome {
     /// The service with this service key is invoked at this gsmSCF address; `handling` is the default call
     /// handling.
@@ -49,7 +49,7 @@ impl Outcome {
 
 /// The outcome of an event, with the front over whose data it was decided: a list of accepted updates, told
 /// by its length.
-#[derive(Clone, Copy, Debug)]
+#[derive(Clone, Copy, Debug, PartialEq, Eq)]
 pub struct Answer {
     /// How many updates the front has.
     pub front: u64,
