@@ -48,7 +48,7 @@ pub fn decide_in<'r>(records: &'r Records, event: &Event) -> Decision<'r>
     let Some(subscriber) = records.get(&event.imsi()) else {
         return Decision::NoTrigger(Reason::Unknown);
     };
-    match event.shown() {
+    match event.show() {
         Shown::O(shown) => decide_by(subscriber.stored_o(), event, &shown),
         Shown::T(shown) => decide_by(subscriber.stored_vt(), event, &shown),
     }

@@ -116,7 +116,7 @@ pub(crate) enum Shown<'a> {
 
 impl<'a> TdpEvent<Address<'a>> {
     /// What it shows to the criteria that it is tested against.
-    pub(crate) fn shown(&self) -> Shown<'a>
+    pub(crate) fn show(&self) -> Shown<'a>
         ensures { shown_data result ≡ shown_of (event_data self.now) }
     {
         match *self {
