@@ -1,9 +1,9 @@
 -- What is published in a run is a front, and only grows.
 use base.Growing.{prefix_trans}
-use Rattle.std.proofs.Common.{◌≡◌, ◌∙◌, ℕ, List, [], ◌∷◌, ◌++◌, Option, Some, None, refl, sym, ap, subst, arith}
+use Rattle.std.proofs.Common.{◌≡◌, ◌∙◌, ℕ, List, [], ◌∷◌, ◌++◌, Option, Some, None, refl, sym, ap, subst}
 use Rattle.std.proofs.lemmas.List.{append-nil}
 use Rattle.camel_criteria.specs.declared.refusal.Refusal.{Refusal}
-use Rattle.camel_rows.proofs.StoreLemmas.{IsFront-published, IsFront-with_update}
+use Rattle.camel_rows.proofs.StoreLemmas.{IsFront-empty, IsFront-published, IsFront-with_update}
 use Rattle.camel_rows.specs.Front.{Extends, IsFront}
 use Rattle.camel_rows.specs.Store.{Updates, accepted_updates, no_updates, store_refusal}
 use Rattle.camel_rows.specs.declared.subscriber.update.Update.{Update}
@@ -34,8 +34,7 @@ AreFront-from limit updates (next_record ∷ records) front =
 
 pub published_is_front : (limit : ℕ) (records : List Record) → IsFront limit (published_after limit records)
 published_is_front limit records =
-    let nothing : AreFront limit no_updates = record { accepted = tt; few = omega arith } in
-    IsFront-published limit (updates_from limit no_updates records) (AreFront-from limit no_updates records nothing)
+    IsFront-published limit (updates_from limit no_updates records) (AreFront-from limit no_updates records (IsFront-empty limit))
 
 published-after_submission : (updates : Updates) (update : Update) (why : Option Refusal) → (after_submission updates update why).published ≡ updates.published
 published-after_submission updates update None = refl

@@ -2,7 +2,7 @@
 use Rattle.std.proofs.Common.{◌≡◌, ◌∙◌, ℕ, List, [], ◌∷◌, ◌++◌, ◌<◌, length, get_or, drop, None, refl, sym, ap, subst, arith, append_assoc}
 use Rattle.std.specs.FinMap as map
 use Rattle.camel_rows.proofs.AdmissionLemmas.{IsAdmissionOf-empty}
-use Rattle.camel_rows.proofs.StoreLemmas.{IsAdmissionOf-with_update, IsFront-with_update, admits, first-pending}
+use Rattle.camel_rows.proofs.StoreLemmas.{IsAdmissionOf-with_update, IsFront-empty, IsFront-with_update, admits, first-pending}
 use Rattle.camel_rows.proofs.UpdateLemmas.{records_from-append}
 use Rattle.camel_rows.specs.Admission.{AdmissionData, admission_refusal, no_admissions, with_admission}
 use Rattle.camel_rows.specs.CsisPresent.{csis_after}
@@ -15,7 +15,7 @@ use Rattle.camel_replay_lib.specs.Store.{IsSound}
 -- those of a store that is empty
 pub IsSound-new : (limit : ℕ) → IsSound (no_admissions limit) no_records no_updates
 IsSound-new limit = record {
-  front = record { accepted = tt; few = omega arith };
+  front = IsFront-empty limit;
   admits = IsAdmissionOf-empty limit;
   published = refl;
 }

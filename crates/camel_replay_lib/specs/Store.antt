@@ -1,9 +1,9 @@
 -- What a store of one thread keeps.
-use Rattle.std.specs.Prelude.{◌≡◌, ℕ, length}
-use Rattle.camel_rows.specs.Admission.{AdmissionData, IsAdmissionOf}
+use Rattle.std.specs.Prelude.{◌≡◌, ℕ}
+use Rattle.camel_rows.specs.Admission.{AdmissionData}
 use Rattle.camel_rows.specs.Front.{IsFront}
 use Rattle.camel_rows.specs.Records.{RecordsData}
-use Rattle.camel_rows.specs.Store.{Updates, accepted_updates, no_updates}
+use Rattle.camel_rows.specs.Store.{IsAdmissionOfUpdates, Updates, accepted_updates, no_updates}
 use Rattle.camel_rows.specs.Update.{records_of}
 use Rattle.camel_script.specs.declared.record.Record.{Record}
 use Rattle.camel_replay_lib.specs.Output.{updates_after}
@@ -23,5 +23,5 @@ store_after store script_record = record { limit = store.limit; updates = update
 -- The fields of a store agree: its updates are a front, the admission is theirs, and the records are those of the published ones.
 pub record IsSound (admission : AdmissionData) (records : RecordsData) (updates : Updates) : Type 0 where
   pub front : IsFront admission.limit (accepted_updates updates)
-  pub admits : IsAdmissionOf admission admission.limit (length (accepted_updates updates)) (records_of (accepted_updates updates))
+  pub admits : IsAdmissionOfUpdates admission admission.limit updates
   pub published : records ≡ records_of updates.published

@@ -1,11 +1,14 @@
--- An admission refuses an update as the data do, or since the store is full, and goes with them from update to update.
-use Rattle.std.proofs.Common.{◌≡◌, ◌+◌, ◌==◌, ℕ, None, refl, ap}
+-- An admission refuses an update as the data do, or since the store is full, goes with them from update to update, and is as before
+-- where an acceptance is taken back.
+use Rattle.std.proofs.Common.{◌≡◌, ◌+◌, ◌-◌, ◌==◌, ℕ, List, Some, None, refl, ap, arith}
 use Rattle.std.specs.FinMap as map
-use Rattle.camel_rows.proofs.DirectoryLemmas.{IsDirectoryOf-after, IsDirectoryOf-empty, same_refusal}
+use Rattle.camel_rows.proofs.DirectoryLemmas.{IsDirectoryOf-after, IsDirectoryOf-empty, put_back-same, same_refusal}
 use Rattle.camel_rows.specs.Admission.{AdmissionData, IsAdmissionOf, admission_refusal, no_admissions, refusal_or_full, with_admission}
+use Rattle.camel_rows.specs.ByImsi.{with_value}
 use Rattle.camel_rows.specs.CsisPresent.{csis_after}
 use Rattle.camel_rows.specs.Records.{RecordsData, no_records}
 use Rattle.camel_rows.specs.Update.{records_after, refusal, update_imsi}
+use Rattle.camel_rows.specs.declared.subscriber.csis_present.CsisPresent.{CsisPresent}
 use Rattle.camel_rows.specs.declared.subscriber.update.Update.{Update}
 
 pub admission-refusal : (admission : AdmissionData) (limit count : ℕ) (m : RecordsData) (update : Update) → IsAdmissionOf admission limit count m
@@ -24,3 +27,13 @@ IsAdmissionOf-after admission limit count m update is accepted = record {
 
 pub IsAdmissionOf-empty : (limit : ℕ) → IsAdmissionOf (no_admissions limit) limit 0 no_records
 IsAdmissionOf-empty limit = record { same_limit = refl; same_count = refl; directory = IsDirectoryOf-empty }
+
+-- an acceptance that is taken back leaves the admission before it
+pub taken_back : (admission : AdmissionData) (imsi : List ℕ) (csis : CsisPresent)
+    → record (with_admission admission imsi (Some csis)) {
+      accepted = admission.accepted + 1 - 1;
+      directory = with_value (map.insert admission.directory imsi csis) imsi (map.get admission.directory imsi);
+    } ≡ admission
+taken_back admission imsi csis =
+    let back : admission.accepted + 1 - 1 ≡ admission.accepted = omega arith in
+    rw (back, put_back-same admission.directory imsi csis) refl

@@ -1,15 +1,21 @@
--- A directory decides about refusals as the data do, and goes with them from update to update.
+-- A directory decides about refusals as the data do, goes with them from update to update, and is as before where an entry is put back.
 use Rattle.std.proofs.Common.{◌≡◌, ◌∙◌, ℕ, Bool, true, false, List, Option, Some, None, cond, is_some, refl, sym, ap, ◌||◌}
+use Rattle.std.proofs.lemmas.Bool.{cond-false, cond_both}
+use Rattle.std.proofs.lemmas.Map.Lookups.{exact_bytes}
+use Rattle.std.proofs.lemmas.Map.Views.{tells_apart}
 use Rattle.std.specs.Cmp.Lexicographic.{slice_cmp, nat_list_cmp_total}
 use Rattle.std.specs.FinMap as map
+use Rattle.std.specs.FinMap.{same_map}
 use Rattle.std.specs.Option.{option_map}
 use Rattle.std.specs.Ordering.{nat_cmp, eq_by_cmp}
+use Rattle.camel_rows.proofs.RecordsTable.{get-with_value}
+use Rattle.camel_rows.specs.ByImsi.{with_value}
 use Rattle.camel_rows.specs.TdpRow.{TdpRowData}
 use Rattle.camel_rows.specs.Records.{RecordsData}
-use Rattle.camel_rows.specs.CsisPresent.{csis_after, csis_of, csis_refusal}
-use Rattle.camel_rows.specs.Directory.{IsDirectoryOf, DirectoryData, with_csis}
+use Rattle.camel_rows.specs.CsisPresent.{csis_after, csis_of, csis_refusal, removes_o, removes_vt}
+use Rattle.camel_rows.specs.Directory.{IsDirectoryOf, DirectoryData}
 use Rattle.camel_rows.specs.Subscriber.{StoredCsiData, SubscriberData}
-use Rattle.camel_rows.specs.Update.{records_after, csi_after, csi_unless, record_after, refusal, update_imsi, with_record}
+use Rattle.camel_rows.specs.Update.{records_after, csi_after, csi_unless, record_after, refusal, update_imsi}
 use Rattle.camel_rows.specs.declared.subscriber.csis_present.CsisPresent.{CsisPresent}
 use Rattle.camel_rows.specs.declared.subscriber.update.Update.{Update}
 use Rattle.camel_rows.specs.declared.subscriber.update.Update.TheVariants.{Register, Insert, Delete, Cancel}
@@ -38,16 +44,8 @@ csis_after-csis_of old (Register imsi) = refl
 csis_after-csis_of None (Insert imsi o o_criteria vt t_criteria) = refl
 csis_after-csis_of (Some subscriber) (Insert imsi o o_criteria vt t_criteria) = rw (csi_stays subscriber.o o o_criteria, csi_stays subscriber.vt vt t_criteria) refl
 csis_after-csis_of None (Delete imsi what) = refl
-csis_after-csis_of (Some subscriber) (Delete imsi what) = rw (csi_goes (what.o || what.everything) subscriber.o, csi_goes (what.vt || what.everything) subscriber.vt) refl
+csis_after-csis_of (Some subscriber) (Delete imsi what) = rw (csi_goes (removes_o what) subscriber.o, csi_goes (removes_vt what) subscriber.vt) refl
 csis_after-csis_of old (Cancel imsi) = refl
-
-get-with_csis : (stored : DirectoryData) (key : List ℕ) (csis : Option CsisPresent) (imsi : List ℕ) → map.get (with_csis stored key csis) imsi ≡ cond (eq_by_cmp (slice_cmp nat_cmp) imsi key) csis (map.get stored imsi)
-get-with_csis stored key None imsi = map.get-remove nat_list_cmp_total stored key imsi
-get-with_csis stored key (Some csis) imsi = map.get-insert nat_list_cmp_total stored key csis imsi
-
-get-with_record : (m : RecordsData) (key : List ℕ) (subscriber : Option SubscriberData) (imsi : List ℕ) → map.get (with_record m key subscriber) imsi ≡ cond (eq_by_cmp (slice_cmp nat_cmp) imsi key) subscriber (map.get m imsi)
-get-with_record m key None imsi = map.get-remove nat_list_cmp_total m key imsi
-get-with_record m key (Some subscriber) imsi = map.get-insert nat_list_cmp_total m key subscriber imsi
 
 at_either : (is_there : Bool) (new old : Option SubscriberData) (new_csis old_csis : Option CsisPresent) → new_csis ≡ option_map csis_of new → old_csis ≡ option_map csis_of old
     → cond is_there new_csis old_csis ≡ option_map csis_of (cond is_there new old)
@@ -56,17 +54,27 @@ at_either false new old new_csis old_csis there elsewhere = elsewhere
 
 -- after an update that is not refused, the directory with the CSIs that it leaves is that of the data
 pub IsDirectoryOf-after : (stored : DirectoryData) (m : RecordsData) (update : Update) → IsDirectoryOf stored m → refusal m update ≡ None
-    → IsDirectoryOf (with_csis stored (update_imsi update) (csis_after (map.get stored (update_imsi update)) update)) (records_after m update)
+    → IsDirectoryOf (with_value stored (update_imsi update) (csis_after (map.get stored (update_imsi update)) update)) (records_after m update)
 IsDirectoryOf-after stored m update shown accepted imsi =
     let key = update_imsi update in
     let new = record_after (map.get m key) update in
     let new_csis = csis_after (map.get stored key) update in
     let there : new_csis ≡ option_map csis_of new = rw (shown key) (csis_after-csis_of (map.get m key) update) in
     rw accepted
-    (get-with_csis stored key new_csis imsi
+    (get-with_value stored key new_csis imsi
     ∙ at_either (eq_by_cmp (slice_cmp nat_cmp) imsi key) new (map.get m imsi) new_csis (map.get stored imsi) there (shown imsi)
-    ∙ ap (option_map csis_of) (sym (get-with_record m key new imsi)))
+    ∙ ap (option_map csis_of) (sym (get-with_value m key new imsi)))
 
 -- the empty directory is that of no records
 pub IsDirectoryOf-empty : IsDirectoryOf map.empty map.empty
 IsDirectoryOf-empty imsi = rw (map.get-empty {X = CsisPresent} (slice_cmp nat_cmp) imsi, map.get-empty {X = SubscriberData} (slice_cmp nat_cmp) imsi) refl
+
+-- what stood at an IMSI, put back over what was put there since, leaves the directory as it was
+pub put_back-same : (stored : DirectoryData) (key : List ℕ) (new : CsisPresent) → with_value (map.insert stored key new) key (map.get stored key) ≡ stored
+put_back-same stored key new = same_map nat_list_cmp_total exact_bytes _ _ (λ imsi.
+    let is_there = eq_by_cmp (slice_cmp nat_cmp) imsi key in
+    get-with_value (map.insert stored key new) key (map.get stored key) imsi
+    ∙ ap (cond is_there (map.get stored key)) (map.get-insert nat_list_cmp_total stored key new imsi)
+    ∙ cond_both is_there (map.get stored key) (cond is_there (Some new) (map.get stored imsi)) (λ found. found ≡ map.get stored imsi)
+    (λ same. ap (map.get stored) (sym (tells_apart exact_bytes imsi key same)))
+    (λ other. cond-false is_there (Some new) (map.get stored imsi) other))

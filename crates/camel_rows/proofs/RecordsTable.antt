@@ -1,12 +1,16 @@
--- The finite map that the entries of a table make, whose keys are lists of numbers.
-use Rattle.std.proofs.Common.{◌≡◌, ◌∙◌, ℕ, List, [], ◌∷◌, Option, Some, None, cond, refl, sym, ap}
+-- The finite map that the entries of a table make, whose keys are lists of numbers, and what it holds at a key.
+use Rattle.std.proofs.Common.{◌≡◌, ◌≢◌, ◌∙◌, ℕ, List, [], ◌∷◌, Option, Some, None, IsSome, MutBor, cond, refl, sym, ap, subst}
 use Rattle.std.specs.BTreeMap.{is_at}
 use Rattle.std.specs.Cmp.{eq_by_cmp_equiv}
 use Rattle.std.specs.Cmp.Lexicographic.{slice_cmp, nat_list_cmp_total}
 use Rattle.std.specs.FinMap.{find, from_entries, get, insert, remove, get-from_entries, get-insert, get-remove, same_map}
 use Rattle.std.specs.Map.{lookup}
-use Rattle.std.specs.Ordering.{nat_cmp}
+use Rattle.std.specs.Option.{option_copied_mut}
+use Rattle.std.specs.Ordering.{eq_by_cmp, nat_cmp}
+use Rattle.std.proofs.lemmas.Bool.{false_from_ne_true}
 use Rattle.std.proofs.lemmas.Map.Lookups.{exact_bytes}
+use Rattle.std.proofs.lemmas.Map.Views.{tells_apart}
+use Rattle.camel_rows.specs.ByImsi.{ByImsi, with_value}
 
 module _ {X : Type 0} where
   -- what the entries hold at a key
@@ -36,3 +40,22 @@ module _ {X : Type 0} where
   remove-entries old new key differ = same_map nat_list_cmp_total exact_bytes _ _ (λ other.
       get-entries new other ∙ differ other ∙ ap (λ b. cond b None (entry_at old other)) ((eq_by_cmp_equiv nat_list_cmp_total).symm key other)
       ∙ sym (get-remove nat_list_cmp_total (from_entries old) key other ∙ ap (cond (is_at (slice_cmp nat_cmp other) key) None) (get-entries old other)))
+
+  -- what is lent is there where the value is
+  pub lent_there : (lent : Option (MutBor X)) (stored : Option X) → option_copied_mut lent ≡ stored → IsSome stored → IsSome lent
+  lent_there None stored e h = subst IsSome (sym e) h
+  lent_there (Some value) stored e h = subst IsSome (sym e) h
+
+  -- a map with a value at one key holds it there, and elsewhere what it held
+  pub get-with_value : (m : ByImsi X) (key : List ℕ) (value : Option X) (imsi : List ℕ)
+      → get (with_value m key value) imsi ≡ cond (eq_by_cmp (slice_cmp nat_cmp) imsi key) value (get m imsi)
+  get-with_value m key None imsi = get-remove nat_list_cmp_total m key imsi
+  get-with_value m key (Some value) imsi = get-insert nat_list_cmp_total m key value imsi
+
+  pub get-with_value_there : (m : ByImsi X) (key : List ℕ) (value : Option X) → get (with_value m key value) key ≡ value
+  get-with_value_there m key value = get-with_value m key value key ∙ ap (λ b. cond b value (get m key)) ((eq_by_cmp_equiv nat_list_cmp_total).refl key)
+
+  pub get-with_value_other : (m : ByImsi X) (key : List ℕ) (value : Option X) (imsi : List ℕ) → imsi ≢ key → get (with_value m key value) imsi ≡ get m imsi
+  get-with_value_other m key value imsi apart =
+      get-with_value m key value imsi
+      ∙ ap (λ b. cond b value (get m imsi)) (false_from_ne_true _ (λ e. apart (tells_apart exact_bytes imsi key e)))

@@ -1,5 +1,7 @@
 -- What the trigger rules mean.
 use Rattle.std.proofs.Common.{◌≡◌, ◌∙◌, ◌↔◌, ℕ, Bool, true, false, IsTrue, IsSome, IsNone, IfSome, List, Option, Some, None, if◌then◌else◌, refl, sym, subst, ap}
+use Rattle.std.proofs.lemmas.Bool.{both_ways, false_from_ne_true}
+use Rattle.std.proofs.lemmas.Option.{option_and_then_some}
 use Rattle.std.specs.FinMap as map
 use Rattle.std.specs.Option.{option_and_then, option_map}
 use Rattle.camel_criteria.proofs.MeansLemmas.{o_means, t_means}
@@ -10,7 +12,7 @@ use Rattle.camel_rows.specs.Decision.{DecisionData, Triggers, TriggersNothing, b
 use Rattle.camel_rows.specs.Event.{EventData, ShownData, ToO, ToVt, event_basic, event_dp, event_imsi, shown_of}
 use Rattle.camel_rows.specs.Records.{RecordsData}
 use Rattle.camel_rows.specs.Standard.{FailsCriteria, Invokes, IsEmergencyCall, IsNotArmed, IsUnknown, LacksCsi, Meets, ShownMeets}
-use Rattle.camel_rows.specs.Subscriber.{EntryData, O, T, StoredCsiData, SubscriberData, entry_at, entry_of, row_among, row_at, rows_of, rows_tested_at}
+use Rattle.camel_rows.specs.Subscriber.{EntryData, O, T, StoredCsiData, SubscriberData, entry_at, entry_of, item_among, row_at, rows_of, rows_tested_at}
 use Rattle.camel_rows.specs.declared.trigger.decision.Reason.{Reason}
 use Rattle.camel_rows.specs.declared.trigger.decision.Reason.TheVariants.{Unknown, NoCsi, NotArmed, Emergency, Criteria}
 use Rattle.camel_rows.specs.declared.trigger.event.TdpEvent.TheVariants.{CollectedInfo, RouteSelectFailure, TerminatingAttempt, Busy, NoAnswer}
@@ -57,10 +59,10 @@ module _ {Entry : Type 0} (dp_of : Entry → ℕ) (entry_as : Entry → EntryDat
 
   same_csi : (event : EventData) (csi : Option (StoredCsiData Entry))
       → by_csi dp_of (λ held. is_met (entry_as held)) entry_as event csi
-      ≡ at_csi is_met (is_emergency (event_basic event)) (option_map rows_of csi) (option_and_then (row_among (event_dp event)) (option_map rows_of csi))
+      ≡ at_csi is_met (is_emergency (event_basic event)) (option_map rows_of csi) (option_and_then (item_among (λ row. row.dp) (event_dp event)) (option_map rows_of csi))
       (option_map entry_as (option_and_then (entry_of dp_of (event_dp event)) csi))
   same_csi event None = refl
-  same_csi event (Some csi) = same_row event (row_among (event_dp event) csi.rows) (entry_of dp_of (event_dp event) csi)
+  same_csi event (Some csi) = same_row event (item_among (λ row. row.dp) (event_dp event) csi.rows) (entry_of dp_of (event_dp event) csi)
 
 same_parts : (event : EventData) (subscriber : SubscriberData) → by_shown event subscriber (shown_of event) ≡ at_parts event subscriber
 same_parts (CollectedInfo imsi destination basic forwarded) subscriber =
@@ -86,14 +88,6 @@ Because m event Criteria = FailsCriteria m event
 abbrev Explains : RecordsData → EventData → DecisionData → Type 0
 Explains m event (Triggers row entry) = Invokes m event row entry
 Explains m event (TriggersNothing reason) = Because m event reason
-
-not-true : (b : Bool) → b ≡ false → ¬ (IsTrue b)
-not-true true e = absurd (cc)
-not-true false e = λ wrong. cc
-
-not-false : (b : Bool) → ¬ (IsTrue b) → b ≡ false
-not-false true never = absurd (never refl)
-not-false false never = refl
 
 -- the parts of a decision at a registered subscriber
 module _ (m : RecordsData) (event : EventData) (subscriber : SubscriberData) (registered : map.get m (event_imsi event) ≡ Some subscriber) where
@@ -123,7 +117,7 @@ module _ (m : RecordsData) (event : EventData) (subscriber : SubscriberData) (re
     no_emergency = no_emergency;
     entry = entry;
     criteria = criteria;
-    not_met = λ met. not-true (is_met entry) e ((meets_means (shown_of event) entry).1 met);
+    not_met = λ met. both_ways (is_met entry) e ((meets_means (shown_of event) entry).1 met);
   }
 
   held_explained : (row : TdpRowData) (entry : Option EntryData)
@@ -144,7 +138,7 @@ module _ (m : RecordsData) (event : EventData) (subscriber : SubscriberData) (re
       → IsSome (rows_tested_at dp subscriber) → row_at dp subscriber ≡ Some row → is_emergency (event_basic event) ≡ emergency
       → Explains m event (if emergency then TriggersNothing Emergency else at_entry is_met row (entry_at dp subscriber))
   call_explained row true stored armed e = record { subscriber = subscriber; registered = registered; armed = rw armed refl; emergency = e }
-  call_explained row false stored armed e = held_explained row (entry_at dp subscriber) stored armed (not-true _ e) refl
+  call_explained row false stored armed e = held_explained row (entry_at dp subscriber) stored armed (both_ways _ e) refl
 
   row_explained : (row : Option TdpRowData) → IsSome (rows_tested_at dp subscriber) → row_at dp subscriber ≡ row
       → Explains m event (at_row is_met (is_emergency (event_basic event)) row (entry_at dp subscriber))
@@ -170,25 +164,18 @@ at_registered : (m : RecordsData) (event : EventData) (subscriber : SubscriberDa
     → decision m event ≡ at_parts event subscriber
 at_registered m event subscriber registered = ap (by_record event) registered ∙ same_parts event subscriber
 
-some_rows : (rows : Option (List TdpRowData)) → IsSome rows → (found : List TdpRowData) × (rows ≡ Some found)
-some_rows None e = absurd (cc)
-some_rows (Some rows) e = (rows, refl)
+some_of : {X : Type 0} (o : Option X) → IsSome o → (found : X) × (o ≡ Some found)
+some_of None e = absurd (cc)
+some_of (Some found) e = (found, refl)
 
 no_rows : (rows : Option (List TdpRowData)) → IsNone rows → rows ≡ None
 no_rows None e = refl
 no_rows (Some rows) e = absurd (cc)
 
-some_row : (row : Option TdpRowData) → IsSome row → (found : TdpRowData) × (row ≡ Some found)
-some_row None e = absurd (cc)
-some_row (Some row) e = (row, refl)
-
 -- a row is of rows that are stored
 rows_of_row : (dp : ℕ) (subscriber : SubscriberData) (row : TdpRowData) → row_at dp subscriber ≡ Some row → IsSome (rows_tested_at dp subscriber)
-rows_of_row dp subscriber row e = stored (rows_tested_at dp subscriber) e
-  where
-    stored : (rows : Option (List TdpRowData)) → option_and_then (row_among dp) rows ≡ Some row → IsSome rows
-    stored None e = absurd (cc)
-    stored (Some rows) e = refl
+rows_of_row dp subscriber row e =
+    option_and_then_some (item_among (λ row. row.dp) dp) (rows_tested_at dp subscriber) row e (λ rows is found. rw is refl)
 
 -- the decision by what is found of each part
 parts_at : (event : EventData) (subscriber : SubscriberData) (rows : List TdpRowData) (row : Option TdpRowData) (emergency : Bool) (entry : Option EntryData)
@@ -211,9 +198,9 @@ met_enough event row (Some entry) met = rw ((meets_means (shown_of event) entry)
 invokes_enough : (m : RecordsData) (event : EventData) (row : TdpRowData) (entry : Option EntryData) → Invokes m event row entry
     → decision m event ≡ Triggers row entry
 invokes_enough m event row entry invokes =
-    let rows = some_rows _ invokes.stored in
+    let rows = some_of _ invokes.stored in
     at_registered m event invokes.subscriber invokes.registered
-    ∙ parts_at event invokes.subscriber rows.0 (Some row) false entry rows.1 invokes.armed (not-false _ invokes.no_emergency) invokes.criteria
+    ∙ parts_at event invokes.subscriber rows.0 (Some row) false entry rows.1 invokes.armed (false_from_ne_true _ invokes.no_emergency) invokes.criteria
     ∙ met_enough event row entry invokes.met
 
 lacks_enough : (m : RecordsData) (event : EventData) → LacksCsi m event → decision m event ≡ TriggersNothing NoCsi
@@ -221,24 +208,24 @@ lacks_enough m event lacks = at_registered m event lacks.subscriber lacks.regist
 
 not_armed_enough : (m : RecordsData) (event : EventData) → IsNotArmed m event → decision m event ≡ TriggersNothing NotArmed
 not_armed_enough m event unarmed =
-    let rows = some_rows _ unarmed.stored in
+    let rows = some_of _ unarmed.stored in
     at_registered m event unarmed.subscriber unarmed.registered
     ∙ parts_at event unarmed.subscriber rows.0 None (is_emergency (event_basic event)) (entry_at (event_dp event) unarmed.subscriber) rows.1 unarmed.not_armed refl refl
 
 emergency_enough : (m : RecordsData) (event : EventData) → IsEmergencyCall m event → decision m event ≡ TriggersNothing Emergency
 emergency_enough m event call =
-    let row = some_row _ call.armed in
-    let rows = some_rows _ (rows_of_row (event_dp event) call.subscriber row.0 row.1) in
+    let row = some_of _ call.armed in
+    let rows = some_of _ (rows_of_row (event_dp event) call.subscriber row.0 row.1) in
     at_registered m event call.subscriber call.registered
     ∙ parts_at event call.subscriber rows.0 (Some row.0) true (entry_at (event_dp event) call.subscriber) rows.1 row.1 call.emergency refl
 
 criteria_enough : (m : RecordsData) (event : EventData) → FailsCriteria m event → decision m event ≡ TriggersNothing Criteria
 criteria_enough m event fails =
-    let row = some_row _ fails.armed in
-    let rows = some_rows _ (rows_of_row (event_dp event) fails.subscriber row.0 row.1) in
-    let not_met = not-false (meets (shown_of event) fails.entry) (λ e. fails.not_met ((meets_means (shown_of event) fails.entry).0 e)) in
+    let row = some_of _ fails.armed in
+    let rows = some_of _ (rows_of_row (event_dp event) fails.subscriber row.0 row.1) in
+    let not_met = false_from_ne_true (meets (shown_of event) fails.entry) (λ e. fails.not_met ((meets_means (shown_of event) fails.entry).0 e)) in
     at_registered m event fails.subscriber fails.registered
-    ∙ parts_at event fails.subscriber rows.0 (Some row.0) false (Some fails.entry) rows.1 row.1 (not-false _ fails.no_emergency) fails.criteria
+    ∙ parts_at event fails.subscriber rows.0 (Some row.0) false (Some fails.entry) rows.1 row.1 (false_from_ne_true _ fails.no_emergency) fails.criteria
     ∙ ap (λ met. if met then Triggers row.0 (Some fails.entry) else TriggersNothing Criteria) not_met
 
 pub triggers_means : (m : RecordsData) (event : EventData) (row : TdpRowData) (entry : Option EntryData)

@@ -1,16 +1,16 @@
 -- The accepted updates of a store are a front, and stay one.
 use Rattle.std.proofs.Common.{◌≡◌, ◌∙◌, ℕ, ◌+◌, ◌≤◌, ◌==◌, Bool, true, false, List, [], ◌∷◌, ◌++◌, length, Option, Some, None, refl, sym, ap, arith, append_assoc}
 use Rattle.std.proofs.lemmas.Bool.Decides.{nat_tests}
-use Rattle.std.proofs.lemmas.List.{append-nil, length-append}
+use Rattle.std.proofs.lemmas.List.{length-append}
 use Rattle.camel_criteria.specs.declared.refusal.Refusal.{Refusal}
 use Rattle.camel_rows.proofs.AdmissionLemmas.{IsAdmissionOf-after, admission-refusal}
 use Rattle.camel_rows.proofs.UpdateLemmas.{AcceptedFrom-prefix, AcceptedFrom-push, records_from-append}
 use Rattle.std.specs.FinMap as map
-use Rattle.camel_rows.specs.Admission.{AdmissionData, IsAdmissionOf, admission_refusal, refusal_or_full, with_admission}
+use Rattle.camel_rows.specs.Admission.{AdmissionData, admission_refusal, refusal_or_full, with_admission}
 use Rattle.camel_rows.specs.CsisPresent.{csis_after}
 use Rattle.camel_rows.specs.Front.{IsFront}
 use Rattle.camel_rows.specs.Records.{no_records}
-use Rattle.camel_rows.specs.Store.{Updates, accepted_updates, all_published, store_refusal, with_update}
+use Rattle.camel_rows.specs.Store.{IsAdmissionOfUpdates, Updates, accepted_updates, store_refusal, with_update}
 use Rattle.camel_rows.specs.Update.{AcceptedFrom, records_after, records_from, records_of, refusal, update_imsi}
 use Rattle.camel_rows.specs.declared.subscriber.update.Update.{Update}
 
@@ -20,16 +20,20 @@ not_refused None true e = absurd (cc)
 not_refused None false e = (refl, refl)
 
 -- an accepted update stands behind all that were accepted
-pub accepted-with_update : (updates : Updates) (update : Update) → accepted_updates (with_update updates update) ≡ accepted_updates updates ++ update ∷ []
+accepted-with_update : (updates : Updates) (update : Update) → accepted_updates (with_update updates update) ≡ accepted_updates updates ++ update ∷ []
 accepted-with_update updates update = sym (append_assoc updates.published updates.pending (update ∷ []))
 
-pub length-with_update : (updates : Updates) (update : Update) → length (accepted_updates (with_update updates update)) ≡ length (accepted_updates updates) + 1
+length-with_update : (updates : Updates) (update : Update) → length (accepted_updates (with_update updates update)) ≡ length (accepted_updates updates) + 1
 length-with_update updates update = ap length (accepted-with_update updates update) ∙ length-append (accepted_updates updates) (update ∷ [])
 
-pub records-with_update : (updates : Updates) (update : Update)
+records-with_update : (updates : Updates) (update : Update)
     → records_of (accepted_updates (with_update updates update)) ≡ records_after (records_of (accepted_updates updates)) update
 records-with_update updates update =
     ap records_of (accepted-with_update updates update) ∙ records_from-append no_records (accepted_updates updates) (update ∷ [])
+
+-- no updates are a front
+pub IsFront-empty : (limit : ℕ) → IsFront limit []
+IsFront-empty limit = record { accepted = tt; few = omega arith }
 
 pub IsFront-with_update : (limit : ℕ) (updates : Updates) (update : Update) → IsFront limit (accepted_updates updates)
     → store_refusal limit updates update ≡ None → IsFront limit (accepted_updates (with_update updates update))
@@ -51,22 +55,17 @@ IsFront-published limit updates front =
     let few : length (accepted_updates updates) ≤ limit = front.few in
     record { accepted = AcceptedFrom-prefix no_records updates.published updates.pending front.accepted; few = omega arith }
 
--- a publication accepts nothing
-pub accepted-all_published : (updates : Updates) → accepted_updates (all_published updates) ≡ accepted_updates updates
-accepted-all_published updates = append-nil (accepted_updates updates)
-
 -- an admission of the accepted updates refuses what the store refuses
 pub admits : (admission : AdmissionData) (limit : ℕ) (updates : Updates) (update : Update)
-    → IsAdmissionOf admission limit (length (accepted_updates updates)) (records_of (accepted_updates updates))
+    → IsAdmissionOfUpdates admission limit updates
     → admission_refusal admission update ≡ store_refusal limit updates update
 admits admission limit updates update is = admission-refusal admission limit (length (accepted_updates updates)) (records_of (accepted_updates updates)) update is
 
--- and with an accepted update it is that of the updates with it
+-- an admission of the accepted updates, with one accepted update more, is that of the updates with it
 pub IsAdmissionOf-with_update : (admission : AdmissionData) (limit : ℕ) (updates : Updates) (update : Update)
-    → IsAdmissionOf admission limit (length (accepted_updates updates)) (records_of (accepted_updates updates))
-    → store_refusal limit updates update ≡ None
-    → IsAdmissionOf (with_admission admission (update_imsi update) (csis_after (map.get admission.directory (update_imsi update)) update)) limit
-    (length (accepted_updates (with_update updates update))) (records_of (accepted_updates (with_update updates update)))
+    → IsAdmissionOfUpdates admission limit updates → store_refusal limit updates update ≡ None
+    → IsAdmissionOfUpdates (with_admission admission (update_imsi update) (csis_after (map.get admission.directory (update_imsi update)) update)) limit
+    (with_update updates update)
 IsAdmissionOf-with_update admission limit updates update is e =
     let accepted = not_refused (refusal (records_of (accepted_updates updates)) update) (length (accepted_updates updates) == limit) e in
     rw (length-with_update updates update, records-with_update updates update)

@@ -3,8 +3,9 @@ use Rattle.std.specs.Prelude.{◌≡◌, ℕ, ◌+◌, ◌==◌, Bool, true, fal
 use Rattle.std.specs.FinMap as map
 use Rattle.camel_criteria.specs.declared.refusal.Refusal.{Refusal}
 use Rattle.camel_criteria.specs.declared.refusal.Refusal.TheVariants.{HistoryFull}
+use Rattle.camel_rows.specs.ByImsi.{with_value}
 use Rattle.camel_rows.specs.CsisPresent.{csis_refusal}
-use Rattle.camel_rows.specs.Directory.{DirectoryData, IsDirectoryOf, empty_directory, with_csis}
+use Rattle.camel_rows.specs.Directory.{DirectoryData, IsDirectoryOf, empty_directory}
 use Rattle.camel_rows.specs.Records.{RecordsData}
 use Rattle.camel_rows.specs.Update.{update_imsi}
 use Rattle.camel_rows.specs.declared.subscriber.csis_present.CsisPresent.{CsisPresent}
@@ -35,7 +36,7 @@ abbrev pub with_admission : AdmissionData → List ℕ → Option CsisPresent �
 with_admission admission imsi csis = record {
   limit = admission.limit;
   accepted = admission.accepted + 1;
-  directory = with_csis admission.directory imsi csis;
+  directory = with_value admission.directory imsi csis;
 }
 
 -- it is that of a store with this limit, which has accepted so many updates, and they leave these data

@@ -9,6 +9,7 @@ use Rattle.camel_rows.specs.Subscriber.{SubscriberData}
 use Rattle.camel_rows.specs.declared.subscriber.csis_present.CsisPresent.{CsisPresent}
 use Rattle.camel_rows.specs.declared.subscriber.update.Update.{Update}
 use Rattle.camel_rows.specs.declared.subscriber.update.Update.TheVariants.{Register, Insert, Delete, Cancel}
+use Rattle.camel_rows.specs.declared.subscriber.update.Withdrawal.{Withdrawal}
 
 -- the CSIs that are stored in a record
 abbrev pub csis_of : SubscriberData → CsisPresent
@@ -32,6 +33,14 @@ csis_refusal csis (Insert imsi o o_criteria vt t_criteria) = insert_refusal csis
 csis_refusal csis (Delete imsi what) = if is_some csis then None else Some UnidentifiedSubscriber
 csis_refusal csis update = None
 
+-- a Delete removes the O-CSI where it names it or everything
+abbrev pub removes_o : Withdrawal → Bool
+removes_o what = what.o || what.everything
+
+-- a Delete removes the VT-CSI where it names it or everything
+abbrev pub removes_vt : Withdrawal → Bool
+removes_vt what = what.vt || what.everything
+
 -- the CSIs that an update which is not refused leaves in the record of its IMSI
 abbrev pub csis_after : Option CsisPresent → Update → Option CsisPresent
 csis_after csis (Register imsi) = Some (record { o = false; vt = false })
@@ -39,7 +48,7 @@ csis_after csis (Insert imsi o o_criteria vt t_criteria) =
     option_map (λ (old : CsisPresent). record { o = old.o || is_some o; vt = old.vt || is_some vt }) csis
 csis_after csis (Delete imsi what) =
     option_map (λ (old : CsisPresent). record {
-      o = if what.o || what.everything then false else old.o;
-      vt = if what.vt || what.everything then false else old.vt;
+      o = if removes_o what then false else old.o;
+      vt = if removes_vt what then false else old.vt;
     }) csis
 csis_after csis (Cancel imsi) = None

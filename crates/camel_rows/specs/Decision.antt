@@ -7,7 +7,7 @@ use Rattle.camel_criteria.specs.BasicService.{is_emergency}
 use Rattle.camel_criteria.specs.Met.{o_met, t_met}
 use Rattle.camel_rows.specs.TdpRow.{TdpRowData}
 use Rattle.camel_rows.specs.Event.{EventData, ShownData, ToO, ToVt, event_basic, event_dp, event_imsi, shown_of}
-use Rattle.camel_rows.specs.Subscriber.{EntryData, O, T, StoredCsiData, SubscriberData, entry_among, entry_data, row_among}
+use Rattle.camel_rows.specs.Subscriber.{EntryData, O, T, StoredCsiData, SubscriberData, entry_data, item_among}
 use Rattle.camel_rows.specs.Records.{RecordsData}
 use Rattle.camel_rows.specs.declared.trigger.decision.Decision.{Decision}
 use Rattle.camel_rows.specs.declared.trigger.decision.Decision.TheVariants as lent
@@ -39,7 +39,7 @@ module _ {Entry : Type 0} (dp_of : Entry → ℕ) (is_met : Entry → Bool) (ent
 
   abbrev pub by_csi : EventData → Option (StoredCsiData Entry) → DecisionData
   by_csi event None = TriggersNothing NoCsi
-  by_csi event (Some csi) = by_row event (row_among (event_dp event) csi.rows) (entry_among dp_of (event_dp event) csi.entries)
+  by_csi event (Some csi) = by_row event (item_among (λ row. row.dp) (event_dp event) csi.rows) (item_among dp_of (event_dp event) csi.entries)
 
 -- the CSI of the record whose criteria the event is shown to decides
 abbrev pub by_shown : EventData → SubscriberData → ShownData → DecisionData

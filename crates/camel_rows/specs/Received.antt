@@ -17,6 +17,14 @@ max_tdp_data = 10
 abbrev pub is_single : {Item : Type 0} → (Item → ℕ) → ℕ → List Item → Bool
 is_single dp_of dp items = nat_le (count_by (λ item. dp_of item == dp) items) 1
 
+-- no two items are of one of these detection points
+abbrev pub has_no_two : {Item : Type 0} → (Item → ℕ) → List ℕ → List Item → Bool
+has_no_two dp_of points items = list_all (λ point. is_single dp_of point items) points
+
+-- the items of these detection points, in their order
+abbrev pub items_at : {Item : Type 0} → (Item → ℕ) → List ℕ → List Item → List Item
+items_at dp_of points items = filter (λ item. is_among points (dp_of item)) items
+
 -- why a list of so many items is refused: no items are missing data, and more than the most, or two of one
 -- detection point that counts, are unexpected
 abbrev pub list_refusal : ℕ → Bool → Option Refusal
@@ -29,11 +37,10 @@ abbrev pub kept_unless : {Item : Type 0} → Option Refusal → List Item → Re
 kept_unless None items = Ok items
 kept_unless (Some why) items = Err why
 
--- else the items of these detection points are kept, in their order
+-- a list that is not refused leaves its items of these detection points, in their order
 abbrev pub kept_of : {Item : Type 0} → List ℕ → (Item → ℕ) → List Item → Result (List Item) Refusal
 kept_of points dp_of received =
-    kept_unless (list_refusal (length received) (list_all (λ point. is_single dp_of point received) points))
-    (filter (λ item. is_among points (dp_of item)) received)
+    kept_unless (list_refusal (length received) (has_no_two dp_of points received)) (items_at dp_of points received)
 
 -- the rows of an O-CSI and of a VT-CSI
 abbrev pub o_csi_of : List TdpRowData → Result (List TdpRowData) Refusal
@@ -42,7 +49,7 @@ o_csi_of received = kept_of o_detection_points (λ row. row.dp) received
 abbrev pub vt_csi_of : List TdpRowData → Result (List TdpRowData) Refusal
 vt_csi_of received = kept_of vt_detection_points (λ row. row.dp) received
 
--- the criteria entries of each
+-- the criteria entries of an O-CSI and of a VT-CSI
 abbrev pub o_criteria_set_of : List OCriteriaData → Result (List OCriteriaData) Refusal
 o_criteria_set_of received = kept_of o_detection_points (λ entry. entry.dp) received
 

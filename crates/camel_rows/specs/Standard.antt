@@ -40,7 +40,7 @@ pub record LacksCsi (m : RecordsData) (event : EventData) : Type 0 where
   pub registered : map.get m (event_imsi event) ≡ Some subscriber
   pub not_stored : IsNone (rows_tested_at (event_dp event) subscriber)
 
--- that CSI is stored, without a row of the detection point
+-- there is a record with the CSI that the detection point is tested against, and that CSI has no row of it
 pub record IsNotArmed (m : RecordsData) (event : EventData) : Type 0 where
   pub subscriber : SubscriberData
   pub registered : map.get m (event_imsi event) ≡ Some subscriber

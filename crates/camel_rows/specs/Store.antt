@@ -1,7 +1,7 @@
 -- The updates that a store has accepted, and what its calls make of them.
 use Rattle.std.specs.Prelude.{ℕ, ◌==◌, List, [], ◌∷◌, ◌++◌, length, Option}
 use Rattle.camel_criteria.specs.declared.refusal.Refusal.{Refusal}
-use Rattle.camel_rows.specs.Admission.{refusal_or_full}
+use Rattle.camel_rows.specs.Admission.{AdmissionData, IsAdmissionOf, refusal_or_full}
 use Rattle.camel_rows.specs.Update.{refusal, records_of}
 use Rattle.camel_rows.specs.declared.subscriber.update.Update.{Update}
 
@@ -16,6 +16,11 @@ no_updates = record { published = []; pending = [] }
 -- all that are accepted
 abbrev pub accepted_updates : Updates → List Update
 accepted_updates updates = updates.published ++ updates.pending
+
+-- the admission is that of a store with this limit that has accepted these updates
+abbrev pub IsAdmissionOfUpdates : AdmissionData → ℕ → Updates → Type 0
+IsAdmissionOfUpdates admission limit updates =
+    IsAdmissionOf admission limit (length (accepted_updates updates)) (records_of (accepted_updates updates))
 
 -- why an update is not accepted: by the data that all accepted updates leave, or since they are as many as the limit
 abbrev pub store_refusal : ℕ → Updates → Update → Option Refusal

@@ -31,13 +31,13 @@ rows_tested_at dp subscriber =
     else if is_vt_detection_point dp then option_map rows_of subscriber.vt
     else None
 
--- the row of a detection point among rows
-abbrev pub row_among : ℕ → List TdpRowData → Option TdpRowData
-row_among dp rows = find (λ row. row.dp == dp) rows
+-- the item of a detection point among items, that of each item being given by `dp_of`
+abbrev pub item_among : {Item : Type 0} → (Item → ℕ) → ℕ → List Item → Option Item
+item_among dp_of dp items = find (λ item. dp_of item == dp) items
 
 -- the row of a detection point, where it is armed
 abbrev pub row_at : ℕ → SubscriberData → Option TdpRowData
-row_at dp subscriber = option_and_then (row_among dp) (rows_tested_at dp subscriber)
+row_at dp subscriber = option_and_then (item_among (λ row. row.dp) dp) (rows_tested_at dp subscriber)
 
 -- an entry of the criteria of a detection point, of the one CSI or of the other
 pub data EntryData : Type 0 where
@@ -49,12 +49,9 @@ abbrev pub entry_data : Lent → EntryData
 entry_data (lent.O entry) = O entry.now
 entry_data (lent.T entry) = T entry.now
 
--- the entry of a detection point among entries, that of each entry being given by `dp_of`
-abbrev pub entry_among : {Entry : Type 0} → (Entry → ℕ) → ℕ → List Entry → Option Entry
-entry_among dp_of dp entries = find (λ entry. dp_of entry == dp) entries
-
+-- the entry of a detection point, where a stored CSI has one
 abbrev pub entry_of : {Entry : Type 0} → (Entry → ℕ) → ℕ → StoredCsiData Entry → Option Entry
-entry_of dp_of dp csi = entry_among dp_of dp csi.entries
+entry_of dp_of dp csi = item_among dp_of dp csi.entries
 
 -- the entry of a detection point, where the CSI that it is tested against has one
 abbrev pub entry_at : ℕ → SubscriberData → Option EntryData

@@ -2,12 +2,13 @@
 -- DeleteSubscriberData and CancelLocation of TS 29.002; Register is profile 1's own, and so is what an update
 -- leaves of a CSI that it does not name whole, that criteria without their CSI are refused where it is not stored,
 -- and that an update which changes nothing is taken.
-use Rattle.std.specs.Prelude.{◌≡◌, ℕ, Bool, ◌||◌, List, [], ◌∷◌, Option, Some, None, is_some, unwrap_or, if◌then◌else◌}
+use Rattle.std.specs.Prelude.{◌≡◌, ℕ, Bool, List, [], ◌∷◌, Option, Some, None, is_some, unwrap_or, if◌then◌else◌}
 use Rattle.std.specs.FinMap as map
 use Rattle.std.specs.Option.{option_map}
 use Rattle.camel_criteria.specs.Criteria.{OCriteriaData, TCriteriaData}
 use Rattle.camel_criteria.specs.declared.refusal.Refusal.{Refusal}
-use Rattle.camel_rows.specs.CsisPresent.{csis_of, csis_refusal}
+use Rattle.camel_rows.specs.ByImsi.{with_value}
+use Rattle.camel_rows.specs.CsisPresent.{csis_of, csis_refusal, removes_o, removes_vt}
 use Rattle.camel_rows.specs.TdpRow.{TdpRowData}
 use Rattle.camel_rows.specs.Subscriber.{StoredCsiData, SubscriberData, empty_record}
 use Rattle.camel_rows.specs.Records.{RecordsData, no_records}
@@ -40,13 +41,13 @@ abbrev pub record_with_insert : Option (List TdpRowData) → Option (List OCrite
 record_with_insert o o_criteria vt t_criteria subscriber =
     record { o = csi_after subscriber.o o o_criteria; vt = csi_after subscriber.vt vt t_criteria }
 
--- what a Delete leaves of a record: a CSI that it names, or everything, is removed
+-- what a Delete leaves of a CSI: none, where it names it
 abbrev pub csi_unless : {Entry : Type 0} → Bool → Option (StoredCsiData Entry) → Option (StoredCsiData Entry)
 csi_unless is_named csi = if is_named then None else csi
 
+-- what a Delete leaves of a record: each CSI that it names is removed, and both where it names everything
 abbrev pub record_without : Withdrawal → SubscriberData → SubscriberData
-record_without what subscriber =
-    record { o = csi_unless (what.o || what.everything) subscriber.o; vt = csi_unless (what.vt || what.everything) subscriber.vt }
+record_without what subscriber = record { o = csi_unless (removes_o what) subscriber.o; vt = csi_unless (removes_vt what) subscriber.vt }
 
 -- the record that an update which is not refused leaves at its IMSI, over the one that is there
 abbrev pub record_after : Option SubscriberData → Update → Option SubscriberData
@@ -55,16 +56,11 @@ record_after old (Insert imsi o o_criteria vt t_criteria) = option_map (record_w
 record_after old (Delete imsi what) = option_map (record_without what) old
 record_after old (Cancel imsi) = None
 
--- the data with this record, or with none, at one IMSI
-abbrev pub with_record : RecordsData → List ℕ → Option SubscriberData → RecordsData
-with_record m imsi None = map.remove m imsi
-with_record m imsi (Some subscriber) = map.insert m imsi subscriber
-
 -- the data after an update: those before it, where it is refused; else only the place of its IMSI changes
 abbrev pub records_after : RecordsData → Update → RecordsData
 records_after m update =
     if is_some (refusal m update) then m
-    else with_record m (update_imsi update) (record_after (map.get m (update_imsi update)) update)
+    else with_value m (update_imsi update) (record_after (map.get m (update_imsi update)) update)
 
 -- the data after a list of updates
 abbrev pub records_from : RecordsData → List Update → RecordsData

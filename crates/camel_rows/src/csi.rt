@@ -1,8 +1,9 @@
 //! What the home location register sends: TDP rows, CSIs and the entries of their criteria.
 
-ghost use Rattle.std.specs.Prelude.{◌≡◌, ◌==◌, ◌≤◌, ◌↔◌, [], IsTrue, find, length, slice_get};
+ghost use Rattle.std.specs.Prelude.{◌≡◌, ◌≤◌, ◌↔◌, [], IsTrue, length, slice_get};
 ghost use Rattle.std.specs.Option.{option_copied};
 ghost use Rattle.camel_rows.specs.Received.{kept_of, o_csi_of, vt_csi_of};
+ghost use Rattle.camel_rows.specs.Subscriber.{item_among};
 
 pub(crate) mod criteria_set;
 pub(crate) mod received;
@@ -109,7 +110,7 @@ impl<const MOST: usize> Csi<MOST> {
 
     /// The row of a detection point, where it is armed.
     pub fn row(&self, dp: u8) -> Option<&TdpRow>
-        ensures { option_copied result ≡ find (λ row. row.dp == dp) self.now }
+        ensures { option_copied result ≡ item_among (λ row. row.dp) dp self.now }
     {
         for place in &self.places {
             let row = place.as_ref()?;

@@ -54,7 +54,7 @@ impl Model for Subscriber {
 
 impl Subscriber {
     /// The record of a subscriber who has just registered: nothing is stored.
-    pub(crate) fn registered() -> Subscriber
+    pub(crate) fn new() -> Subscriber
         ensures { result ≡ empty_record }
     {
         Subscriber { o: None, vt: None }

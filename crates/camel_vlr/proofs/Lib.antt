@@ -1,5 +1,4 @@
 pub mod ChainLemmas
-pub mod DirectoryLemmas
 pub mod FrontLemmas
 pub mod OperationLemmas
 pub mod OwnUpdatesLemmas

@@ -1,10 +1,8 @@
 -- The data of a store from its fields, and what the fields keep.
-use Rattle.std.specs.Prelude.{◌≡◌, ℕ, ◌≤◌, List, length}
+use Rattle.std.specs.Prelude.{◌≡◌, ℕ, ◌≤◌, List}
 use Rattle.left_right.specs.Sides.{view}
 use Rattle.camel_rows.specs.Front.{Extends, IsFront}
-use Rattle.camel_rows.specs.Admission.{IsAdmissionOf}
-use Rattle.camel_rows.specs.Store.{Updates, accepted_updates}
-use Rattle.camel_rows.specs.Update.{records_of}
+use Rattle.camel_rows.specs.Store.{IsAdmissionOfUpdates, Updates, accepted_updates}
 use Rattle.camel_rows.specs.declared.subscriber.update.Update.{Update}
 use Rattle.camel_vlr.specs.Operation.{pending_operations, updates_among}
 use Rattle.camel_vlr.specs.PublishedCopy.{IsOfItsFront}
@@ -31,7 +29,7 @@ store_of a = record { store = a.writer.desk.shown.value.front.store; updates = u
 pub record IsStore (a : Inside) : Type 0 where
   pub shown : IsOfItsFront a.writer.desk.shown.value
   pub all : IsFront (limit_in a) (accepted_updates (updates_in a))
-  pub admits : IsAdmissionOf a.admission (limit_in a) (length (accepted_updates (updates_in a))) (records_of (accepted_updates (updates_in a)))
+  pub admits : IsAdmissionOfUpdates a.admission (limit_in a) (updates_in a)
   pub greatest : limit_in a ≤ MAX_UPDATES
   pub seat : Knows (view a.writer.desk.place) a.writer.desk.shown.value.front.store (published_in a)
   pub store : a.history.store ≡ a.writer.desk.shown.value.front.store

@@ -1,7 +1,7 @@
-ghost use Rattle.std.specs.Prelude.{◌≡◌, ◌==◌, ◌↔◌, [], IsTrue, filter, find, length, slice_get};
+ghost use Rattle.std.specs.Prelude.{◌≡◌, ◌↔◌, [], IsTrue, length, slice_get};
 ghost use Rattle.std.specs.Option.{option_copied};
-ghost use Rattle.camel_criteria.specs.DetectionPoint.{is_among};
-ghost use Rattle.camel_rows.specs.Received.{kept_of};
+ghost use Rattle.camel_rows.specs.Received.{items_at, kept_of};
+ghost use Rattle.camel_rows.specs.Subscriber.{item_among};
 
 use crate::csi::received::{check_list, has_no_two};
 use camel_criteria::{CriteriaEntry, OCriteria, Refusal, TCriteria, is_among};
@@ -53,7 +53,7 @@ impl<E: CriteriaEntry> CriteriaSet<E> {
         self.entries.is_empty()
     }
 
-    /// How many entries it holds: 0 to 2 of an O-CSI, 0 to 3 of a VT-CSI.
+    /// How many entries it holds.
     pub fn len(&self) -> usize
         ensures { result ≡ length self.now }
     {
@@ -69,7 +69,7 @@ impl<E: CriteriaEntry> CriteriaSet<E> {
 
     /// The entry of a detection point, where it has one.
     pub fn entry(&self, dp: u8) -> Option<&E>
-        ensures { option_copied result ≡ find (λ entry. E.dp_of entry == dp) self.now }
+        ensures { option_copied result ≡ item_among E.dp_of dp self.now }
     {
         self.entries
             .iter()
@@ -91,7 +91,7 @@ impl<E: CriteriaEntry> Clone for CriteriaSet<E> {
 
 /// The entries of these detection points.
 fn kept_entries<E: CriteriaEntry>(received: Vec<E>, points: &[u8]) -> Vec<E>
-    ensures { result.items ≡ filter (λ entry. is_among points.now (E.dp_of entry)) received.items }
+    ensures { result.items ≡ items_at E.dp_of points.now received.items }
 {
     let mut entries = received;
     entries.retain(|entry| is_among(points, entry.detection_point()));

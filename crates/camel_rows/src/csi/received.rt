@@ -1,13 +1,11 @@
-ghost use Rattle.std.specs.Prelude.{◌≡◌, Some, None, IfErr, OnOk, filter, slice_get};
-ghost use Rattle.std.specs.List.{list_all};
-ghost use Rattle.camel_criteria.specs.DetectionPoint.{is_among};
-ghost use Rattle.camel_rows.specs.Received.{is_single, list_refusal};
+ghost use Rattle.std.specs.Prelude.{◌≡◌, Some, None, IfErr, OnOk, slice_get};
+ghost use Rattle.camel_rows.specs.Received.{has_no_two, is_single, items_at, list_refusal};
 
 use crate::csi::tdp_row::TdpRow;
 use camel_criteria::{AtDetectionPoint, Refusal, is_among};
 
-/// The greatest number of TDP rows, or of criteria entries, that a list is sent with: maxNumOfCamelTDPData of
-/// TS 29.002.
+/// The greatest number of TDP rows that a CSI is sent with: maxNumOfCamelTDPData of TS 29.002. The same limit for
+/// criteria entries is this product's own.
 pub const MAX_TDP_DATA: usize = 10;
 
 /// Accepts a list of `count` items; `are_single` says that no two are of one detection point that counts.
@@ -24,7 +22,7 @@ pub(crate) fn check_list(count: usize, are_single: bool) -> Result<(), Refusal>
 
 /// Whether no two items are of one of these detection points.
 pub(crate) fn has_no_two<T: AtDetectionPoint>(received: &[T], points: &[u8]) -> bool
-    ensures { result ≡ list_all (λ point. is_single T.dp_of point received.now) points.now }
+    ensures { result ≡ has_no_two T.dp_of points.now received.now }
 {
     points.iter().all(|point| is_single(received, *point))
 }
@@ -41,7 +39,7 @@ fn is_single<T: AtDetectionPoint>(received: &[T], dp: u8) -> bool
 
 /// The row at a place among those of these detection points.
 pub(crate) fn kept_row(received: &[TdpRow], points: &[u8], place: usize) -> Option<TdpRow>
-    ensures { result ≡ slice_get (filter (λ row. is_among points.now row.dp) received.now) place }
+    ensures { result ≡ slice_get (items_at (λ row. row.dp) points.now received.now) place }
 {
     let mut left = place;
     for row in received {

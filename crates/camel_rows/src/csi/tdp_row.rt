@@ -1,5 +1,6 @@
 ghost use Rattle.std.specs.Prelude.{◌≡◌, ◌<◌, ◌≤◌, ◌↔◌, IsErr};
 ghost use Rattle.camel_tbcd.specs.Address.{octets};
+ghost use Rattle.camel_tbcd.specs.AddressLength.{IsAddress, max_isdn_address_length};
 ghost use Rattle.camel_rows.specs.TdpRow.{max_service_key, tdp_row_of};
 
 use camel_criteria::{AtDetectionPoint, Handling, Refusal};
@@ -68,7 +69,8 @@ impl TdpRow {
 
     /// The gsmSCF address, 1 to 9 octets.
     pub fn scf(&self) -> Address<'_>
-        ensures { octets result ≡ self.now.scf }
+        ensures same { octets result ≡ self.now.scf }
+        ensures address { IsAddress max_isdn_address_length self.now.scf }
     {
         self.scf.lend()
     }

@@ -1,8 +1,8 @@
 ghost use Rattle.std.specs.Prelude.{◌≡◌, ◌<◌, ◌≤◌, ◌-◌, Some, None, IfErr, IfOk, IsSome, OnErr, OnOk};
 ghost use Rattle.std.specs.FinMap as map;
 ghost use Rattle.camel_rows.specs.Admission.{admission_refusal, no_admissions, with_admission};
+ghost use Rattle.camel_rows.specs.ByImsi.{with_value};
 ghost use Rattle.camel_rows.specs.CsisPresent.{csis_after};
-ghost use Rattle.camel_rows.specs.Directory.{with_csis};
 ghost use Rattle.camel_rows.specs.Update.{update_imsi};
 
 use crate::subscriber::csis_present::{CsisPresent, check_update, csis_after};
@@ -113,7 +113,7 @@ impl Admission {
         requires accepted { 1 ≤ self.old.accepted }
         ensures { self.new ≡ record self.old {
           accepted = self.old.accepted - 1;
-          directory = with_csis self.old.directory imsi.now before;
+          directory = with_value self.old.directory imsi.now before;
         } }
     {
         self.directory.put_back(imsi, before);

@@ -76,8 +76,8 @@ pub(crate) fn csis_after(csis: Option<CsisPresent>, update: &Update) -> Option<C
         Update::Delete { what, .. } => {
             let old = csis?;
             Some(CsisPresent {
-                o: old.o && !(what.o || what.everything),
-                vt: old.vt && !(what.vt || what.everything),
+                o: old.o && !what.removes_o(),
+                vt: old.vt && !what.removes_vt(),
             })
         }
         Update::Cancel { .. } => None,

@@ -1,6 +1,7 @@
 ghost use Rattle.std.specs.Prelude.{◌≡◌, IsSome, OnErr, OnOk};
 ghost use Rattle.std.specs.FinMap as map;
-ghost use Rattle.camel_rows.specs.Directory.{empty_directory, with_csis};
+ghost use Rattle.camel_rows.specs.ByImsi.{with_value};
+ghost use Rattle.camel_rows.specs.Directory.{empty_directory};
 
 use crate::subscriber::csis_present::CsisPresent;
 use camel_tbcd::Imsi;
@@ -60,7 +61,7 @@ impl Directory {
     /// Puts back what stood before an insertion, where a subscriber has an entry since. It takes no memory.
     pub(crate) fn put_back(&mut self, imsi: &Imsi, before: Option<CsisPresent>)
         requires { IsSome (map.get self.old imsi.now) }
-        ensures { self.new ≡ with_csis self.old imsi.now before }
+        ensures { self.new ≡ with_value self.old imsi.now before }
     {
         match before {
             Some(csis) => *self.table.get_mut(imsi).unwrap() = csis,

@@ -1,9 +1,10 @@
 ghost use Rattle.std.specs.Prelude.{◌≡◌, ◌⊎◌, Some, IfErr, IfNone, IfOk, IfSome, IsOk, IsSome, OnErr, OnOk};
 ghost use Rattle.std.specs.FinMap as map;
 ghost use Rattle.std.specs.Option.{option_copied, option_map};
+ghost use Rattle.camel_rows.specs.ByImsi.{with_value};
 ghost use Rattle.camel_rows.specs.CsiChange.{with_changes};
 ghost use Rattle.camel_rows.specs.Records.{no_records};
-ghost use Rattle.camel_rows.specs.Update.{records_after, record_with_insert, record_without, refusal, with_record};
+ghost use Rattle.camel_rows.specs.Update.{records_after, record_with_insert, record_without, refusal};
 
 use crate::csi::criteria_set::{OCriteriaSet, TCriteriaSet};
 use crate::csi::{OCsi, VtCsi};
@@ -28,9 +29,7 @@ pub struct Records {
 
 impl Model for Records {
     ghost use Rattle.std.specs.FinMap as map;
-    ghost use Rattle.std.specs.Cmp.Lexicographic.{slice_cmp};
     ghost use Rattle.std.specs.Coded.{coded_ℕ, coded_list};
-    ghost use Rattle.std.specs.Ordering.{nat_cmp};
     ghost use Rattle.camel_rows.specs.Records.{RecordsData};
     ghost use Rattle.camel_rows.specs.contracts.subscriber.Subscriber as subscriber;
 
@@ -83,7 +82,7 @@ impl Records {
     {
         self.check(update)?;
         match update {
-            Update::Register { imsi } => self.put(*imsi, Subscriber::registered())?,
+            Update::Register { imsi } => self.put(*imsi, Subscriber::new())?,
             Update::Insert {
                 imsi,
                 o,
@@ -115,32 +114,31 @@ impl Records {
         t_criteria: &Option<TCriteriaSet>,
     ) -> Result<(), AllocError>
         requires { IsSome (map.get self.old imsi.now) }
-        ensures inserted { OnOk result (self.new ≡ with_record self.old imsi.now
+        ensures inserted { OnOk result (self.new ≡ with_value self.old imsi.now
             (option_map (record_with_insert o o_criteria.now vt t_criteria.now) (map.get self.old imsi.now))) }
         ensures unchanged { OnErr result (self.new ≡ self.old) }
     {
-        if let Some(subscriber) = self.get(imsi) {
-            let o = subscriber.o_after_insert(self.alloc, o, o_criteria)?;
-            let vt = subscriber.vt_after_insert(self.alloc, vt, t_criteria)?;
-            self.change(imsi, o, vt);
-        }
+        let subscriber = self.get(imsi).unwrap();
+        let o = subscriber.o_after_insert(self.alloc, o, o_criteria)?;
+        let vt = subscriber.vt_after_insert(self.alloc, vt, t_criteria)?;
+        self.change(imsi, o, vt);
         Ok(())
     }
 
     /// Removes what a Delete names from the record of its IMSI.
     fn withdraw(&mut self, imsi: &Imsi, what: Withdrawal)
         requires { IsSome (map.get self.old imsi.now) }
-        ensures { self.new ≡ with_record self.old imsi.now (option_map (record_without what) (map.get self.old imsi.now)) }
+        ensures { self.new ≡ with_value self.old imsi.now (option_map (record_without what) (map.get self.old imsi.now)) }
     {
-        let o = CsiChange::removal_if(what.o || what.everything);
-        let vt = CsiChange::removal_if(what.vt || what.everything);
+        let o = CsiChange::removal_if(what.removes_o());
+        let vt = CsiChange::removal_if(what.removes_vt());
         self.change(imsi, o, vt);
     }
 
     /// Changes the record of an IMSI in its place.
     fn change(&mut self, imsi: &Imsi, o: CsiChange<StoredOCsi>, vt: CsiChange<StoredVtCsi>)
         requires { IsSome (map.get self.old imsi.now) }
-        ensures { self.new ≡ with_record self.old imsi.now (option_map (with_changes o vt) (map.get self.old imsi.now)) }
+        ensures { self.new ≡ with_value self.old imsi.now (option_map (with_changes o vt) (map.get self.old imsi.now)) }
     {
         let subscriber = self.table.get_mut(imsi).unwrap();
         subscriber.change(o, vt);

@@ -1,7 +1,7 @@
 ghost use Rattle.std.specs.Prelude.{◌≡◌, ◌≤◌, IfOk};
 ghost use Rattle.std.specs.Option.{option_copied};
 ghost use Rattle.camel_rows.specs.CsiChange.{changed_by};
-ghost use Rattle.camel_rows.specs.Subscriber.{entry_among, row_among};
+ghost use Rattle.camel_rows.specs.Subscriber.{item_among};
 ghost use Rattle.camel_rows.specs.Update.{csi_after};
 
 use crate::csi::Csi;
@@ -28,6 +28,7 @@ impl<const MOST: usize, E> Model for StoredCsi<MOST, E> {
 
     ghost view = { λ a. record { rows = a.csi.value; entries = unwrap_or a.criteria [] } };
 
+    // At most 3 places, so that a CSI is known to fit into memory.
     ghost invariant = { λ a. MOST ≤ 3 };
 }
 
@@ -66,14 +67,14 @@ impl<const MOST: usize, E: CriteriaEntry> StoredCsi<MOST, E> {
 
     /// The row of a detection point, where it is armed.
     pub(crate) fn row(&self, dp: u8) -> Option<&TdpRow>
-        ensures { option_copied result ≡ row_among dp self.now.rows }
+        ensures { option_copied result ≡ item_among (λ row. row.dp) dp self.now.rows }
     {
         self.csi.row(dp)
     }
 
     /// The entry of a detection point, where there is one.
     pub(crate) fn entry(&self, dp: u8) -> Option<&E>
-        ensures { option_copied result ≡ entry_among E.dp_of dp self.now.entries }
+        ensures { option_copied result ≡ item_among E.dp_of dp self.now.entries }
     {
         self.criteria.as_ref()?.entry(dp)
     }

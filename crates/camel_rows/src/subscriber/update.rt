@@ -1,4 +1,5 @@
 ghost use Rattle.std.specs.Prelude.{◌≡◌, IfErr, IfOk};
+ghost use Rattle.camel_rows.specs.CsisPresent.{removes_o, removes_vt};
 ghost use Rattle.camel_rows.specs.Update.{update_imsi};
 
 use crate::csi::criteria_set::{OCriteriaSet, TCriteriaSet};
@@ -16,6 +17,22 @@ pub struct Withdrawal {
     pub vt: bool,
     /// Both.
     pub everything: bool,
+}
+
+impl Withdrawal {
+    /// Whether it removes the O-CSI.
+    pub(crate) fn removes_o(&self) -> bool
+        ensures { result ≡ removes_o self.now }
+    {
+        self.o || self.everything
+    }
+
+    /// Whether it removes the VT-CSI.
+    pub(crate) fn removes_vt(&self) -> bool
+        ensures { result ≡ removes_vt self.now }
+    {
+        self.vt || self.everything
+    }
 }
 
 /// A change of the subscriber data of one IMSI.

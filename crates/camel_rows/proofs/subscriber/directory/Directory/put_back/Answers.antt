@@ -1,14 +1,7 @@
-use Rattle.std.proofs.Common.{◌≡◌, ◌∙◌, ap, subst, sym, IsSome, Option, Some, None, MutBor}
+use Rattle.std.proofs.Common.{◌∙◌, ap, subst, sym, IsSome}
 use Rattle.std.specs.FinMap as map
-use Rattle.std.specs.Option.{option_copied_mut}
-use Rattle.camel_rows.proofs.RecordsTable.{get-entries, insert-entries}
-use Rattle.camel_rows.specs.declared.subscriber.csis_present.CsisPresent.{CsisPresent}
+use Rattle.camel_rows.proofs.RecordsTable.{get-entries, insert-entries, lent_there}
 use Rattle.camel_rows.proofs.subscriber.directory.Directory.put_back.Goals as goal
-
--- what is lent is there where the entry is
-lent_there : (lent : Option (MutBor CsisPresent)) (stored : Option CsisPresent) → option_copied_mut lent ≡ stored → IsSome stored → IsSome lent
-lent_there None stored e h = subst IsSome (sym e) h
-lent_there (Some csis) stored e h = subst IsSome (sym e) h
 
 pub unwrap-requires : goal.unwrap-requires
 unwrap-requires c =

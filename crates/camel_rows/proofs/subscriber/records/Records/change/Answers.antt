@@ -1,14 +1,8 @@
-use Rattle.std.proofs.Common.{◌≡◌, ◌∙◌, ap, subst, sym, IsSome, Option, Some, None, MutBor}
+use Rattle.std.proofs.Common.{◌≡◌, ◌∙◌, ap, subst, sym, IsSome, Some}
 use Rattle.std.specs.FinMap as map
 use Rattle.std.specs.Option.{option_copied_mut}
-use Rattle.camel_rows.proofs.RecordsTable.{get-entries, insert-entries}
-use Rattle.camel_rows.specs.Subscriber.{SubscriberData}
+use Rattle.camel_rows.proofs.RecordsTable.{get-entries, insert-entries, lent_there}
 use Rattle.camel_rows.proofs.subscriber.records.Records.change.Goals as goal
-
--- what is lent is there where the value is
-lent_there : (lent : Option (MutBor SubscriberData)) (stored : Option SubscriberData) → option_copied_mut lent ≡ stored → IsSome stored → IsSome lent
-lent_there None stored e h = subst IsSome (sym e) h
-lent_there (Some subscriber) stored e h = subst IsSome (sym e) h
 
 pub unwrap-subscriber-requires : goal.unwrap-subscriber-requires
 unwrap-subscriber-requires c =
