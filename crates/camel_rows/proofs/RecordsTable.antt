@@ -3,7 +3,7 @@ use Rattle.std.proofs.Common.{◌≡◌, ◌≢◌, ◌∙◌, ℕ, List, [], �
 use Rattle.std.specs.BTreeMap.{is_at}
 use Rattle.std.specs.Cmp.{eq_by_cmp_equiv}
 use Rattle.std.specs.Cmp.Lexicographic.{slice_cmp, nat_list_cmp_total}
-use Rattle.std.specs.FinMap.{find, from_entries, get, insert, remove, get-from_entries, get-insert, get-remove, same_map}
+use Rattle.std.specs.FinMap.{find, from_entries, get, get-from_entries, get-insert, get-remove, same_map}
 use Rattle.std.specs.Map.{lookup}
 use Rattle.std.specs.Option.{option_copied_mut}
 use Rattle.std.specs.Ordering.{eq_by_cmp, nat_cmp}
@@ -25,27 +25,6 @@ module _ {X : Type 0} where
   pub get-entries : (entries : List (List ℕ × X)) (key : List ℕ) → get (from_entries {R = slice_cmp nat_cmp} entries) key ≡ entry_at entries key
   get-entries entries key = get-from_entries nat_list_cmp_total entries key ∙ find-entries entries key
 
-  -- entries that differ at one key make maps that differ there
-  pub insert-entries : (old new : List (List ℕ × X)) (key : List ℕ) (value : X)
-      → ((other : List ℕ) → entry_at new other ≡ cond (is_at (slice_cmp nat_cmp key) other) (Some value) (entry_at old other))
-      → from_entries {R = slice_cmp nat_cmp} new ≡ insert (from_entries old) key value
-  insert-entries old new key value differ = same_map nat_list_cmp_total exact_bytes _ _ (λ other.
-      get-entries new other ∙ differ other ∙ ap (λ b. cond b (Some value) (entry_at old other)) ((eq_by_cmp_equiv nat_list_cmp_total).symm key other)
-      ∙ sym (get-insert nat_list_cmp_total (from_entries old) key value other ∙ ap (cond (is_at (slice_cmp nat_cmp other) key) (Some value)) (get-entries old other)))
-
-  -- entries that lack one key make a map that lacks it
-  pub remove-entries : (old new : List (List ℕ × X)) (key : List ℕ)
-      → ((other : List ℕ) → entry_at new other ≡ cond (is_at (slice_cmp nat_cmp key) other) None (entry_at old other))
-      → from_entries {R = slice_cmp nat_cmp} new ≡ remove (from_entries old) key
-  remove-entries old new key differ = same_map nat_list_cmp_total exact_bytes _ _ (λ other.
-      get-entries new other ∙ differ other ∙ ap (λ b. cond b None (entry_at old other)) ((eq_by_cmp_equiv nat_list_cmp_total).symm key other)
-      ∙ sym (get-remove nat_list_cmp_total (from_entries old) key other ∙ ap (cond (is_at (slice_cmp nat_cmp other) key) None) (get-entries old other)))
-
-  -- what is lent is there where the value is
-  pub lent_there : (lent : Option (MutBor X)) (stored : Option X) → option_copied_mut lent ≡ stored → IsSome stored → IsSome lent
-  lent_there None stored e h = subst IsSome (sym e) h
-  lent_there (Some value) stored e h = subst IsSome (sym e) h
-
   -- a map with a value at one key holds it there, and elsewhere what it held
   pub get-with_value : (m : ByImsi X) (key : List ℕ) (value : Option X) (imsi : List ℕ)
       → get (with_value m key value) imsi ≡ cond (eq_by_cmp (slice_cmp nat_cmp) imsi key) value (get m imsi)
@@ -59,3 +38,16 @@ module _ {X : Type 0} where
   get-with_value_other m key value imsi apart =
       get-with_value m key value imsi
       ∙ ap (λ b. cond b value (get m imsi)) (false_from_ne_true _ (λ e. apart (tells_apart exact_bytes imsi key e)))
+
+  -- entries that differ at one key make maps that differ there
+  pub with_value-entries : (old new : List (List ℕ × X)) (key : List ℕ) (value : Option X)
+      → ((other : List ℕ) → entry_at new other ≡ cond (is_at (slice_cmp nat_cmp key) other) value (entry_at old other))
+      → from_entries {R = slice_cmp nat_cmp} new ≡ with_value (from_entries old) key value
+  with_value-entries old new key value differ = same_map nat_list_cmp_total exact_bytes _ _ (λ other.
+      get-entries new other ∙ differ other ∙ ap (λ b. cond b value (entry_at old other)) ((eq_by_cmp_equiv nat_list_cmp_total).symm key other)
+      ∙ sym (get-with_value (from_entries old) key value other ∙ ap (cond (is_at (slice_cmp nat_cmp other) key) value) (get-entries old other)))
+
+  -- what is lent is there where the value is
+  pub lent_there : (lent : Option (MutBor X)) (stored : Option X) → option_copied_mut lent ≡ stored → IsSome stored → IsSome lent
+  lent_there None stored e h = subst IsSome (sym e) h
+  lent_there (Some value) stored e h = subst IsSome (sym e) h

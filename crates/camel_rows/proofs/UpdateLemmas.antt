@@ -12,6 +12,7 @@ use Rattle.camel_rows.specs.Update.{AcceptedFrom, records_after, record_after, r
 use Rattle.camel_rows.specs.declared.subscriber.update.Update.{Update}
 use Rattle.camel_rows.specs.declared.subscriber.update.Update.TheVariants.{Register, Insert}
 
+-- an update leaves the records of the other IMSIs
 pub other_record : (m : RecordsData) (update : Update) (imsi : List ℕ) → imsi ≢ update_imsi update → map.get (records_after m update) imsi ≡ map.get m imsi
 other_record m update imsi apart =
     let there = record_after (map.get m (update_imsi update)) update in

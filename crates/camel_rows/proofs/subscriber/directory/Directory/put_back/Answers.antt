@@ -1,6 +1,6 @@
-use Rattle.std.proofs.Common.{◌∙◌, ap, subst, sym, IsSome}
+use Rattle.std.proofs.Common.{◌∙◌, ap, subst, sym, IsSome, Some}
 use Rattle.std.specs.FinMap as map
-use Rattle.camel_rows.proofs.RecordsTable.{get-entries, insert-entries, lent_there}
+use Rattle.camel_rows.proofs.RecordsTable.{get-entries, lent_there, with_value-entries}
 use Rattle.camel_rows.proofs.subscriber.directory.Directory.put_back.Goals as goal
 
 pub unwrap-requires : goal.unwrap-requires
@@ -16,4 +16,4 @@ returns-in-Some c =
     let put = c.in-Some.csis in
     let held = c.get_mut.follows.holds put in
     let there = subst IsSome (sym at_entries) c.requires in
-    rw c.in-Some.is (insert-entries entries (c.get_mut.follows.lender put).entries key put (held.3 there).0 ∙ ap (λ m. map.insert m key put) c.self.view_is)
+    rw c.in-Some.is (with_value-entries entries (c.get_mut.follows.lender put).entries key (Some put) (held.3 there).0 ∙ ap (λ m. map.insert m key put) c.self.view_is)

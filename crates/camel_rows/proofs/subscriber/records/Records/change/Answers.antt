@@ -1,7 +1,7 @@
 use Rattle.std.proofs.Common.{◌≡◌, ◌∙◌, ap, subst, sym, IsSome, Some}
 use Rattle.std.specs.FinMap as map
 use Rattle.std.specs.Option.{option_copied_mut}
-use Rattle.camel_rows.proofs.RecordsTable.{get-entries, insert-entries, lent_there}
+use Rattle.camel_rows.proofs.RecordsTable.{get-entries, lent_there, with_value-entries}
 use Rattle.camel_rows.proofs.subscriber.records.Records.change.Goals as goal
 
 pub unwrap-subscriber-requires : goal.unwrap-subscriber-requires
@@ -17,5 +17,5 @@ returns c =
     let stored : map.get c.args.self.now key ≡ Some c.unwrap-subscriber.result.now = sym (c.get_mut.ensures.value ∙ at_entries) ∙ ap option_copied_mut c.unwrap-subscriber.ensures in
     let held = c.get_mut.follows.holds c.change.new.self in
     let there = subst IsSome (sym at_entries) c.requires in
-    let placed = insert-entries entries (c.get_mut.follows.lender c.change.new.self).entries key c.change.new.self (held.3 there).0 in
+    let placed = with_value-entries entries (c.get_mut.follows.lender c.change.new.self).entries key (Some c.change.new.self) (held.3 there).0 in
     rw stored (placed ∙ ap (λ m. map.insert m key c.change.new.self) c.self.view_is ∙ ap (λ subscriber. map.insert c.args.self.now key subscriber) c.change.ensures)
