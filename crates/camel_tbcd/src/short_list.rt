@@ -1,11 +1,13 @@
-ghost use Rattle.std.specs.Prelude.{◌≡◌, ◌≤◌, length};
+ghost use Rattle.std.specs.Prelude.{◌≡◌, ◌≤◌, length, nat_eq};
+ghost use Rattle.std.specs.Cmp.{partial_equiv_from_equiv};
+ghost use Rattle.std.specs.Cmp.Lexicographic.{nat_list_eq_equiv, pointwise};
 
 use std::marker::Model;
 
 // At most `MOST` octets or digits, which contracts see as a list. Two are equal where their items are.
 //
 // They are kept in place, so that a list of them is `Copy` and takes no memory.
-#[derive(Clone, Copy, Debug, PartialEq, Eq)]
+#[derive(Clone, Copy, Debug)]
 pub(crate) struct ShortList<const MOST: usize> {
     // The items, and 0 from `len` on, so that equal lists have equal fields.
     room: [u8; MOST],
@@ -48,4 +50,18 @@ impl<const MOST: usize> ShortList<MOST> {
     {
         &self.room[..self.len]
     }
+}
+
+impl<const MOST: usize> PartialEq for ShortList<MOST> {
+    ghost eq = { pointwise nat_eq };
+
+    ghost laws = { partial_equiv_from_equiv nat_list_eq_equiv };
+
+    fn eq(&self, other: &Self) -> bool {
+        self.as_slice() == other.as_slice()
+    }
+}
+
+impl<const MOST: usize> Eq for ShortList<MOST> {
+    ghost laws = { nat_list_eq_equiv };
 }
