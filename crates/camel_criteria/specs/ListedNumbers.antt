@@ -4,7 +4,7 @@ use Rattle.camel_criteria.specs.declared.listed_numbers.ListedNumbers.{ListedNum
 use Rattle.camel_criteria.specs.declared.listed_numbers.ListedNumbers.TheVariants.{One, Two, Apart}
 
 -- the numbers in their order, each as its octets
-abbrev pub listed : ListedNumbers → List (List ℕ)
-listed (One numbers) = numbers
-listed (Two numbers) = numbers
-listed (Apart numbers) = numbers.items
+abbrev pub numbers_of : ListedNumbers → List (List ℕ)
+numbers_of (One numbers) = numbers
+numbers_of (Two numbers) = numbers
+numbers_of (Apart numbers) = numbers.items

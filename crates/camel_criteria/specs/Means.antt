@@ -1,6 +1,7 @@
 -- What `Met` computes, in the words of the standard (TS 23.078).
 use Rattle.std.specs.Prelude.{◌≡◌, ◌⊎◌, ⊤, ℕ, Bool, IsTrue, List, [], Option, Some, None, Any, Contains, length}
-use Rattle.camel_tbcd.specs.Digits.{BeginsWith, digits}
+use mathlib.Core.List.{IsPrefix}
+use Rattle.camel_tbcd.specs.Digits.{digits}
 use Rattle.camel_tbcd.specs.Nature.{nature_of}
 use Rattle.camel_criteria.specs.BasicService.{covers}
 use Rattle.camel_criteria.specs.Criteria.{NumberCriterionData, OCriteriaData, TCriteriaData}
@@ -14,7 +15,7 @@ use Rattle.camel_criteria.specs.declared.event.TEvent.{TEvent}
 
 -- a listed number is of the destination's nature, with its digits a prefix of the destination's
 abbrev pub NumberMatches : List ℕ → List ℕ → Type 0
-NumberMatches destination listed = (nature_of listed ≡ nature_of destination) × BeginsWith (digits destination) (digits listed)
+NumberMatches destination listed = (nature_of listed ≡ nature_of destination) × IsPrefix (digits listed) (digits destination)
 
 -- an enabling criterion is met where some listed number matches or the length is listed, and an inhibiting
 -- one where none matches and it is not
@@ -48,7 +49,7 @@ pub record OMet (entry : OCriteriaData) (event : OEventData) : Type 0 where
   pub call_type : TypeMet entry.call_type event.forwarded
   pub cause : CauseMet entry.causes event.cause
 
--- and an entry of the VT-CSI likewise
+-- an event meets an entry of the VT-CSI where it meets each criterion
 pub record TMet (entry : TCriteriaData) (event : TEvent) : Type 0 where
   pub basic : BasicMet entry.basic event.basic
   pub cause : CauseMet entry.causes event.cause

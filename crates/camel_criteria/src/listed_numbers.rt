@@ -1,5 +1,5 @@
 ghost use Rattle.std.specs.Prelude.{◌≡◌, IfOk};
-ghost use Rattle.camel_criteria.specs.ListedNumbers.{listed};
+ghost use Rattle.camel_criteria.specs.ListedNumbers.{numbers_of};
 
 use camel_tbcd::IsdnAddress;
 use std::alloc::{AllocError, Global};
@@ -18,7 +18,7 @@ impl ListedNumbers {
         alloc: Global,
         numbers: &[IsdnAddress],
     ) -> Result<ListedNumbers, AllocError>
-        ensures { IfOk result (λ kept. listed kept ≡ numbers.now) }
+        ensures { IfOk result (λ kept. numbers_of kept ≡ numbers.now) }
     {
         match numbers {
             [first] => Ok(ListedNumbers::One([*first])),
@@ -28,7 +28,7 @@ impl ListedNumbers {
     }
 
     pub(crate) fn as_slice(&self) -> &[IsdnAddress]
-        ensures { result.now ≡ listed self.now }
+        ensures { result.now ≡ numbers_of self.now }
     {
         match self {
             ListedNumbers::One(numbers) => numbers,
@@ -38,7 +38,7 @@ impl ListedNumbers {
     }
 
     pub(crate) fn copy(&self) -> Result<ListedNumbers, AllocError>
-        ensures { IfOk result (λ copied. listed copied ≡ listed self.now) }
+        ensures { IfOk result (λ copied. numbers_of copied ≡ numbers_of self.now) }
     {
         Ok(match self {
             ListedNumbers::One(numbers) => ListedNumbers::One(*numbers),

@@ -1,4 +1,4 @@
-ghost use Rattle.std.specs.Prelude.{◌≡◌, IfErr, length, slice_get};
+ghost use Rattle.std.specs.Prelude.{◌≡◌, IfErr, slice_get};
 ghost use Rattle.std.specs.List.{list_all};
 ghost use Rattle.std.specs.Option.{option_map};
 ghost use Rattle.camel_tbcd.specs.Address.{octets};
@@ -18,8 +18,8 @@ pub const MAX_NUMBERS: usize = 10;
 /// The greatest number of lengths of a destination number criterion (TS 29.002).
 pub const MAX_LENGTHS: usize = 3;
 
-/// A destination number criterion (DestinationNumberCriteria of TS 29.002): a match type, up to 10 numbers
-/// and up to 3 lengths, each 1 to 15.
+/// A destination number criterion (DestinationNumberCriteria of TS 29.002): a match type, listed numbers and
+/// listed lengths.
 #[derive(Debug, Drop)]
 pub struct NumberCriterion {
     match_type: MatchType,
@@ -29,11 +29,11 @@ pub struct NumberCriterion {
 
 impl Model for NumberCriterion {
     ghost use Rattle.camel_criteria.specs.Criteria.{NumberCriterionData};
-    ghost use Rattle.camel_criteria.specs.ListedNumbers.{listed};
+    ghost use Rattle.camel_criteria.specs.ListedNumbers.{numbers_of};
 
     ghost Value = { NumberCriterionData };
 
-    ghost view = { λ a. record { match_type = a.match_type; numbers = listed a.numbers; lengths = a.lengths.items } };
+    ghost view = { λ a. record { match_type = a.match_type; numbers = numbers_of a.numbers; lengths = a.lengths.items } };
 }
 
 impl NumberCriterion {

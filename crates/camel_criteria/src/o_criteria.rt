@@ -87,7 +87,7 @@ impl OCriteria {
         self.call_type
     }
 
-    /// The causes of the cause criterion, each 0 to 127, in the order received; none where it is absent.
+    /// The causes of the cause criterion, in the order received; none where it is absent.
     pub fn causes(&self) -> &[u8]
         ensures { result.now ≡ self.now.causes }
     {

@@ -52,8 +52,8 @@ impl fmt::Display for Refusal {
             Refusal::UnexpectedDataValue => "a value, a count or a repeated item is not allowed",
             Refusal::HistoryFull => "the store has taken as many updates as it may",
             Refusal::OutOfMemory => "out of memory",
-            Refusal::NoPlace => "there is no place for a further reader",
-            Refusal::NoGuard => "the reader was given no guard",
+            Refusal::NoPlace => "there is no place for a further session",
+            Refusal::NoGuard => "the session got no look",
         })
     }
 }

@@ -30,9 +30,9 @@ const REFUSALS: [(Refusal, u16, &str); 7] = [
     (
         Refusal::NoPlace,
         103,
-        "there is no place for a further reader",
+        "there is no place for a further session",
     ),
-    (Refusal::NoGuard, 104, "the reader was given no guard"),
+    (Refusal::NoGuard, 104, "the session got no look"),
 ];
 
 fn check_refusals(

@@ -1,12 +1,13 @@
 -- Where the nibbles of octets stand.
-use Rattle.std.proofs.Common.{◌≡◌, ◌≤◌, ◌<◌, ℕ, zero, suc, ◌+◌, ◌-◌, ◌*◌, ◌/◌, ◌%◌, ◌==◌, Bool, true, false, ◌↔◌, IsTrue, List, [], ◌∷◌, ◌++◌, length, take, drop, get_or, slice_index, min, nat_eq, refl, sym, ap, ◌∙◌, arith}
+use Rattle.std.proofs.Common.{◌≡◌, ◌≤◌, ◌<◌, ℕ, zero, suc, ◌+◌, ◌-◌, ◌*◌, ◌/◌, ◌%◌, ◌==◌, false, true, ◌↔◌, IsTrue, List, [], ◌∷◌, ◌++◌, length, take, drop, get_or, slice_index, min, nat_eq, refl, sym, ap, ◌∙◌, arith}
 use Rattle.std.proofs.lemmas.List.{get_or-take, length-drop, length-take, length-take-le, take-append-drop}
 use Rattle.std.proofs.lemmas.List.Sums.{position_or_len_is}
 use Rattle.std.proofs.Math.ListN.{length-set, set}
 use Rattle.std.proofs.Math.Seq.{take-append_seam, take-suc, take-suc-set}
 use Rattle.std.specs.Cmp.Lexicographic.{bytes_decides}
 use Rattle.std.specs.List.{position_or_len, starts_with}
-use Rattle.camel_tbcd.specs.Digits.{BeginsWith, digits, nibbles}
+use mathlib.Core.List.{IsPrefix}
+use Rattle.camel_tbcd.specs.Digits.{digits, nibbles}
 
 length-nibbles : (octets : List ℕ) → length (nibbles octets) ≡ 2 * length octets
 length-nibbles [] = refl
@@ -46,16 +47,12 @@ get-digits octets at within =
     let room : length (take n all) ≡ min n (length all) = length-take n all in
     get_or-take n all at 0 (omega arith)
 
--- a test of the prefix is std's
-pub starts_with-from_prefix : (all front : List ℕ) (b : Bool) → IsTrue b ↔ BeginsWith all front → b ≡ starts_with nat_eq all front
-starts_with-from_prefix all front true is =
-    let same : take (length front) all ≡ front = ap (take (length front)) (is.0 refl).1 ∙ take-append_seam front _ in
-    sym ((bytes_decides front (take (length front) all)).1 (sym same))
-starts_with-from_prefix all front false is =
-    elim (starts_with nat_eq all front) as (λ b. starts_with nat_eq all front ≡ b → false ≡ b) [
-      | true ↦ λ e. is.1 (drop (length front) all, sym (take-append-drop (length front) all) ∙ ap (λ f. f ++ drop (length front) all) (sym ((bytes_decides front (take (length front) all)).0 e)))
-      | false ↦ λ e. refl
-    ] refl
+-- std's test of a prefix tells mathlib's fact
+pub starts_with-IsPrefix : (all front : List ℕ) → IsTrue (starts_with nat_eq all front) ↔ IsPrefix front all
+starts_with-IsPrefix all front = (
+  λ e. (drop (length front) all, ap (λ first. first ++ drop (length front) all) ((bytes_decides front (take (length front) all)).0 e) ∙ take-append-drop (length front) all),
+  λ is. (bytes_decides front (take (length front) all)).1 (sym (take-append_seam front is.0) ∙ ap (take (length front)) is.1),
+)
 
 nibbles-push : (octets : List ℕ) (octet : ℕ) → nibbles (octets ++ octet ∷ []) ≡ (nibbles octets ++ octet % 16 ∷ []) ++ octet / 16 ∷ []
 nibbles-push [] octet = refl

@@ -14,7 +14,7 @@ abbrev IsDigit : ℕ → Type 0
 IsDigit digit = digit ≤ 9
 
 -- a place more is a further digit of the number
-pub next_place : (places at : ℕ) (digits : List ℕ) (number : ℕ)
+next_place : (places at : ℕ) (digits : List ℕ) (number : ℕ)
     → with_places number (suc places) (drop at digits) ≡ with_places (number * 16 + value_at digits at) places (drop (suc at) digits)
 next_place places zero [] number = ap (λ (n : ℕ). with_places n places []) (omega arith)
 next_place places zero (digit ∷ digits) number = refl

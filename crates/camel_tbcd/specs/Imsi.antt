@@ -11,21 +11,16 @@ pub record IsImsi (digits : List ℕ) : Type 0 where
   pub most : length digits ≤ 15
   pub decimal : All (λ digit. digit ≤ 9) digits
 
--- the values, or the place of the first that is over 9
-abbrev pub decimal_or_fault : List ℕ → Option ℕ → Result (List ℕ) ImsiFault
-decimal_or_fault values None = Ok values
-decimal_or_fault values (Some at) = Err (NotDigit at)
-
--- the values, where they are not too many, or the place of the first that is over 9
-abbrev pub few_or_fault : List ℕ → Option ℕ → Result (List ℕ) ImsiFault
-few_or_fault values (Some at) = Err (NotDigit at)
-few_or_fault values None = if nat_le (length values) 15 then Ok values else Err Length
+-- the fault of the first value over 9, or else this answer
+abbrev pub unless_over_nine : Option ℕ → Result (List ℕ) ImsiFault → Result (List ℕ) ImsiFault
+unless_over_nine (Some at) answer = Err (NotDigit at)
+unless_over_nine None answer = answer
 
 -- the IMSI that values make: their count is looked at first, then the values from the first one on
 abbrev pub imsi_of : List ℕ → Result (List ℕ) ImsiFault
 imsi_of values =
     if nat_le 5 (length values) && nat_le (length values) 15
-    then decimal_or_fault values (position (λ value. nat_lt 9 value) values)
+    then unless_over_nine (position (λ value. nat_lt 9 value) values) (Ok values)
     else Err Length
 
 -- nibbles without the filler, where it stands last
@@ -34,7 +29,8 @@ without_filler values = if slice_index values (length values - 1) == filler then
 
 -- the IMSI that the nibbles of octets make: the first of them over 9 is looked for, and then their count
 abbrev pub imsi_of_nibbles : List ℕ → Result (List ℕ) ImsiFault
-imsi_of_nibbles values = few_or_fault values (position (λ value. nat_lt 9 value) values)
+imsi_of_nibbles values =
+    unless_over_nine (position (λ value. nat_lt 9 value) values) (if nat_le (length values) 15 then Ok values else Err Length)
 
 -- the IMSI that 3 to 8 TBCD octets make, where a filler stands only as the last high nibble
 abbrev pub imsi_of_tbcd : List ℕ → Result (List ℕ) ImsiFault

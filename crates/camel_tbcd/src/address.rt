@@ -1,4 +1,4 @@
-ghost use Rattle.std.specs.Prelude.{◌≡◌, ◌≤◌, ◌<◌, ◌↔◌, length, IfOk, IsErrOf};
+ghost use Rattle.std.specs.Prelude.{◌≡◌, ◌≤◌, ◌<◌, ◌↔◌, length, IfOk, IsErrOf, OnOk};
 ghost use Rattle.camel_tbcd.specs.Nature.{nature_of, plan_of};
 ghost use Rattle.camel_tbcd.specs.AddressFault.{address_fault_code};
 ghost use Rattle.camel_tbcd.specs.AddressLength.{IsAddress, max_address_length};
@@ -65,12 +65,7 @@ impl<'a> Address<'a> {
         ensures empty { IsErrOf result AddressFault.Empty ↔ (length bytes.now ≡ 0) }
         ensures too_long { IsErrOf result AddressFault.TooLong ↔ (max_address_length < length bytes.now) }
     {
-        if bytes.is_empty() {
-            return Err(AddressFault::Empty);
-        }
-        if bytes.len() > MAX_ADDRESS_LENGTH {
-            return Err(AddressFault::TooLong);
-        }
+        check_length(bytes, MAX_ADDRESS_LENGTH)?;
         Ok(Address { bytes })
     }
 
@@ -114,5 +109,18 @@ impl<'a> Address<'a> {
         ensures { digit_list result ≡ digits (octets self.now) }
     {
         Digits::of_address(self.bytes)
+    }
+}
+
+// The fault of octets that are no address of at most so many.
+pub(crate) fn check_length(bytes: &[u8], most: usize) -> Result<(), AddressFault>
+    ensures address { OnOk result (IsAddress most bytes.now) }
+    ensures empty { IsErrOf result AddressFault.Empty ↔ (length bytes.now ≡ 0) }
+    ensures too_long { IsErrOf result AddressFault.TooLong ↔ (most < length bytes.now) }
+{
+    match bytes.len() {
+        0 => Err(AddressFault::Empty),
+        len if len > most => Err(AddressFault::TooLong),
+        _ => Ok(()),
     }
 }

@@ -2,14 +2,14 @@ ghost use Rattle.std.specs.Prelude.{◌≡◌, ◌<◌, ◌↔◌, length, IfOk,
 ghost use Rattle.camel_tbcd.specs.Address.{octets};
 ghost use Rattle.camel_tbcd.specs.AddressLength.{IsAddress, max_address_length};
 
-use crate::address::{Address, AddressFault, MAX_ADDRESS_LENGTH};
+use crate::address::{Address, AddressFault, MAX_ADDRESS_LENGTH, check_length};
 use crate::short_list::ShortList;
 use std::marker::Model;
 
 /// An owned AddressString of TS 29.002, as the destination of a call: 1 to 20 octets.
 ///
-/// Contracts see it as the list of its octets.
-#[derive(Clone, Copy, Debug)]
+/// Contracts see it as the list of its octets. Two are equal where their octets are.
+#[derive(Clone, Copy, Debug, PartialEq, Eq)]
 pub struct CallAddress {
     octets: ShortList<MAX_ADDRESS_LENGTH>,
 }
@@ -36,12 +36,7 @@ impl CallAddress {
         ensures empty { IsErrOf result AddressFault.Empty ↔ (length bytes.now ≡ 0) }
         ensures too_long { IsErrOf result AddressFault.TooLong ↔ (max_address_length < length bytes.now) }
     {
-        if bytes.is_empty() {
-            return Err(AddressFault::Empty);
-        }
-        if bytes.len() > MAX_ADDRESS_LENGTH {
-            return Err(AddressFault::TooLong);
-        }
+        check_length(bytes, MAX_ADDRESS_LENGTH)?;
         Ok(CallAddress {
             octets: ShortList::from_slice(bytes),
         })

@@ -1,7 +1,8 @@
-ghost use Rattle.std.specs.Prelude.{◌≡◌, ◌≤◌, ◌<◌, ◌+◌, ◌-◌, ◌*◌, ◌/◌, ◌%◌, ◌↔◌, [], IsTrue, drop, length, nat_eq, slice_get, slice_index};
+ghost use Rattle.std.specs.Prelude.{◌≡◌, ◌<◌, ◌↔◌, [], IsTrue, drop, length, nat_eq, slice_get, slice_index};
 ghost use Rattle.std.specs.List.{starts_with};
+ghost use mathlib.Core.List.{IsPrefix};
 ghost use Rattle.camel_tbcd.specs.AddressLength.{IsAddress, max_address_length};
-ghost use Rattle.camel_tbcd.specs.Digits.{BeginsWith, digits, nibbles};
+ghost use Rattle.camel_tbcd.specs.Digits.{digits, nibbles};
 
 /// The digits of an address, read where its octets stand: no list is made of them.
 ///
@@ -27,7 +28,7 @@ impl<'a> Digits<'a> {
         }
     }
 
-    /// How many digits there are, 0 to 38.
+    /// How many digits there are.
     pub fn len(&self) -> usize
         ensures { result ≡ length (digit_list self.now) }
     {
@@ -55,13 +56,13 @@ impl<'a> Digits<'a> {
     /// Whether the digits of `front` are the first ones of these.
     pub fn begins_with(&self, front: &Digits) -> bool
         ensures tested { result ≡ starts_with nat_eq (digit_list self.now) (digit_list front.now) }
-        ensures prefix { IsTrue result ↔ BeginsWith (digit_list self.now) (digit_list front.now) }
+        ensures prefix { IsTrue result ↔ IsPrefix (digit_list front.now) (digit_list self.now) }
     {
         self.has_front(front)
     }
 
     fn has_front(&self, front: &Digits) -> bool
-        ensures { IsTrue result ↔ BeginsWith (digit_list self.now) (digit_list front.now) }
+        ensures { IsTrue result ↔ IsPrefix (digit_list front.now) (digit_list self.now) }
     {
         if self.len < front.len {
             return false;

@@ -1,4 +1,4 @@
-ghost use Rattle.std.specs.Prelude.{◌≡◌, ◌≤◌, ◌<◌, ◌↔◌, length, position, take, ◌*◌, nat_eq, nat_lt, All, IsNone, IfOk, IsOk};
+ghost use Rattle.std.specs.Prelude.{◌≡◌, ◌≤◌, ◌↔◌, length, position, take, ◌*◌, nat_eq, nat_lt, All, IsNone, IfOk, IsOk};
 ghost use Rattle.std.specs.Ordering.{nat_cmp, as_partial_cmp};
 ghost use Rattle.std.specs.Cmp.{partial_equiv_from_equiv, partial_order_from_agreeing_total};
 ghost use Rattle.std.specs.Cmp.Lexicographic.{slice_cmp, pointwise, nat_list_cmp_total, nat_list_eq_equiv, texts_ties};
@@ -102,10 +102,7 @@ impl Imsi {
         }
         match first_over_nine(digits) {
             Some(at) => Err(ImsiFault::NotDigit { at }),
-            None => Ok(Imsi {
-                digits: ShortList::from_slice(digits),
-                order: order_number(digits),
-            }),
+            None => Ok(Imsi::of_decimal(digits)),
         }
     }
 
@@ -134,7 +131,17 @@ impl Imsi {
         match first_over_nine(nibbles) {
             Some(at) => Err(ImsiFault::NotDigit { at }),
             None if nibbles.len() > MAX_IMSI_DIGITS => Err(ImsiFault::Length),
-            None => Imsi::from_digits(nibbles),
+            None => Ok(Imsi::of_decimal(nibbles)),
+        }
+    }
+
+    fn of_decimal(digits: &[u8]) -> Imsi
+        requires { IsImsi digits.now }
+        ensures { result ≡ digits.now }
+    {
+        Imsi {
+            digits: ShortList::from_slice(digits),
+            order: order_number(digits),
         }
     }
 

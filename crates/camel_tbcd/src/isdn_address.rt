@@ -2,7 +2,7 @@ ghost use Rattle.std.specs.Prelude.{◌≡◌, ◌<◌, ◌↔◌, length, IfOk,
 ghost use Rattle.camel_tbcd.specs.Address.{octets};
 ghost use Rattle.camel_tbcd.specs.AddressLength.{IsAddress, max_isdn_address_length};
 
-use crate::address::{Address, AddressFault};
+use crate::address::{Address, AddressFault, check_length};
 use crate::short_list::ShortList;
 use std::marker::Model;
 
@@ -11,7 +11,7 @@ pub const MAX_ISDN_ADDRESS_LENGTH: usize = 9;
 
 /// An ISDN-AddressString of TS 29.002, as a gsmSCF address or a number of a criterion: 1 to 9 octets.
 ///
-/// Contracts see it as the list of its octets.
+/// Contracts see it as the list of its octets. Two are equal where their octets are.
 #[derive(Clone, Copy, Debug, PartialEq, Eq)]
 pub struct IsdnAddress {
     octets: ShortList<MAX_ISDN_ADDRESS_LENGTH>,
@@ -39,12 +39,7 @@ impl IsdnAddress {
         ensures empty { IsErrOf result AddressFault.Empty ↔ (length bytes.now ≡ 0) }
         ensures too_long { IsErrOf result AddressFault.TooLong ↔ (max_isdn_address_length < length bytes.now) }
     {
-        if bytes.is_empty() {
-            return Err(AddressFault::Empty);
-        }
-        if bytes.len() > MAX_ISDN_ADDRESS_LENGTH {
-            return Err(AddressFault::TooLong);
-        }
+        check_length(bytes, MAX_ISDN_ADDRESS_LENGTH)?;
         Ok(IsdnAddress {
             octets: ShortList::from_slice(bytes),
         })

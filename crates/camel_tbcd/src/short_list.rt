@@ -1,12 +1,14 @@
-ghost use Rattle.std.specs.Prelude.{◌≡◌, ◌≤◌, length};
+ghost use Rattle.std.specs.Prelude.{◌≡◌, ◌≤◌, length, nat_eq};
+ghost use Rattle.std.specs.Cmp.{partial_equiv_from_equiv};
+ghost use Rattle.std.specs.Cmp.Lexicographic.{nat_list_eq_equiv, pointwise};
 
 use std::marker::Model;
 
-/// At most `MOST` octets or digits, which contracts see as a list.
-///
-/// They are kept in place, so that a list of them is `Copy` and takes no memory.
-#[derive(Clone, Copy, Debug, PartialEq, Eq)]
-pub struct ShortList<const MOST: usize> {
+// At most `MOST` octets or digits, which contracts see as a list. Two are equal where their items are.
+//
+// They are kept in place, so that a list of them is `Copy` and takes no memory.
+#[derive(Clone, Copy, Debug)]
+pub(crate) struct ShortList<const MOST: usize> {
     // The items, and 0 from `len` on, so that equal lists have equal fields.
     room: [u8; MOST],
     len: usize,
@@ -15,7 +17,7 @@ pub struct ShortList<const MOST: usize> {
 impl<const MOST: usize> Model for ShortList<MOST> {
     ghost use Rattle.std.specs.Prelude.{ℕ, List, length, take};
     ghost use Rattle.std.proofs.Common.{sym};
-    ghost use Rattle.camel_tbcd.specs.ShortList.{IsKept, padded, length-kept};
+    ghost use Rattle.camel_tbcd.specs.ShortList.{IsKept, length-kept, room_with};
 
     ghost Value = { List ℕ };
 
@@ -23,14 +25,14 @@ impl<const MOST: usize> Model for ShortList<MOST> {
 
     ghost invariant = { λ a. IsKept MOST a.room a.len };
 
-    ghost inverse = { λ items. record { room = padded MOST items; len = length items } };
+    ghost inverse = { λ items. record { room = room_with MOST items; len = length items } };
 
     ghost inverse_ok = { λ a h i. record { room = sym h.zeros i; len = length-kept MOST a.room a.len h.full h.fits i } };
 }
 
 impl<const MOST: usize> ShortList<MOST> {
-    /// Keeps the items.
-    pub fn from_slice(items: &[u8]) -> Self
+    // Keeps the items.
+    pub(crate) fn from_slice(items: &[u8]) -> Self
         requires { length items.now ≤ MOST }
         ensures { result ≡ items.now }
     {
@@ -42,10 +44,24 @@ impl<const MOST: usize> ShortList<MOST> {
         }
     }
 
-    /// The items, in their order.
-    pub fn as_slice(&self) -> &[u8]
+    // The items, in their order.
+    pub(crate) fn as_slice(&self) -> &[u8]
         ensures { result.now ≡ self.now }
     {
         &self.room[..self.len]
     }
+}
+
+impl<const MOST: usize> PartialEq for ShortList<MOST> {
+    ghost eq = { pointwise nat_eq };
+
+    ghost laws = { partial_equiv_from_equiv nat_list_eq_equiv };
+
+    fn eq(&self, other: &Self) -> bool {
+        self.as_slice() == other.as_slice()
+    }
+}
+
+impl<const MOST: usize> Eq for ShortList<MOST> {
+    ghost laws = { nat_list_eq_equiv };
 }

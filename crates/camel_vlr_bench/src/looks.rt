@@ -1,5 +1,5 @@
 use crate::data::{EVENTS, events};
-use crate::publications::{Concerned, batches, filled, with_csi};
+use crate::publications::{Concerned, batches, open_filled, with_csi};
 use camel_fixtures::{criteria_update, imsi_of};
 use camel_rows::{CallEvent, Decision, Records, Update, decide_in};
 use camel_vlr::Session;
@@ -10,7 +10,7 @@ use std::thread::{Threads, join, map_vec};
 use std::time::Instant;
 
 /// Nanoseconds of a decision over plain records, in hundredths.
-pub(crate) fn over_records<R: Clock>(
+pub(crate) fn time_decisions<R: Clock>(
     rt: &R,
     alloc: Global,
     subscribers: u64,
@@ -28,13 +28,13 @@ pub(crate) fn over_records<R: Clock>(
     let start = Instant::now(rt).ok()?;
     let mut triggers: u64 = 0;
     for _ in 0..rounds {
-        triggers = triggers.wrapping_add(decided(&records, &events));
+        triggers = triggers.wrapping_add(count_triggers(&records, &events));
     }
     let taken = u64::try_from(start.elapsed(rt).ok()?.as_nanos()).ok()?;
     hundredths(taken, rounds, triggers)
 }
 
-fn decided(records: &Records, events: &[CallEvent]) -> u64 {
+fn count_triggers(records: &Records, events: &[CallEvent]) -> u64 {
     let mut triggers: u64 = 0;
     for event in events {
         if let Decision::Trigger { .. } = decide_in(records, &event.lend()) {
@@ -46,7 +46,7 @@ fn decided(records: &Records, events: &[CallEvent]) -> u64 {
 
 /// Nanoseconds of look, decision and leave, in hundredths, with so many sessions in threads of their own, beside a
 /// writer that makes so many publications of ten updates of these subscribers.
-pub(crate) fn of_store<R: Clock + Wait + Threads + Sync>(
+pub(crate) fn time_sessions<R: Clock + Wait + Threads + Sync>(
     rt: &R,
     alloc: Global,
     concerned: &Concerned,
@@ -55,8 +55,8 @@ pub(crate) fn of_store<R: Clock + Wait + Threads + Sync>(
     publications: u64,
 ) -> Option<u64> {
     let events = events(alloc, concerned.subscribers)?;
-    let (mut store, sessions) = filled(rt, alloc, concerned.subscribers, readers)?;
-    let look = |session: Session| -> u64 { looked(rt, session, &events, rounds).unwrap_or(0) };
+    let (mut store, sessions) = open_filled(rt, alloc, concerned.subscribers, readers)?;
+    let look = |session: Session| -> u64 { time_looks(rt, session, &events, rounds).unwrap_or(0) };
     let (times, _) = join(
         rt,
         || map_vec(rt, sessions, &look),
@@ -66,18 +66,23 @@ pub(crate) fn of_store<R: Clock + Wait + Threads + Sync>(
     times.ok()?.iter().copied().max()
 }
 
-fn looked<R: Clock>(rt: &R, session: Session, events: &[CallEvent], rounds: u64) -> Option<u64> {
+fn time_looks<R: Clock>(
+    rt: &R,
+    session: Session,
+    events: &[CallEvent],
+    rounds: u64,
+) -> Option<u64> {
     let mut session = session;
     let start = Instant::now(rt).ok()?;
     let mut triggers: u64 = 0;
     for _ in 0..rounds {
-        triggers = triggers.wrapping_add(decided_by_looks(&mut session, events));
+        triggers = triggers.wrapping_add(count_triggers_of_looks(&mut session, events));
     }
     let taken = u64::try_from(start.elapsed(rt).ok()?.as_nanos()).ok()?;
     hundredths(taken, rounds, triggers)
 }
 
-fn decided_by_looks(session: &mut Session, events: &[CallEvent]) -> u64 {
+fn count_triggers_of_looks(session: &mut Session, events: &[CallEvent]) -> u64 {
     let mut triggers: u64 = 0;
     for event in events {
         let Ok(look) = session.look() else {

@@ -18,17 +18,17 @@ fn main(rt: HostRuntime) -> ExitCode {
     let subscribers = number(&words, 2);
     let done = match what {
         "" => Some(0),
-        "records" => looks::over_records(&rt, rt.alloc(), subscribers, number(&words, 3)),
+        "records" => looks::time_decisions(&rt, rt.alloc(), subscribers, number(&words, 3)),
         "looks" => {
             let readers = number(&words, 4) as usize;
             let concerned = concerned(subscribers, number(&words, 6));
             let (rounds, publications) = (number(&words, 3), number(&words, 5));
-            looks::of_store(&rt, rt.alloc(), &concerned, rounds, readers, publications)
+            looks::time_sessions(&rt, rt.alloc(), &concerned, rounds, readers, publications)
         }
         "publish" => {
             let concerned = concerned(subscribers, number(&words, 5));
             let (updates, rounds) = (number(&words, 3), number(&words, 4));
-            publications::of(&rt, rt.alloc(), &concerned, updates, rounds)
+            publications::time_publications(&rt, rt.alloc(), &concerned, updates, rounds)
         }
         _ => None,
     };

@@ -1,23 +1,21 @@
 use crate::data::next;
 use camel_fixtures::{criteria_update, imsi_of};
 use camel_rows::Update;
-use camel_vlr::{Session, Vlr};
+use camel_vlr::{MAX_PLACES, MAX_UPDATES, Session, Vlr};
 use std::alloc::Global;
 use std::rt::Clock;
 use std::sync::Wait;
 use std::time::Instant;
 
-const LIMIT: u64 = 1_000_000;
-
 /// Nanoseconds of so many submitted updates and their publication.
-pub(crate) fn of<R: Clock + Wait>(
+pub(crate) fn time_publications<R: Clock + Wait>(
     rt: &R,
     alloc: Global,
     concerned: &Concerned,
     updates: u64,
     rounds: u64,
 ) -> Option<u64> {
-    let (mut store, _sessions) = filled(rt, alloc, concerned.subscribers, 1)?;
+    let (mut store, _sessions) = open_filled(rt, alloc, concerned.subscribers, 1)?;
     let start = Instant::now(rt).ok();
     let done = batches(rt, alloc, &mut store, concerned, updates, rounds);
     let taken = start.and_then(|start| start.elapsed(rt).ok());
@@ -27,16 +25,16 @@ pub(crate) fn of<R: Clock + Wait>(
 }
 
 /// A store with so many subscribers, of whom as many have an O-CSI as the limit allows, and its sessions.
-pub(crate) fn filled<R: Wait>(
+pub(crate) fn open_filled<R: Wait>(
     rt: &R,
     alloc: Global,
     subscribers: u64,
     places: usize,
 ) -> Option<(Vlr, Vec<Session>)> {
-    if places == 0 || places > 64 {
+    if places == 0 || places > MAX_PLACES {
         return None;
     }
-    let (mut store, sessions) = Vlr::open(rt, alloc, places, LIMIT).ok()?;
+    let (mut store, sessions) = Vlr::open(rt, alloc, places, MAX_UPDATES).ok()?;
     match fill(rt, alloc, &mut store, subscribers) {
         Some(()) => Some((store, sessions)),
         None => {
@@ -48,7 +46,7 @@ pub(crate) fn filled<R: Wait>(
 
 /// How many of so many subscribers have an O-CSI: as many as the limit of updates leaves room for.
 pub(crate) fn with_csi(subscribers: u64) -> u64 {
-    (LIMIT.saturating_sub(subscribers) / 2).min(subscribers)
+    (MAX_UPDATES.saturating_sub(subscribers) / 2).min(subscribers)
 }
 
 fn fill<R: Wait>(rt: &R, alloc: Global, store: &mut Vlr, subscribers: u64) -> Option<()> {
@@ -74,7 +72,7 @@ pub(crate) struct Concerned {
 }
 
 impl Concerned {
-    fn one(&self, state: u64) -> u64 {
+    fn number_of(&self, state: u64) -> u64 {
         let among = self.among.clamp(1, self.subscribers.max(1));
         ((state >> 33) % among).saturating_mul(self.subscribers / among)
     }
@@ -91,13 +89,13 @@ pub(crate) fn batches<R: Wait>(
 ) -> Option<()> {
     let mut state: u64 = 2;
     for _ in 0..rounds {
-        state = submitted(alloc, store, concerned, updates, state)?;
+        state = submit_batch(alloc, store, concerned, updates, state)?;
         store.publish(rt).ok()?;
     }
     Some(())
 }
 
-fn submitted(
+fn submit_batch(
     alloc: Global,
     store: &mut Vlr,
     concerned: &Concerned,
@@ -107,7 +105,7 @@ fn submitted(
     let mut state = state;
     for _ in 0..updates {
         state = next(state);
-        let imsi = imsi_of(concerned.one(state)).ok()?;
+        let imsi = imsi_of(concerned.number_of(state)).ok()?;
         store.submit(criteria_update(alloc, imsi).ok()?).ok()?;
     }
     Some(state)

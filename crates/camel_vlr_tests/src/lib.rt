@@ -2,4 +2,18 @@
 #![tactic(auto)]
 
 #[cfg(test)]
-mod tests;
+mod answers;
+#[cfg(test)]
+mod closing;
+#[cfg(test)]
+mod given;
+#[cfg(test)]
+mod integration;
+#[cfg(test)]
+mod limits;
+#[cfg(test)]
+mod looking;
+#[cfg(test)]
+mod memory;
+#[cfg(test)]
+mod threads;

@@ -10,8 +10,8 @@ returns c =
     let front = c.args.front.now in (
       λ _. (
         _,
-        front_from_reads 0 (digit_list all) (digit_list front) (omega arith) (λ i h.
-            get-digits all.bytes.now i (omega arith) ∙ c.loop-at.invariant i (omega arith) ∙ sym (get-digits front.bytes.now i h)),
+        sym (front_from_reads 0 (digit_list all) (digit_list front) (omega arith) (λ i h.
+            get-digits all.bytes.now i (omega arith) ∙ c.loop-at.invariant i (omega arith) ∙ sym (get-digits front.bytes.now i h))),
       ),
       λ _. refl,
     )

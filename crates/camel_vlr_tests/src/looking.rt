@@ -1,11 +1,11 @@
 ghost use Rattle.std.specs.Prelude.{◌≡◌, IfOk};
 
-use super::{
-    ARMED, LISTED, Told, UNKNOWN, call_of, check_asked, check_counts, check_lent, check_row,
-    check_submit, closed, criteria_update, filled, going_on, imsi_of, opened_with_one,
-    opened_with_two, receipt_of,
+use crate::answers::{
+    Told, UNKNOWN, check_asked, check_counts, check_lent, check_row, check_submit,
 };
+use crate::given::{closed, filled, going_on, opened_with_one, opened_with_two, receipt_of};
 use camel_criteria::Refusal;
+use camel_fixtures::{ARMED, LISTED, call_of, criteria_update, imsi_of};
 use camel_rows::{CallEvent, Reason, Records, Update};
 use camel_tbcd::Imsi;
 use camel_vlr::{Receipt, Session, Vlr};

@@ -2,7 +2,7 @@ use Rattle.std.proofs.Common.{◌≡◌, ◌∙◌, ◌∷◌, ◌++◌, [], ap,
 use Rattle.camel_rows.specs.Front.{Extends}
 use Rattle.camel_vlr.proofs.FrontLemmas.{all_last, extends_length}
 use Rattle.camel_vlr.specs.Session.{ExtendsAll}
-use Rattle.camel_vlr_tests.proofs.tests.integration.front_after.Goals as goal
+use Rattle.camel_vlr_tests.proofs.integration.front_after.Goals as goal
 
 pub returns-clause-extends : goal.returns-clause-extends
 returns-clause-extends c =

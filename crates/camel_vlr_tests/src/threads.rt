@@ -1,7 +1,7 @@
-use super::{
-    Kind, TURNS, Told, asked, asked_once, call_of, imsi_of, opened_with_two, told, update_of,
-};
+use crate::answers::{TURNS, Told, asked, asked_once, told};
+use crate::given::{Kind, opened_with_two, update_of};
 use camel_criteria::Refusal;
+use camel_fixtures::{call_of, imsi_of};
 use camel_rows::{CallEvent, Records, Update, decide_in};
 use camel_tbcd::Imsi;
 use camel_vlr::{Session, Vlr};

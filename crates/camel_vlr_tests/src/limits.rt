@@ -1,9 +1,9 @@
 ghost use Rattle.std.specs.Prelude.{◌≡◌, IfOk};
 
-use super::{
-    UNKNOWN, call_of, check_asked, check_row, check_submit, imsi_of, opened_with_last, receipt_of,
-};
+use crate::answers::{UNKNOWN, check_asked, check_row, check_submit};
+use crate::given::{opened_with_last, receipt_of};
 use camel_criteria::Refusal;
+use camel_fixtures::{call_of, imsi_of};
 use camel_rows::{Reason, Update};
 use camel_vlr::{Receipt, Session, Vlr};
 use std::mem::size_of;

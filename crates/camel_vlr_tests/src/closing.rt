@@ -1,9 +1,8 @@
 ghost use Rattle.std.specs.Prelude.{◌≡◌};
 
-use super::{
-    ARMED, asked_once, call_of, check_submit, closed, filled, going_on, held, imsi_of,
-    opened_with_one,
-};
+use crate::answers::{asked_once, check_submit};
+use crate::given::{closed, filled, going_on, opened_with_one};
+use camel_fixtures::{ARMED, call_of, imsi_of, stored_summary};
 use camel_rows::Update;
 use camel_tbcd::Imsi;
 use camel_vlr::{Session, Vlr};
@@ -44,7 +43,8 @@ fn closing_gives_the_published_records_and_drops_what_is_pending(
     let done = with_pending_cancel(&rt, &mut store, &mut session, imsi);
     let store = going_on(&rt, store, done)?;
     let records = closed(&rt, store, &mut session)?;
-    assert_eq!(rt; held(&records, &imsi), Some((Some(ARMED), None)));
+    let stored = stored_summary(&records, &imsi, 2);
+    assert_eq!(rt; stored, Some((Some(ARMED), None)));
     check_last_look(&rt, &mut session, imsi)
 }
 

@@ -2,8 +2,10 @@ ghost use Rattle.std.specs.Prelude.{◌≡◌, ◌≤◌, length, IfOk, IfSome, 
 ghost use Rattle.camel_rows.specs.Front.{Extends};
 ghost use Rattle.camel_vlr.specs.Session.{ExtendsAll};
 
-use super::{call_of, check_asked, imsi_of, opened_with_one, row_update};
+use crate::answers::check_asked;
+use crate::given::opened_with_one;
 use camel_criteria::Refusal;
+use camel_fixtures::{call_of, imsi_of, row_update};
 use camel_rows::{CallEvent, Outcome, Update};
 use camel_tbcd::Imsi;
 use camel_vlr::{Receipt, Session, Vlr};

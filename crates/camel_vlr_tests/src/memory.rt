@@ -1,11 +1,12 @@
 ghost use Rattle.std.specs.Prelude.{◌≡◌, IfOk};
 ghost use Rattle.camel_vlr.specs.Store.{fresh_session};
 
-use super::{
-    ARMED, Kind, LISTED, Sent, TURNS, Told, UNKNOWN, asked, call_of, check_asked, check_counts,
-    check_row, check_submit, going_on, held, imsi_of, opened_with_one, update_of,
+use crate::answers::{
+    TURNS, Told, UNKNOWN, asked, check_asked, check_counts, check_row, check_submit,
 };
+use crate::given::{Kind, Sent, going_on, opened_with_one, update_of};
 use camel_criteria::Refusal;
+use camel_fixtures::{ARMED, LISTED, call_of, imsi_of, stored_summary};
 use camel_rows::{CallEvent, Reason, Records, Update};
 use camel_tbcd::Imsi;
 use camel_vlr::{CloseRefused, Receipt, Session, Vlr};
@@ -234,8 +235,8 @@ fn closed_after_each_call<R: Wait + Abort>(rt: &R, alloc: Global) -> Result<Reco
 // One subscriber has the row and the entry, and another one no record.
 fn check_listed(rt: &impl Abort, records: &Records) -> Result<(), Fail> {
     let both = Some((Some(ARMED), Some(LISTED)));
-    assert_eq!(rt; held(records, &imsi_of(1)?), both);
-    assert_eq!(rt; held(records, &imsi_of(2)?), None);
+    assert_eq!(rt; stored_summary(records, &imsi_of(1)?, 2), both);
+    assert_eq!(rt; stored_summary(records, &imsi_of(2)?, 2), None);
     Ok(())
 }
 
