@@ -1,10 +1,11 @@
 -- Operations, and the updates among them.
-use Rattle.std.proofs.Common.{◌≡◌, ◌∙◌, ◌+◌, ◌-◌, ◌^◌, ◌≤◌, List, [], ◌∷◌, ◌++◌, length, drop, fold, min, sym, refl, ap, subst, arith, add-zero}
+use Rattle.std.proofs.Common.{◌≡◌, ◌∙◌, ◌+◌, ◌-◌, ◌^◌, ◌≤◌, List, [], ◌∷◌, ◌++◌, length, drop, fold, min, sym, refl, ap, subst, arith, add-zero, append-nil}
 use Rattle.std.proofs.Math.Seq.{drop-append_seam}
 use Rattle.camel_rows.specs.Front.{Extends}
 use Rattle.camel_rows.specs.Update.{records_from}
 use Rattle.camel_rows.specs.declared.subscriber.update.Update.{Update}
 use Rattle.camel_vlr.specs.Operation.{CopyData, copy_after, updates_among}
+use Rattle.camel_vlr.specs.Prefix.{PrefixData}
 use Rattle.camel_vlr.specs.declared.writer.TheConstants.{MAX_UPDATES}
 use Rattle.camel_vlr.specs.declared.writer.operation.Operation.{Operation}
 use Rattle.camel_vlr.specs.declared.writer.operation.Operation.TheVariants as operation
@@ -13,6 +14,10 @@ pub updates_among-append : (first second : List Operation) → updates_among (fi
 updates_among-append [] second = refl
 updates_among-append (operation.Update update ∷ first) second = ap (λ updates. update ∷ updates) (updates_among-append first second)
 updates_among-append (operation.Front front ∷ first) second = updates_among-append first second
+
+-- the front of a publication is no update
+pub updates_among-front : (operations : List Operation) (front : PrefixData) → updates_among (operations ++ operation.Front front ∷ []) ≡ updates_among operations
+updates_among-front operations front = updates_among-append operations (operation.Front front ∷ []) ∙ append-nil (updates_among operations)
 
 -- all operations leave the data that their updates leave, and count them
 pub fold-copy_after : (copy : CopyData) (operations : List Operation) → copy.1 + length (updates_among operations) ≤ MAX_UPDATES

@@ -1,6 +1,7 @@
 -- What the updates of one subscriber alone leave.
-use Rattle.std.proofs.Common.{◌≡◌, ◌≢◌, ◌∙◌, ℕ, ◌≤◌, Bool, true, false, List, [], ◌∷◌, None, length, refl, sym, ap, subst, arith}
+use Rattle.std.proofs.Common.{◌≡◌, ◌≢◌, ◌∙◌, ℕ, Bool, true, false, List, [], ◌∷◌, None, refl, sym, ap, subst, arith}
 use Rattle.std.proofs.lemmas.Bool.Decides.{not_from_Decides}
+use Rattle.std.proofs.lemmas.List.Sums.{count_by-le-length, length-filter}
 use Rattle.std.proofs.lemmas.Slice.Eq.{bytes_eq-Decides}
 use Rattle.std.specs.FinMap as map
 use Rattle.std.specs.Str.{bytes_eq}
@@ -45,17 +46,10 @@ own_leave imsi m n (update ∷ updates) accepted same =
         let rest = further n (other_record m update imsi other ∙ same) in
         record { accepted = rw e rest.accepted; leaves = rw e rest.leaves }
 
-fewer : (imsi : List ℕ) (updates : List Update) → length (own_updates imsi updates) ≤ length updates
-fewer imsi [] = omega arith
-fewer imsi (update ∷ updates) = by_test (fewer imsi updates) (bytes_eq (update_imsi update) imsi) refl
-  where
-    by_test : length (own_updates imsi updates) ≤ length updates → (b : Bool) → bytes_eq (update_imsi update) imsi ≡ b → length (own_updates imsi (update ∷ updates)) ≤ length (update ∷ updates)
-    by_test rest true e = rw e (omega (arith, rest))
-    by_test rest false e = rw e (omega (arith, rest))
-
 pub decided_by_own : (limit : ℕ) (front : List Update) (event : EventData) → IsFront limit front → DecidedByOwn limit front event (decision (records_of front) event)
 decided_by_own limit front event is =
+    let is_own : Update → Bool = λ update. bytes_eq (update_imsi update) (event_imsi event) in
     let own = own_leave (event_imsi event) no_records no_records front is.accepted refl in record {
-      own_front = record { accepted = own.accepted; few = omega (arith, is.few, fewer (event_imsi event) front) };
+      own_front = record { accepted = own.accepted; few = omega (arith, is.few, length-filter is_own front, count_by-le-length is_own front) };
       decision = ap (by_record event) own.leaves;
     }

@@ -6,7 +6,7 @@ use Rattle.camel_rows.proofs.UpdateLemmas.{records_from-append}
 use Rattle.camel_rows.specs.Front.{IsFront}
 use Rattle.camel_rows.specs.Records.{no_records}
 use Rattle.camel_rows.specs.Update.{records_of, records_from}
-use Rattle.camel_vlr.proofs.OperationLemmas.{fold-copy_after, updates_among-append}
+use Rattle.camel_vlr.proofs.OperationLemmas.{fold-copy_after, updates_among-front}
 use Rattle.camel_vlr.specs.Operation.{CopyData, copy_after, updates_among}
 use Rattle.camel_vlr.specs.PublishedCopy.{IsOfItsFront}
 use Rattle.camel_vlr.specs.Rule.{Knows, Publishes}
@@ -20,14 +20,14 @@ abbrev pub data_of : PublishedCopy → CopyData
 data_of copy = (copy.records, copy.count, copy.front)
 
 -- a copy to which all that was pending was applied, its front last, is of that front
-pub next_copy : (old new : PublishedCopy) (front : PrefixData) (operations : List Operation) → IsOfItsFront old
-    → front.updates ≡ old.front.updates ++ updates_among (operations ++ operation.Front front ∷ []) → IsFront front.store.limit front.updates → front.store.limit ≤ MAX_UPDATES
-    → data_of new ≡ fold copy_after (data_of old) (operations ++ operation.Front front ∷ []) → (IsOfItsFront new) × (new.front ≡ front)
-next_copy old new front operations is updates is_front greatest now =
+pub next_copy : (old new : PublishedCopy) (front : PrefixData) (pending operations : List Operation) → pending ≡ operations ++ operation.Front front ∷ [] → IsOfItsFront old
+    → front.updates ≡ old.front.updates ++ updates_among pending → IsFront front.store.limit front.updates → front.store.limit ≤ MAX_UPDATES
+    → data_of new ≡ fold copy_after (data_of old) pending → (IsOfItsFront new) × (new.front ≡ front)
+next_copy old new front pending operations last is updates is_front greatest now =
     let more = updates_among operations in
-    let list : front.updates ≡ old.front.updates ++ more = updates ∙ ap (λ w. old.front.updates ++ w) (updates_among-append operations (operation.Front front ∷ []) ∙ append-nil more) in
+    let list : front.updates ≡ old.front.updates ++ more = updates ∙ ap (λ w. old.front.updates ++ w) (ap updates_among last ∙ updates_among-front operations front) in
     let few : old.count + length more ≤ MAX_UPDATES = omega (arith, is.count, is_front.few, greatest, ap length list, length-append old.front.updates more) in
-    let all = now ∙ fold-append copy_after (data_of old) operations (operation.Front front ∷ []) in
+    let all = now ∙ ap (λ (l : List Operation). fold copy_after (data_of old) l) last ∙ fold-append copy_after (data_of old) operations (operation.Front front ∷ []) in
     let each = fold-copy_after (data_of old) operations few in
     let same : new.front ≡ front = ap (λ s. s.2) all in
     let new_list : new.front.updates ≡ old.front.updates ++ more = ap (λ x. x.updates) same ∙ list in (
@@ -39,18 +39,10 @@ next_copy old new front operations is updates is_front greatest now =
       same,
     )
 
-pub on_ok : {T E : Type 0} (r : Result T E) (A B C : Type 0) → MatchResult r (λ _. A) (λ _. B) → (A → C) → OnOk r C
-on_ok (Ok x) A B C m f = f m
-on_ok (Err e) A B C m f = tt
-
 pub both_ok : {T E : Type 0} (r : Result T E) (A B A' B' C : Type 0) → MatchResult r (λ _. A) (λ _. B) → MatchResult r (λ _. A') (λ _. B') → (A → A' → C) → OnOk r C
 both_ok (Ok x) A B A' B' C m n f = f m n
 both_ok (Err e) A B A' B' C m n f = tt
 
-pub knows_published : (copy : PublishedCopy) (front : PrefixData) (own : Known) → Publishes own copy copy own → copy.front ≡ front → Knows own front.store front.updates
+pub knows_published : (copy : PublishedCopy) (front : PrefixData) (own : Known) → Publishes own copy copy own → copy.front ≡ front → Knows own front
 knows_published copy front own is same =
-    subst (λ (v : Known). Knows v front.store front.updates) (sym is) (ap (λ x. x.store) same, ([], append-nil front.updates ∙ sym (ap (λ x. x.updates) same)))
-
-pub where_ok : {T E : Type 0} (r : Result T E) (x : T) (A : Type 0) → r ≡ Ok x → OnOk r A → A
-where_ok (Ok y) x A is h = h
-where_ok (Err e) x A is h = absurd (cc is)
+    subst (λ (v : Known). Knows v front) (sym is) (sym (ap (λ x. x.store) same), ([], append-nil front.updates ∙ sym (ap (λ x. x.updates) same)))

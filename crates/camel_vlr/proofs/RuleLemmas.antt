@@ -3,36 +3,29 @@ use base.Growing.{prefix_refl, prefix_trans}
 use Rattle.std.proofs.Common.{◌≡◌, ◌∙◌, ◌≢◌, ℕ, List, [], ◌∷◌, ◌++◌, set, sym, refl, ap, subst, ⊎_elim, Option, Some, None, IfSome, IsSomeAnd, true}
 use mathlib.Core.Option.{some}
 use lib.ListN.{get_elem?}
+use Rattle.std.proofs.lemmas.Option.{IfSome_then}
 use Rattle.atomic_table.proofs.Lists.{at_set, at_snoc}
 use Rattle.crossbeam_utils.specs.Register.{Admits, Forks, Merges, TurnsAt}
-use Rattle.camel_vlr.specs.Prefix.{PrefixData, StoreId}
+use Rattle.camel_vlr.specs.Prefix.{PrefixData}
 use Rattle.camel_rows.specs.Front.{Extends, IsFront}
-use Rattle.camel_rows.specs.declared.subscriber.update.Update.{Update}
 use Rattle.camel_vlr.specs.Session.{ExtendsAll}
 use Rattle.camel_vlr.specs.PublishedCopy.{IsOfItsFront}
-use Rattle.camel_vlr.specs.Rule.{IsBehind, IsPrefixOf, IsKept, Knows, Looks, Publishes, newcomer}
+use Rattle.camel_vlr.specs.Rule.{AllBehind, IsBehind, IsPrefixOf, IsKept, Knows, Looks, Publishes, newcomer}
 use Rattle.camel_vlr.specs.Session.{Sees, SessionData}
 use Rattle.camel_vlr.specs.declared.published_copy.PublishedCopy.{PublishedCopy}
 use Rattle.camel_vlr.specs.declared.history.rule.Known.{Known}
 
-abbrev pub AllBehind : PublishedCopy → List Known → Type 0
-AllBehind copy known = (seat : ℕ) (own : Known) → get_elem? known seat ≡ some own → IsBehind own copy
-
-pub knows_of : (copy : PublishedCopy) → IsBehind (record { front = Some copy.front }) copy
+knows_of : (copy : PublishedCopy) → IsBehind (record { front = Some copy.front }) copy
 knows_of copy = (refl, prefix_refl copy.front.updates)
 
 -- what holds of what each seat knows still holds with one of them changed, and with one more
-pub behind_set : (copy : PublishedCopy) (known : List Known) (seat : ℕ) (new : Known) → IsBehind new copy → AllBehind copy known → AllBehind copy (set known seat new)
+behind_set : (copy : PublishedCopy) (known : List Known) (seat : ℕ) (new : Known) → IsBehind new copy → AllBehind copy known → AllBehind copy (set known seat new)
 behind_set copy known seat new is all other own at =
     ⊎_elim (λ (t : (other ≡ seat) × (new ≡ own)). subst (λ (w : Known). IsBehind w copy) t.1 is) (λ (t : (other ≢ seat) × (get_elem? known other ≡ some own)). all other own t.1) (at_set known seat other new own at)
 
-pub behind_push : (copy : PublishedCopy) (known : List Known) (new : Known) → IsBehind new copy → AllBehind copy known → AllBehind copy (known ++ new ∷ [])
+behind_push : (copy : PublishedCopy) (known : List Known) (new : Known) → IsBehind new copy → AllBehind copy known → AllBehind copy (known ++ new ∷ [])
 behind_push copy known new is all other own at =
     ⊎_elim (all other own) (λ (t : new ≡ own). subst (λ (w : Known). IsBehind w copy) t is) (at_snoc known new own other at)
-
-if_weaker : {A : Type 0} (o : Option A) (P Q : A → Type 0) → ((x : A) → P x → Q x) → IfSome o P → IfSome o Q
-if_weaker None P Q f h = tt
-if_weaker (Some x) P Q f h = f x h
 
 has_if : {A : Type 0} (o : Option A) (P Q : A → Type 0) (C : Type 0) → ((x : A) → P x → Q x → C) → IsSomeAnd o P → IfSome o Q → C
 has_if None P Q C f h i = absurd h
@@ -62,9 +55,8 @@ learns seat own other note copy known kept at apart there =
     record { is_of_front = kept.is_of_front; each = behind_set copy (set known seat note) other newcomer tt (behind_set copy known seat note is kept.each) }
 
 behind_more : (old new : PublishedCopy) → new.front.store ≡ old.front.store → Extends new.front.updates old.front.updates → (own : Known) → IsBehind own old → IsBehind own new
-behind_more old new store more own =
-    if_weaker own.front (λ front. IsPrefixOf front old.front) (λ front. IsPrefixOf front new.front)
-    (λ front is. (is.0 ∙ sym store, prefix_trans front.updates old.front.updates new.front.updates is.1 more))
+behind_more old new store more own is =
+    IfSome_then own.front is (λ front is. (is.0 ∙ sym store, prefix_trans front.updates old.front.updates new.front.updates is.1 more))
 
 pub publishes : (seat : ℕ) (own : Known) (old new : PublishedCopy) → IsOfItsFront new → new.front.store ≡ old.front.store → Extends new.front.updates old.front.updates → TurnsAt IsKept seat own old new Publishes
 publishes seat own old new is store more known kept at = let next : Known = record { front = Some new.front } in (
@@ -76,18 +68,18 @@ publishes seat own old new is store more known kept at = let next : Known = reco
 -- ---- what a session makes of a look
 
 -- whoever knows that a store published something, and finds a copy, finds that store's, and no less
-pub knows_less : (copy : PublishedCopy) (own : Known) (store : StoreId) (updates : List Update) → Knows own store updates → IsBehind own copy → (copy.front.store ≡ store) × Extends copy.front.updates updates
-knows_less copy own store updates =
-    has_if own.front (λ front. (front.store ≡ store) × Extends front.updates updates) (λ front. IsPrefixOf front copy.front) ((copy.front.store ≡ store) × Extends copy.front.updates updates)
-    (λ front knows is. (sym is.0 ∙ knows.0, prefix_trans updates front.updates copy.front.updates knows.1 is.1))
+pub knows_less : (copy : PublishedCopy) (own : Known) (prefix : PrefixData) → Knows own prefix → IsBehind own copy → IsPrefixOf prefix copy.front
+knows_less copy own prefix =
+    has_if own.front (IsPrefixOf prefix) (λ front. IsPrefixOf front copy.front) (IsPrefixOf prefix copy.front)
+    (λ front knows is. (knows.0 ∙ is.0, prefix_trans prefix.updates front.updates copy.front.updates knows.1 is.1))
 
-pub sees : (before : SessionData) (copy : PublishedCopy) (old new : Known) → Knows old before.store before.seen → Looks old copy copy new
+pub sees : (before : SessionData) (copy : PublishedCopy) (old new : Known) → Knows old (record { store = before.store; updates = before.seen }) → Looks old copy copy new
     → (receipt : PrefixData) → receipt ≡ copy.front → ExtendsAll receipt.updates before.told
     → Sees before (record { store = receipt.store; seen = receipt.updates; told = before.told; looks = true })
 sees before copy old new knows looked receipt same told =
-    let less = knows_less copy old before.store before.seen knows looked.behind in record {
+    let less = knows_less copy old (record { store = before.store; updates = before.seen }) knows looked.behind in record {
       looks = refl;
-      store = ap (λ x. x.store) same ∙ less.0;
+      store = ap (λ x. x.store) same ∙ sym less.0;
       front = subst (λ (x : PrefixData). IsFront x.store.limit x.updates) (sym same) looked.is_of_front.front;
       later = subst (λ (x : PrefixData). Extends x.updates before.seen) (sym same) less.1;
       told = told;

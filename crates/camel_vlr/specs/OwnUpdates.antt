@@ -8,6 +8,7 @@ use Rattle.camel_rows.specs.Front.{IsFront}
 use Rattle.camel_rows.specs.Update.{records_of, update_imsi}
 use Rattle.camel_rows.specs.declared.subscriber.update.Update.{Update}
 
+-- the updates of this IMSI, in their order
 abbrev pub own_updates : List ℕ → List Update → List Update
 own_updates imsi updates = filter (λ update. bytes_eq (update_imsi update) imsi) updates
 

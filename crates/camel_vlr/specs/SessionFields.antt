@@ -12,7 +12,7 @@ session_of a = record { store = a.seen.store; seen = a.seen.updates; told = a.to
 
 pub record IsSession (a : Inside) : Type 0 where
   pub seated : IsSeated a.seat
-  pub knows : Knows (known_of a.seat) a.seen.store a.seen.updates
+  pub knows : Knows (known_of a.seat) a.seen
   pub at : IsCopyOf a.seat a.seen.updates
   pub told : ExtendsAll a.longest.updates a.told.value
   pub store : a.longest.store ≡ a.seen.store

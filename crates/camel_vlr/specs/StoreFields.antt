@@ -31,7 +31,7 @@ pub record IsStore (a : Inside) : Type 0 where
   pub all : IsFront (limit_in a) (accepted_updates (updates_in a))
   pub admits : IsAdmissionOfUpdates a.admission (limit_in a) (updates_in a)
   pub greatest : limit_in a ≤ MAX_UPDATES
-  pub seat : Knows (view a.writer.desk.place) a.writer.desk.shown.value.front.store (published_in a)
+  pub seat : Knows (view a.writer.desk.place) a.writer.desk.shown.value.front
   pub store : a.history.store ≡ a.writer.desk.shown.value.front.store
   -- the history goes beyond what is published, and not beyond what is pending
   pub within : Extends (accepted_updates (updates_in a)) a.history.updates

@@ -56,7 +56,7 @@ impl Session {
         reader: Reader<PublishedCopy, Known, PublicationRule>,
         seen: Receipt,
     ) -> Session
-        requires { Knows (view reader.place) seen.store seen.updates }
+        requires { Knows (view reader.place) seen }
         ensures { result ≡ session_told_nothing seen.store seen.updates }
     {
         let longest = seen.copy();

@@ -16,7 +16,7 @@ use crate::published_copy::PublishedCopy;
 use crate::receipt::Receipt;
 use crate::session::Session;
 use crate::writer::operation::Operation;
-use crate::writer::publication::{StoreWriter, append_front, extend_history, publish_all};
+use crate::writer::publication::{StoreWriter, append, extend_history, publish_all};
 use crate::writer::submission::accept;
 use camel_criteria::Refusal;
 use camel_rows::{Admission, Update};
@@ -74,9 +74,7 @@ impl Vlr {
         ensures sessions { IfOk result (λ r. All (λ s. s ≡ fresh_session r.0.store) r.1.items) }
         ensures only { IfErr result (λ why. (why ≡ Refusal.OutOfMemory) ⊎ (why ≡ Refusal.NoPlace)) }
     {
-        let Ok(mut sessions) = Vec::with_capacity(alloc, places) else {
-            return Err(Refusal::OutOfMemory);
-        };
+        let mut sessions = Vec::with_capacity(alloc, places)?;
         let mut store = Vlr::empty(rt, alloc, places, limit)?;
         while sessions.len() < places {
             let Some(session) = store.seat() else {
@@ -99,10 +97,8 @@ impl Vlr {
         let front = history.prefix();
         let first = PublishedCopy::empty(alloc, front.copy());
         let second = PublishedCopy::empty(alloc, front.copy());
-        let Ok(mut writer) = Writer::new(alloc, first, second, places) else {
-            return Err(Refusal::OutOfMemory);
-        };
-        if !append_front(&mut writer, &front) {
+        let mut writer = Writer::new(alloc, first, second, places)?;
+        if append(&mut writer, Operation::Front(front.copy())).is_err() {
             drop(writer.take(rt));
             return Err(Refusal::OutOfMemory);
         }
@@ -163,13 +159,9 @@ impl Vlr {
     {
         extend_history(&mut self.history, &self.writer);
         let front = self.history.prefix();
-        if !append_front(&mut self.writer, &front) {
-            return Err(Refusal::OutOfMemory);
-        }
-        match replace_with(&mut self.writer, (rt, front), publish_all) {
-            Ok(()) => Ok(self.receipt()),
-            Err(_) => Err(Refusal::OutOfMemory),
-        }
+        append(&mut self.writer, Operation::Front(front.copy()))?;
+        replace_with(&mut self.writer, (rt, front), publish_all)?;
+        Ok(self.receipt())
     }
 
     /// A receipt of all that is published, as often as it is asked for. It takes no memory.

@@ -23,8 +23,8 @@ impl Vlr {
     /// say holds if it returns; that it returns is not proved.
     ///
     /// It fails with `OutOfMemory` (102) where memory was refused, and with `NoGuard` (104) where the session got no look,
-    /// or, which no run meets, one at another front; then the store comes back with all that is published and pending. The store has not ended there, so a look fails
-    /// only where the published copy is older than what the session was told of, which no run meets.
+    /// or one at another front. The store then comes back with all that is published and pending. No run meets 104, since
+    /// the store has not ended there, and the published copy is what the session was told of last.
     pub fn close<R: Wait>(self, rt: &R, session: &mut Session) -> Result<Records, CloseRefused>
         requires { session.old.store ≡ self.store }
         ensures records { IfOk result (λ records. records ≡ records_of self.updates.published) }

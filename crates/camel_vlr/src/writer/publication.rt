@@ -1,4 +1,4 @@
-ghost use Rattle.std.specs.Prelude.{◌≡◌, ◌≤◌, List, [], ◌∷◌, ◌++◌, true, false, OnErr, OnOk};
+ghost use Rattle.std.specs.Prelude.{◌≡◌, ◌≤◌, List, [], ◌∷◌, ◌++◌, MatchResult, OnErr, OnOk};
 ghost use Rattle.left_right.specs.Sides.{view};
 ghost use Rattle.logbook.specs.Pages.{may_write};
 ghost use Rattle.camel_rows.specs.Front.{Extends, IsFront};
@@ -43,15 +43,17 @@ fn grow<G: Growth>(history: &mut History, _writer: &StoreWriter, next: Pen)
     history.grow::<G>(next);
 }
 
-/// Puts the front behind what is pending. Returns whether there was memory.
-pub(crate) fn append_front(writer: &mut StoreWriter, front: &Prefix) -> bool
+/// Puts an operation behind what is pending.
+pub(crate) fn append(writer: &mut StoreWriter, operation: Operation) -> Result<(), AllocError>
     ensures desk { writer.new.desk ≡ writer.old.desk }
-    ensures yes { result ≡ true → pending_operations writer.new
-        ≡ pending_operations writer.old ++ operation.Front front.now ∷ [] }
-    ensures no { result ≡ false → pending_operations writer.new
-        ≡ pending_operations writer.old }
+    ensures pending { MatchResult result
+        (λ _. pending_operations writer.new ≡ pending_operations writer.old ++ operation ∷ [])
+        (λ _. pending_operations writer.new ≡ pending_operations writer.old) }
 {
-    writer.append(Operation::Front(front.copy())).is_ok()
+    match writer.append(operation) {
+        Ok(()) => Ok(()),
+        Err(_) => Err(AllocError),
+    }
 }
 
 /// Publishes all that is pending, of which the last is the front that all of it makes.
@@ -67,7 +69,7 @@ pub(crate) fn publish_all<R: Wait>(
     requires limit { with.1.store.limit ≤ MAX_UPDATES }
     requires last { (operations : List Operation) × (pending_operations writer ≡ operations ++ operation.Front with.1 ∷ []) }
     ensures shown { OnOk result.1 (IsOfItsFront result.0.desk.shown.value × (result.0.desk.shown.value.front ≡ with.entry.1)) }
-    ensures seat { OnOk result.1 (Knows (view result.0.desk.place) with.entry.1.store with.entry.1.updates) }
+    ensures seat { OnOk result.1 (Knows (view result.0.desk.place) with.entry.1) }
     ensures none { OnOk result.1 (pending_operations result.0 ≡ []) }
     ensures unchanged { OnErr result.1 ((result.0.desk.shown.value ≡ writer.desk.shown.value)
         × (view result.0.desk.place ≡ view writer.desk.place)

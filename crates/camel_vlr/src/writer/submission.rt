@@ -1,13 +1,12 @@
-ghost use Rattle.std.specs.Prelude.{◌≡◌, ◌<◌, [], ◌∷◌, ◌++◌, Some, MatchResult, OnErr, OnOk};
+ghost use Rattle.std.specs.Prelude.{◌≡◌, ◌<◌, [], ◌∷◌, ◌++◌, MatchResult, OnErr, OnOk};
 ghost use Rattle.camel_rows.specs.Admission.{with_admission};
 ghost use Rattle.camel_rows.specs.Update.{update_imsi};
 ghost use Rattle.camel_vlr.specs.Operation.{pending_operations};
 ghost use Rattle.camel_vlr.specs.declared.writer.operation.Operation.TheVariants as operation;
 
 use crate::writer::operation::Operation;
-use crate::writer::publication::StoreWriter;
+use crate::writer::publication::{StoreWriter, append};
 use camel_rows::{Admission, CsisPresent, Update};
-use camel_tbcd::Imsi;
 use std::alloc::AllocError;
 
 /// Puts an update behind what is pending, and accepts it with the CSIs that it leaves in the record of its IMSI. Where
@@ -28,54 +27,17 @@ pub(crate) fn accept(
     ensures unchanged { OnErr result (admission.new ≡ admission.old) }
 {
     let imsi = update.imsi();
-    match csis {
-        Some(csis) => accept_with_entry(writer, admission, update, imsi, csis),
-        None => {
-            append(writer, update)?;
-            admission.accept_removal(&imsi);
-            Ok(())
-        }
-    }
-}
-
-/// The admission is first, since to take it back takes no memory.
-fn accept_with_entry(
-    writer: &mut StoreWriter,
-    admission: &mut Admission,
-    update: Update,
-    imsi: Imsi,
-    csis: CsisPresent,
-) -> Result<(), AllocError>
-    requires { admission.old.accepted < admission.old.limit }
-    ensures desk { writer.new.desk ≡ writer.old.desk }
-    ensures pending { MatchResult result
-        (λ _. pending_operations writer.new
-        ≡ pending_operations writer.old ++ operation.Update update ∷ [])
-        (λ _. pending_operations writer.new ≡ pending_operations writer.old) }
-    ensures accepted { OnOk result (admission.new ≡ with_admission admission.old imsi (Some csis)) }
-    ensures unchanged { OnErr result (admission.new ≡ admission.old) }
-{
+    let Some(csis) = csis else {
+        append(writer, Operation::Update(update))?;
+        admission.accept_removal(&imsi);
+        return Ok(());
+    };
+    // The admission is first, since to take it back takes no memory.
     let before = admission.csis(&imsi);
     admission.accept(imsi, Some(csis))?;
-    match append(writer, update) {
-        Ok(()) => Ok(()),
-        Err(error) => {
-            admission.take_back(&imsi, before);
-            Err(error)
-        }
+    if let Err(error) = append(writer, Operation::Update(update)) {
+        admission.take_back(&imsi, before);
+        return Err(error);
     }
-}
-
-/// Puts an update behind what is pending.
-fn append(writer: &mut StoreWriter, update: Update) -> Result<(), AllocError>
-    ensures desk { writer.new.desk ≡ writer.old.desk }
-    ensures pending { MatchResult result
-        (λ _. pending_operations writer.new
-        ≡ pending_operations writer.old ++ operation.Update update ∷ [])
-        (λ _. pending_operations writer.new ≡ pending_operations writer.old) }
-{
-    match writer.append(Operation::Update(update)) {
-        Ok(()) => Ok(()),
-        Err(_) => Err(AllocError),
-    }
+    Ok(())
 }

@@ -15,7 +15,7 @@ pub returns-then-is_prefix_of-clause-yes : goal.returns-then-is_prefix_of-clause
 returns-then-is_prefix_of-clause-yes c _ =
     let a = c.self.inside in
     let same = c.into_reader-reader.ensures ∙ ap known_of c.replace.ensures.value in
-    let knows = subst (λ (v : Known). Knows v a.seen.store a.seen.updates) (sym same) c.self.invariant.knows in
+    let knows = subst (λ (v : Known). Knows v a.seen) (sym same) c.self.invariant.knows in
     let front = c.receipt-front.ensures ∙ ap (λ y. y.front) c.get.ensures in
     rw (← c.self.view_is) (sees (session_of a) c.in-Ok.reading.part.value (view c.into_reader-reader.result.place) (view c.in-Ok.reading.place) knows c.in-Ok.ensures.1 c.receipt-front.result front (all_further c.receipt-front.result.updates a.longest.updates a.told.value (c.if-is_prefix_of.ensures.yes refl) c.self.invariant.told))
 
@@ -23,11 +23,11 @@ pub invariant_of-self-else-is_prefix_of : goal.invariant_of-self-else-is_prefix_
 invariant_of-self-else-is_prefix_of c =
     let a = c.self.inside in let i = c.self.invariant in let looked = c.in-Ok.ensures.1 in
     let same = c.into_reader-reader.ensures ∙ ap known_of c.replace.ensures.value in
-    let knows = subst (λ (v : Known). Knows v a.seen.store a.seen.updates) (sym same) i.knows in
+    let knows = subst (λ (v : Known). Knows v a.seen) (sym same) i.knows in
     let less = knows_less c.in-Ok.reading.part.value (view c.into_reader-reader.result.place)
-    a.seen.store a.seen.updates knows looked.behind in record {
+    a.seen knows looked.behind in record {
       seated = tt;
-      knows = subst (λ (v : Known). Knows v a.seen.store a.seen.updates) (sym (c.leave.ensures.1 ∙ looked.known)) less;
+      knows = subst (λ (v : Known). Knows v a.seen) (sym (c.leave.ensures.1 ∙ looked.known)) less;
       at = tt;
       told = i.told;
       store = i.store;
