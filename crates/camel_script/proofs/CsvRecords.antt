@@ -15,7 +15,7 @@ not_some : (p : Read) → None ≡ Some p → ⊥
 not_some p h = cc
 
 -- a record takes at least one byte of a text that is not empty
-pub shrinks : (cfg : Config) (s : State) (fields : List (List ℕ)) (field : List ℕ) (c : ℕ) (rest : List ℕ) (p : Read)
+shrinks : (cfg : Config) (s : State) (fields : List (List ℕ)) (field : List ℕ) (c : ℕ) (rest : List ℕ) (p : Read)
     → next_record cfg s fields field (c ∷ rest) ≡ Some p → length p.2 ≤ length rest
 unfolding next_record
 shrinks cfg s fields field c [] p h = by (is_end (step cfg s c).1) refl
@@ -42,7 +42,7 @@ none_left cfg zero = refl
 none_left cfg (suc n) = refl
 
 -- more turns than bytes give all records
-pub enough : (cfg : Config) (n m : ℕ) (s : State) (xs : List ℕ) → length xs < n → length xs < m → records_from cfg n s xs ≡ records_from cfg m s xs
+enough : (cfg : Config) (n m : ℕ) (s : State) (xs : List ℕ) → length xs < n → length xs < m → records_from cfg n s xs ≡ records_from cfg m s xs
 unfolding records_from next_record
 enough cfg zero m s xs a b = absurd (omega arith)
 enough cfg (suc n) zero s xs a b = absurd (omega arith)

@@ -1,20 +1,16 @@
 -- What one read of a CSV record does to what a script still gives.
-use Rattle.std.proofs.Common.{◌≡◌, ◌⊎◌, ℕ, suc, ◌-◌, ◌<◌, Bool, true, false, List, [], ◌∷◌, Option, Some, None, Ok, Err, refl, ap, arith, inl, inr, option_map}
+use Rattle.std.proofs.Common.{◌≡◌, ◌⊎◌, ℕ, suc, ◌-◌, ◌<◌, Bool, true, false, List, [], ◌∷◌, Option, Some, None, Ok, Err, refl, ap, arith, inl, inr}
 use Rattle.csv.specs.Machine.{Read, next_record}
 use Rattle.csv.specs.Reading.{default_config, ReadsNext, ReadRecord, source_of}
 use Rattle.csv.specs.declared.parser.State.{State}
 use Rattle.csv.specs.declared.reader.Reader.{Reader}
-use Rattle.camel_script.specs.Csv.{IsConfigured, csv_records}
+use Rattle.camel_script.specs.Csv.{IsConfigured, csv_records, known_data}
 use Rattle.camel_script.specs.Record.{record_of}
 use Rattle.camel_script.specs.Script.{FaultsAs, Gives, IsOnlyFault, ScriptData, first_then, script_of, the_end}
 use Rattle.camel_script.specs.declared.record.Record.{Record}
 use Rattle.camel_script.specs.declared.script_fault.ScriptFault.{ScriptFault}
 use Rattle.camel_script.specs.declared.script_fault.ScriptFault.TheVariants as fault
 use Rattle.camel_script.proofs.CsvRecords.{csv_records-next, csv_records-none}
-
--- what bytes still give, where they are known
-abbrev pub known_data : Option (List ℕ) → State → ℕ → Option ScriptData
-known_data source state most = option_map (λ bytes. script_of (csv_records state bytes) most) source
 
 -- no further CSV record is the end of the script
 gives_end : (source after : Option (List ℕ)) (state next : State) (most : ℕ) (fields : List (List ℕ))

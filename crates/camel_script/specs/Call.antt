@@ -1,9 +1,9 @@
 -- The calls of a script (profile 1's own format). The texts of all fields are read before the data are checked.
-use Rattle.std.specs.Prelude.{ℕ, ◌==◌, not, nat_lt, List, length, codes, Result, Ok, Err, if◌then◌else◌}
+use Rattle.std.specs.Prelude.{ℕ, nat_lt, List, length, codes, Result, Ok, Err, if◌then◌else◌}
 use Rattle.std.specs.Str.{bytes_eq}
 use Rattle.camel_rows.specs.Event.{EventData}
 use Rattle.camel_rows.specs.declared.trigger.event.TdpEvent.TheVariants.{CollectedInfo, RouteSelectFailure, TerminatingAttempt, Busy, NoAnswer}
-use Rattle.camel_script.specs.Reading.{◌>>=◌}
+use Rattle.camel_script.specs.Reading.{◌>>=◌, of_count}
 use Rattle.camel_script.specs.Field.{field}
 use Rattle.camel_script.specs.Texts.{basic_service_of, call_address_of, cause_of_value, decimal_of, imsi_of_text, is_forwarded_of, octets_of}
 use Rattle.camel_script.specs.declared.record.Record.{Record}
@@ -61,8 +61,7 @@ no_answer_of fields = do
 -- what a call of so many fields reads as
 abbrev pub with_fields : ℕ → (List (List ℕ) → Result EventData RecordFault) → List (List ℕ)
     → Result EventData RecordFault
-with_fields count event_of fields =
-    if not (length fields == count) then Err record_fault.FieldCount else event_of fields
+with_fields count event_of fields = of_count count fields (event_of fields)
 
 -- what a call reads as; its second field is the detection point, which says how many fields there are
 unfoldable pub event_of : List (List ℕ) → Result EventData RecordFault

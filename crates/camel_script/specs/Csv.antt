@@ -6,7 +6,7 @@ use Rattle.csv.specs.declared.error.ErrorKind.TheVariants as kind
 use Rattle.csv.specs.declared.parser.State.{State}
 use Rattle.csv.specs.declared.reader.Reader.{Reader}
 use Rattle.csv.specs.declared.reader.Trim.TheVariants as trim
-use Rattle.camel_script.specs.Script.{ScriptState, Unread, Failed, Ended, script_of}
+use Rattle.camel_script.specs.Script.{ScriptData, ScriptState, Unread, Failed, Ended, script_of}
 use Rattle.camel_script.specs.declared.script.Phase.{Phase}
 use Rattle.camel_script.specs.declared.script.Phase.TheVariants as phase
 
@@ -14,10 +14,13 @@ use Rattle.camel_script.specs.declared.script.Phase.TheVariants as phase
 abbrev pub csv_records : State → List ℕ → List (List (List ℕ))
 csv_records state bytes = records_from default_config (length bytes + 1) state bytes
 
+-- what bytes still give, where they are known
+abbrev pub known_data : Option (List ℕ) → State → ℕ → Option ScriptData
+known_data source state most = option_map (λ bytes. script_of (csv_records state bytes) most) source
+
 -- the state of a `Script` that its caller sees, by its fields
 abbrev pub script_state_of : Phase → Option (List ℕ) → State → ℕ → ScriptState
-script_state_of phase.Reading source state most =
-    Unread most (option_map (λ bytes. script_of (csv_records state bytes) most) source)
+script_state_of phase.Reading source state most = Unread most (known_data source state most)
 script_state_of phase.Failed source state most = Failed
 script_state_of phase.Ended source state most = Ended
 

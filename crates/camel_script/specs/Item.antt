@@ -1,12 +1,12 @@
 -- The items of an insert (profile 1's own format): rows and entries of criteria, in two lists for each CSI. The
 -- texts of an item are read before its data are checked.
-use Rattle.std.specs.Prelude.{ℕ, ◌==◌, not, List, [], ◌∷◌, ◌++◌, length, codes, Option, Some, None, Result, Ok, Err, if◌then◌else◌}
+use Rattle.std.specs.Prelude.{ℕ, List, [], ◌∷◌, ◌++◌, codes, Option, Some, None, Result, Ok, Err, if◌then◌else◌}
 use Rattle.std.specs.Str.{bytes_eq}
 use Rattle.camel_criteria.specs.Criteria.{NumberCriterionData, OCriteriaData, TCriteriaData, number_criterion_of, o_criteria_of, t_criteria_of}
 use Rattle.camel_criteria.specs.Handling.{handling_of}
 use Rattle.camel_criteria.specs.declared.criteria.MatchType.{MatchType}
 use Rattle.camel_rows.specs.TdpRow.{TdpRowData, tdp_row_of}
-use Rattle.camel_script.specs.Reading.{◌>>=◌, each_of, elements_as, in_turn, or_refused}
+use Rattle.camel_script.specs.Reading.{◌>>=◌, each_of, elements_as, in_turn, of_count, or_refused}
 use Rattle.camel_script.specs.Parts.{item_part, item_separator, number_separator, part, parts_of}
 use Rattle.camel_script.specs.Texts.{basic_service_of, call_type_of, decimal_of, isdn_address_of, match_type_of, octets_of}
 use Rattle.camel_script.specs.declared.text.record_fault.RecordFault.{RecordFault}
@@ -30,13 +30,11 @@ pub record NumberTextsData : Type 0 where
 
 -- what the three parts of NUMBER read as
 unfoldable pub number_texts_of_parts : List ℕ → Result NumberTextsData RecordFault
-number_texts_of_parts text =
-    if not (length (parts_of number_separator text) == 3) then Err record_fault.FieldCount
-    else do
-      match_type ← match_type_of (part number_separator text 0)
-      numbers ← elements_as octets_of (part number_separator text 1)
-      lengths ← elements_as (decimal_of 255) (part number_separator text 2)
-      Ok (record { match_type = match_type; numbers = numbers; lengths = lengths })
+number_texts_of_parts text = of_count 3 (parts_of number_separator text) (do
+  match_type ← match_type_of (part number_separator text 0)
+  numbers ← elements_as octets_of (part number_separator text 1)
+  lengths ← elements_as (decimal_of 255) (part number_separator text 2)
+  Ok (record { match_type = match_type; numbers = numbers; lengths = lengths }))
 
 -- what NUMBER reads as; an empty one is no criterion
 unfoldable pub number_texts_of : List ℕ → Result (Option NumberTextsData) RecordFault
@@ -85,8 +83,7 @@ no_items = record { o = []; o_criteria = []; vt = []; t_criteria = [] }
 abbrev pub with_item : {A : Type 0} → ℕ → (List ℕ → Result A RecordFault) → List A → List ℕ
     → Result (List A) RecordFault
 with_item count item_of items item =
-    if not (length (parts_of item_separator item) == count) then Err record_fault.FieldCount
-    else (item_of item >>= λ value. Ok (items ++ value ∷ []))
+    of_count count (parts_of item_separator item) (item_of item >>= λ value. Ok (items ++ value ∷ []))
 
 -- the lists with one item more, in the list that its name says
 unfoldable pub item_into : ItemsData → List ℕ → Result ItemsData RecordFault

@@ -1,16 +1,20 @@
 -- The reading of a record in steps, each of which may end it with a fault.
-use Rattle.std.specs.Prelude.{◌≡◌, ◌⊎◌, ℕ, List, [], ◌∷◌, ◌++◌, Vec, Result, Ok, Err}
+use Rattle.std.specs.Prelude.{◌≡◌, ◌==◌, ◌⊎◌, ℕ, not, List, [], ◌∷◌, ◌++◌, length, Vec, Result, Ok, Err, if◌then◌else◌}
 use Rattle.camel_criteria.specs.declared.refusal.Refusal.{Refusal}
 use Rattle.camel_criteria.specs.declared.refusal.Refusal.TheVariants as refusal
 use Rattle.camel_script.specs.Parts.{elements_of}
 use Rattle.camel_script.specs.declared.text.record_fault.RecordFault.{RecordFault}
-use Rattle.camel_script.specs.declared.text.record_fault.RecordFault.TheVariants.{OutOfMemory, Refused}
+use Rattle.camel_script.specs.declared.text.record_fault.RecordFault.TheVariants.{FieldCount, OutOfMemory, Refused}
 
 -- a step, and the next one where the first has no fault
 infixl 10 ◌>>=◌
 abbrev pub ◌>>=◌ : {A B : Type 0} → Result A RecordFault → (A → Result B RecordFault) → Result B RecordFault
 Ok value >>= next = next value
 Err fault >>= next = Err fault
+
+-- a reading of so many fields or parts
+abbrev pub of_count : {A : Type 0} → ℕ → List (List ℕ) → Result A RecordFault → Result A RecordFault
+of_count count texts reading = if not (length texts == count) then Err FieldCount else reading
 
 -- data that may be refused
 abbrev pub or_refused : {A : Type 0} → Result A Refusal → Result A RecordFault
@@ -34,7 +38,7 @@ each_of value_of sources = in_turn (with_value value_of) [] sources
 abbrev pub elements_as : {A : Type 0} → (List ℕ → Result A RecordFault) → List ℕ → Result (List A) RecordFault
 elements_as value_of text = each_of value_of (elements_of text)
 
--- the fault that a refusal of a call is: out of memory, or refused data
+-- the fault of a record whose data are refused: out of memory, or the refusal
 abbrev pub record_fault_of : Refusal → RecordFault
 record_fault_of refusal.OutOfMemory = OutOfMemory
 record_fault_of why = Refused why

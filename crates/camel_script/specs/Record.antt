@@ -1,6 +1,6 @@
 -- The record that the fields of a CSV record stand for (profile 1's own format). The checks are made in the order in
 -- which a definition names them.
-use Rattle.std.specs.Prelude.{ℕ, ◌==◌, not, nat_lt, true, false, List, [], ◌∷◌, length, drop, codes, Option, Some, None, Result, Ok, Err, if◌then◌else◌}
+use Rattle.std.specs.Prelude.{ℕ, nat_lt, true, false, List, [], ◌∷◌, length, drop, codes, Option, Some, None, Result, Ok, Err, if◌then◌else◌}
 use Rattle.std.specs.Str.{bytes_eq}
 use Rattle.camel_criteria.specs.declared.refusal.Refusal.{Refusal}
 use Rattle.camel_rows.specs.Received.{o_criteria_set_of, o_csi_of, t_criteria_set_of, vt_csi_of}
@@ -8,7 +8,7 @@ use Rattle.camel_rows.specs.declared.subscriber.update.Update.TheVariants as upd
 use Rattle.camel_rows.specs.declared.subscriber.update.Withdrawal.{Withdrawal}
 use Rattle.camel_script.specs.Call.{call_of}
 use Rattle.camel_script.specs.Item.{ItemsData, items_of}
-use Rattle.camel_script.specs.Reading.{◌>>=◌, in_turn, or_refused}
+use Rattle.camel_script.specs.Reading.{◌>>=◌, in_turn, of_count, or_refused}
 use Rattle.camel_script.specs.Field.{field}
 use Rattle.camel_script.specs.Texts.{imsi_of_text}
 use Rattle.camel_script.specs.declared.record.Record.{Record}
@@ -22,7 +22,7 @@ use Rattle.camel_script.specs.declared.text.record_fault.RecordFault.TheVariants
 
 -- the IMSI of a record that has a word and an IMSI alone
 unfoldable pub imsi_alone_of : List (List ℕ) → Result (List ℕ) RecordFault
-imsi_alone_of fields = if not (length fields == 2) then Err record_fault.FieldCount else imsi_of_text (field fields 1)
+imsi_alone_of fields = of_count 2 fields (imsi_of_text (field fields 1))
 
 -- register,IMSI
 abbrev pub register_of : List (List ℕ) → Result Record RecordFault
@@ -79,7 +79,7 @@ delete_of fields =
 
 -- publish
 unfoldable pub publish_of : List (List ℕ) → Result Record RecordFault
-publish_of fields = if not (length fields == 1) then Err record_fault.FieldCount else Ok record_of_script.Publish
+publish_of fields = of_count 1 fields (Ok record_of_script.Publish)
 
 -- the kind of record that a word names
 unfoldable pub kind_of_word : List ℕ → Result RecordKind RecordFault

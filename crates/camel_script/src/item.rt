@@ -94,7 +94,7 @@ fn push_o_entry(alloc: Global, entries: &mut Vec<OCriteria>, item: &[u8]) -> Res
         return Err(RecordFault::FieldCount);
     }
     let entry = parse_o_entry(alloc, item)?;
-    // Most lists have one entry, and are kept as they are.
+    // The vector itself is stored, and most have one entry: room for one more and no other.
     entries.reserve_exact(1)?;
     entries.push(entry)?;
     Ok(())
@@ -108,6 +108,7 @@ fn push_t_entry(alloc: Global, entries: &mut Vec<TCriteria>, item: &[u8]) -> Res
         return Err(RecordFault::FieldCount);
     }
     let entry = parse_t_entry(alloc, item)?;
+    // The vector itself is stored, and most have one entry: room for one more and no other.
     entries.reserve_exact(1)?;
     entries.push(entry)?;
     Ok(())
