@@ -1,5 +1,5 @@
 -- The fields of a store of one thread go on to agree.
-use Rattle.std.proofs.Common.{◌≡◌, ◌∙◌, ℕ, List, [], ◌∷◌, ◌++◌, ◌<◌, length, get_or, drop, None, refl, sym, ap, subst, arith, append_assoc}
+use Rattle.std.proofs.Common.{◌≡◌, ◌∙◌, ℕ, List, [], ◌∷◌, ◌++◌, ◌<◌, length, get_or, drop, drop-cons, None, refl, sym, ap, subst, arith, append_assoc}
 use Rattle.std.specs.FinMap as map
 use Rattle.camel_rows.proofs.AdmissionLemmas.{IsAdmissionOf-empty}
 use Rattle.camel_rows.proofs.StoreLemmas.{IsAdmissionOf-with_update, IsFront-empty, IsFront-with_update, admits, first-pending}
@@ -7,7 +7,7 @@ use Rattle.camel_rows.proofs.UpdateLemmas.{records_from-append}
 use Rattle.camel_rows.specs.Admission.{AdmissionData, admission_refusal, no_admissions, with_admission}
 use Rattle.camel_rows.specs.CsisPresent.{csis_after}
 use Rattle.camel_rows.specs.Records.{RecordsData, no_records}
-use Rattle.camel_rows.specs.Store.{Updates, no_updates, store_refusal, with_update}
+use Rattle.camel_rows.specs.Store.{Updates, no_updates, with_update}
 use Rattle.camel_rows.specs.Update.{records_after, refusal, update_imsi}
 use Rattle.camel_rows.specs.declared.subscriber.update.Update.{Update}
 use Rattle.camel_replay_lib.specs.Store.{IsSound}
@@ -20,18 +20,13 @@ IsSound-new limit = record {
   published = refl;
 }
 
--- the admission of a store refuses what the store refuses
-pub admission-refuses : (admission : AdmissionData) (records : RecordsData) (updates : Updates) (update : Update) → IsSound admission records updates
-    → admission_refusal admission update ≡ store_refusal admission.limit updates update
-admission-refuses admission records updates update sound = admits admission admission.limit updates update sound.admits
-
 -- those of a store with an accepted update more
 pub IsSound-accept : (admission next : AdmissionData) (records : RecordsData) (updates : Updates) (update : Update) → IsSound admission records updates
     → admission_refusal admission update ≡ None
     → next ≡ with_admission admission (update_imsi update) (csis_after (map.get admission.directory (update_imsi update)) update)
     → IsSound next records (with_update updates update)
 IsSound-accept admission next records updates update sound accepted next_is =
-    let taken = sym (admission-refuses admission records updates update sound) ∙ accepted in
+    let taken = sym (admits admission admission.limit updates update sound.admits) ∙ accepted in
     rw next_is (record {
       front = IsFront-with_update admission.limit updates update sound.front taken;
       admits = IsAdmissionOf-with_update admission admission.limit updates update sound.admits taken;
@@ -41,14 +36,14 @@ IsSound-accept admission next records updates update sound accepted next_is =
 module _ (admission : AdmissionData) (records : RecordsData) (published rest : List Update) (update : Update)
     (sound : IsSound admission records (record { published = published; pending = update ∷ rest })) where
   -- the first pending update is not refused by the records
-  pub first-accepted : refusal records update ≡ None
+  first-accepted : refusal records update ≡ None
   first-accepted = subst (λ m. refusal m update ≡ None) (sym sound.published) (first-pending published rest update sound.front.accepted)
 
   moved : published ++ update ∷ rest ≡ (published ++ update ∷ []) ++ rest
   moved = sym (append_assoc published (update ∷ []) rest)
 
   -- those of a store whose first pending update is published
-  pub IsSound-publish : IsSound admission (records_after records update) (record { published = published ++ update ∷ []; pending = rest })
+  IsSound-publish : IsSound admission (records_after records update) (record { published = published ++ update ∷ []; pending = rest })
   IsSound-publish = record {
     front = rw (← moved) sound.front;
     admits = rw (← moved) sound.admits;
@@ -57,8 +52,7 @@ module _ (admission : AdmissionData) (records : RecordsData) (published rest : L
 
 -- a list with a first item is that item and the others
 pub first-and-rest : {Item : Type 0} (items : List Item) (item : Item) → 0 < length items → item ≡ get_or items 0 item → items ≡ item ∷ drop 1 items
-first-and-rest [] item some same = absurd (omega arith)
-first-and-rest (first ∷ items) item some same = ap (λ head. head ∷ items) (sym same)
+first-and-rest items item some same = drop-cons items 0 item some ∙ ap (λ head. head ∷ drop 1 items) (sym same)
 
 -- one turn of a publication: the first pending update is published
 pub one-published : (admission : AdmissionData) (records next : RecordsData) (published more items rest : List Update) (update : Update)

@@ -15,4 +15,4 @@ is_write_code code = code == 208
 
 -- A replay ends with no other fault than these.
 abbrev pub is_replay_code : ℕ → Bool
-is_replay_code code = code == 102 || (nat_le 202 code && nat_le code 208)
+is_replay_code code = is_text_code code || is_memory_or_read_code code || is_write_code code

@@ -16,7 +16,7 @@ use std::snapshot::Snapshot;
 ///
 /// Contracts see the limit, and the lists of the published and of the pending updates.
 #[derive(Drop)]
-pub struct Store {
+pub(crate) struct Store {
     admission: Admission,
     records: Records,
     /// The updates that leave the records, for contracts alone.
@@ -42,7 +42,7 @@ impl Model for Store {
 
 impl Store {
     /// A store that accepts at most `limit` updates, with no records.
-    pub fn new(alloc: Global, limit: u64) -> Store
+    pub(crate) fn new(alloc: Global, limit: u64) -> Store
         ensures { result ≡ empty_store limit }
     {
         Store {
@@ -56,7 +56,7 @@ impl Store {
     /// The line of a record of a script, after which the store holds what the record asks.
     ///
     /// Fails with `OutOfMemory` alone. The store may then hold a part of a publication, so it is not used again.
-    pub fn answer(&mut self, script_record: Record) -> Result<Line, Refusal>
+    pub(crate) fn answer(&mut self, script_record: Record) -> Result<Line, Refusal>
         ensures line { IfOk result (λ line. line ≡ line_of self.old.limit self.old.updates script_record) }
         ensures after { OnOk result (self.new ≡ store_after self.old script_record) }
         ensures only { IfErr result (λ why. why ≡ Refusal.OutOfMemory) }
