@@ -13,7 +13,7 @@ returns-in_err-apply-clause-only c =
     not-refused now.admission now.records now.published.value now.pending.items _ c.in-Some.update.now c.updates.invariant.sound split in
     search rules
 
--- one turn, whichever kind of update is published
+-- one turn of the publication, on whichever path it ends
 turn : (c : After-pop_front) → IsSound c.updates.self-inside.admission c.apply.new.self (record { published = c.push.new.list.value; pending = c.pop_front.new.self.items })
     × (c.push.new.list.value ++ c.pop_front.new.self.items ≡ c.updates.self-inside.published.value ++ c.updates.self-inside.pending.items)
 turn c =
