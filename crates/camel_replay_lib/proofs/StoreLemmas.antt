@@ -1,5 +1,5 @@
 -- The fields of a store of one thread go on to agree.
-use Rattle.std.proofs.Common.{◌≡◌, ◌∙◌, ℕ, List, [], ◌∷◌, ◌++◌, ◌<◌, length, get_or, drop, drop-cons, None, refl, sym, ap, subst, arith, append_assoc}
+use Rattle.std.proofs.Common.{◌≡◌, ◌∙◌, ℕ, List, [], ◌∷◌, ◌++◌, ◌<◌, length, get_or, drop, drop-cons, None, refl, sym, ap, subst, append_assoc}
 use Rattle.std.specs.FinMap as map
 use Rattle.camel_rows.proofs.AdmissionLemmas.{IsAdmissionOf-empty}
 use Rattle.camel_rows.proofs.StoreLemmas.{IsAdmissionOf-with_update, IsFront-empty, IsFront-with_update, admits, first-pending}
