@@ -1,0 +1,90 @@
+-- Whether updates explain what sessions answered.
+use Rattle.std.specs.Prelude.{◌≡◌, ◌≢◌, ◌⊎◌, ℕ, ◌<◌, ◌≤◌, List, [], ◌∷◌, All, Some, IsSome, length, slice_get, take}
+use Rattle.camel_audit.specs.declared.audit_fault.AuditFault.{AuditFault}
+use Rattle.camel_audit.specs.declared.audit_fault.AuditFault.TheVariants as fault
+use Rattle.camel_audit.specs.declared.transcript.Entry.{Entry}
+use Rattle.camel_rows.specs.Decision.{decision}
+use Rattle.camel_rows.specs.Outcome.{outcome_of}
+use Rattle.camel_rows.specs.Update.{Accepted, records_of, refusal}
+use Rattle.camel_rows.specs.declared.subscriber.update.Update.{Update}
+use Rattle.camel_rows.specs.declared.trigger.outcome.Outcome.{Outcome}
+
+-- what the trigger rules give for the call of an entry over the updates of its front
+abbrev pub outcome_at_front : List Update → Entry → Outcome
+outcome_at_front updates entry = outcome_of (decision (records_of (take entry.answer.front updates)) entry.event)
+
+-- the updates explain an entry, where the entry before it has a front of `earlier` updates
+pub record IsExplained (updates : List Update) (earlier : ℕ) (entry : Entry) : Type 0 where
+  pub within : entry.answer.front ≤ length updates
+  pub later : earlier ≤ entry.answer.front
+  pub outcome : entry.answer.outcome ≡ outcome_at_front updates entry
+
+-- they explain each entry of a list, where the entry before the list has a front of `earlier` updates
+abbrev pub AreExplained : List Update → ℕ → List Entry → Type 0
+AreExplained updates earlier [] = Unit {0}
+AreExplained updates earlier (entry ∷ entries) = IsExplained updates earlier entry × AreExplained updates entry.answer.front entries
+
+-- the updates are accepted, one after the other, and explain each transcript
+pub record Passes (updates : List Update) (transcripts : List (List Entry)) : Type 0 where
+  pub accepted : Accepted updates
+  pub explained : All (AreExplained updates 0) transcripts
+
+-- the updates before this place are accepted, and the one at it is refused
+pub record RefusedAt (updates : List Update) (at : ℕ) : Type 0 where
+  pub update : Update
+  pub there : slice_get updates at ≡ Some update
+  pub accepted : Accepted (take at updates)
+  pub refused : IsSome (refusal (records_of (take at updates)) update)
+
+-- how many updates the front of the last entry has; `earlier`, where there is none
+abbrev pub last_front : ℕ → List Entry → ℕ
+last_front earlier [] = earlier
+last_front earlier (entry ∷ entries) = last_front entry.answer.front entries
+
+-- the entries before this place are explained, and of the one at it, behind the front of the last of those, this holds
+pub record FoundAt (updates : List Update) (entries : List Entry) (at : ℕ) (Holds : ℕ → Entry → Type 0) : Type 0 where
+  pub entry : Entry
+  pub there : slice_get entries at ≡ Some entry
+  pub explained : AreExplained updates 0 (take at entries)
+  pub holds : Holds (last_front 0 (take at entries)) entry
+
+-- there are not so many updates
+abbrev pub IsTooLong : List Update → ℕ → Entry → Type 0
+IsTooLong updates earlier entry = length updates < entry.answer.front
+
+-- the entry before it has a longer front
+abbrev pub WentBack : List Update → ℕ → Entry → Type 0
+WentBack updates earlier entry = (entry.answer.front ≤ length updates) × (entry.answer.front < earlier)
+
+-- another outcome than the updates of its front give
+pub record Differs (updates : List Update) (earlier : ℕ) (entry : Entry) : Type 0 where
+  pub within : entry.answer.front ≤ length updates
+  pub later : earlier ≤ entry.answer.front
+  pub outcome : entry.answer.outcome ≢ outcome_at_front updates entry
+
+-- the first fault of the transcript of a session
+abbrev pub IsFaultOf : List Update → List Entry → ℕ → AuditFault → Type 0
+IsFaultOf updates entries number fault.OutOfMemory = Unit {0}
+IsFaultOf updates entries number (fault.FrontTooLong session entry) = (session ≡ number) × FoundAt updates entries entry (IsTooLong updates)
+IsFaultOf updates entries number (fault.FrontWentBack session entry) = (session ≡ number) × FoundAt updates entries entry (WentBack updates)
+IsFaultOf updates entries number (fault.AnswerDiffers session entry) = (session ≡ number) × FoundAt updates entries entry (Differs updates)
+IsFaultOf updates entries number (fault.BadHistory at) = ⊥
+
+-- the first fault of the updates
+abbrev pub IsBadHistory : List Update → AuditFault → Type 0
+IsBadHistory updates fault.OutOfMemory = Unit {0}
+IsBadHistory updates (fault.BadHistory at) = RefusedAt updates at
+IsBadHistory updates other = ⊥
+
+-- the updates are accepted, the transcripts before this session's are explained, and its transcript has the fault
+pub record IsFaultAt (updates : List Update) (transcripts : List (List Entry)) (stop : AuditFault) : Type 0 where
+  pub accepted : Accepted updates
+  pub session : ℕ
+  pub entries : List Entry
+  pub there : slice_get transcripts session ≡ Some entries
+  pub explained : All (AreExplained updates 0) (take session transcripts)
+  pub is_fault : IsFaultOf updates entries session stop
+
+-- the first fault: of the updates, then by sessions, and of each by its entries
+abbrev pub IsFault : List Update → List (List Entry) → AuditFault → Type 0
+IsFault updates transcripts stop = IsBadHistory updates stop ⊎ IsFaultAt updates transcripts stop

@@ -1,0 +1,14 @@
+//! Audits what sessions answered: whether a list of updates explains each answer (3GPP TS 23.078).
+//!
+//! A transcript is what one session answered, in its order. Each answer says over how many updates it was decided.
+//! [`audit`] decides each call once more, over that many updates, and says where an answer differs. It stands on
+//! subscriber data and trigger rules alone, so a switch may audit logs of its own with it.
+#![tactic(auto)]
+
+mod audit_fault;
+mod checks;
+mod transcript;
+
+pub use audit_fault::AuditFault;
+pub use checks::audit;
+pub use transcript::{Entry, Job, Transcript};

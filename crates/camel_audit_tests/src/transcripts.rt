@@ -1,0 +1,119 @@
+use camel_audit::{AuditFault, Entry, Transcript, audit};
+use camel_criteria::{Handling, Refusal};
+use camel_fixtures::{SCF, call_of, imsi_of, number_of, row_update};
+use camel_rows::{Answer, CallEvent, Outcome, Reason, Update};
+use std::alloc::Global;
+use std::process::Abort;
+use std::test::Fail;
+
+/// A subscriber registers and is sent a row of detection point 2 with service key 100.
+fn updates(alloc: Global) -> Result<Vec<Update>, Fail> {
+    let imsi = imsi_of(1)?;
+    let mut updates = Vec::new(alloc);
+    updates.push(Update::Register { imsi })?;
+    updates.push(row_update(imsi)?)?;
+    Ok(updates)
+}
+
+/// The service of that row.
+fn triggered() -> Result<Outcome, Refusal> {
+    Ok(Outcome::Trigger {
+        dp: 2,
+        key: 100,
+        scf: number_of(&SCF)?,
+        handling: Handling::Continue,
+    })
+}
+
+/// An answer by how many updates its front has, and whether the service is invoked; if not, no CSI is stored.
+type PlainAnswer = (u64, bool);
+
+/// The transcript of a session that answered this at calls of the subscriber.
+fn transcript_of(alloc: Global, answers: &[PlainAnswer]) -> Result<Transcript, Fail> {
+    // The prover finds the types of an entry that is pushed only where the function names them.
+    let _: Option<Answer> = None;
+    let _: Option<Outcome> = None;
+    let event = call_of(imsi_of(1)?)?;
+    let mut entries = Vec::new(alloc);
+    for answer in answers {
+        entries.push(entry_of(event, *answer)?)?;
+    }
+    Ok(Transcript { entries })
+}
+
+fn entry_of(event: CallEvent, answer: PlainAnswer) -> Result<Entry, Refusal> {
+    let (front, is_triggered) = answer;
+    let outcome = if is_triggered {
+        triggered()?
+    } else {
+        Outcome::NoTrigger(Reason::NoCsi)
+    };
+    Ok(Entry {
+        call: 0,
+        event,
+        answer: Answer { front, outcome },
+    })
+}
+
+/// What each session answered, and how the audit ends.
+type Case<'a> = (&'a [&'a [PlainAnswer]], Result<(), AuditFault>);
+
+#[test]
+fn an_audit_ends_with_the_first_answer_that_is_not_explained(rt: HostRuntime) -> Result<(), Fail> {
+    let (session, entry) = (0, 0);
+    let went_back = AuditFault::FrontWentBack { session, entry: 1 };
+    let other_session = AuditFault::AnswerDiffers { session: 1, entry };
+    check_audits(
+        &rt,
+        rt.alloc(),
+        &[
+            (&[], Ok(())),
+            (&[&[(2, true)]], Ok(())),
+            (&[&[(1, false), (2, true), (2, true)], &[]], Ok(())),
+            (
+                &[&[(3, true)]],
+                Err(AuditFault::FrontTooLong { session, entry }),
+            ),
+            (&[&[(2, true), (1, false)]], Err(went_back)),
+            (
+                &[&[(1, true)]],
+                Err(AuditFault::AnswerDiffers { session, entry }),
+            ),
+            (&[&[(2, true)], &[(2, false)]], Err(other_session)),
+        ],
+    )
+}
+
+fn check_audits(rt: &impl Abort, alloc: Global, cases: &[Case]) -> Result<(), Fail> {
+    for (answers, wanted) in cases {
+        check_audit(rt, alloc, answers, *wanted)?;
+    }
+    Ok(())
+}
+
+fn check_audit(
+    rt: &impl Abort,
+    alloc: Global,
+    answers: &[&[PlainAnswer]],
+    wanted: Result<(), AuditFault>,
+) -> Result<(), Fail> {
+    let mut transcripts = Vec::new(alloc);
+    for of_session in answers {
+        transcripts.push(transcript_of(alloc, of_session)?)?;
+    }
+    assert_eq!(rt;
+        audit(alloc, &updates(alloc)?, &transcripts),
+        wanted,
+        "{answers:?}"
+    );
+    Ok(())
+}
+
+#[test]
+fn an_audit_ends_with_the_first_update_that_is_refused(rt: HostRuntime) -> Result<(), Fail> {
+    let mut updates = Vec::new(rt.alloc());
+    updates.push(row_update(imsi_of(1)?)?)?;
+    let audited = audit(rt.alloc(), &updates, &[]);
+    assert_eq!(rt; audited, Err(AuditFault::BadHistory { at: 0 }));
+    Ok(())
+}
