@@ -3,7 +3,7 @@ ghost use Rattle.camel_audit.specs.Audit.{AreExplained, IsBadHistory, IsFault, I
 ghost use Rattle.camel_rows.specs.Update.{Accepted, records_from};
 
 use crate::audit_fault::AuditFault;
-use crate::transcript::{Entry, Transcript};
+use crate::transcript::Transcript;
 use camel_criteria::Refusal;
 use camel_rows::{Outcome, Records, Update};
 use std::alloc::Global;
