@@ -68,7 +68,10 @@ fn check_transcript(
         }
         apply_all(&mut records, &updates[front..length])?;
         front = length;
-        if !are_same(&next.answer.outcome, &Outcome::decide(&records, &next.event)) {
+        if !are_same(
+            &next.answer.outcome,
+            &Outcome::decide(&records, &next.event),
+        ) {
             return Err(AuditFault::AnswerDiffers { session, entry });
         }
     }

@@ -18,8 +18,8 @@ loop-at-preserved c =
     let within : next.answer.front ≤ length updates = search rules in
     let later : c.loop-at.front ≤ next.answer.front = search rules in
     let records : c.apply_all.new.records ≡ records_of (take next.answer.front updates) =
-        c.in_ok-apply_all.ensures.applied ∙ ap (λ m. records_from m (take (next.answer.front - c.loop-at.front) (drop c.loop-at.front updates))) so_far.records
-        ∙ records_of-longer updates c.loop-at.front next.answer.front later in
+    c.in_ok-apply_all.ensures.applied ∙ ap (λ m. records_from m (take (next.answer.front - c.loop-at.front) (drop c.loop-at.front updates))) so_far.records
+    ∙ records_of-longer updates c.loop-at.front next.answer.front later in
     let outcome : next.answer.outcome ≡ outcome_at_front updates next = c.if-not-are_same.ensures.yes refl ∙ c.decide.ensures ∙ ap (λ m. outcome_of (decision m next.event)) records in
     rw more record {
       explained = AreExplained-push updates 0 first next so_far.explained (record { within = within; later = rw (← so_far.last) later; outcome = outcome });
@@ -37,15 +37,17 @@ returns-then-not-are_same-clause-fault c =
     let within : next.answer.front ≤ length updates = search rules in
     let later : c.loop-at.front ≤ next.answer.front = search rules in
     let records : c.apply_all.new.records ≡ records_of (take next.answer.front updates) =
-        c.in_ok-apply_all.ensures.applied ∙ ap (λ m. records_from m (take (next.answer.front - c.loop-at.front) (drop c.loop-at.front updates))) so_far.records
-        ∙ records_of-longer updates c.loop-at.front next.answer.front later in
-    (refl, record {
-      entry = next;
-      there = there;
-      explained = so_far.explained;
-      holds = record {
-        within = within;
-        later = rw (← so_far.last) later;
-        outcome = λ same. c.if-not-are_same.ensures.no refl (same ∙ sym (c.decide.ensures ∙ ap (λ m. outcome_of (decision m next.event)) records));
-      };
-    })
+    c.in_ok-apply_all.ensures.applied ∙ ap (λ m. records_from m (take (next.answer.front - c.loop-at.front) (drop c.loop-at.front updates))) so_far.records
+    ∙ records_of-longer updates c.loop-at.front next.answer.front later in (
+      refl,
+      record {
+        entry = next;
+        there = there;
+        explained = so_far.explained;
+        holds = record {
+          within = within;
+          later = rw (← so_far.last) later;
+          outcome = λ same. c.if-not-are_same.ensures.no refl (same ∙ sym (c.decide.ensures ∙ ap (λ m. outcome_of (decision m next.event)) records));
+        };
+      },
+    )
