@@ -3,13 +3,11 @@
 use Rattle.std.specs.Prelude.{ℕ, ◌+◌, List, [], ◌∷◌, ◌++◌, length, Option, Some, None}
 use Rattle.camel_criteria.specs.Refusal.{refusal_code}
 use Rattle.camel_criteria.specs.declared.refusal.Refusal.{Refusal}
-use Rattle.camel_rows.specs.Decision.{decision}
+use Rattle.camel_rows.specs.Answer.{answer_over}
 use Rattle.camel_rows.specs.Event.{EventData}
-use Rattle.camel_rows.specs.Outcome.{outcome_of}
 use Rattle.camel_rows.specs.Store.{Updates, accepted_updates, all_published, no_updates, store_refusal, with_update}
-use Rattle.camel_rows.specs.Update.{records_of}
-use Rattle.camel_rows.specs.declared.trigger.outcome.Answer.{Answer}
 use Rattle.camel_rows.specs.declared.subscriber.update.Update.{Update}
+use Rattle.camel_rows.specs.declared.trigger.outcome.Answer.{Answer}
 use Rattle.camel_script.specs.Line.{line_text}
 use Rattle.camel_script.specs.declared.line.Line.{Line}
 use Rattle.camel_script.specs.declared.line.Line.TheVariants as line
@@ -18,7 +16,7 @@ use Rattle.camel_script.specs.declared.record.Record.TheVariants as script_recor
 
 -- A call is decided over the published updates alone.
 abbrev pub answer_of : Updates → EventData → Answer
-answer_of updates event = record { front = length updates.published; outcome = outcome_of (decision (records_of updates.published) event) }
+answer_of updates event = answer_over updates.published event
 
 -- The line of an update, where so many are accepted before it.
 abbrev pub update_line : ℕ → Option Refusal → Line

@@ -1,5 +1,6 @@
 pub mod Admission
 pub mod AdmissionCode
+pub mod Answer
 pub mod ByImsi
 pub mod CsiChange
 pub mod CsisPresent

@@ -5,6 +5,7 @@ pub mod OwnUpdates
 pub mod Prefix
 pub mod PublishedCopy
 pub mod Rule
+pub mod Run
 pub mod Seat
 pub mod Session
 pub mod SessionFields

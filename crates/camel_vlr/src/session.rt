@@ -4,6 +4,7 @@ ghost use Rattle.std.specs.Prelude.{◌≡◌, ◌↔◌, [], true, false, lengt
 ghost use Rattle.camel_rows.specs.Front.{Extends, IsFront};
 ghost use Rattle.camel_rows.specs.Update.{records_of};
 
+pub(crate) mod answers;
 pub(crate) mod look;
 pub(crate) mod seat;
 
