@@ -6,12 +6,13 @@ use Rattle.hex.specs.Hex.{encode_lower}
 use Rattle.camel_rows.specs.Outcome.{action_of}
 use Rattle.camel_rows.specs.declared.trigger.decision.Reason.{Reason}
 use Rattle.camel_rows.specs.declared.trigger.decision.Reason.TheVariants.{Unknown, NoCsi, NotArmed, Emergency, Criteria}
+use Rattle.camel_rows.specs.declared.trigger.outcome.Answer.{Answer}
 use Rattle.camel_rows.specs.declared.trigger.outcome.CallAction.{CallAction}
 use Rattle.camel_rows.specs.declared.trigger.outcome.CallAction.TheVariants.{Continue, Release}
 use Rattle.camel_rows.specs.declared.trigger.outcome.Outcome.{Outcome}
 use Rattle.camel_rows.specs.declared.trigger.outcome.Outcome.TheVariants.{Trigger, NoTrigger}
 use Rattle.camel_script.specs.declared.line.Line.{Line}
-use Rattle.camel_script.specs.declared.line.Line.TheVariants.{Accepted, Refused, Published, Decided}
+use Rattle.camel_script.specs.declared.line.Line.TheVariants.{Accepted, Refused, Published, Decided, Served, AuditOk}
 
 -- what is done with the call where the dialogue with the gsmSCF fails
 abbrev pub action_text : CallAction → List ℕ
@@ -35,9 +36,17 @@ decided_text front (Trigger dp key scf handling) =
 decided_text front (NoTrigger reason) =
     codes "front " ++ decimal front ++ codes " none " ++ reason_text reason ++ codes "\n"
 
+-- the number of a session (from 0), the number of the call among all of the script (from 0), and the decision
+abbrev pub served_text : ℕ → ℕ → Answer → List ℕ
+served_text session call answer =
+    codes "session " ++ decimal session ++ codes " call " ++ decimal call ++ codes " "
+    ++ decided_text answer.front answer.outcome
+
 -- the text of a line
 abbrev pub line_text : Line → List ℕ
 line_text (Accepted number) = codes "accepted " ++ decimal number ++ codes "\n"
 line_text (Refused code) = codes "refused " ++ decimal code ++ codes "\n"
 line_text (Published front) = codes "published " ++ decimal front ++ codes "\n"
 line_text (Decided answer) = decided_text answer.front answer.outcome
+line_text (Served session call answer) = served_text session call answer
+line_text AuditOk = codes "audit ok\n"

@@ -4,7 +4,7 @@ ghost use Rattle.std.specs.Prelude.{◌≡◌, ◌++◌, IfErr, IfOk, OnErr, OnO
 ghost use Rattle.std.specs.Fmt.{decimal};
 ghost use Rattle.hex.specs.Hex.{encode_lower};
 ghost use Rattle.camel_rows.specs.Outcome.{action_of};
-ghost use Rattle.camel_script.specs.Line.{action_text, decided_text, line_text, reason_text};
+ghost use Rattle.camel_script.specs.Line.{action_text, decided_text, line_text, reason_text, served_text};
 
 use camel_criteria::{Handling, Refusal};
 use camel_rows::{Answer, CallAction, Outcome, Reason, on_failure};
@@ -26,6 +26,14 @@ pub enum Line {
     Published(u64),
     /// A call was decided.
     Decided(Answer),
+    /// The call of this number (from 0, over the script) was decided by the session of this number (from 0).
+    Served {
+        session: u64,
+        call: u64,
+        answer: Answer,
+    },
+    /// The audit of all sessions found that the published updates explain each answer.
+    AuditOk,
 }
 
 /// Appends the text of a line, with its line feed.
@@ -50,6 +58,12 @@ fn text_of(alloc: Global, line: &Line) -> Result<Vec<u8>, AllocError>
         Line::Refused(code) => numbered_text(alloc, "refused ", u64::from(*code)),
         Line::Published(front) => numbered_text(alloc, "published ", *front),
         Line::Decided(answer) => decided_text(alloc, answer),
+        Line::Served {
+            session,
+            call,
+            answer,
+        } => served_text(alloc, *session, *call, answer),
+        Line::AuditOk => audit_text(alloc),
     }
 }
 
@@ -61,6 +75,34 @@ fn numbered_text(alloc: Global, word: &str, number: u64) -> Result<Vec<u8>, Allo
     push_text(&mut text, word)?;
     push_decimal(&mut text, number)?;
     push_text(&mut text, "\n")?;
+    Ok(text)
+}
+
+/// The text of a call that a session decided.
+fn served_text(
+    alloc: Global,
+    session: u64,
+    call: u64,
+    answer: &Answer,
+) -> Result<Vec<u8>, AllocError>
+    ensures { IfOk result (λ text. text.items ≡ served_text session call answer.now) }
+{
+    let mut text = Vec::with_capacity(alloc, LINE_ROOM)?;
+    push_text(&mut text, "session ")?;
+    push_decimal(&mut text, session)?;
+    push_text(&mut text, " call ")?;
+    push_decimal(&mut text, call)?;
+    push_text(&mut text, " ")?;
+    text.extend_from_slice(&decided_text(alloc, answer)?)?;
+    Ok(text)
+}
+
+/// The text of an audit that found no mistake.
+fn audit_text(alloc: Global) -> Result<Vec<u8>, AllocError>
+    ensures { IfOk result (λ text. text.items ≡ codes "audit ok\n") }
+{
+    let mut text = Vec::with_capacity(alloc, LINE_ROOM)?;
+    push_text(&mut text, "audit ok\n")?;
     Ok(text)
 }
 
