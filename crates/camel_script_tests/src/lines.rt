@@ -25,17 +25,25 @@ fn prints_the_lines_of_a_replay(rt: HostRuntime) -> Result<(), Fail> {
     push_line(rt.alloc(), &mut out, &Line::Published(0))?;
     let decided = Answer { front: 2, outcome };
     push_line(rt.alloc(), &mut out, &Line::Decided(decided))?;
+    let text =
+        "accepted 18446744073709551615\nrefused 35\npublished 0\nfront 2 trigger 2 100 91947116000f release\n";
+    assert_eq!(rt; out.as_slice(), text.as_bytes());
+    Ok(())
+}
+
+/// The lines that a replay with threads ends with.
+#[test]
+fn prints_the_lines_of_a_session_and_its_audit(rt: HostRuntime) -> Result<(), Fail> {
+    let outcome = Outcome::NoTrigger(Reason::Unknown);
     let served = Line::Served {
         session: 3,
         call: 40,
-        answer: decided,
+        answer: Answer { front: 7, outcome },
     };
+    let mut out = Vec::new(rt.alloc());
     push_line(rt.alloc(), &mut out, &served)?;
     push_line(rt.alloc(), &mut out, &Line::AuditOk)?;
-    let text = "accepted 18446744073709551615\nrefused 35\npublished 0\n\
-        front 2 trigger 2 100 91947116000f release\n\
-        session 3 call 40 front 2 trigger 2 100 91947116000f release\n\
-        audit ok\n";
+    let text = "session 3 call 40 front 7 none unknown\naudit ok\n";
     assert_eq!(rt; out.as_slice(), text.as_bytes());
     Ok(())
 }
