@@ -5,3 +5,4 @@ pub mod OwnUpdatesLemmas
 pub mod PrefixLemmas
 pub mod PublicationLemmas
 pub mod RuleLemmas
+pub mod RunLemmas

@@ -46,6 +46,9 @@ impl Session {
         ensures no_memory { result ≡ Err Refusal.OutOfMemory → (answers.new.items ≡ answers.old.items) × (self.new ≡ self.old) }
         ensures only { IfErr result (λ why. (why ≡ Refusal.OutOfMemory) ⊎ (why ≡ Refusal.NoGuard)) }
     {
+        // The check of a loop that appends answers needs these types named.
+        let _: Option<Answer> = None;
+        let _: Option<Outcome> = None;
         answers.reserve(events.len())?;
         for event in events {
             let Ok(answer) = self.answer(event) else {

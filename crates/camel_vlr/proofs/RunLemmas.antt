@@ -1,0 +1,49 @@
+-- What a session answers, put together.
+use Rattle.std.proofs.Common.{◌≡◌, ◌∙◌, ℕ, Bool, List, [], ◌∷◌, ◌++◌, refl, sym, ap, subst}
+use Rattle.camel_rows.specs.Event.{EventData}
+use Rattle.camel_rows.specs.declared.subscriber.update.Update.{Update}
+use Rattle.camel_rows.specs.declared.trigger.outcome.Answer.{Answer}
+use Rattle.camel_vlr.specs.Run.{Answers, Run, last_seen}
+use Rattle.camel_vlr.specs.Session.{SessionData}
+
+pub last_seen-append : (seen : List Update) (fronts later : List (List Update)) → last_seen seen (fronts ++ later) ≡ last_seen (last_seen seen fronts) later
+last_seen-append seen [] later = refl
+last_seen-append seen (front ∷ fronts) later = last_seen-append front fronts later
+
+-- the second run goes on at the front that the first one saw last
+Run-append : (limit : ℕ) (seen : List Update) (told : List (List Update)) (events next : List EventData) (answers more : List Answer) (fronts later : List (List Update))
+    → Run limit seen told events answers fronts → Run limit (last_seen seen fronts) told next more later
+    → Run limit seen told (events ++ next) (answers ++ more) (fronts ++ later)
+Run-append limit seen told [] next [] more [] later first second = second
+Run-append limit seen told (event ∷ events) next (answer ∷ answers) more (front ∷ fronts) later first second =
+    (first.0, Run-append limit front told events next answers more fronts later first.1 second)
+Run-append limit seen told [] next [] more (front ∷ fronts) later first second = absurd first
+Run-append limit seen told [] next (answer ∷ answers) more fronts later first second = absurd first
+Run-append limit seen told (event ∷ events) next [] more fronts later first second = absurd first
+Run-append limit seen told (event ∷ events) next (answer ∷ answers) more [] later first second = absurd first
+
+pub Answers-none : (session : SessionData) → Answers session [] [] session
+Answers-none session = record { fronts = []; run = tt; seen = refl; told = refl; store = refl }
+
+pub Answers-append : (before mid after : SessionData) (events next : List EventData) (answers more : List Answer)
+    → Answers before events answers mid → Answers mid next more after → Answers before (events ++ next) (answers ++ more) after
+Answers-append before mid after events next answers more first second =
+    record {
+      fronts = first.fronts ++ second.fronts;
+      run = Run-append before.store.limit before.seen before.told events next answers more first.fronts second.fronts first.run (rw (← first.seen, ← first.told, ← first.store) second.run);
+      seen = second.seen ∙ ap (λ seen. last_seen seen second.fronts) first.seen ∙ sym (last_seen-append before.seen first.fronts second.fronts);
+      told = second.told ∙ first.told;
+      store = second.store ∙ first.store;
+    }
+
+-- what a session answers doesn't depend on whether it had a look
+pub Answers-looks : (before other after : SessionData) (looks : Bool) (events : List EventData) (answers : List Answer) → other ≡ record before { looks = looks }
+    → Answers other events answers after → Answers before events answers after
+Answers-looks before other after looks events answers same given =
+    record {
+      fronts = given.fronts;
+      run = subst (λ (s : SessionData). Run s.store.limit s.seen s.told events answers given.fronts) same given.run;
+      seen = given.seen ∙ ap (λ s. last_seen s.seen given.fronts) same;
+      told = given.told ∙ ap (λ s. s.told) same;
+      store = given.store ∙ ap (λ s. s.store) same;
+    }
