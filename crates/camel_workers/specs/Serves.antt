@@ -1,5 +1,5 @@
 -- What a worker gives back.
-use Rattle.std.specs.Prelude.{◌≡◌, ◌≢◌, ◌↔◌, List, [], ◌∷◌, ◌++◌, length, map, take}
+use Rattle.std.specs.Prelude.{◌≡◌, ◌≢◌, ◌↔◌, false, List, [], ◌∷◌, ◌++◌, length, map, take}
 use Rattle.camel_audit.specs.declared.transcript.Entry.{Entry}
 use Rattle.camel_audit.specs.declared.transcript.Job.{Job}
 use Rattle.camel_rows.specs.Event.{EventData}
@@ -30,5 +30,7 @@ pub record Serves (before : SessionData) (receipt : PrefixData) (jobs : List Job
   pub jobs_served : map job_of served.transcript ≡ take (length served.transcript) jobs
   pub answers : served.ended ≢ OutOfMemory
       → Answers (with_told before receipt) (map event_in served.transcript) (map answer_in served.transcript) served.session
+  -- its looks have ended
+  pub looks : served.ended ≢ OutOfMemory → served.session.looks ≡ false
   pub all : served.ended ≡ All ↔ length served.transcript ≡ length jobs
   pub none : served.ended ≡ OutOfMemory → (served.transcript ≡ []) × (served.session ≡ before)

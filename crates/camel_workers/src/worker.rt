@@ -1,4 +1,4 @@
-ghost use Rattle.std.specs.Prelude.{◌≡◌, ◌≢◌, ◌≤◌, ◌↔◌, [], length, map, take, vec_capacity};
+ghost use Rattle.std.specs.Prelude.{◌≡◌, ◌≢◌, ◌≤◌, ◌↔◌, false, [], length, map, take, vec_capacity};
 ghost use Rattle.camel_vlr.specs.Run.{Answers};
 ghost use Rattle.camel_workers.specs.Serves.{Serves, answer_in, event_in, job_of};
 
@@ -77,6 +77,7 @@ fn serve_each<G: Gate>(
     ensures answers { Answers session.old (map event_in entries.new.items) (map answer_in entries.new.items) session.new }
     ensures all { result ≡ Ended.All ↔ length entries.new.items ≡ length jobs.now }
     ensures memory { result ≢ Ended.OutOfMemory }
+    ensures looks { session.old.looks ≡ false → session.new.looks ≡ false }
 {
     // The check of a loop that appends answers needs these types named.
     let _: Option<Answer> = None;

@@ -1,6 +1,6 @@
 //! What a session answers to call events.
 
-ghost use Rattle.std.specs.Prelude.{◌≡◌, ◌<◌, ◌+◌, ◌⊎◌, [], ◌∷◌, ◌++◌, Err, List, length, take, vec_len, IfErr, IfOk, OnErr, OnOk};
+ghost use Rattle.std.specs.Prelude.{◌≡◌, ◌<◌, ◌+◌, ◌⊎◌, [], ◌∷◌, ◌++◌, false, Err, List, length, take, vec_len, IfErr, IfOk, OnErr, OnOk};
 ghost use Rattle.camel_rows.specs.declared.trigger.outcome.Answer.{Answer};
 ghost use Rattle.camel_vlr.specs.Run.{Answers};
 ghost use Rattle.camel_vlr.specs.Session.{LeavesLook};
@@ -18,6 +18,7 @@ impl Session {
     pub fn answer(&mut self, event: &CallEvent) -> Result<Answer, NoLook>
         ensures answers { IfOk result (λ answer. Answers self.old (event.now ∷ []) (answer ∷ []) self.new) }
         ensures refused { OnErr result (LeavesLook self.old self.new) }
+        ensures looks { self.new.looks ≡ false }
     {
         let look = self.look()?;
         let answer = Answer {
@@ -45,6 +46,7 @@ impl Session {
         ensures no_guard { result ≡ Err Refusal.NoGuard → vec_len answers.new < vec_len answers.old + length events.now }
         ensures no_memory { result ≡ Err Refusal.OutOfMemory → (answers.new.items ≡ answers.old.items) × (self.new ≡ self.old) }
         ensures only { IfErr result (λ why. (why ≡ Refusal.OutOfMemory) ⊎ (why ≡ Refusal.NoGuard)) }
+        ensures looks { self.old.looks ≡ false → self.new.looks ≡ false }
     {
         // The check of a loop that appends answers needs these types named.
         let _: Option<Answer> = None;

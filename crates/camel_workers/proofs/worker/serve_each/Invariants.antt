@@ -1,4 +1,4 @@
-use Rattle.std.proofs.Common.{◌≡◌, ◌≤◌, length, map, take, vec_capacity}
+use Rattle.std.proofs.Common.{◌≡◌, ◌≤◌, false, length, map, take, vec_capacity}
 use Rattle.camel_vlr.specs.Run.{Answers}
 use Rattle.camel_workers.specs.Serves.{answer_in, event_in, job_of}
 use Rattle.camel_workers.proofs.worker.serve_each.Given as goal
@@ -9,5 +9,6 @@ invariant-loop-job g l = record {
   count : length l.entries.items ≡ l.job-index;
   jobs : map job_of l.entries.items ≡ take l.job-index l.jobs;
   answers : Answers l.fn.session (map event_in l.entries.items) (map answer_in l.entries.items) l.session;
+  looks : l.fn.session.looks ≡ false → l.session.looks ≡ false;
   room : length l.jobs ≤ vec_capacity l.entries;
 }

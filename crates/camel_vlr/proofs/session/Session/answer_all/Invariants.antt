@@ -1,4 +1,4 @@
-use Rattle.std.proofs.Common.{◌≡◌, ◌≤◌, ◌+◌, ◌++◌, List, length, take, vec_len, vec_capacity}
+use Rattle.std.proofs.Common.{◌≡◌, ◌≤◌, ◌+◌, ◌++◌, false, List, length, take, vec_len, vec_capacity}
 use Rattle.camel_rows.specs.declared.trigger.outcome.Answer.{Answer}
 use Rattle.camel_vlr.specs.Run.{Answers}
 use Rattle.camel_vlr.proofs.session.Session.answer_all.Given as goal
@@ -10,5 +10,6 @@ invariant-loop-event l = record {
   count : length new ≡ l.event-index;
   appended : l.answers.items ≡ l.fn.answers.items ++ new;
   run : Answers l.fn.self (take l.event-index l.events) new l.self;
+  looks : l.fn.self.looks ≡ false → l.self.looks ≡ false;
   room : vec_len l.fn.answers + length l.events ≤ vec_capacity l.answers;
 }
