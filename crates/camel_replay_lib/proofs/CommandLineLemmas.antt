@@ -1,23 +1,29 @@
 -- What the matches of the command line hold is what its words say.
-use Rattle.std.proofs.Common.{◌≡◌, ◌∙◌, ◌⊎◌, ℕ, List, true, Result, Ok, Err, IfErr, IsErrAnd, refl, sym, ap, subst, inl, inr, codes}
+use Rattle.std.proofs.Common.{◌≡◌, ◌∙◌, ◌⊎◌, ℕ, List, true, Option, Result, Ok, Err, IfErr, IsErrAnd, refl, ap, subst, inl, inr, codes}
 use Rattle.clap.proofs.OnLiterals.{clap_on_literals}
 use Rattle.clap.proofs.WalkLemmas.{first_value-rows}
-use Rattle.clap.specs.Words.{App, HasKind, HasMatchesOf, IsAmong, Kinds, Text, fault_of, first_of, found_of, is_simple, is_simple_and_free, kind_of}
+use Rattle.clap.specs.Words.{App, HasKind, HasMatchesOf, IsAmong, Kinds, Text, fault_of, first_of, first_value, found_of, is_simple, is_simple_and_free, kind_of}
 use Rattle.clap.specs.declared.error.Error.{Error}
 use Rattle.clap.specs.declared.error.kind.ErrorKind.{ErrorKind}
 use Rattle.clap.specs.declared.error.kind.ErrorKind.TheVariants.{DisplayHelp, OutOfMemory}
 use Rattle.clap.specs.declared.parser.matches.ArgMatches.{ArgMatches}
-use Rattle.camel_replay_lib.specs.CommandLine.{AsksForHelp, HoldsLimit, LimitOf, the_program}
+use Rattle.camel_replay_lib.specs.CommandLine.{AsksForHelp, GivesNumber, HoldsLimit, HoldsThreads, LimitOf, MayGiveNumber, ThreadsOf, option_text, the_program}
+use Rattle.camel_replay_lib.specs.Limits.{max_limit, max_threads}
 
 -- so `clap` says which matches every list of words has
 program_is_simple : is_simple the_program ≡ true
 unfolding clap_on_literals
 program_is_simple = refl
 
+text_held : (name : Text) (words : List Text) (matches : ArgMatches) → HasMatchesOf the_program words matches → first_value (found_of matches) name ≡ option_text name words
+text_held name words matches has = first_value-rows (found_of matches) name ∙ ap (first_of name) (has program_is_simple).0
+
 pub LimitOf-held : (words : List Text) (matches : ArgMatches) (limit : ℕ) → HasMatchesOf the_program words matches → HoldsLimit matches limit → LimitOf words limit
-LimitOf-held words matches limit has (text, held, number) =
-    let rows = (has program_is_simple).0 in
-    (text, sym (ap (first_of (codes "limit")) rows) ∙ (sym (first_value-rows (found_of matches) (codes "limit")) ∙ held), number)
+LimitOf-held words matches limit has held = subst (λ (given : Option Text). GivesNumber max_limit given limit) (text_held (codes "limit") words matches has) held
+
+pub ThreadsOf-held : (words : List Text) (matches : ArgMatches) (threads : Option ℕ) → HasMatchesOf the_program words matches → HoldsThreads matches threads → ThreadsOf words threads
+ThreadsOf-held words matches threads has held =
+    subst (λ (given : Option Text). MayGiveNumber max_threads given threads) (text_held (codes "threads") words matches has) held
 
 -- and which kinds of error it may answer
 program_is_free : is_simple_and_free the_program ≡ true

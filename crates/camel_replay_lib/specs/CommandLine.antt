@@ -1,12 +1,12 @@
 -- The options of the command line, as the crate `clap` reads them.
-use Rattle.std.specs.Prelude.{◌≡◌, ℕ, ◌≤◌, List, [], ◌∷◌, Option, Some, codes}
+use Rattle.std.specs.Prelude.{◌≡◌, ℕ, ◌≤◌, List, [], ◌∷◌, Option, Some, None, codes}
 use Rattle.std.specs.Str.Parse.{IsNumeral, digits_value, without_leading_plus}
 use Rattle.clap.specs.Words.{App, IsAmong, Rule, Text, fault_of, first_of, first_value, found_of, matches_of, new_app}
 use Rattle.clap.specs.Words.{new_rule, with_rule}
 use Rattle.clap.specs.declared.builder.value_parser.ValueParser.TheVariants.{Unsigned}
 use Rattle.clap.specs.declared.error.kind.ErrorKind.TheVariants.{DisplayHelp}
 use Rattle.clap.specs.declared.parser.matches.ArgMatches.{ArgMatches}
-use Rattle.camel_replay_lib.specs.Limits.{max_limit}
+use Rattle.camel_replay_lib.specs.Limits.{max_limit, max_threads}
 
 -- The option `--limit` is a number from 1 to 1000000, and 1000000 where it is not given.
 abbrev pub limit_rule : Rule
@@ -17,23 +17,44 @@ limit_rule = record (new_rule (codes "limit")) {
   parser = Some (Unsigned 1 max_limit);
 }
 
+-- The option `--threads` is a number from 1 to 16, and may be left out.
+abbrev pub threads_rule : Rule
+threads_rule = record (new_rule (codes "threads")) {
+  long = Some (codes "threads");
+  value_names = 1;
+  parser = Some (Unsigned 1 max_threads);
+}
+
 abbrev pub the_program : App
-the_program = with_rule (new_app (codes "camel_replay")) limit_rule
+the_program = with_rule (with_rule (new_app (codes "camel_replay")) limit_rule) threads_rule
 
--- The text of the option `--limit` that `clap` finds in these words, the name of the program first.
-abbrev pub limit_text : List Text → Option Text
-limit_text words = first_of (codes "limit") (matches_of the_program words)
+-- The text of an option that `clap` finds in these words, the name of the program first.
+abbrev pub option_text : Text → List Text → Option Text
+option_text name words = first_of name (matches_of the_program words)
 
--- A text is the numeral of a limit.
-pub record IsLimit (text : Text) (limit : ℕ) : Type 0 where
+-- A text is the numeral of a number from 1 up to the greatest.
+pub record IsNumberUpTo (greatest : ℕ) (text : Text) (number : ℕ) : Type 0 where
   pub numeral : IsNumeral 10 (without_leading_plus text)
-  pub number : limit ≡ digits_value 10 (without_leading_plus text)
-  pub least : 1 ≤ limit
-  pub most : limit ≤ max_limit
+  pub value : number ≡ digits_value 10 (without_leading_plus text)
+  pub least : 1 ≤ number
+  pub most : number ≤ greatest
+
+-- The number that an option with this text has.
+abbrev pub GivesNumber : ℕ → Option Text → ℕ → Type 0
+GivesNumber greatest given number = (text : Text) × (given ≡ Some text) × IsNumberUpTo greatest text number
+
+-- The number that an option with this text has, and none where there is no text.
+abbrev pub MayGiveNumber : ℕ → Option Text → Option ℕ → Type 0
+MayGiveNumber greatest given None = given ≡ None
+MayGiveNumber greatest given (Some number) = GivesNumber greatest given number
 
 -- The limit of these words.
 abbrev pub LimitOf : List Text → ℕ → Type 0
-LimitOf words limit = (text : Text) × (limit_text words ≡ Some text) × IsLimit text limit
+LimitOf words limit = GivesNumber max_limit (option_text (codes "limit") words) limit
+
+-- How many threads answer calls by these words: none where they do not say it.
+abbrev pub ThreadsOf : List Text → Option ℕ → Type 0
+ThreadsOf words threads = MayGiveNumber max_threads (option_text (codes "threads") words) threads
 
 -- These words ask for the help text: `clap` answers them by it.
 abbrev pub AsksForHelp : List Text → Type 0
@@ -41,5 +62,8 @@ AsksForHelp words = IsAmong DisplayHelp (fault_of the_program words)
 
 -- The limit that matches hold.
 abbrev pub HoldsLimit : ArgMatches → ℕ → Type 0
-HoldsLimit matches limit =
-    (text : Text) × (first_value (found_of matches) (codes "limit") ≡ Some text) × IsLimit text limit
+HoldsLimit matches limit = GivesNumber max_limit (first_value (found_of matches) (codes "limit")) limit
+
+-- How many threads matches hold.
+abbrev pub HoldsThreads : ArgMatches → Option ℕ → Type 0
+HoldsThreads matches threads = MayGiveNumber max_threads (first_value (found_of matches) (codes "threads")) threads

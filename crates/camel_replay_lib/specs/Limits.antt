@@ -8,3 +8,7 @@ max_records = 1000000
 -- The limit of accepted updates is at most so many, and so many where it is not given.
 abbrev pub max_limit : ℕ
 max_limit = 1000000
+
+-- Calls are answered by at most so many threads.
+abbrev pub max_threads : ℕ
+max_threads = 16

@@ -19,6 +19,8 @@ use std::io::{Read, Write};
 /// What the command line asks for.
 #[derive(Clone, Copy, Debug, PartialEq, Eq)]
 pub struct Options {
+    /// How many threads answer calls, 1 to 16; `None` where the replay has one thread alone.
+    pub threads: Option<usize>,
     /// How many updates are accepted at most, 1 to 1000000.
     pub limit: u64,
 }

@@ -1,10 +1,10 @@
 use crate::fixtures::words;
-use camel_replay_lib::{Options, options};
+use camel_replay_lib::options;
 use std::alloc::Global;
 use std::test::Fail;
 
 // Options, and the limit that is read of them; None where they are rejected.
-const LIMITS: [(&[&str], Option<u64>); 16] = [
+const LIMITS: [(&[&str], Option<u64>); 15] = [
     (&[], Some(1_000_000)),
     (&["--limit", "1"], Some(1)),
     (&["--limit", "1000000"], Some(1_000_000)),
@@ -19,13 +19,12 @@ const LIMITS: [(&[&str], Option<u64>); 16] = [
     (&["--limit", ""], None),
     (&["--limit"], None),
     (&["--limit", "1", "--limit", "2"], None),
-    (&["--threads", "2"], None),
     (&["script.csv"], None),
 ];
 
 fn limit_read(alloc: Global, given: &[&str]) -> Result<Option<u64>, Fail> {
     match options(alloc, &words(alloc, given)?) {
-        Ok(Options { limit }) => Ok(Some(limit)),
+        Ok(options) => Ok(Some(options.limit)),
         Err(_) => Ok(None),
     }
 }
@@ -34,6 +33,34 @@ fn limit_read(alloc: Global, given: &[&str]) -> Result<Option<u64>, Fail> {
 fn reads_the_limit_as_it_may_stand(rt: HostRuntime) -> Result<(), Fail> {
     for (given, limit) in &LIMITS {
         assert_eq!(rt; limit_read(rt.alloc(), given)?, *limit, "{given:?}");
+    }
+    Ok(())
+}
+
+// Options, and the number of threads that is read of them; None where they are rejected.
+const THREADS: [(&[&str], Option<Option<usize>>); 9] = [
+    (&[], Some(None)),
+    (&["--threads", "1"], Some(Some(1))),
+    (&["--threads", "16"], Some(Some(16))),
+    (&["--limit", "3", "--threads", "2"], Some(Some(2))),
+    (&["--threads", "0"], None),
+    (&["--threads", "17"], None),
+    (&["--threads", "two"], None),
+    (&["--threads"], None),
+    (&["--threads", "1", "--threads", "2"], None),
+];
+
+fn threads_read(alloc: Global, given: &[&str]) -> Result<Option<Option<usize>>, Fail> {
+    match options(alloc, &words(alloc, given)?) {
+        Ok(options) => Ok(Some(options.threads)),
+        Err(_) => Ok(None),
+    }
+}
+
+#[test]
+fn reads_the_number_of_threads_as_it_may_stand(rt: HostRuntime) -> Result<(), Fail> {
+    for (given, threads) in &THREADS {
+        assert_eq!(rt; threads_read(rt.alloc(), given)?, *threads, "{given:?}");
     }
     Ok(())
 }

@@ -1,7 +1,8 @@
-ghost use Rattle.std.specs.Prelude.{◌≡◌, IfErr, IfOk, IfSome, map, string_bytes};
-ghost use Rattle.clap.specs.Words.{app_of, kind_of};
+ghost use Rattle.std.specs.Prelude.{◌≡◌, false, IfErr, IfOk, IfSome, map, string_bytes};
+ghost use Rattle.clap.specs.Words.{app_of, kind_of, rule_of};
 ghost use Rattle.clap.specs.declared.error.kind.ErrorKind.TheVariants.{DisplayHelp, OutOfMemory};
-ghost use Rattle.camel_replay_lib.specs.CommandLine.{AsksForHelp, HoldsLimit, LimitOf, the_program};
+ghost use Rattle.camel_replay_lib.specs.CommandLine.{AsksForHelp, HoldsLimit, HoldsThreads, IsNumberUpTo, LimitOf};
+ghost use Rattle.camel_replay_lib.specs.CommandLine.{ThreadsOf, limit_rule, the_program, threads_rule};
 
 use crate::command::Options;
 use clap::builder::ValueParser;
@@ -12,20 +13,24 @@ use std::alloc::Global;
 /// The greatest limit of updates.
 pub const MAX_LIMIT: u64 = 1_000_000;
 
+/// The greatest number of threads that answer calls.
+pub const MAX_THREADS: u64 = 16;
+
 /// The options of the words with which the program was started, its name first.
 ///
 /// The error is that of `clap`: a mistake in the words, a request for help, or out of memory.
 pub fn options(alloc: Global, words: &[String]) -> Result<Options, Error>
+    ensures threads { IfOk result (λ options. ThreadsOf (map string_bytes words.now) options.threads) }
     ensures limit { IfOk result (λ options. LimitOf (map string_bytes words.now) options.limit) }
     ensures help { IfErr result (λ error.
         kind_of error ≡ DisplayHelp → AsksForHelp (map string_bytes words.now)) }
 {
     let mut command = command(alloc)?;
     let matches = command.try_get_matches_from_mut(words)?;
-    match limit(&matches) {
-        Some(limit) => Ok(Options { limit }),
-        // `clap` has checked the range, so no command line comes here.
-        None => Err(command.error(ErrorKind::ValueValidation, "the limit is not 1 to 1000000")?),
+    match held_options(&matches) {
+        Some(options) => Ok(options),
+        // `clap` has checked the ranges, so no command line comes here.
+        None => Err(command.error(ErrorKind::ValueValidation, "a number is not in its range")?),
     }
 }
 
@@ -34,28 +39,61 @@ fn command<'a>(alloc: Global) -> Result<Command<'a>, Error>
     ensures program { IfOk result (λ command. app_of command ≡ the_program) }
     ensures only { IfErr result (λ error. kind_of error ≡ OutOfMemory) }
 {
-    let limit = Arg::new(alloc, "limit")
+    let command = Command::new(alloc, "camel_replay")
+        .about(ABOUT)
+        .after_help(AFTER_HELP)
+        .arg(limit_argument(alloc))?
+        .arg(threads_argument(alloc))?;
+    Ok(command)
+}
+
+/// The option `--limit`.
+fn limit_argument<'a>(alloc: Global) -> Arg<'a>
+    ensures rule { rule_of result ≡ limit_rule }
+    ensures own { result.global ≡ false }
+{
+    Arg::new(alloc, "limit")
         .long("limit")
         .value_name("N")
         .default_value("1000000")
         .value_parser(ValueParser::unsigned(1, MAX_LIMIT))
-        .help("The greatest number of updates that are accepted, 1 to 1000000");
-    let command = Command::new(alloc, "camel_replay")
-        .about(ABOUT)
-        .after_help(AFTER_HELP)
-        .arg(limit)?;
-    Ok(command)
+        .help("The greatest number of updates that are accepted, 1 to 1000000")
 }
 
-/// The limit that the matches hold.
-fn limit(matches: &ArgMatches) -> Option<u64>
-    ensures { IfSome result (HoldsLimit matches.now) }
+/// The option `--threads`.
+fn threads_argument<'a>(alloc: Global) -> Arg<'a>
+    ensures rule { rule_of result ≡ threads_rule }
+    ensures own { result.global ≡ false }
 {
-    let limit = matches.get_str("limit")?.parse::<u64>().ok()?;
-    if limit == 0 || limit > MAX_LIMIT {
+    Arg::new(alloc, "threads")
+        .long("threads")
+        .value_name("N")
+        .value_parser(ValueParser::unsigned(1, MAX_THREADS))
+        .help("The number of threads that answer calls, 1 to 16; without it one thread does all")
+}
+
+/// The options that the matches hold.
+fn held_options(matches: &ArgMatches) -> Option<Options>
+    ensures threads { IfSome result (λ options. HoldsThreads matches.now options.threads) }
+    ensures limit { IfSome result (λ options. HoldsLimit matches.now options.limit) }
+{
+    let limit = number(matches.get_str("limit")?, MAX_LIMIT)?;
+    let threads = match matches.get_str("threads") {
+        Some(text) => Some(number(text, MAX_THREADS)? as usize),
+        None => None,
+    };
+    Some(Options { threads, limit })
+}
+
+/// The number of which a text is the numeral, from 1 up to the greatest.
+fn number(text: &str, greatest: u64) -> Option<u64>
+    ensures { IfSome result (IsNumberUpTo greatest text.now) }
+{
+    let number = text.parse::<u64>().ok()?;
+    if number == 0 || number > greatest {
         return None;
     }
-    Some(limit)
+    Some(number)
 }
 
 const ABOUT: &str =
@@ -100,9 +138,15 @@ The lines:
                                       release, what is done with the call where the service can't be reached
   front F none REASON                 unknown, no-csi, not-armed, emergency or criteria
 
+With --threads the lines of the calls come after those of all other records:
+
+  session S call C front F ...        session S decided call C of the script, both counted from 0
+  audit ok                            the last line: the published updates explain each answer
+
 A fault ends the run and is told on standard error: 202 word, 203 count of fields or parts, 204 hexadecimal digits,
 205 IMSI or number, 206 the input could not be read, 207 too many records, 208 the output could not be written,
-102 memory.
+102 memory. With --threads also: 103 no place, 104 no look, 105 stopped, 106 a worker was not started, 301 to 304 the
+updates do not explain the answers.
 
 Status: 0 without a fault; 1 after a fault, which is told on standard error with the number of its record;
 2 where the command line is rejected.";

@@ -3,13 +3,18 @@ use Rattle.clap.specs.Words.{app_of, kind_of}
 use Rattle.clap.specs.declared.error.Error.{Error}
 use Rattle.clap.specs.declared.error.kind.ErrorKind.TheVariants.{DisplayHelp}
 use Rattle.camel_replay_lib.specs.CommandLine.{AsksForHelp}
-use Rattle.camel_replay_lib.proofs.CommandLineLemmas.{AsksForHelp-answered, LimitOf-held, passed_on}
+use Rattle.camel_replay_lib.proofs.CommandLineLemmas.{AsksForHelp-answered, LimitOf-held, ThreadsOf-held, passed_on}
 use Rattle.camel_replay_lib.proofs.command.words.options.Goals as goal
+
+pub returns-in-Some-clause-threads : goal.returns-in-Some-clause-threads
+returns-in-Some-clause-threads c =
+    let words = map (string_bytes {Z = Global}) c.args.words.now in
+    ThreadsOf-held words c.in_ok-matches.matches c.in-Some.options.threads (search rules) (search rules)
 
 pub returns-in-Some-clause-limit : goal.returns-in-Some-clause-limit
 returns-in-Some-clause-limit c =
     let words = map (string_bytes {Z = Global}) c.args.words.now in
-    LimitOf-held words c.in_ok-matches.matches c.in-Some.limit (search rules) (search rules)
+    LimitOf-held words c.in_ok-matches.matches c.in-Some.options.limit (search rules) (search rules)
 
 pub returns-in_err-matches-clause-help : goal.returns-in_err-matches-clause-help
 returns-in_err-matches-clause-help c =
