@@ -1,6 +1,6 @@
 use camel_audit::{AuditFault, Entry, Transcript, audit};
-use camel_criteria::{Handling, Refusal};
-use camel_fixtures::{SCF, call_of, imsi_of, number_of, row_update};
+use camel_criteria::Refusal;
+use camel_fixtures::{call_of, imsi_of, row_update, triggered};
 use camel_rows::{Answer, CallEvent, Outcome, Reason, Update};
 use std::alloc::Global;
 use std::process::Abort;
@@ -13,16 +13,6 @@ fn updates(alloc: Global) -> Result<Vec<Update>, Fail> {
     updates.push(Update::Register { imsi })?;
     updates.push(row_update(imsi)?)?;
     Ok(updates)
-}
-
-/// The service of that row.
-fn triggered() -> Result<Outcome, Refusal> {
-    Ok(Outcome::Trigger {
-        dp: 2,
-        key: 100,
-        scf: number_of(&SCF)?,
-        handling: Handling::Continue,
-    })
 }
 
 /// An answer by how many updates its front has, and whether the service is invoked; if not, no CSI is stored.

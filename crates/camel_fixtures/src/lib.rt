@@ -12,5 +12,5 @@ pub use summaries::{
     first_octet, listed_numbers, row_summary, stored_summary,
 };
 pub use updates::{
-    O_ALONE, SCF, criteria_update, entry_update, one_entry, one_row, row_of, row_update,
+    O_ALONE, SCF, criteria_update, entry_update, one_entry, one_row, row_of, row_update, triggered,
 };

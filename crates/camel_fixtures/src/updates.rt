@@ -2,7 +2,7 @@
 
 use crate::calls::number_of;
 use camel_criteria::{Handling, MatchType, NumberCriterion, OCriteria, Refusal};
-use camel_rows::{OCriteriaSet, OCsi, TdpRow, Update, Withdrawal};
+use camel_rows::{OCriteriaSet, OCsi, Outcome, TdpRow, Update, Withdrawal};
 use camel_tbcd::Imsi;
 use std::alloc::Global;
 
@@ -24,6 +24,16 @@ pub fn row_of(dp: u8, key: u32, handling: u32) -> Result<TdpRow, Refusal> {
 /// An O-CSI with one row, of detection point 2 and service key 100.
 pub fn one_row() -> Result<OCsi, Refusal> {
     OCsi::new(&[row_of(2, 100, 0)?])
+}
+
+/// The service of that row.
+pub fn triggered() -> Result<Outcome, Refusal> {
+    Ok(Outcome::Trigger {
+        dp: 2,
+        key: 100,
+        scf: number_of(&SCF)?,
+        handling: Handling::Continue,
+    })
 }
 
 /// Criteria of one entry, of detection point 2, which lists the digits 1 2 3.
