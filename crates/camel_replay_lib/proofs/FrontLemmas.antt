@@ -36,7 +36,7 @@ pub published_is_front : (limit : ℕ) (records : List Record) → IsFront limit
 published_is_front limit records =
     IsFront-published limit (updates_from limit no_updates records) (AreFront-from limit no_updates records (IsFront-empty limit))
 
-published-after_submission : (updates : Updates) (update : Update) (why : Option Refusal) → (after_submission updates update why).published ≡ updates.published
+pub published-after_submission : (updates : Updates) (update : Update) (why : Option Refusal) → (after_submission updates update why).published ≡ updates.published
 published-after_submission updates update None = refl
 published-after_submission updates update (Some why) = refl
 
@@ -53,7 +53,7 @@ grows_from limit updates (next_record ∷ records) =
     let next = updates_after limit updates next_record in
     prefix_trans updates.published next.published _ (grows_by_one limit updates next_record) (grows_from limit next records)
 
-updates_from-append : (limit : ℕ) (updates : Updates) (records more : List Record) → updates_from limit updates (records ++ more) ≡ updates_from limit (updates_from limit updates records) more
+pub updates_from-append : (limit : ℕ) (updates : Updates) (records more : List Record) → updates_from limit updates (records ++ more) ≡ updates_from limit (updates_from limit updates records) more
 updates_from-append limit updates [] more = refl
 updates_from-append limit updates (next_record ∷ records) more = updates_from-append limit (updates_after limit updates next_record) records more
 

@@ -2,5 +2,9 @@ pub mod CommandLineLemmas
 pub mod FrontLemmas
 pub mod LineLemmas
 pub mod Progress
+pub mod ReadLemmas
+pub mod RoundLemmas
+pub mod RoundsLemmas
+pub mod SegmentLemmas
 pub mod StoreLemmas
 pub mod WriteLemmas

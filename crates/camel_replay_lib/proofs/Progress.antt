@@ -143,7 +143,7 @@ module _ {old new : Option (List ℕ)} {all rest : ScriptData} {limit number : �
       }
 
 -- a code that is not of this kind
-not_of_kind : (P : Type 0) (is_kind : ℕ → Bool) (code other : ℕ) → code ≡ other → is_kind other ≡ false → IsTrue (is_kind code) → P
+pub not_of_kind : (P : Type 0) (is_kind : ℕ → Bool) (code other : ℕ) → code ≡ other → is_kind other ≡ false → IsTrue (is_kind code) → P
 not_of_kind P is_kind code other same none is = absurd (let wrong = rw (same, none) at is in cc)
 
 -- the record could not be answered: memory was refused, or its line could not be written whole
@@ -178,8 +178,10 @@ at_text_fault old new all rest limit number store e stop so_far is only =
     let last : rest.fault ≡ Some e = ap (λ (given : ScriptData). given.fault) only in
     record {
       whole = rw (output_at_end so_far none) so_far.appends;
-      fault = rw (so_far.fault ∙ last, is) refl;
-      place = rw (answered_at_end so_far none, is) (ap (λ (n : ℕ). Some n) so_far.count);
+      named = record {
+        fault = rw (so_far.fault ∙ last, is) refl;
+        place = rw (answered_at_end so_far none, is) (ap (λ (n : ℕ). Some n) so_far.count);
+      };
     }
 
 -- a fault of a read that was not the first one to fail is no fault of a replay, and each other one is

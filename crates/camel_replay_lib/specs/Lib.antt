@@ -5,6 +5,12 @@ pub mod Limits
 pub mod Output
 pub mod ProgramRun
 pub mod ReplayFault
+pub mod Round
+pub mod Rounds
+pub mod Segments
 pub mod Store
 pub mod StoreCode
+pub mod ThreadsOutput
+pub mod ThreadsWritten
+pub mod Writer
 pub mod Written

@@ -1,5 +1,8 @@
 -- The numbers of a replay's faults.
 use Rattle.std.specs.Prelude.{ℕ, ◌==◌, ◌&&◌, ◌||◌, nat_le, Bool}
+use Rattle.camel_audit.specs.AuditFault.{audit_fault_code}
+use Rattle.camel_replay_lib.specs.declared.threaded_replay.threads_fault.ThreadsFault.{ThreadsFault}
+use Rattle.camel_replay_lib.specs.declared.threaded_replay.threads_fault.ThreadsFault.TheVariants.{OutOfMemory, NoPlace, NoGuard, Stopped, NoWorker, Audit}
 
 -- The fault is one of the script: of the text of a record (202 to 205), or too many records (207).
 abbrev pub is_text_code : ℕ → Bool
@@ -13,6 +16,27 @@ is_memory_or_read_code code = code == 102 || code == 206
 abbrev pub is_write_code : ℕ → Bool
 is_write_code code = code == 208
 
+-- The script could not be read whole.
+abbrev pub is_reading_code : ℕ → Bool
+is_reading_code code = is_text_code code || is_memory_or_read_code code
+
 -- A replay ends with no other fault than these.
 abbrev pub is_replay_code : ℕ → Bool
-is_replay_code code = is_text_code code || is_memory_or_read_code code || is_write_code code
+is_replay_code code = is_reading_code code || is_write_code code
+
+-- The number of a fault of a replay with threads behind the reading of its script and before its output.
+abbrev pub threads_fault_code : ThreadsFault → ℕ
+threads_fault_code OutOfMemory = 102
+threads_fault_code NoPlace = 103
+threads_fault_code NoGuard = 104
+threads_fault_code Stopped = 105
+threads_fault_code NoWorker = 106
+threads_fault_code (Audit fault) = audit_fault_code fault
+
+-- Such a fault: out of memory (102), no place (103), no look (104), stopped (105), no worker (106), or one of the audit.
+abbrev pub is_threads_code : ℕ → Bool
+is_threads_code code = (nat_le 102 code && nat_le code 106) || (nat_le 301 code && nat_le code 304)
+
+-- A replay with threads ends with no other fault than these.
+abbrev pub is_threaded_replay_code : ℕ → Bool
+is_threaded_replay_code code = is_replay_code code || is_threads_code code

@@ -22,12 +22,15 @@ AppendsProperPart old new octets =
 abbrev pub WritesAll : Option (List ℕ) → Option (List ℕ) → ℕ → ScriptData → Type 0
 WritesAll old new limit given = (given.fault ≡ None) × Appends old new (output limit given.records)
 
--- The script's fault: the lines of all records before it were written, and nothing else. Code and record are those of
--- the script.
-pub record StopsAtFault (old new : Option (List ℕ)) (limit : ℕ) (given : ScriptData) (stop : ReplayFault) : Type 0 where
-  pub whole : Appends old new (output limit given.records)
+-- The fault has the code and the record of the script's own.
+pub record NamesFault (given : ScriptData) (stop : ReplayFault) : Type 0 where
   pub fault : IsSomeAnd given.fault (λ fault. script_fault_code fault ≡ stop.code)
   pub place : stop.number ≡ Some (length given.records + 1)
+
+-- The script's fault: the lines of all records before it were written, and nothing else.
+pub record StopsAtFault (old new : Option (List ℕ)) (limit : ℕ) (given : ScriptData) (stop : ReplayFault) : Type 0 where
+  pub whole : Appends old new (output limit given.records)
+  pub named : NamesFault given stop
 
 -- The lines of the first `count` records were written, and nothing else. The record after them is named.
 pub record StopsBeforeLine (old new : Option (List ℕ)) (limit : ℕ) (records : List Record)

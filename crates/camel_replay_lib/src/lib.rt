@@ -15,9 +15,11 @@
 
 mod command;
 mod script_replay;
+mod threaded_replay;
 
-pub use command::words::{MAX_LIMIT, options};
+pub use command::words::{MAX_LIMIT, MAX_THREADS, options};
 pub use command::{FAULT_STATUS, Options, REJECTED_STATUS, run};
 pub use script_replay::laws::published_fronts;
 pub use script_replay::write::{WriteFault, write_all};
 pub use script_replay::{MAX_RECORDS, ReplayFault, WRITE_FAULT, replay};
+pub use threaded_replay::replay_threads;

@@ -113,7 +113,7 @@ fn answer_all<R: Read + Drop, W: Write>(
     }
 }
 
-fn fault_at(number: u64, code: u16) -> ReplayFault
+pub(crate) fn fault_at(number: u64, code: u16) -> ReplayFault
     ensures { result ≡ record { number = Some number; code = code } }
 {
     ReplayFault {

@@ -1,0 +1,76 @@
+-- How far a script is read.
+use Rattle.std.proofs.Common.{◌≡◌, ◌∙◌, ℕ, ◌+◌, List, [], ◌∷◌, ◌++◌, length, Option, Some, None, IfSome, IsTrue, refl, sym, ap, inl, inr, append_assoc, append-nil}
+use Rattle.camel_script.specs.Script.{FaultsAs, Gives, IsOnlyFault, ScriptData}
+use Rattle.camel_script.specs.ScriptFault.{script_fault_code}
+use Rattle.camel_script.specs.declared.record.Record.{Record}
+use Rattle.camel_script.specs.declared.script_fault.ScriptFault.{ScriptFault}
+use Rattle.camel_replay_lib.proofs.Progress.{not_of_kind}
+use Rattle.camel_replay_lib.specs.ReplayFault.{is_text_code, is_write_code}
+use Rattle.camel_replay_lib.specs.ThreadsOutput.{IsThreadsOutput}
+use Rattle.camel_replay_lib.specs.ThreadsWritten.{IsAllOf, StopsReading, ThreadsStop}
+use Rattle.camel_replay_lib.specs.Written.{AppendsPart, NamesFault}
+use Rattle.camel_replay_lib.specs.declared.script_replay.ReplayFault.{ReplayFault}
+
+-- These records were read, and the script still gives the rest, where its octets are known.
+abbrev pub HasRead : Option ScriptData → List Record → Option ScriptData → Type 0
+HasRead None records left = Unit {0}
+HasRead (Some all) records None = ⊥
+HasRead (Some all) records (Some rest) = (all.records ≡ records ++ rest.records) × (all.fault ≡ rest.fault)
+
+pub HasRead-none : (known : Option ScriptData) → HasRead known [] known
+HasRead-none None = tt
+HasRead-none (Some all) = (refl, refl)
+
+-- one record more was read
+pub HasRead-push : (known left next : Option ScriptData) (records : List Record) (read : Record) → HasRead known records left → Gives left next (Some read)
+    → HasRead known (records ++ read ∷ []) next
+HasRead-push None left next records read so_far gives = tt
+HasRead-push (Some all) None next records read so_far gives = absurd so_far
+HasRead-push (Some all) (Some rest) None records read so_far gives = absurd gives
+HasRead-push (Some all) (Some rest) (Some next) records read so_far gives =
+    (so_far.0 ∙ rw gives.0 (sym (append_assoc records (read ∷ []) next.records)), so_far.1 ∙ gives.1)
+
+-- the end of the script
+pub read_whole : (known left next : Option ScriptData) (records : List Record) → HasRead known records left → Gives left next None
+    → IfSome known (λ given. IsAllOf given records)
+read_whole None left next records so_far gives = tt
+read_whole (Some all) None next records so_far gives = absurd so_far
+read_whole (Some all) (Some rest) next records so_far gives =
+    let none : rest.records ≡ [] = ap (λ (given : ScriptData). given.records) gives in
+    let last : rest.fault ≡ None = ap (λ (given : ScriptData). given.fault) gives in
+    record { fault = so_far.1 ∙ last; records_read = so_far.0 ∙ rw none (append-nil records) }
+
+-- out of memory for a record that was read
+pub stopped_by_memory : (known : Option ScriptData) (stop : ReplayFault) → stop.code ≡ 102 → IfSome known (λ given. StopsReading given stop)
+stopped_by_memory None stop is = tt
+stopped_by_memory (Some all) stop is = record { text = not_of_kind _ is_text_code stop.code 102 is refl }
+
+-- the script answered a fault
+pub stopped_reading : (known left : Option ScriptData) (records : List Record) (e : ScriptFault) (stop : ReplayFault) → HasRead known records left → FaultsAs e left
+    → stop ≡ record { number = Some (length records + 1); code = script_fault_code e } → IfSome known (λ given. StopsReading given stop)
+stopped_reading None left records e stop so_far faults is = tt
+stopped_reading (Some all) None records e stop so_far faults is = absurd so_far
+stopped_reading (Some all) (Some rest) records e stop so_far (inl (inl memory)) is =
+    record { text = not_of_kind _ is_text_code stop.code 102 (ap (λ (x : ReplayFault). x.code) is ∙ ap script_fault_code memory) refl }
+stopped_reading (Some all) (Some rest) records e stop so_far (inl (inr read)) is =
+    record { text = not_of_kind _ is_text_code stop.code 206 (ap (λ (x : ReplayFault). x.code) is ∙ ap script_fault_code read) refl }
+stopped_reading (Some all) (Some rest) records e stop so_far (inr only) is =
+    let none : rest.records ≡ [] = ap (λ (given : ScriptData). given.records) only in
+    let last : rest.fault ≡ Some e = ap (λ (given : ScriptData). given.fault) only in
+    let all_read : all.records ≡ records = so_far.0 ∙ rw none (append-nil records) in
+    record { text = λ _. record { fault = rw (so_far.1 ∙ last, is) refl; place = rw (all_read, is) refl } }
+
+-- the output could not be written
+pub stopped_by_write : {X : Type 0} (given : X → ScriptData) (known : Option X) (old new : Option (List ℕ)) (threads limit : ℕ) (records : List Record) (octets : List ℕ) (stop : ReplayFault)
+    → IfSome known (λ x. IsAllOf (given x) records) → IsThreadsOutput threads limit records octets → AppendsPart old new octets → stop ≡ record { number = None; code = 208 }
+    → IfSome known (λ x. ThreadsStop old new threads limit (given x) stop)
+stopped_by_write given None old new threads limit records octets stop all output part is = tt
+stopped_by_write given (Some x) old new threads limit records octets stop all output part is =
+    let code : stop.code ≡ 208 = ap (λ (f : ReplayFault). f.code) is in
+    let write : IsTrue (is_write_code stop.code) = rw code refl in
+    record {
+      unwritten = λ other. absurd (other write);
+      write = λ _. record { fault = all.fault; octets = octets; output = rw all.records_read output; written = part };
+      text = not_of_kind _ is_text_code stop.code 208 code refl;
+      place = inr (ap (λ (f : ReplayFault). f.number) is);
+    }

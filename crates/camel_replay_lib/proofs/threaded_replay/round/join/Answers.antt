@@ -1,0 +1,33 @@
+use Rattle.std.proofs.Common.{rules, arith, ◌≡◌, ◌≢◌, ◌∙◌, ◌++◌, All, length, map, refl, sym, ap, take_all}
+use Rattle.camel_replay_lib.proofs.RoundLemmas.{reaches-told}
+use Rattle.camel_replay_lib.specs.Round.{FrontIsAtMost}
+use Rattle.camel_replay_lib.specs.declared.threaded_replay.work.Work.{Work}
+use Rattle.camel_workers.specs.Serves.{job_of}
+use Rattle.camel_workers.specs.declared.worker.Ended.TheVariants.{All as Answered, OutOfMemory}
+use Rattle.camel_replay_lib.proofs.threaded_replay.round.join.Goals as goal
+
+pub returns : goal.returns
+returns g c =
+    let work : Work = c.in-Some.handle.promise.0.value in
+    let served = c.join-session.result in
+    let is = c.join-session.ensures in
+    let ended : served.ended ≡ Answered = c.in_ok-check_ended.ensures in
+    let not_lacking : served.ended ≢ OutOfMemory = λ lacks. absurd (cc) in
+    let answers = is.answers not_lacking in
+    let entries = served.transcript in
+    let shown : c.transcript.inside.entries.items ≡ entries = c.transcript.view_is in
+    let within : All (FrontIsAtMost c.args.front) c.transcript.inside.entries.items = search rules in
+    let count : length entries ≡ length work.jobs.items = is.all.0 ended in
+    rw c.in-Some.is record {
+      number = refl;
+      served = (
+        answers.store,
+        record {
+          entries = entries;
+          kept = c.in_ok-append.ensures.items ∙ ap (λ more. c.args.worker.entries.items ++ more) shown;
+          jobs_served = is.jobs_served ∙ take_all (length entries) work.jobs.items (omega (arith, count));
+          at_least = reaches-told work.session.store.limit work.session.seen work.session.told work.told.updates entries answers.fronts answers.run;
+          at_most = rw (← shown) within;
+        },
+      );
+    }
