@@ -9,6 +9,7 @@ use std::process::ExitCode;
 fn main(rt: HostRuntime) -> ExitCode {
     let status = match words(&rt) {
         Ok(words) => run(
+            &rt,
             rt.alloc(),
             &words,
             rt.stdin(),

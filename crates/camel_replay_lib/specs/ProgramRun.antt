@@ -1,10 +1,11 @@
 -- What a run of the program leaves, by the words with which it was started.
-use Rattle.std.specs.Prelude.{◌≡◌, ◌≢◌, ◌⊎◌, ℕ, List, Option, None, IfSome, true}
-use Rattle.camel_script.specs.Script.{script}
-use Rattle.camel_replay_lib.specs.CommandLine.{AsksForHelp, LimitOf}
+use Rattle.std.specs.Prelude.{◌≡◌, ◌≢◌, ◌⊎◌, ℕ, Bool, true, List, Option, Some, None, IfSome}
+use Rattle.camel_script.specs.Script.{ScriptData, script}
+use Rattle.camel_replay_lib.specs.CommandLine.{AsksForHelp, LimitOf, ThreadsOf}
 use Rattle.camel_replay_lib.specs.FaultLine.{fault_line, fault_line_at}
 use Rattle.camel_replay_lib.specs.Limits.{max_records}
-use Rattle.camel_replay_lib.specs.ReplayFault.{is_replay_code}
+use Rattle.camel_replay_lib.specs.ReplayFault.{is_replay_code, is_threaded_replay_code}
+use Rattle.camel_replay_lib.specs.ThreadsWritten.{ThreadsStop, WritesThreadsOutput}
 use Rattle.camel_replay_lib.specs.Written.{AppendsPart, Stops, WritesAll}
 use Rattle.camel_replay_lib.specs.declared.script_replay.ReplayFault.{ReplayFault}
 
@@ -29,21 +30,41 @@ IsSilent stream = stream.after ≡ stream.before
 abbrev pub ShowsPart : Stream → List ℕ → Type 0
 ShowsPart stream octets = AppendsPart stream.before stream.after octets
 
+-- What a replay promises: what it has written of a script where it has no fault, what it has written where it ends with
+-- one, and which codes its faults have. What was held before comes first, then what is held after.
+pub record Promise : Type 1 where
+  pub whole : Option (List ℕ) → Option (List ℕ) → ScriptData → Type 0
+  pub stop : Option (List ℕ) → Option (List ℕ) → ScriptData → ReplayFault → Type 0
+  pub codes : ℕ → Bool
+
+-- What a replay under this limit promises: on one thread alone, or with so many threads that answer calls.
+abbrev pub promise_of : Option ℕ → ℕ → Promise
+promise_of None limit = record {
+  whole = λ old new given. WritesAll old new limit given;
+  stop = λ old new given fault. Stops old new limit given fault;
+  codes = is_replay_code;
+}
+promise_of (Some threads) limit = record {
+  whole = λ old new given. WritesThreadsOutput old new threads limit given;
+  stop = λ old new given fault. ThreadsStop old new threads limit given fault;
+  codes = is_threaded_replay_code;
+}
+
 -- The run ended with this fault: it told a part of the output, as the fault says, and the fault's line or a part of it.
-pub record EndsWithFault (limit : ℕ) (run : RunData) : Type 0 where
+pub record EndsWithFault (promise : Promise) (run : RunData) : Type 0 where
   pub fault : ReplayFault
-  pub code : is_replay_code fault.code ≡ true
-  pub output : IfSome run.input (λ bytes. Stops run.out.before run.out.after limit (script bytes max_records) fault)
+  pub code : promise.codes fault.code ≡ true
+  pub output : IfSome run.input (λ bytes. promise.stop run.out.before run.out.after (script bytes max_records) fault)
   pub line : ShowsPart run.err (fault_line fault)
 
--- The script is replayed under a limit. With status 0 its whole output was written, and nothing to standard error. Any
+-- The script is replayed as promised. With status 0 its whole output was written, and nothing to standard error. Any
 -- other status is 1, and the run ended with a fault.
-pub record Replays (limit : ℕ) (run : RunData) : Type 0 where
+pub record Replays (promise : Promise) (run : RunData) : Type 0 where
   pub whole : run.status ≡ 0
-      → IfSome run.input (λ bytes. WritesAll run.out.before run.out.after limit (script bytes max_records))
+      → IfSome run.input (λ bytes. promise.whole run.out.before run.out.after (script bytes max_records))
   pub silent : run.status ≡ 0 → IsSilent run.err
   pub status : run.status ≢ 0 → run.status ≡ 1
-  pub fault : run.status ≢ 0 → EndsWithFault limit run
+  pub fault : run.status ≢ 0 → EndsWithFault promise run
 
 -- The command line is rejected: status 2, and nothing is written to standard output.
 abbrev pub Rejects : RunData → Type 0
@@ -60,5 +81,6 @@ LacksMemory run = (run.status ≡ 1) × IsSilent run.out × ShowsPart run.err (f
 -- A run does one of four things.
 abbrev pub Runs : List (List ℕ) → RunData → Type 0
 Runs words run =
-    ((limit : ℕ) × LimitOf words limit × Replays limit run)
+    ((threads : Option ℕ) × (limit : ℕ) × ThreadsOf words threads × LimitOf words limit
+        × Replays (promise_of threads limit) run)
     ⊎ (Rejects run ⊎ ((AsksForHelp words × Helps run) ⊎ LacksMemory run))

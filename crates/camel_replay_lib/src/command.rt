@@ -1,10 +1,12 @@
 //! The command `camel_replay`: its options, its run over a script, and the status that it ends with.
 
-ghost use Rattle.std.specs.Prelude.{◌≡◌, ◌⊎◌, None, Some, IfOk, map, string_bytes};
+ghost use Rattle.std.specs.Prelude.{◌≡◌, ◌≤◌, ◌⊎◌, true, None, Some, IfErr, IfOk, IfSome, OnOk, map, string_bytes};
 ghost use Rattle.clap.specs.Words.{kind_of};
 ghost use Rattle.clap.specs.declared.error.kind.ErrorKind.TheVariants.{DisplayHelp, OutOfMemory};
 ghost use Rattle.camel_replay_lib.specs.FaultLine.{fault_line, fault_line_at};
-ghost use Rattle.camel_replay_lib.specs.ProgramRun.{Helps, LacksMemory, Rejects, Replays, RunData, Runs};
+ghost use Rattle.camel_script.specs.Script.{script};
+ghost use Rattle.camel_replay_lib.specs.Limits.{max_limit, max_records, max_threads};
+ghost use Rattle.camel_replay_lib.specs.ProgramRun.{Helps, LacksMemory, Rejects, Replays, RunData, Runs, promise_of};
 ghost use Rattle.camel_replay_lib.specs.Written.{AppendsPart};
 
 pub(crate) mod words;
@@ -12,9 +14,13 @@ pub(crate) mod words;
 use crate::command::words::options;
 use crate::script_replay::write::write_all;
 use crate::script_replay::{ReplayFault, replay};
+use crate::threaded_replay::replay_threads;
+use camel_workers::OpenGate;
 use clap::error::ErrorKind;
 use std::alloc::{AllocError, Global};
 use std::io::{Read, Write};
+use std::sync::Wait;
+use std::thread::Threads;
 
 /// What the command line asks for.
 #[derive(Clone, Copy, Debug, PartialEq, Eq)]
@@ -38,53 +44,83 @@ pub const REJECTED_STATUS: u8 = 2;
 /// |---|---|---|---|
 /// | 0 | no fault | the script's output | nothing |
 /// | 0 | `--help` | the help text | nothing |
-/// | 1 | a fault | what [`replay`] says of it | the fault's line, or a part of it |
+/// | 1 | a fault | what [`replay`], or with `--threads` [`replay_threads`], says of it | the fault's line, or a part of it |
 /// | 1 | out of memory before the script was read | nothing | the line of fault 102, or a part of it |
 /// | 2 | the command line was rejected | nothing | the text of `clap` |
 ///
 /// A failed write to `err`, or of the help text to `out`, is ignored. What is said of the output holds over a reader and
 /// a writer whose bytes a contract knows.
-pub fn run<R: Read + Drop, W: Write, E: Write>(
+///
+/// With `--threads` it takes `Wait`: what is said holds if it returns, and that it returns is not proved.
+pub fn run<R: Threads + Wait, I: Read + Drop, W: Write, E: Write>(
+    rt: &R,
     alloc: Global,
     words: &[String],
-    reader: R,
+    reader: I,
     out: &mut W,
     err: &mut E,
 ) -> u8
     ensures { Runs (map string_bytes words.now) (record {
-      input = R.remaining reader;
+      input = I.remaining reader;
       out = record { before = W.contents out.old; after = W.contents out.new };
       err = record { before = E.contents err.old; after = E.contents err.new };
       status = result;
     }) }
 {
     match options(alloc, words) {
-        Ok(options) => run_replay(alloc, options.limit, reader, out, err),
+        Ok(options) => run_replay(rt, alloc, options, reader, out, err),
         Err(error) => report(alloc, &error, out, err),
     }
 }
 
 /// Replays the script, and reports its fault, if there is one.
-fn run_replay<R: Read + Drop, W: Write, E: Write>(
+fn run_replay<R: Threads + Wait, I: Read + Drop, W: Write, E: Write>(
+    rt: &R,
     alloc: Global,
-    limit: u64,
-    reader: R,
+    options: Options,
+    reader: I,
     out: &mut W,
     err: &mut E,
 ) -> u8
-    ensures { Replays limit (record {
-      input = R.remaining reader;
+    requires threads { IfSome options.threads (λ threads. (1 ≤ threads) × (threads ≤ max_threads)) }
+    requires limit { (1 ≤ options.limit) × (options.limit ≤ max_limit) }
+    ensures { Replays (promise_of options.threads options.limit) (record {
+      input = I.remaining reader;
       out = record { before = W.contents out.old; after = W.contents out.new };
       err = record { before = E.contents err.old; after = E.contents err.new };
       status = result;
     }) }
 {
-    match replay(alloc, reader, out, limit) {
+    match replay_as(rt, alloc, options, reader, out) {
         Ok(()) => 0,
         Err(fault) => {
             write_fault_line(alloc, err, &fault);
             FAULT_STATUS
         }
+    }
+}
+
+/// Replays the script with the threads that the options ask for, or on one thread alone.
+fn replay_as<R: Threads + Wait, I: Read + Drop, W: Write>(
+    rt: &R,
+    alloc: Global,
+    options: Options,
+    reader: I,
+    out: &mut W,
+) -> Result<(), ReplayFault>
+    requires threads { IfSome options.threads (λ threads. (1 ≤ threads) × (threads ≤ max_threads)) }
+    requires limit { (1 ≤ options.limit) × (options.limit ≤ max_limit) }
+    ensures whole { OnOk result (IfSome (I.remaining reader) (λ bytes.
+        (promise_of options.threads options.limit).whole (W.contents out.old) (W.contents out.new)
+        (script bytes max_records))) }
+    ensures stopped { IfErr result (λ fault. IfSome (I.remaining reader) (λ bytes.
+        (promise_of options.threads options.limit).stop (W.contents out.old) (W.contents out.new)
+        (script bytes max_records) fault)) }
+    ensures codes { IfErr result (λ fault. (promise_of options.threads options.limit).codes fault.code ≡ true) }
+{
+    match options.threads {
+        None => replay(alloc, reader, out, options.limit),
+        Some(threads) => replay_threads(rt, alloc, reader, out, threads, options.limit, &OpenGate),
     }
 }
 

@@ -48,6 +48,7 @@ fn reads_a_million_records_and_no_more(rt: HostRuntime) -> Result<(), Fail> {
         let mut out = Counted { octets: 0 };
         let mut err = Vec::new(rt.alloc());
         let ended = run(
+            &rt,
             rt.alloc(),
             &words,
             Repeated { left: records },
@@ -214,7 +215,7 @@ fn reports_a_failed_read_and_a_failed_write(rt: HostRuntime) -> Result<(), Fail>
             then,
         };
         let mut err = Vec::new(rt.alloc());
-        assert_eq!(rt; run(rt.alloc(), &words, reader, &mut out, &mut err), 1);
+        assert_eq!(rt; run(&rt, rt.alloc(), &words, reader, &mut out, &mut err), 1);
         assert_eq!(rt; err.as_slice(), line.as_bytes());
     }
     Ok(())

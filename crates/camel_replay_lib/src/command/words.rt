@@ -148,5 +148,5 @@ A fault ends the run and is told on standard error: 202 word, 203 count of field
 102 memory. With --threads also: 103 no place, 104 no look, 105 stopped, 106 a worker was not started, 301 to 304 the
 updates do not explain the answers.
 
-Status: 0 without a fault; 1 after a fault, which is told on standard error with the number of its record;
-2 where the command line is rejected.";
+Status: 0 without a fault; 1 after a fault, which is told on standard error, with the number of its record if it has
+one; 2 where the command line is rejected.";
