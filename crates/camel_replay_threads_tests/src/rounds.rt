@@ -1,0 +1,229 @@
+ghost use Rattle.std.specs.Prelude.{◌≤◌};
+
+use crate::runs::{BUSY, run};
+use camel_replay_lib::{MAX_LIMIT, MAX_THREADS, replay};
+use camel_workers::OpenGate;
+use std::alloc::Global;
+use std::process::Abort;
+use std::str;
+use std::sync::Wait;
+use std::test::Fail;
+use std::thread::Threads;
+
+// A script of 60 records. Its calls stand among the other records of their round: these are the records before the calls
+// of a round, its calls, and the records behind them, up to its publication.
+const ROUNDS: [[&str; 3]; 8] = [
+    [
+        "register,262010000000001
+register,262010000000002
+",
+        "call,2,262010000000001,t11,91214365,n
+call,12,262010000000001,t11
+call,2,262010000000002,t11,91214365,n
+call,2,262010000000009,t11,91214365,n
+",
+        "insert,262010000000001,o:2:100:919471160000:0,t:12:200:919471160000:1
+insert,262010000000002,o:2:101:919471160000:0
+publish
+",
+    ],
+    [
+        "insert,262010000000001,o:2:110:919471160000:0
+",
+        "call,2,262010000000001,t11,91214365,n
+call,12,262010000000001,t11
+call,2,262010000000002,t11,91214365,n
+call,12,262010000000002,t11
+call,2,262010000000009,t11,91214365,n
+",
+        "insert,262010000000002,t:12:210:919471160000:1
+publish
+",
+    ],
+    [
+        "delete,262010000000001,o
+",
+        "call,2,262010000000001,t11,91214365,n
+call,12,262010000000001,t11
+call,2,262010000000002,t11,91214365,n
+call,12,262010000000002,t11
+",
+        "publish
+",
+    ],
+    [
+        "insert,262010000000001,o:2:120:919471160000:0
+insert,262010000000002,o:2:121:919471160000:0
+",
+        "call,2,262010000000001,t11,91214365,n
+call,2,262010000000002,t11,91214365,n
+call,12,262010000000009,t11
+call,2,262010000000001,t11,91214365,n
+call,12,262010000000001,t11
+",
+        "cancel,262010000000002
+publish
+",
+    ],
+    [
+        "register,262010000000002
+",
+        "call,2,262010000000002,t11,91214365,n
+call,12,262010000000002,t11
+call,2,262010000000001,t11,91214365,n
+",
+        "insert,262010000000002,o:2:130:919471160000:0,t:12:230:919471160000:1
+insert,262010000000009,o:2:1:919471160000:0
+publish
+",
+    ],
+    [
+        "",
+        "call,2,262010000000001,t11,91214365,n
+call,2,262010000000002,t11,91214365,n
+call,12,262010000000002,t11
+call,12,262010000000001,t11
+",
+        "publish
+",
+    ],
+    [
+        "insert,262010000000001,o:2:140:919471160000:0
+",
+        "call,2,262010000000001,t11,91214365,n
+call,2,262010000000002,t11,91214365,n
+call,2,262010000000009,t11,91214365,n
+call,12,262010000000001,t11
+call,12,262010000000002,t11
+",
+        "insert,262010000000001,t:12:240:919471160000:1
+delete,262010000000002,all
+publish
+",
+    ],
+    [
+        "",
+        "call,2,262010000000001,t11,91214365,n
+call,12,262010000000001,t11
+call,2,262010000000002,t11,91214365,n
+call,12,262010000000002,t11
+call,2,262010000000009,t11,91214365,n
+",
+        "insert,262010000000001,o:2:150:919471160000:0
+insert,262010000000002,o:2:151:919471160000:0
+",
+    ],
+];
+
+// The script as it is, in which a call is decided over the last publication before it.
+const EARLY: [usize; 3] = [0, 1, 2];
+
+// The script with the calls of each round behind its publication, over which they are decided.
+const LATE: [usize; 3] = [0, 2, 1];
+
+fn script_of(alloc: Global, order: [usize; 3]) -> Result<String, Fail> {
+    let mut script = String::new(alloc);
+    for round in &ROUNDS {
+        for part in order {
+            script.push_str(round.get(part).copied().unwrap_or(""))?;
+        }
+    }
+    Ok(script)
+}
+
+// What the one-thread replay of a script writes.
+fn replayed(rt: &impl Abort, alloc: Global, script: &str) -> Result<Vec<u8>, Fail> {
+    let mut output = Vec::new(alloc);
+    let ended = replay(alloc, script.as_bytes(), &mut output, MAX_LIMIT);
+    assert_eq!(rt; ended.err(), None);
+    Ok(output)
+}
+
+// The output with threads, where each call is decided as in this output of one thread.
+fn with_sessions(alloc: Global, output: &str, threads: usize) -> Result<String, Fail>
+    requires { 1 ≤ threads }
+{
+    let mut text = String::new(alloc);
+    let mut calls = Vec::new(alloc);
+    for line in output.lines() {
+        if line.starts_with("front ") {
+            calls.push(line)?;
+        } else {
+            text.push_str(line)?;
+            text.push_str("\n")?;
+        }
+    }
+    for session in 0..threads {
+        push_session(alloc, &mut text, &calls, threads, session)?;
+    }
+    text.push_str("audit ok\n")?;
+    Ok(text)
+}
+
+fn push_session(
+    alloc: Global,
+    text: &mut String,
+    calls: &[&str],
+    threads: usize,
+    session: usize,
+) -> Result<(), Fail>
+    requires { 1 ≤ threads }
+{
+    for (call, line) in calls.iter().enumerate() {
+        if call % threads == session {
+            text.push_str(&format!(in alloc; "session {session} call {call} {line}\n")?)?;
+        }
+    }
+    Ok(())
+}
+
+// Whether each line is the one that stands in its place in the one text or in the other.
+fn is_line_by_line(output: &str, early: &str, late: &str) -> bool {
+    let mut early = early.lines();
+    let mut late = late.lines();
+    for line in output.lines() {
+        let (first, second) = (early.next(), late.next());
+        if first != Some(line) && second != Some(line) {
+            return false;
+        }
+    }
+    early.next().is_none() && late.next().is_none()
+}
+
+// How often the script is replayed with each number of threads.
+const RUNS: usize = 50;
+
+fn check_threads<R: Threads + Wait + Abort>(
+    rt: &R,
+    alloc: Global,
+    outputs: (&str, &str),
+    threads: usize,
+) -> Result<(), Fail>
+    requires { (1 ≤ threads) × (threads ≤ MAX_THREADS) }
+{
+    let script = script_of(alloc, EARLY)?;
+    let early = with_sessions(alloc, outputs.0, threads)?;
+    let late = with_sessions(alloc, outputs.1, threads)?;
+    for _ in 0..RUNS {
+        let ran = run::<OpenGate, R>(rt, alloc, script.as_bytes(), threads, MAX_LIMIT, &BUSY);
+        assert_eq!(rt; ran.fault, None, "with {threads} threads");
+        let output = str::from_utf8(&ran.output)?;
+        assert!(rt;
+            is_line_by_line(output, &early, &late),
+            "with {threads} threads: {output}"
+        );
+    }
+    Ok(())
+}
+
+#[test]
+fn each_call_is_decided_as_on_one_thread(rt: HostRuntime) -> Result<(), Fail> {
+    let alloc = rt.alloc();
+    let early = replayed(&rt, alloc, &script_of(alloc, EARLY)?)?;
+    let late = replayed(&rt, alloc, &script_of(alloc, LATE)?)?;
+    let outputs = (str::from_utf8(&early)?, str::from_utf8(&late)?);
+    for threads in [1, 2, 4, 16] {
+        check_threads(&rt, alloc, outputs, threads)?;
+    }
+    Ok(())
+}
