@@ -26,10 +26,12 @@ fn ends_where_the_gate_stops_a_publication(rt: HostRuntime) {
     check_fault(&rt, &ran, None, 105);
 }
 
-// The second record of the script, the octets 26 to 49, is `insert,262010000000001,o`.
+// The first 49 octets of the script of one row.
+const CUT_OFF: &str = "register,262010000000001\ninsert,262010000000001,o";
+
 #[test]
 fn ends_with_the_fault_of_a_record(rt: HostRuntime) {
-    let script = &ROW_ONE.as_bytes()[..49];
+    let script = CUT_OFF.as_bytes();
     let ran = run::<OpenGate, _>(&rt, rt.alloc(), script, 2, MAX_LIMIT, &BUSY);
     check_fault(&rt, &ran, Some(2), 203);
 }
