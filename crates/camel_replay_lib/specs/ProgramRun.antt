@@ -82,5 +82,5 @@ LacksMemory run = (run.status ≡ 1) × IsSilent run.out × ShowsPart run.err (f
 abbrev pub Runs : List (List ℕ) → RunData → Type 0
 Runs words run =
     ((threads : Option ℕ) × (limit : ℕ) × ThreadsOf words threads × LimitOf words limit
-        × Replays (promise_of threads limit) run)
+    × Replays (promise_of threads limit) run)
     ⊎ (Rejects run ⊎ ((AsksForHelp words × Helps run) ⊎ LacksMemory run))

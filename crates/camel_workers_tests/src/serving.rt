@@ -20,7 +20,8 @@ impl Gate for StopAt {
     }
 
     fn after(&self, call: u64) {
-        self.answered.store(call.saturating_add(1), Ordering::SeqCst);
+        self.answered
+            .store(call.saturating_add(1), Ordering::SeqCst);
     }
 
     fn publishing(&self, _front: u64) -> bool {
@@ -46,7 +47,11 @@ fn check_entries(rt: &impl Abort, transcript: &Transcript, count: usize) -> Resu
 
 #[test]
 fn all_calls_are_answered_in_their_order(rt: HostRuntime) -> Result<(), Fail> {
-    let Served { transcript, ended, .. } = served(&rt, rt.alloc(), 1000, &OpenGate)?;
+    let Served {
+        transcript,
+        ended,
+        ..
+    } = served(&rt, rt.alloc(), 1000, &OpenGate)?;
     assert_eq!(rt; ended, Ended::All);
     check_entries(&rt, &transcript, 1000)?;
     let audited = audit(rt.alloc(), &updates(rt.alloc())?, &[transcript]);
@@ -60,7 +65,11 @@ fn a_gate_stops_a_worker_at_a_call(rt: HostRuntime) -> Result<(), Fail> {
         refused: 7,
         answered: AtomicU64::new(0),
     };
-    let Served { transcript, ended, .. } = served(&rt, rt.alloc(), 1000, &gate)?;
+    let Served {
+        transcript,
+        ended,
+        ..
+    } = served(&rt, rt.alloc(), 1000, &gate)?;
     assert_eq!(rt; ended, Ended::Stopped);
     assert_eq!(rt; gate.answered.load(Ordering::SeqCst), 7);
     check_entries(&rt, &transcript, 7)
