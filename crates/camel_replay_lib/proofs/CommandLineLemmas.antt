@@ -1,5 +1,5 @@
 -- What the matches of the command line hold is what its words say.
-use Rattle.std.proofs.Common.{◌≡◌, ◌∙◌, ◌⊎◌, ℕ, List, true, Option, Result, Ok, Err, IfErr, IsErrAnd, refl, ap, subst, inl, inr, codes}
+use Rattle.std.proofs.Common.{◌≡◌, ◌≤◌, ◌∙◌, ◌⊎◌, ℕ, List, true, Option, Some, None, IfSome, Result, Ok, Err, IfErr, IsErrAnd, refl, ap, subst, inl, inr, codes}
 use Rattle.clap.proofs.OnLiterals.{clap_on_literals}
 use Rattle.clap.proofs.WalkLemmas.{first_value-rows}
 use Rattle.clap.specs.Words.{App, HasKind, HasMatchesOf, IsAmong, Kinds, Text, fault_of, first_of, first_value, found_of, is_simple, is_simple_and_free, kind_of}
@@ -24,6 +24,13 @@ LimitOf-held words matches limit has held = subst (λ (given : Option Text). Giv
 pub ThreadsOf-held : (words : List Text) (matches : ArgMatches) (threads : Option ℕ) → HasMatchesOf the_program words matches → HoldsThreads matches threads → ThreadsOf words threads
 ThreadsOf-held words matches threads has held =
     subst (λ (given : Option Text). MayGiveNumber max_threads given threads) (text_held (codes "threads") words matches has) held
+
+pub threads_in_range : (words : List Text) (threads : Option ℕ) → ThreadsOf words threads → IfSome threads (λ threads. (1 ≤ threads) × (threads ≤ max_threads))
+threads_in_range words None given = tt
+threads_in_range words (Some threads) given = (given.1.1.least, given.1.1.most)
+
+pub limit_in_range : (words : List Text) (limit : ℕ) → LimitOf words limit → (1 ≤ limit) × (limit ≤ max_limit)
+limit_in_range words limit given = (given.1.1.least, given.1.1.most)
 
 -- and which kinds of error it may answer
 program_is_free : is_simple_and_free the_program ≡ true

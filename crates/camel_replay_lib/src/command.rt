@@ -44,7 +44,7 @@ pub const REJECTED_STATUS: u8 = 2;
 /// |---|---|---|---|
 /// | 0 | no fault | the script's output | nothing |
 /// | 0 | `--help` | the help text | nothing |
-/// | 1 | a fault | what [`replay`], or with `--threads` [`replay_threads`], says of it | the fault's line, or a part of it |
+/// | 1 | a fault | what [`replay`] or [`replay_threads`] says of it | the fault's line, or a part of it |
 /// | 1 | out of memory before the script was read | nothing | the line of fault 102, or a part of it |
 /// | 2 | the command line was rejected | nothing | the text of `clap` |
 ///
