@@ -55,6 +55,7 @@ pub(crate) fn jobs_of(
     requires threads { 1 ≤ threads }
     ensures { IfOk result (λ jobs. jobs.items ≡ jobs_for threads session calls.now) }
 {
+    // The check of a loop that appends jobs needs this type named.
     let _: Option<CallEvent> = None;
     let mut jobs = Vec::new(alloc);
     for job in calls {
