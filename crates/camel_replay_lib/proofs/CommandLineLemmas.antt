@@ -25,12 +25,13 @@ pub ThreadsOf-held : (words : List Text) (matches : ArgMatches) (threads : Optio
 ThreadsOf-held words matches threads has held =
     subst (λ (given : Option Text). MayGiveNumber max_threads given threads) (text_held (codes "threads") words matches has) held
 
+-- what the words say is in its range
 pub threads_in_range : (words : List Text) (threads : Option ℕ) → ThreadsOf words threads → IfSome threads (λ threads. (1 ≤ threads) × (threads ≤ max_threads))
 threads_in_range words None given = tt
-threads_in_range words (Some threads) given = (given.1.1.least, given.1.1.most)
+threads_in_range words (Some threads) given = (given.2.least, given.2.most)
 
 pub limit_in_range : (words : List Text) (limit : ℕ) → LimitOf words limit → (1 ≤ limit) × (limit ≤ max_limit)
-limit_in_range words limit given = (given.1.1.least, given.1.1.most)
+limit_in_range words limit given = (given.2.least, given.2.most)
 
 -- and which kinds of error it may answer
 program_is_free : is_simple_and_free the_program ≡ true
