@@ -16,7 +16,7 @@ program:
 
 # The output of the script alone comes on standard output.
 replay: program
-	@$(PROGRAM) --limit $(LIMIT) < $(SCRIPT)
+	@$(PROGRAM) --limit $(LIMIT) $(if $(THREADS),--threads $(THREADS)) < $(SCRIPT)
 
 examples: program
 	@.ci/scripts examples

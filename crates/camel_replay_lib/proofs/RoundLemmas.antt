@@ -15,10 +15,10 @@ use Rattle.camel_vlr.specs.Session.{SessionData}
 use Rattle.camel_vlr.specs.Store.{StoreData, fresh_session}
 use Rattle.camel_workers.specs.Serves.{answer_in, event_in, job_of}
 use Rattle.camel_replay_lib.proofs.SegmentLemmas.{call_between}
-use Rattle.camel_replay_lib.specs.Round.{FrontIsAtLeast, FrontIsAtMost, IsJoined, IsOf, IsWorkerOf, ServesJobs, ServesSeat}
+use Rattle.camel_replay_lib.specs.Round.{FrontIsAtLeast, FrontIsAtMost, IsJoined, IsOfStore, IsWorkerOf, ServesJobs, ServesSeat}
 use Rattle.camel_replay_lib.specs.Rounds.{AreNumbered, HasAnswered, HasNoEntries, entries_in, session_in}
 use Rattle.camel_replay_lib.specs.Segments.{jobs_for}
-use Rattle.camel_replay_lib.specs.ThreadsOutput.{Answers, Call, SessionsAnswer}
+use Rattle.camel_replay_lib.specs.ThreadsOutput.{AnswersCall, Call, SessionsAnswer}
 use Rattle.camel_replay_lib.specs.declared.threaded_replay.round.Worker.{Worker}
 use Rattle.camel_replay_lib.specs.declared.threaded_replay.seat.Seat.{Seat}
 use Rattle.camel_replay_lib.specs.declared.threaded_replay.work.Work.{Work}
@@ -64,7 +64,7 @@ longer front earlier (rest, split) = omega (arith, ap length split, length-appen
 
 -- jobs that are answered over fronts between two publications are calls that are answered so
 pub Answers-between : (least most : ℕ) (entries : List Entry) → All (FrontIsAtLeast least) entries → All (FrontIsAtMost most) entries
-    → AllZip Answers (map (call_between least most) (map job_of entries)) entries
+    → AllZip AnswersCall (map (call_between least most) (map job_of entries)) entries
 Answers-between least most [] above below = tt
 Answers-between least most (entry ∷ entries) above below = (
   record {
@@ -107,12 +107,12 @@ HasAnswered-none threads (seat ∷ seats) empty =
     All-cons (HasAnswered threads []) seat seats (rw (All-head HasNoEntries seat seats empty) tt) (HasAnswered-none threads seats (All-tail HasNoEntries seat seats empty))
 
 -- sessions that are each the same are each of this store
-pub IsOf-fresh : (store : StoreId) (seats : List Seat) → All (λ (session : SessionData). session ≡ fresh_session store) (map session_in seats) → All (IsOf store) seats
-IsOf-fresh store [] fresh = All-nil (IsOf store)
+pub IsOf-fresh : (store : StoreId) (seats : List Seat) → All (λ (session : SessionData). session ≡ fresh_session store) (map session_in seats) → All (IsOfStore store) seats
+IsOf-fresh store [] fresh = All-nil (IsOfStore store)
 IsOf-fresh store (seat ∷ seats) fresh =
     let Fresh : SessionData → Type 0 = λ session. session ≡ fresh_session store in
     let first : seat.session ≡ fresh_session store = All-head Fresh seat.session (map session_in seats) fresh in
-    All-cons (IsOf store) seat seats (ap (λ (session : SessionData). session.store) {x = seat.session} {y = fresh_session store} first)
+    All-cons (IsOfStore store) seat seats (ap (λ (session : SessionData). session.store) {x = seat.session} {y = fresh_session store} first)
     (IsOf-fresh store seats (All-tail Fresh seat.session (map session_in seats) fresh))
 
 ServesJobs-same : (least least' most : ℕ) (jobs jobs' : List Job) (earlier earlier' later : List Entry) → least ≡ least' → jobs ≡ jobs' → earlier ≡ earlier'

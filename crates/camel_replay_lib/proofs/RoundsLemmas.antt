@@ -13,10 +13,10 @@ use Rattle.camel_replay_lib.proofs.RoundLemmas.{AllZip-All, AllZip-append, Answe
 use Rattle.camel_replay_lib.proofs.SegmentLemmas.{call_between, calls_from-segment, calls_of-between, jobs_from-append, output_from-append, updates_from-no_calls}
 use Rattle.camel_replay_lib.specs.Fronts.{updates_from}
 use Rattle.camel_replay_lib.specs.Output.{output, output_from}
-use Rattle.camel_replay_lib.specs.Round.{IsOf, ServesRound, ServesSeat, WritesLines}
+use Rattle.camel_replay_lib.specs.Round.{IsOfStore, ServesRound, ServesSeat, WritesLines}
 use Rattle.camel_replay_lib.specs.Rounds.{HasAnswered, IsNewWriter, WritesScript}
 use Rattle.camel_replay_lib.specs.Segments.{IsSegment, jobs_for, jobs_from}
-use Rattle.camel_replay_lib.specs.ThreadsOutput.{Answers, Call, calls_from, is_no_call, script_calls}
+use Rattle.camel_replay_lib.specs.ThreadsOutput.{AnswersCall, Call, calls_from, is_no_call, script_calls}
 use Rattle.camel_replay_lib.specs.Writer.{WriterData}
 use Rattle.camel_replay_lib.specs.declared.threaded_replay.seat.Seat.{Seat}
 
@@ -74,11 +74,11 @@ HasAnswered-seat : (threads least most : ℕ) (calls : List Call) (jobs : List J
     → HasAnswered threads calls before → HasAnswered threads (calls ++ map (call_between least most) jobs) after
 HasAnswered-seat threads least most calls jobs before after is had =
     let own = jobs_for threads before.number jobs in
-    let answered : AllZip Answers (map (call_between least most) own) is.served.entries =
-    subst (λ (js : List Job). AllZip Answers (map (call_between least most) js) is.served.entries) is.served.jobs_served
+    let answered : AllZip AnswersCall (map (call_between least most) own) is.served.entries =
+    subst (λ (js : List Job). AllZip AnswersCall (map (call_between least most) js) is.served.entries) is.served.jobs_served
     (Answers-between least most is.served.entries is.served.at_least is.served.at_most) in
     rw (is.number, filter-append (λ (call : Call). call.number % threads == before.number) calls (map (call_between least most) jobs), calls_of-between threads before.number least most jobs, is.served.kept)
-    (AllZip-append Answers _ before.entries.items _ is.served.entries had answered)
+    (AllZip-append AnswersCall _ before.entries.items _ is.served.entries had answered)
 
 pub HasAnswered-more : (before after : Updates) (threads : ℕ) (calls : List Call) (jobs : List Job) (seats served : List Seat) → length seats ≡ threads
     → ServesRound before after jobs seats served → All (HasAnswered threads calls) seats
@@ -90,9 +90,9 @@ HasAnswered-more before after threads calls jobs seats served count round had =
     (HasAnswered-seat threads least most calls jobs) seats served (subst (λ (n : ℕ). AllZip (ServesSeat least most n jobs) seats served) count round) had
 
 pub IsOf-more : (store : StoreId) (least most threads : ℕ) (jobs : List Job) (seats served : List Seat) → AllZip (ServesSeat least most threads jobs) seats served
-    → All (IsOf store) seats → All (IsOf store) served
+    → All (IsOfStore store) seats → All (IsOfStore store) served
 IsOf-more store least most threads jobs seats served round all =
-    AllZip-All (ServesSeat least most threads jobs) (IsOf store) (IsOf store) (λ x y is of. is.store ∙ of) seats served round all
+    AllZip-All (ServesSeat least most threads jobs) (IsOfStore store) (IsOfStore store) (λ x y is of. is.store ∙ of) seats served round all
 
 -- before the first round nothing is answered
 pub WritesScript-none : (limit : ℕ) (writer : WriterData) → IsNewWriter writer → WritesScript limit [] writer

@@ -1,6 +1,10 @@
 -- The numbers of a replay's faults.
-use Rattle.std.specs.Prelude.{ℕ, ◌==◌, ◌&&◌, ◌||◌, nat_le, Bool}
+use Rattle.std.specs.Prelude.{ℕ, ◌==◌, ◌&&◌, ◌||◌, nat_le, Bool, Option, None, Some}
 use Rattle.camel_audit.specs.AuditFault.{audit_fault_code}
+use Rattle.camel_criteria.specs.declared.refusal.Refusal.{Refusal}
+use Rattle.camel_criteria.specs.declared.refusal.Refusal.TheVariants as refusal
+use Rattle.camel_workers.specs.declared.worker.Ended.{Ended}
+use Rattle.camel_workers.specs.declared.worker.Ended.TheVariants as ended
 use Rattle.camel_replay_lib.specs.declared.threaded_replay.threads_fault.ThreadsFault.{ThreadsFault}
 use Rattle.camel_replay_lib.specs.declared.threaded_replay.threads_fault.ThreadsFault.TheVariants.{OutOfMemory, NoPlace, NoGuard, Stopped, NoWorker, Audit}
 
@@ -24,7 +28,7 @@ is_reading_code code = is_text_code code || is_memory_or_read_code code
 abbrev pub is_replay_code : ℕ → Bool
 is_replay_code code = is_reading_code code || is_write_code code
 
--- The number of a fault of a replay with threads behind the reading of its script and before its output.
+-- The number of a fault of a replay with threads, after the reading of its script and before its output.
 abbrev pub threads_fault_code : ThreadsFault → ℕ
 threads_fault_code OutOfMemory = 102
 threads_fault_code NoPlace = 103
@@ -32,6 +36,19 @@ threads_fault_code NoGuard = 104
 threads_fault_code Stopped = 105
 threads_fault_code NoWorker = 106
 threads_fault_code (Audit fault) = audit_fault_code fault
+
+-- The fault of a call of a store that is refused with 102, 103 or 104 alone.
+abbrev pub threads_fault_of : Refusal → ThreadsFault
+threads_fault_of refusal.NoPlace = NoPlace
+threads_fault_of refusal.NoGuard = NoGuard
+threads_fault_of other = OutOfMemory
+
+-- The fault of a worker, where it has not answered all of its jobs.
+abbrev pub fault_of_end : Ended → Option ThreadsFault
+fault_of_end ended.All = None
+fault_of_end ended.Stopped = Some Stopped
+fault_of_end ended.NoGuard = Some NoGuard
+fault_of_end ended.OutOfMemory = Some OutOfMemory
 
 -- Such a fault: out of memory (102), no place (103), no look (104), stopped (105), no worker (106), or one of the audit.
 abbrev pub is_threads_code : ℕ → Bool

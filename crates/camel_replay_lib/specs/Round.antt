@@ -17,8 +17,8 @@ use Rattle.camel_replay_lib.specs.declared.threaded_replay.seat.Seat.{Seat}
 use Rattle.camel_replay_lib.specs.declared.threaded_replay.work.Work.{Work}
 
 -- the session is one of this store
-abbrev pub IsOf : StoreId → Seat → Type 0
-IsOf store seat = seat.session.store ≡ store
+abbrev pub IsOfStore : StoreId → Seat → Type 0
+IsOfStore store seat = seat.session.store ≡ store
 
 -- the writer has answered these records by their lines
 pub record WritesLines (records : List Record) (before after : WriterData) : Type 0 where

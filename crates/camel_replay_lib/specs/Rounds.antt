@@ -7,7 +7,7 @@ use Rattle.camel_script.specs.declared.record.Record.{Record}
 use Rattle.camel_vlr.specs.Session.{SessionData}
 use Rattle.camel_replay_lib.specs.Fronts.{updates_from}
 use Rattle.camel_replay_lib.specs.Output.{output}
-use Rattle.camel_replay_lib.specs.ThreadsOutput.{Answers, Call, calls_of, is_no_call}
+use Rattle.camel_replay_lib.specs.ThreadsOutput.{AnswersCall, Call, calls_of, is_no_call}
 use Rattle.camel_replay_lib.specs.Writer.{WriterData}
 use Rattle.camel_replay_lib.specs.declared.threaded_replay.seat.Seat.{Seat}
 
@@ -27,7 +27,7 @@ HasNoEntries seat = seat.entries.items ≡ []
 
 -- the session has answered those of these calls that are its own
 abbrev pub HasAnswered : ℕ → List Call → Seat → Type 0
-HasAnswered threads calls seat = AllZip Answers (calls_of threads seat.number calls) seat.entries.items
+HasAnswered threads calls seat = AllZip AnswersCall (calls_of threads seat.number calls) seat.entries.items
 
 -- the writer has a store with no updates, and no lines
 pub record IsNewWriter (writer : WriterData) : Type 0 where

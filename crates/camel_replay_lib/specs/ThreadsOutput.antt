@@ -56,7 +56,7 @@ abbrev pub calls_of : ℕ → ℕ → List Call → List Call
 calls_of threads session calls = filter (λ call. call.number % threads == session) calls
 
 -- an entry answers a call, over a front from the last publication before it to the next one after it
-pub record Answers (call : Call) (entry : Entry) : Type 0 where
+pub record AnswersCall (call : Call) (entry : Entry) : Type 0 where
   pub number : entry.call ≡ call.number
   pub event : entry.event ≡ call.event
   pub least : call.least ≤ entry.answer.front
@@ -66,7 +66,7 @@ pub record Answers (call : Call) (entry : Entry) : Type 0 where
 abbrev pub SessionsAnswer : ℕ → ℕ → List Call → List (List Entry) → Type 0
 SessionsAnswer threads session calls [] = Unit {0}
 SessionsAnswer threads session calls (entries ∷ transcripts) =
-    AllZip Answers (calls_of threads session calls) entries × SessionsAnswer threads (session + 1) calls transcripts
+    AllZip AnswersCall (calls_of threads session calls) entries × SessionsAnswer threads (session + 1) calls transcripts
 
 -- the sessions answer the calls of a script, and what is published in the end explains each answer
 pub record ThreadsAnswer (threads limit : ℕ) (records : List Record) (transcripts : List (List Entry)) : Type 0 where

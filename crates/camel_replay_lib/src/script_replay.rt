@@ -32,7 +32,8 @@ pub const WRITE_FAULT: u16 = 208;
 #[derive(Clone, Copy, Debug, PartialEq, Eq)]
 pub struct ReplayFault {
     /// The record that was being read or answered, from 1; for the flush at the end, the number of records that were
-    /// read. None where memory was refused before the script was read, and with threads where its records are read.
+    /// read. None where memory was refused before the script was read, and with threads for each fault that comes after
+    /// all records were read.
     pub number: Option<u64>,
     /// The fault's number: 102 (out of memory), 202 to 207 (the script, and reading it) or 208 (writing); with threads
     /// also 103 (no place), 104 (no look), 105 (stopped), 106 (no worker) and 301 to 304 (the audit).

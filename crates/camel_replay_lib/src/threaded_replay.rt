@@ -7,7 +7,7 @@ ghost use Rattle.camel_script.specs.Script.{script};
 ghost use Rattle.camel_replay_lib.specs.Limits.{max_limit, max_records, max_threads};
 ghost use Rattle.camel_replay_lib.specs.ReplayFault.{is_threaded_replay_code};
 ghost use Rattle.camel_replay_lib.specs.Rounds.{AreNumbered, HasAnswered, HasNoEntries, IsNewWriter, WritesScript, entries_in, session_in};
-ghost use Rattle.camel_replay_lib.specs.Round.{IsOf};
+ghost use Rattle.camel_replay_lib.specs.Round.{IsOfStore};
 ghost use Rattle.camel_replay_lib.specs.ThreadsOutput.{IsThreadsOutput, script_calls, sessions_text};
 ghost use Rattle.camel_replay_lib.specs.ThreadsWritten.{ThreadsStop, WritesThreadsOutput};
 ghost use Rattle.camel_replay_lib.specs.Written.{AppendsPart};
@@ -43,9 +43,9 @@ use std::sync::Wait;
 use std::thread::Threads;
 
 /// Replays a script with threads. The script is read whole, and its records are cut into segments, behind each
-/// publication. In the round of a segment `threads` sessions (1 to [`crate::MAX_THREADS`]) answer its calls, each in a thread of
-/// its own, while the writer answers its other records. The calls are numbered from 0 over the script, and the session
-/// `call % threads` answers a call. A session is told of the last publication before the round, and may see that of the
+/// publication. In the round of a segment `threads` sessions (1 to [`crate::MAX_THREADS`]) answer its calls, each in a
+/// thread of its own, while the writer answers its other records. The calls whose data are not refused are numbered from 0
+/// over the script, and the session `call % threads` answers a call. A session is told of the last publication before the round, and may see that of the
 /// round.
 ///
 /// At most `limit` updates (1 to 1000000) are accepted. The gate is asked before each call and before each publication.
@@ -204,7 +204,7 @@ fn run_rounds<G: Gate, R: Threads + Wait, W: Wait + Drop>(
     requires some { 1 ≤ length seats.items }
     requires numbered { AreNumbered 0 seats.items }
     requires empty { All HasNoEntries seats.items }
-    requires same_store { All (IsOf writer.store.store) seats.items }
+    requires same_store { All (IsOfStore writer.store.store) seats.items }
     requires new { IsNewWriter writer }
     ensures writer { IfOk result (λ done. WritesScript writer.store.store.limit records.items done.0) }
     ensures numbered { IfOk result (λ done. AreNumbered 0 done.1.items) }

@@ -102,3 +102,21 @@ fn refuses_an_update_beyond_the_limit(rt: HostRuntime) {
     assert_eq!(rt; ran.fault, None);
     assert_eq!(rt; ran.output.as_slice(), LIMIT_OF_ONE_OUTPUT.as_bytes());
 }
+
+// A refused call has no number: the next one is call 0.
+const REFUSED_CALL: &str = "call,13,262010000000001,t11,128
+call,13,262010000000001,t11,17
+";
+
+const REFUSED_CALL_OUTPUT: &str = "refused 36
+session 0 call 0 front 0 none unknown
+audit ok
+";
+
+#[test]
+fn numbers_no_refused_call(rt: HostRuntime) {
+    let script = REFUSED_CALL.as_bytes();
+    let ran = run::<OpenGate, _>(&rt, rt.alloc(), script, 1, MAX_LIMIT, &BUSY);
+    assert_eq!(rt; ran.fault, None);
+    assert_eq!(rt; ran.output.as_slice(), REFUSED_CALL_OUTPUT.as_bytes());
+}

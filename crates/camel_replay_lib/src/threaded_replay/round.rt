@@ -1,9 +1,10 @@
 //! A round of a replay with threads: a worker for each session answers the calls of a segment while the writer answers
 //! its other records.
 
-ghost use Rattle.std.specs.Prelude.{◌≡◌, ◌≤◌, true, length, All, IfOk, IfSome, OnOk, []};
+ghost use Rattle.std.specs.Prelude.{◌≡◌, ◌≤◌, true, None, Some, Err, length, All, IfErr, IfOk, IfSome, OnOk, []};
 ghost use Rattle.std.specs.List.{AllZip};
-ghost use Rattle.camel_replay_lib.specs.Round.{AreWorkersOf, FrontIsAtMost, IsJoined, IsOf, IsWorkerOf, ServesRound, WritesLines};
+ghost use Rattle.camel_replay_lib.specs.ReplayFault.{fault_of_end};
+ghost use Rattle.camel_replay_lib.specs.Round.{AreWorkersOf, FrontIsAtMost, IsJoined, IsOfStore, IsWorkerOf, ServesRound, WritesLines};
 ghost use Rattle.camel_replay_lib.specs.ThreadsOutput.{is_no_call};
 ghost use Rattle.camel_workers.specs.Serves.{Serves};
 
@@ -51,7 +52,7 @@ pub(crate) fn run_round<G: Gate, R: Threads + Wait, W: Wait + Drop>(
     gate: &G,
 ) -> (Writer<W>, Result<VecDeque<Seat>, ThreadsFault>)
     requires some { 1 ≤ length seats.items }
-    requires same_store { All (IsOf writer.store.store) seats.items }
+    requires same_store { All (IsOfStore writer.store.store) seats.items }
     requires no_calls { All (λ asked. is_no_call asked ≡ true) segment.others.items }
     ensures output { OnOk result.1 (WritesLines segment.others.items writer result.0) }
     ensures store { result.0.store.store ≡ writer.store.store }
@@ -61,7 +62,7 @@ pub(crate) fn run_round<G: Gate, R: Threads + Wait, W: Wait + Drop>(
         thread::scope_env(),
         rt,
         |scope| -> (Writer<W>, Result<VecDeque<Seat>, ThreadsFault>)
-            requires { (1 ≤ length seats.items) × All (IsOf writer.store.store) seats.items
+            requires { (1 ≤ length seats.items) × All (IsOfStore writer.store.store) seats.items
                 × All (λ asked. is_no_call asked ≡ true) segment.others.items }
             ensures output { OnOk result.1 (WritesLines segment.others.items writer result.0) }
             ensures store { result.0.store.store ≡ writer.store.store }
@@ -85,7 +86,7 @@ fn serve_beside<'s, E, G: Gate, R: Threads + Wait, W: Wait + Drop>(
     gate: &'s G,
 ) -> Result<VecDeque<Seat>, ThreadsFault>
     requires some { 1 ≤ length seats.items }
-    requires same_store { All (IsOf writer.old.store.store) seats.items }
+    requires same_store { All (IsOfStore writer.old.store.store) seats.items }
     requires no_calls { All (λ asked. is_no_call asked ≡ true) segment.others.items }
     ensures output { OnOk result (WritesLines segment.others.items writer.old writer.new) }
     ensures store { writer.new.store.store ≡ writer.old.store.store }
@@ -107,7 +108,7 @@ fn start_all<'s, E, G: Gate, W: Wait + Drop>(
     gate: &'s G,
 ) -> Result<VecDeque<Worker>, AllocError>
     requires some { 1 ≤ length seats.items }
-    requires same_store { All (IsOf writer.now.store.store) seats.items }
+    requires same_store { All (IsOfStore writer.now.store.store) seats.items }
     ensures { IfOk result (λ workers. AreWorkersOf writer.now.store (length seats.items) calls.now seats.items workers.items) }
 {
     let threads = seats.len() as u64;
@@ -191,7 +192,8 @@ fn join_all<R: Threads>(
 
 /// Joins a worker, and returns its session with all that it answered.
 fn join<R: Threads>(rt: &R, worker: Worker, front: u64) -> Result<Seat, ThreadsFault>
-    ensures { IfOk result (IsJoined front worker) }
+    ensures joined { IfOk result (IsJoined front worker) }
+    ensures missing { worker.started ≡ None → result ≡ Err ThreadsFault.NoWorker }
 {
     let Worker {
         number,
@@ -220,7 +222,8 @@ fn join<R: Threads>(rt: &R, worker: Worker, front: u64) -> Result<Seat, ThreadsF
 
 /// Fails unless a worker has answered all of its jobs.
 fn check_ended(ended: Ended) -> Result<(), ThreadsFault>
-    ensures { OnOk result (ended ≡ Ended.All) }
+    ensures answered { OnOk result (ended ≡ Ended.All) }
+    ensures fault { IfErr result (λ fault. fault_of_end ended ≡ Some fault) }
 {
     match ended {
         Ended::All => Ok(()),

@@ -1,4 +1,4 @@
-//! Segments of a script: its records up to a publication, and that.
+//! Segments of a script: its records up to and including a publication.
 
 ghost use Rattle.std.specs.Prelude.{◌≡◌, ◌+◌, ◌^◌, ◌<◌, ◌≤◌, ◌++◌, length, IfOk};
 ghost use Rattle.camel_replay_lib.specs.Segments.{IsCutOff, jobs_for, jobs_from};

@@ -18,7 +18,7 @@ pub(crate) enum ThreadsFault {
     Stopped,
     /// 106: a worker was not started.
     NoWorker,
-    /// 102 or 301 to 304: the published updates do not explain what was answered.
+    /// 102: the audit was out of memory; 301 to 304: the published updates do not explain what was answered.
     Audit(AuditFault),
 }
 
@@ -39,19 +39,34 @@ impl ThreadsFault {
 }
 
 impl From<AllocError> for ThreadsFault {
+    ghost use Rattle.std.specs.Prelude.{◌≡◌};
+    ghost use Rattle.camel_replay_lib.specs.declared.threaded_replay.threads_fault.ThreadsFault.{ThreadsFault};
+
+    ghost from_gives = { λ _ fault. fault ≡ ThreadsFault.OutOfMemory };
+
     fn from(_: AllocError) -> ThreadsFault {
         ThreadsFault::OutOfMemory
     }
 }
 
 impl From<AuditFault> for ThreadsFault {
+    ghost use Rattle.std.specs.Prelude.{◌≡◌};
+    ghost use Rattle.camel_replay_lib.specs.declared.threaded_replay.threads_fault.ThreadsFault.{ThreadsFault};
+
+    ghost from_gives = { λ audit fault. fault ≡ ThreadsFault.Audit audit };
+
     fn from(fault: AuditFault) -> ThreadsFault {
         ThreadsFault::Audit(fault)
     }
 }
 
 impl From<Refusal> for ThreadsFault {
-    /// Of a refusal that a store's call gives where it refuses no update.
+    ghost use Rattle.std.specs.Prelude.{◌≡◌};
+    ghost use Rattle.camel_replay_lib.specs.ReplayFault.{threads_fault_of};
+
+    ghost from_gives = { λ refusal fault. fault ≡ threads_fault_of refusal };
+
+    /// Of a call that is refused with 102, 103 or 104 alone.
     fn from(refusal: Refusal) -> ThreadsFault {
         match refusal {
             Refusal::NoPlace => ThreadsFault::NoPlace,

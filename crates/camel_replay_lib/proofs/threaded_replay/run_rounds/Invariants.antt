@@ -1,7 +1,7 @@
 use Rattle.std.proofs.Common.{◌≡◌, ◌++◌, All, List, length}
 use Rattle.camel_script.specs.declared.record.Record.{Record}
 use Rattle.camel_replay_lib.specs.Fronts.{updates_from}
-use Rattle.camel_replay_lib.specs.Round.{IsOf}
+use Rattle.camel_replay_lib.specs.Round.{IsOfStore}
 use Rattle.camel_replay_lib.specs.Rounds.{AreNumbered, HasAnswered, WritesScript}
 use Rattle.camel_replay_lib.specs.Segments.{jobs_from}
 use Rattle.camel_replay_lib.specs.ThreadsOutput.{Call, calls_from, script_calls}
@@ -15,7 +15,7 @@ invariant-segments g l = record {
   number : l.first ≡ length (jobs_from 0 done);
   writer : WritesScript l.fn.writer.store.store.limit done l.writer;
   store : l.writer.store.store ≡ l.fn.writer.store.store;
-  same_store : All (IsOf l.fn.writer.store.store) l.seats.items;
+  same_store : All (IsOfStore l.fn.writer.store.store) l.seats.items;
   numbered : AreNumbered 0 l.seats.items;
   count : length l.seats.items ≡ length l.fn.seats.items;
   calls : List Call;

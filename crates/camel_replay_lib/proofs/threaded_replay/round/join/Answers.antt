@@ -6,12 +6,12 @@ use Rattle.camel_workers.specs.Serves.{job_of}
 use Rattle.camel_workers.specs.declared.worker.Ended.TheVariants.{All as Answered, OutOfMemory}
 use Rattle.camel_replay_lib.proofs.threaded_replay.round.join.Goals as goal
 
-pub returns : goal.returns
-returns g c =
+pub returns-clause-joined : goal.returns-clause-joined
+returns-clause-joined g c =
     let work : Work = c.in-Some.handle.promise.0.value in
     let served = c.join-session.result in
     let is = c.join-session.ensures in
-    let ended : served.ended ≡ Answered = c.in_ok-check_ended.ensures in
+    let ended : served.ended ≡ Answered = c.in_ok-check_ended.ensures.answered in
     let not_lacking : served.ended ≢ OutOfMemory = λ lacks. absurd (cc) in
     let answers = is.answers not_lacking in
     let entries = served.transcript in

@@ -14,5 +14,5 @@ workers-preserved g c =
     record {
       done = so_far.done ++ worker ∷ [];
       whole = was_split so_far.done left c.workers.workers.items c.args.workers.items worker popped so_far.whole;
-      joined = rw pushed (AllZip-append (IsJoined c.args.front) so_far.done c.workers.seats.items (worker ∷ []) (c.in_ok-seat.seat ∷ []) so_far.joined (c.in_ok-seat.ensures, tt));
+      joined = rw pushed (AllZip-append (IsJoined c.args.front) so_far.done c.workers.seats.items (worker ∷ []) (c.in_ok-seat.seat ∷ []) so_far.joined (c.in_ok-seat.ensures.joined, tt));
     }

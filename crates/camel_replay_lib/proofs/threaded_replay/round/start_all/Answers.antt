@@ -4,7 +4,7 @@ use Rattle.camel_audit.specs.declared.transcript.Job.{Job}
 use Rattle.camel_vlr.specs.Prefix.{PrefixData}
 use Rattle.camel_replay_lib.proofs.RoundLemmas.{AllZip-append}
 use Rattle.camel_replay_lib.proofs.SegmentLemmas.{was_split}
-use Rattle.camel_replay_lib.specs.Round.{IsOf, IsWorkerOf}
+use Rattle.camel_replay_lib.specs.Round.{IsOfStore, IsWorkerOf}
 use Rattle.camel_replay_lib.specs.Segments.{jobs_for}
 use Rattle.camel_replay_lib.specs.declared.threaded_replay.seat.Seat.{Seat}
 use Rattle.camel_replay_lib.proofs.threaded_replay.round.start_all.Goals as goal
@@ -28,6 +28,6 @@ seats-preserved g c =
     record {
       done = so_far.done ++ seat ∷ [];
       whole = was_split so_far.done left c.seats.seats.items c.args.seats.items seat popped so_far.whole;
-      same_store = All-tail (IsOf c.args.writer.now.store.store) seat left (subst (All (IsOf c.args.writer.now.store.store)) popped so_far.same_store);
+      same_store = All-tail (IsOfStore c.args.writer.now.store.store) seat left (subst (All (IsOfStore c.args.writer.now.store.store)) popped so_far.same_store);
       workers = rw pushed (AllZip-append (λ (s : Seat). IsWorkerOf told (jobs_for count s.number calls) s) so_far.done c.seats.workers.items (seat ∷ []) (worker ∷ []) so_far.workers (is, tt));
     }
