@@ -1,6 +1,6 @@
 //! The lines of the sessions.
 
-ghost use Rattle.std.specs.Prelude.{◌≡◌, ◌++◌, OnOk};
+ghost use Rattle.std.specs.Prelude.{◌≡◌, ◌++◌, IfErr, OnOk};
 ghost use Rattle.camel_replay_lib.specs.ThreadsOutput.{session_text, sessions_text};
 
 use camel_audit::{Entry, Transcript};
@@ -14,7 +14,8 @@ pub(crate) fn push_sessions(
     output: &mut Vec<u8>,
     transcripts: &[Transcript],
 ) -> Result<(), Refusal>
-    ensures { OnOk result (output.new.items ≡ output.old.items ++ sessions_text 0 transcripts.now) }
+    ensures lines { OnOk result (output.new.items ≡ output.old.items ++ sessions_text 0 transcripts.now) }
+    ensures only { IfErr result (λ why. why ≡ Refusal.OutOfMemory) }
 {
     for (session, transcript) in transcripts.iter().enumerate() {
         push_session(alloc, output, session as u64, &transcript.entries)?;
@@ -29,7 +30,8 @@ fn push_session(
     session: u64,
     entries: &[Entry],
 ) -> Result<(), Refusal>
-    ensures { OnOk result (output.new.items ≡ output.old.items ++ session_text session entries.now) }
+    ensures lines { OnOk result (output.new.items ≡ output.old.items ++ session_text session entries.now) }
+    ensures only { IfErr result (λ why. why ≡ Refusal.OutOfMemory) }
 {
     for entry in entries {
         let line = Line::Served {

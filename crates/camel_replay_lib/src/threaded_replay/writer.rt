@@ -1,6 +1,6 @@
 //! The writer's part of a replay with threads.
 
-ghost use Rattle.std.specs.Prelude.{◌≡◌, ◌++◌, [], false, true, All, IfOk, OnOk, length, take};
+ghost use Rattle.std.specs.Prelude.{◌≡◌, ◌++◌, [], false, true, All, IfErr, IfOk, OnOk, length, take};
 ghost use Rattle.camel_replay_lib.specs.Fronts.{updates_from};
 ghost use Rattle.camel_replay_lib.specs.Output.{line_of, output_from, updates_after};
 ghost use Rattle.camel_replay_lib.specs.ThreadsOutput.{is_no_call};
@@ -69,6 +69,7 @@ impl<W: Wait + Drop> Writer<W> {
     fn push(&mut self, alloc: Global, line: &Line) -> Result<(), Refusal>
         ensures output { OnOk result (self.new.output ≡ self.old.output ++ line_text line.now) }
         ensures store { self.new.store ≡ self.old.store }
+        ensures only { IfErr result (λ why. why ≡ Refusal.OutOfMemory) }
     {
         push_line(alloc, &mut self.output, line)
     }
