@@ -148,7 +148,8 @@ fn finish_output<W: Wait + Drop>(
     writer: Writer<W>,
     transcripts: &[Transcript],
 ) -> Result<Vec<u8>, ThreadsFault>
-    ensures { IfOk result (λ output. output.items ≡ writer.output ++ sessions_text 0 transcripts.now ++ line_text Line.AuditOk) }
+    ensures text { IfOk result (λ output. output.items ≡ writer.output ++ sessions_text 0 transcripts.now ++ line_text Line.AuditOk) }
+    ensures only { IfErr result (λ fault. fault ≡ ThreadsFault.OutOfMemory) }
 {
     let Writer {
         store: _store,

@@ -1,6 +1,6 @@
 //! The writer's part of a replay with threads.
 
-ghost use Rattle.std.specs.Prelude.{◌≡◌, ◌++◌, [], false, true, All, IfErr, IfOk, OnOk, length, take};
+ghost use Rattle.std.specs.Prelude.{◌≡◌, ◌⊎◌, ◌++◌, [], false, true, All, IfErr, IfOk, OnOk, length, take};
 ghost use Rattle.camel_replay_lib.specs.Fronts.{updates_from};
 ghost use Rattle.camel_replay_lib.specs.Output.{line_of, output_from, updates_after};
 ghost use Rattle.camel_replay_lib.specs.ThreadsOutput.{is_no_call};
@@ -56,6 +56,7 @@ impl<W: Wait + Drop> Writer<W> {
         ensures updates { OnOk result (self.new.store.updates
             ≡ updates_from self.old.store.store.limit self.old.store.updates records.items) }
         ensures store { self.new.store.store ≡ self.old.store.store }
+        ensures only { IfErr result (λ fault. (fault ≡ ThreadsFault.OutOfMemory) ⊎ (fault ≡ ThreadsFault.Stopped)) }
     {
         let mut records = records;
         'records: while let Some(next) = records.pop_front() {
@@ -87,6 +88,7 @@ impl<W: Wait + Drop> Writer<W> {
             ≡ updates_after self.old.store.store.limit self.old.store.updates next) }
         ensures store { self.new.store.store ≡ self.old.store.store }
         ensures output { self.new.output ≡ self.old.output }
+        ensures only { IfErr result (λ fault. (fault ≡ ThreadsFault.OutOfMemory) ⊎ (fault ≡ ThreadsFault.Stopped)) }
     {
         match next {
             Record::Update(update) => submit(&mut self.store.vlr, &mut self.accepted, update),
@@ -104,6 +106,7 @@ impl<W: Wait + Drop> Writer<W> {
             ≡ updates_after self.old.store.store.limit self.old.store.updates Record.Publish) }
         ensures store { self.new.store.store ≡ self.old.store.store }
         ensures output { self.new.output ≡ self.old.output }
+        ensures only { IfErr result (λ fault. (fault ≡ ThreadsFault.OutOfMemory) ⊎ (fault ≡ ThreadsFault.Stopped)) }
     {
         if !gate.publishing(self.accepted.len() as u64) {
             return Err(ThreadsFault::Stopped);
@@ -141,6 +144,7 @@ fn submit(store: &mut Vlr, accepted: &mut Vec<Update>, update: Update) -> Result
     ensures updates { OnOk result (store.new.updates ≡ updates_after store.old.store.limit store.old.updates (Record.Update update)) }
     ensures store { store.new.store ≡ store.old.store }
     ensures accepted { accepted.new.items ≡ accepted_updates store.new.updates }
+    ensures only { IfErr result (λ fault. fault ≡ ThreadsFault.OutOfMemory) }
 {
     accepted.reserve(1)?;
     let copy = update.copy()?;

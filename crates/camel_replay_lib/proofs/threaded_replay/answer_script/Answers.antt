@@ -48,4 +48,4 @@ returns g c =
       text = text ∙ ap (λ (ts : List (List Entry)). writer.output ++ sessions_text 0 ts ++ line_text line.AuditOk) c.deref-2.ensures.value
           ∙ ap (λ lines. lines ++ sessions_text 0 transcripts ++ line_text line.AuditOk) written.output_written;
     })
-    c.finish_output.ensures
+    c.finish_output.ensures.text
