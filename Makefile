@@ -9,7 +9,7 @@ BENCH_LOG := crates/camel_vlr_bench/out/build.log
 
 .PHONY: program replay examples scripts bench bench-program bench-vlr count-vlr test
 
-# Proves and builds the program where a source has changed, about 12 minutes the first time.
+# Proves and builds the program where a source has changed, about 15 minutes the first time.
 program:
 	@mkdir -p crates/camel_replay/out
 	@(cd crates/camel_replay && rt run < /dev/null) > $(LOG) 2>&1 || { cat $(LOG) >&2; exit 1; }
