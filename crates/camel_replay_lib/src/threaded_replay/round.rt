@@ -9,7 +9,7 @@ ghost use Rattle.camel_replay_lib.specs.ThreadsOutput.{is_no_call};
 ghost use Rattle.camel_workers.specs.Serves.{Serves};
 
 use crate::threaded_replay::seat::Seat;
-use crate::threaded_replay::segment::{Segment, jobs_of};
+use crate::threaded_replay::segment::{Segment, jobs_for};
 use crate::threaded_replay::threads_fault::ThreadsFault;
 use crate::threaded_replay::work::Work;
 use crate::threaded_replay::writer::Writer;
@@ -115,7 +115,7 @@ fn start_all<'s, E, G: Gate, W: Wait + Drop>(
     let mut seats = seats;
     let mut workers = VecDeque::new(alloc);
     'seats: while let Some(seat) = seats.pop_front() {
-        let jobs = jobs_of(alloc, calls, threads, seat.number)?;
+        let jobs = jobs_for(alloc, calls, threads, seat.number)?;
         let worker = start(scope, alloc, seat, writer.receipt(), jobs, gate);
         workers.push_back(worker)?;
     }

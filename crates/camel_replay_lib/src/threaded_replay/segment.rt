@@ -46,7 +46,7 @@ pub(crate) fn cut_segment(
 }
 
 /// Those of the calls that the session of this number answers.
-pub(crate) fn jobs_of(
+pub(crate) fn jobs_for(
     alloc: Global,
     calls: &[Job],
     threads: u64,
