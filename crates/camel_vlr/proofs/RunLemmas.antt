@@ -1,5 +1,5 @@
 -- What a session answers, put together.
-use Rattle.std.proofs.Common.{◌≡◌, ◌∙◌, ℕ, Bool, List, [], ◌∷◌, ◌++◌, refl, sym, ap, subst}
+use Rattle.std.proofs.Common.{◌≡◌, ◌∙◌, ℕ, List, [], ◌∷◌, ◌++◌, refl, sym, ap}
 use Rattle.camel_rows.specs.Event.{EventData}
 use Rattle.camel_rows.specs.declared.subscriber.update.Update.{Update}
 use Rattle.camel_rows.specs.declared.trigger.outcome.Answer.{Answer}
@@ -22,9 +22,6 @@ Run-append limit seen told [] next (answer ∷ answers) more fronts later first 
 Run-append limit seen told (event ∷ events) next [] more fronts later first second = absurd first
 Run-append limit seen told (event ∷ events) next (answer ∷ answers) more [] later first second = absurd first
 
-pub Answers-none : (session : SessionData) → Answers session [] [] session
-Answers-none session = record { fronts = []; run = tt; seen = refl; told = refl; store = refl }
-
 pub Answers-append : (before mid after : SessionData) (events next : List EventData) (answers more : List Answer)
     → Answers before events answers mid → Answers mid next more after → Answers before (events ++ next) (answers ++ more) after
 Answers-append before mid after events next answers more first second =
@@ -34,16 +31,4 @@ Answers-append before mid after events next answers more first second =
       seen = second.seen ∙ ap (λ seen. last_seen seen second.fronts) first.seen ∙ sym (last_seen-append before.seen first.fronts second.fronts);
       told = second.told ∙ first.told;
       store = second.store ∙ first.store;
-    }
-
--- what a session answers doesn't depend on whether it had a look
-pub Answers-looks : (before other after : SessionData) (looks : Bool) (events : List EventData) (answers : List Answer) → other ≡ record before { looks = looks }
-    → Answers other events answers after → Answers before events answers after
-Answers-looks before other after looks events answers same given =
-    record {
-      fronts = given.fronts;
-      run = subst (λ (s : SessionData). Run s.store.limit s.seen s.told events answers given.fronts) same given.run;
-      seen = given.seen ∙ ap (λ s. last_seen s.seen given.fronts) same;
-      told = given.told ∙ ap (λ s. s.told) same;
-      store = given.store ∙ ap (λ s. s.store) same;
     }
