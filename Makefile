@@ -16,7 +16,7 @@ program:
 
 # The output of the script alone comes on standard output.
 replay: program
-	@$(PROGRAM) --limit $(LIMIT) $(if $(THREADS),--threads $(THREADS)) < $(SCRIPT)
+	@$(PROGRAM) --limit $(LIMIT) $(if $(THREADS),--threads $(THREADS)) $(if $(PROFILE),--profile $(PROFILE)) < $(SCRIPT)
 
 examples: program
 	@.ci/scripts examples

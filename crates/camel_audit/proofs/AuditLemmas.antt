@@ -4,6 +4,7 @@ use Rattle.std.proofs.Math.Seq.{take-add}
 use Rattle.std.specs.Prelude.{IfSome}
 use Rattle.camel_audit.specs.Audit.{AreExplained, IsExplained, last_front}
 use Rattle.camel_audit.specs.declared.transcript.Entry.{Entry}
+use Rattle.camel_tbcd.specs.declared.profile.Profile.{Profile}
 use Rattle.camel_rows.proofs.UpdateLemmas.{records_from-append}
 use Rattle.camel_rows.specs.Update.{records_from, records_of}
 use Rattle.camel_rows.specs.Records.{no_records}
@@ -13,11 +14,11 @@ pub last_front-push : (earlier : ℕ) (entries : List Entry) (entry : Entry) →
 last_front-push earlier [] entry = refl
 last_front-push earlier (first ∷ entries) entry = last_front-push first.answer.front entries entry
 
-pub AreExplained-push : (updates : List Update) (earlier : ℕ) (entries : List Entry) (entry : Entry) → AreExplained updates earlier entries
-    → IsExplained updates (last_front earlier entries) entry → AreExplained updates earlier (entries ++ entry ∷ [])
-AreExplained-push updates earlier [] entry so_far one = (one, tt)
-AreExplained-push updates earlier (first ∷ entries) entry so_far one =
-    (so_far.0, AreExplained-push updates first.answer.front entries entry so_far.1 one)
+pub AreExplained-push : (profile : Profile) (updates : List Update) (earlier : ℕ) (entries : List Entry) (entry : Entry) → AreExplained profile updates earlier entries
+    → IsExplained profile updates (last_front earlier entries) entry → AreExplained profile updates earlier (entries ++ entry ∷ [])
+AreExplained-push profile updates earlier [] entry so_far one = (one, tt)
+AreExplained-push profile updates earlier (first ∷ entries) entry so_far one =
+    (so_far.0, AreExplained-push profile updates first.answer.front entries entry so_far.1 one)
 
 -- the records that a front leaves, and then the updates up to a longer one, are those of the longer one
 pub records_of-longer : (updates : List Update) (front longer : ℕ) → front ≤ longer

@@ -3,6 +3,7 @@ use Rattle.std.specs.Prelude.{◌≡◌, ◌≢◌, ◌⊎◌, ℕ, ◌<◌, ◌
 use Rattle.camel_audit.specs.declared.audit_fault.AuditFault.{AuditFault}
 use Rattle.camel_audit.specs.declared.audit_fault.AuditFault.TheVariants as fault
 use Rattle.camel_audit.specs.declared.transcript.Entry.{Entry}
+use Rattle.camel_tbcd.specs.declared.profile.Profile.{Profile}
 use Rattle.camel_rows.specs.Decision.{decision}
 use Rattle.camel_rows.specs.Outcome.{outcome_of}
 use Rattle.camel_rows.specs.Update.{Accepted, records_of, refusal}
@@ -10,24 +11,24 @@ use Rattle.camel_rows.specs.declared.subscriber.update.Update.{Update}
 use Rattle.camel_rows.specs.declared.trigger.outcome.Outcome.{Outcome}
 
 -- what the trigger rules give for the call of an entry over the updates of its front
-abbrev pub outcome_at_front : List Update → Entry → Outcome
-outcome_at_front updates entry = outcome_of (decision (records_of (take entry.answer.front updates)) entry.event)
+abbrev pub outcome_at_front : Profile → List Update → Entry → Outcome
+outcome_at_front profile updates entry = outcome_of (decision profile (records_of (take entry.answer.front updates)) entry.event)
 
 -- the updates explain an entry, where the entry before it has a front of `earlier` updates
-pub record IsExplained (updates : List Update) (earlier : ℕ) (entry : Entry) : Type 0 where
+pub record IsExplained (profile : Profile) (updates : List Update) (earlier : ℕ) (entry : Entry) : Type 0 where
   pub within : entry.answer.front ≤ length updates
   pub later : earlier ≤ entry.answer.front
-  pub outcome : entry.answer.outcome ≡ outcome_at_front updates entry
+  pub outcome : entry.answer.outcome ≡ outcome_at_front profile updates entry
 
 -- they explain each entry of a list, where the entry before the list has a front of `earlier` updates
-abbrev pub AreExplained : List Update → ℕ → List Entry → Type 0
-AreExplained updates earlier [] = Unit {0}
-AreExplained updates earlier (entry ∷ entries) = IsExplained updates earlier entry × AreExplained updates entry.answer.front entries
+abbrev pub AreExplained : Profile → List Update → ℕ → List Entry → Type 0
+AreExplained profile updates earlier [] = Unit {0}
+AreExplained profile updates earlier (entry ∷ entries) = IsExplained profile updates earlier entry × AreExplained profile updates entry.answer.front entries
 
 -- the updates are accepted, one after the other, and explain each transcript
-pub record Passes (updates : List Update) (transcripts : List (List Entry)) : Type 0 where
+pub record Passes (profile : Profile) (updates : List Update) (transcripts : List (List Entry)) : Type 0 where
   pub accepted : Accepted updates
-  pub explained : All (AreExplained updates 0) transcripts
+  pub explained : All (AreExplained profile updates 0) transcripts
 
 -- the updates before this place are accepted, and the one at it is refused
 pub record RefusedAt (updates : List Update) (at : ℕ) : Type 0 where
@@ -42,10 +43,10 @@ last_front earlier [] = earlier
 last_front earlier (entry ∷ entries) = last_front entry.answer.front entries
 
 -- the entries before this place are explained, and of the one at it, behind the front of the last of those, this holds
-pub record FoundAt (updates : List Update) (entries : List Entry) (at : ℕ) (Holds : ℕ → Entry → Type 0) : Type 0 where
+pub record FoundAt (profile : Profile) (updates : List Update) (entries : List Entry) (at : ℕ) (Holds : ℕ → Entry → Type 0) : Type 0 where
   pub entry : Entry
   pub there : slice_get entries at ≡ Some entry
-  pub explained : AreExplained updates 0 (take at entries)
+  pub explained : AreExplained profile updates 0 (take at entries)
   pub holds : Holds (last_front 0 (take at entries)) entry
 
 -- there are not so many updates
@@ -57,18 +58,21 @@ abbrev pub WentBack : List Update → ℕ → Entry → Type 0
 WentBack updates earlier entry = (entry.answer.front ≤ length updates) × (entry.answer.front < earlier)
 
 -- another outcome than the updates of its front give
-pub record Differs (updates : List Update) (earlier : ℕ) (entry : Entry) : Type 0 where
+pub record Differs (profile : Profile) (updates : List Update) (earlier : ℕ) (entry : Entry) : Type 0 where
   pub within : entry.answer.front ≤ length updates
   pub later : earlier ≤ entry.answer.front
-  pub outcome : entry.answer.outcome ≢ outcome_at_front updates entry
+  pub outcome : entry.answer.outcome ≢ outcome_at_front profile updates entry
 
 -- the first fault of the transcript of a session
-abbrev pub IsFaultOf : List Update → List Entry → ℕ → AuditFault → Type 0
-IsFaultOf updates entries number fault.OutOfMemory = Unit {0}
-IsFaultOf updates entries number (fault.FrontTooLong session entry) = (session ≡ number) × FoundAt updates entries entry (IsTooLong updates)
-IsFaultOf updates entries number (fault.FrontWentBack session entry) = (session ≡ number) × FoundAt updates entries entry (WentBack updates)
-IsFaultOf updates entries number (fault.AnswerDiffers session entry) = (session ≡ number) × FoundAt updates entries entry (Differs updates)
-IsFaultOf updates entries number (fault.BadHistory at) = ⊥
+abbrev pub IsFaultOf : Profile → List Update → List Entry → ℕ → AuditFault → Type 0
+IsFaultOf profile updates entries number fault.OutOfMemory = Unit {0}
+IsFaultOf profile updates entries number (fault.FrontTooLong session entry) =
+    (session ≡ number) × FoundAt profile updates entries entry (IsTooLong updates)
+IsFaultOf profile updates entries number (fault.FrontWentBack session entry) =
+    (session ≡ number) × FoundAt profile updates entries entry (WentBack updates)
+IsFaultOf profile updates entries number (fault.AnswerDiffers session entry) =
+    (session ≡ number) × FoundAt profile updates entries entry (Differs profile updates)
+IsFaultOf profile updates entries number (fault.BadHistory at) = ⊥
 
 -- the first fault of the updates
 abbrev pub IsBadHistory : List Update → AuditFault → Type 0
@@ -77,14 +81,14 @@ IsBadHistory updates (fault.BadHistory at) = RefusedAt updates at
 IsBadHistory updates other = ⊥
 
 -- the updates are accepted, the transcripts before this session's are explained, and its transcript has the fault
-pub record IsFaultAt (updates : List Update) (transcripts : List (List Entry)) (stop : AuditFault) : Type 0 where
+pub record IsFaultAt (profile : Profile) (updates : List Update) (transcripts : List (List Entry)) (stop : AuditFault) : Type 0 where
   pub accepted : Accepted updates
   pub session : ℕ
   pub entries : List Entry
   pub there : slice_get transcripts session ≡ Some entries
-  pub explained : All (AreExplained updates 0) (take session transcripts)
-  pub is_fault : IsFaultOf updates entries session stop
+  pub explained : All (AreExplained profile updates 0) (take session transcripts)
+  pub is_fault : IsFaultOf profile updates entries session stop
 
 -- the first fault: of the updates, then by sessions, and of each by its entries
-abbrev pub IsFault : List Update → List (List Entry) → AuditFault → Type 0
-IsFault updates transcripts stop = IsBadHistory updates stop ⊎ IsFaultAt updates transcripts stop
+abbrev pub IsFault : Profile → List Update → List (List Entry) → AuditFault → Type 0
+IsFault profile updates transcripts stop = IsBadHistory updates stop ⊎ IsFaultAt profile updates transcripts stop

@@ -6,10 +6,11 @@ use crate::audit_fault::AuditFault;
 use crate::transcript::Transcript;
 use camel_criteria::Refusal;
 use camel_rows::{Outcome, Records, Update};
+use camel_tbcd::Profile;
 use std::alloc::Global;
 
-/// Checks that the updates explain each transcript: they are accepted one after the other, no session's front goes back,
-/// and each answer is the decision over as many updates as its front has.
+/// Checks that the updates explain each transcript under a profile: they are accepted one after the other, no session's
+/// front goes back, and each answer is the decision over as many updates as its front has.
 ///
 /// Fails with the first fault: of the updates, with `BadHistory` (304); then session by session and entry by entry, with
 /// `FrontTooLong` (301), `FrontWentBack` (302) or `AnswerDiffers` (303). Fails with `OutOfMemory` (102) where memory is
@@ -18,13 +19,14 @@ pub fn audit(
     alloc: Global,
     updates: &[Update],
     transcripts: &[Transcript],
+    profile: Profile,
 ) -> Result<(), AuditFault>
-    ensures passes { OnOk result (Passes updates.now transcripts.now) }
-    ensures fault { IfErr result (λ fault. IsFault updates.now transcripts.now fault) }
+    ensures passes { OnOk result (Passes profile updates.now transcripts.now) }
+    ensures fault { IfErr result (λ fault. IsFault profile updates.now transcripts.now fault) }
 {
     check_updates(alloc, updates)?;
     for (session, transcript) in transcripts.iter().enumerate() {
-        check_transcript(alloc, updates, transcript, session as u64)?;
+        check_transcript(alloc, updates, transcript, session as u64, profile)?;
     }
     Ok(())
 }
@@ -51,9 +53,10 @@ fn check_transcript(
     updates: &[Update],
     transcript: &Transcript,
     session: u64,
+    profile: Profile,
 ) -> Result<(), AuditFault>
-    ensures explained { OnOk result (AreExplained updates.now 0 transcript.now) }
-    ensures fault { IfErr result (λ fault. IsFaultOf updates.now transcript.now session fault) }
+    ensures explained { OnOk result (AreExplained profile updates.now 0 transcript.now) }
+    ensures fault { IfErr result (λ fault. IsFaultOf profile updates.now transcript.now session fault) }
 {
     let mut records = Records::new(alloc);
     let mut front = 0;
@@ -70,7 +73,7 @@ fn check_transcript(
         front = length;
         if !are_same(
             &next.answer.outcome,
-            &Outcome::decide(&records, &next.event),
+            &Outcome::decide(&records, &next.event, profile),
         ) {
             return Err(AuditFault::AnswerDiffers { session, entry });
         }

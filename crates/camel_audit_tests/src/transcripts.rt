@@ -2,6 +2,7 @@ use camel_audit::{AuditFault, Entry, Transcript, audit};
 use camel_criteria::Refusal;
 use camel_fixtures::{call_of, imsi_of, row_update, triggered};
 use camel_rows::{Answer, CallEvent, Outcome, Reason, Update};
+use camel_tbcd::Profile;
 use std::alloc::Global;
 use std::process::Abort;
 use std::test::Fail;
@@ -92,7 +93,7 @@ fn check_audit(
         transcripts.push(transcript_of(alloc, of_session)?)?;
     }
     assert_eq!(rt;
-        audit(alloc, &updates(alloc)?, &transcripts),
+        audit(alloc, &updates(alloc)?, &transcripts, Profile::One),
         wanted,
         "{answers:?}"
     );
@@ -103,7 +104,7 @@ fn check_audit(
 fn an_audit_ends_with_the_first_update_that_is_refused(rt: HostRuntime) -> Result<(), Fail> {
     let mut updates = Vec::new(rt.alloc());
     updates.push(row_update(imsi_of(1)?)?)?;
-    let audited = audit(rt.alloc(), &updates, &[]);
+    let audited = audit(rt.alloc(), &updates, &[], Profile::One);
     assert_eq!(rt; audited, Err(AuditFault::BadHistory { at: 0 }));
     Ok(())
 }

@@ -1,13 +1,14 @@
 -- What the tests of criteria mean.
 use Rattle.std.proofs.Common.{◌≡◌, ◌↔◌, ◌⊎◌, ℕ, Bool, ◌==◌, IsTrue, List, [], ◌∷◌, Option, Some, None, Any, Contains, length, slice_index_or, refl, subst, inl, inr, ⊎_elim}
 use Rattle.std.proofs.lemmas.Bool.{eq-eqb, eqb-true}
-use Rattle.std.proofs.lemmas.Bool.Decides.{Decides-and, Decides-eqb, Decides-not, Decides-or}
+use Rattle.std.proofs.lemmas.Bool.Decides.{Decides-and, Decides-not, Decides-or}
 use Rattle.std.proofs.lemmas.List.Folds.{Any-from_list_any, list_any-from_Any}
 use Rattle.std.specs.Bool.{Decides}
 use Rattle.std.specs.List.{list_any}
 use Rattle.camel_tbcd.proofs.DigitLemmas.{starts_with-IsPrefix}
+use Rattle.camel_tbcd.proofs.ProfileLemmas.{agrees_decides}
 use Rattle.camel_tbcd.specs.Digits.{digits}
-use Rattle.camel_tbcd.specs.Nature.{nature_of}
+use Rattle.camel_tbcd.specs.declared.profile.Profile.{Profile}
 use Rattle.camel_criteria.specs.BasicService.{covers}
 use Rattle.camel_criteria.specs.Criteria.{NumberCriterionData, OCriteriaData, TCriteriaData}
 use Rattle.camel_criteria.specs.Event.{OEventData}
@@ -33,35 +34,37 @@ contains_decides xs n = (
   λ here. list_any-from_Any (λ x. x == n) xs (here.0, n, here.1, here.2, eq-eqb n n refl),
 )
 
-number_decides : (destination listed : List ℕ) → Decides (number_matches listed destination) (NumberMatches destination listed)
-number_decides destination listed =
-    Decides-and _ _ (Decides-eqb (nature_of listed) (nature_of destination)) (starts_with-IsPrefix (digits destination) (digits listed))
+number_decides : (profile : Profile) (destination listed : List ℕ) → Decides (number_matches profile listed destination) (NumberMatches profile destination listed)
+number_decides profile destination listed =
+    Decides-and _ _ (agrees_decides profile listed destination) (starts_with-IsPrefix (digits destination) (digits listed))
 
 -- some listed number matches, or the length is listed
-abbrev IsListed : NumberCriterionData → List ℕ → Type 0
-IsListed criterion destination = Any (NumberMatches destination) criterion.numbers ⊎ Contains criterion.lengths (length (digits destination))
+abbrev IsListed : Profile → NumberCriterionData → List ℕ → Type 0
+IsListed profile criterion destination = Any (NumberMatches profile destination) criterion.numbers ⊎ Contains criterion.lengths (length (digits destination))
 
-listed_decides : (criterion : NumberCriterionData) (destination : List ℕ) → Decides (is_listed criterion destination) (IsListed criterion destination)
-listed_decides criterion destination =
+listed_decides : (profile : Profile) (criterion : NumberCriterionData) (destination : List ℕ) → Decides (is_listed profile criterion destination) (IsListed profile criterion destination)
+listed_decides profile criterion destination =
     Decides-or _ _
-    (any_decides (λ listed. number_matches listed destination) (NumberMatches destination) (number_decides destination) criterion.numbers)
+    (any_decides (λ listed. number_matches profile listed destination) (NumberMatches profile destination) (number_decides profile destination) criterion.numbers)
     (contains_decides criterion.lengths (length (digits destination)))
 
-number_met_by : (match_type : MatchType) (criterion : NumberCriterionData) (destination : List ℕ)
-    → IsTrue (met_by match_type (is_listed criterion destination)) ↔ NumberMetBy match_type criterion destination
-number_met_by Enabling criterion destination = listed_decides criterion destination
-number_met_by Inhibiting criterion destination =
-    let none = Decides-not _ (listed_decides criterion destination) in (
+number_met_by : (profile : Profile) (match_type : MatchType) (criterion : NumberCriterionData) (destination : List ℕ)
+    → IsTrue (met_by match_type (is_listed profile criterion destination)) ↔ NumberMetBy profile match_type criterion destination
+number_met_by profile Enabling criterion destination = listed_decides profile criterion destination
+number_met_by profile Inhibiting criterion destination =
+    let none = Decides-not _ (listed_decides profile criterion destination) in (
       λ e. (λ number. none.0 e (inl number), λ count. none.0 e (inr count)),
       λ absent. none.1 (⊎_elim absent.0 absent.1),
     )
 
-pub number_means : (criterion : NumberCriterionData) (destination : List ℕ) → IsTrue (number_met criterion destination) ↔ NumberMetBy criterion.match_type criterion destination
-number_means criterion destination = number_met_by criterion.match_type criterion destination
+pub number_means : (profile : Profile) (criterion : NumberCriterionData) (destination : List ℕ)
+    → IsTrue (number_met profile criterion destination) ↔ NumberMetBy profile criterion.match_type criterion destination
+number_means profile criterion destination = number_met_by profile criterion.match_type criterion destination
 
-held_number_means : (criterion : Option NumberCriterionData) (destination : List ℕ) → IsTrue (held_number_met criterion destination) ↔ HeldNumberMet criterion destination
-held_number_means None destination = (λ _. tt, λ _. refl)
-held_number_means (Some criterion) destination = number_means criterion destination
+held_number_means : (profile : Profile) (criterion : Option NumberCriterionData) (destination : List ℕ)
+    → IsTrue (held_number_met profile criterion destination) ↔ HeldNumberMet profile criterion destination
+held_number_means profile None destination = (λ _. tt, λ _. refl)
+held_number_means profile (Some criterion) destination = number_means profile criterion destination
 
 basic_means : (listed : List BasicService) (call : BasicService) → IsTrue (basic_met listed call) ↔ BasicMet listed call
 basic_means [] call = (λ _. inl refl, λ _. refl)
@@ -90,10 +93,10 @@ cause_means (first ∷ more) (Some cause) =
       ],
     )
 
-pub o_means : (entry : OCriteriaData) (event : OEventData) → IsTrue (o_met entry event) ↔ OMet entry event
-o_means entry event =
+pub o_means : (profile : Profile) (entry : OCriteriaData) (event : OEventData) → IsTrue (o_met profile entry event) ↔ OMet profile entry event
+o_means profile entry event =
     let type_and_cause = Decides-and _ _ (type_means entry.call_type event.forwarded) (cause_means entry.causes event.cause) in
-    let told = Decides-and _ _ (held_number_means entry.number event.destination) (Decides-and _ _ (basic_means entry.basic event.basic) type_and_cause) in (
+    let told = Decides-and _ _ (held_number_means profile entry.number event.destination) (Decides-and _ _ (basic_means entry.basic event.basic) type_and_cause) in (
       λ e. let parts = told.0 e in record { number = parts.0; basic = parts.1.0; call_type = parts.1.1.0; cause = parts.1.1.1 },
       λ met. told.1 (met.number, (met.basic, (met.call_type, met.cause))),
     )

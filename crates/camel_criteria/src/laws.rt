@@ -4,12 +4,14 @@ ghost use Rattle.camel_criteria.specs.Event.{OEventData};
 ghost use Rattle.camel_criteria.specs.Means.{NumberMetBy, OMet, TMet};
 ghost use Rattle.camel_criteria.specs.Met.{number_met, o_met, t_met};
 ghost use Rattle.camel_criteria.specs.declared.event.TEvent.{TEvent};
+ghost use Rattle.camel_tbcd.specs.declared.profile.Profile.{Profile};
 
 /// A law of the definitions: a destination number criterion is met, and an entry of criteria is met, exactly
 /// where the definitions in the words of TS 23.078 say so. It does nothing when it is called.
 pub fn criteria_mean()
-    ensures number { (criterion : NumberCriterionData) (destination : List ℕ)
-        → IsTrue (number_met criterion destination) ↔ NumberMetBy criterion.match_type criterion destination }
-    ensures o_entry { (entry : OCriteriaData) (event : OEventData) → IsTrue (o_met entry event) ↔ OMet entry event }
+    ensures number { (profile : Profile) (criterion : NumberCriterionData) (destination : List ℕ)
+        → IsTrue (number_met profile criterion destination) ↔ NumberMetBy profile criterion.match_type criterion destination }
+    ensures o_entry { (profile : Profile) (entry : OCriteriaData) (event : OEventData)
+        → IsTrue (o_met profile entry event) ↔ OMet profile entry event }
     ensures t_entry { (entry : TCriteriaData) (event : TEvent) → IsTrue (t_met entry event) ↔ TMet entry event }
 {}

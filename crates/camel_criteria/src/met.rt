@@ -13,14 +13,15 @@ use crate::event::{OEvent, TEvent};
 use crate::number_criterion::NumberCriterion;
 use crate::o_criteria::OCriteria;
 use crate::t_criteria::TCriteria;
-use camel_tbcd::{Address, IsdnAddress};
+use camel_tbcd::{Address, IsdnAddress, Profile};
 
 /// Whether an event meets each criterion that an entry of the O-CSI holds. One that holds none is met by every
-/// event. The detection points are not compared.
-pub fn o_met(entry: &OCriteria, event: &OEvent) -> bool
-    ensures { result ≡ o_met entry.now (o_event_data event.now) }
+/// event. The detection points are not compared. The profile says what of octet 1 a listed number and the destination
+/// have to have in common.
+pub fn o_met(entry: &OCriteria, event: &OEvent, profile: Profile) -> bool
+    ensures { result ≡ o_met profile entry.now (o_event_data event.now) }
 {
-    held_number_met(entry.number(), &event.destination)
+    held_number_met(entry.number(), &event.destination, profile)
         && basic_met(entry.basic(), event.basic)
         && type_met(entry.call_type(), event.forwarded)
         && cause_met(entry.causes(), event.cause)
@@ -34,38 +35,42 @@ pub fn t_met(entry: &TCriteria, event: &TEvent) -> bool
     basic_met(entry.basic(), event.basic) && cause_met(entry.causes(), event.cause)
 }
 
-fn held_number_met(criterion: Option<&NumberCriterion>, destination: &Address) -> bool
-    ensures { result ≡ held_number_met (option_copied criterion.entry) (octets destination.now) }
+fn held_number_met(
+    criterion: Option<&NumberCriterion>,
+    destination: &Address,
+    profile: Profile,
+) -> bool
+    ensures { result ≡ held_number_met profile (option_copied criterion.entry) (octets destination.now) }
 {
     match criterion {
-        Some(criterion) => number_met(criterion, destination),
+        Some(criterion) => number_met(criterion, destination, profile),
         None => true,
     }
 }
 
-fn number_met(criterion: &NumberCriterion, destination: &Address) -> bool
-    ensures { result ≡ number_met criterion.now (octets destination.now) }
+fn number_met(criterion: &NumberCriterion, destination: &Address, profile: Profile) -> bool
+    ensures { result ≡ number_met profile criterion.now (octets destination.now) }
 {
-    let listed = is_listed(criterion, destination);
+    let listed = is_listed(criterion, destination, profile);
     match criterion.match_type() {
         MatchType::Enabling => listed,
         MatchType::Inhibiting => !listed,
     }
 }
 
-fn is_listed(criterion: &NumberCriterion, destination: &Address) -> bool
-    ensures { result ≡ is_listed criterion.now (octets destination.now) }
+fn is_listed(criterion: &NumberCriterion, destination: &Address, profile: Profile) -> bool
+    ensures { result ≡ is_listed profile criterion.now (octets destination.now) }
 {
-    has_number(criterion.numbers(), destination)
+    has_number(criterion.numbers(), destination, profile)
         || has_length(criterion.lengths(), destination.digits().len())
 }
 
-fn has_number(numbers: &[IsdnAddress], destination: &Address) -> bool
-    ensures { result ≡ list_any (λ listed. number_matches listed (octets destination.now)) numbers.now }
+fn has_number(numbers: &[IsdnAddress], destination: &Address, profile: Profile) -> bool
+    ensures { result ≡ list_any (λ listed. number_matches profile listed (octets destination.now)) numbers.now }
 {
     numbers
         .iter()
-        .any(|listed| number_matches(listed, destination))
+        .any(|listed| number_matches(listed, destination, profile))
 }
 
 fn has_length(lengths: &[u8], count: usize) -> bool
@@ -74,11 +79,11 @@ fn has_length(lengths: &[u8], count: usize) -> bool
     lengths.iter().any(|listed| usize::from(*listed) == count)
 }
 
-fn number_matches(listed: &IsdnAddress, destination: &Address) -> bool
-    ensures { result ≡ number_matches listed.now (octets destination.now) }
+fn number_matches(listed: &IsdnAddress, destination: &Address, profile: Profile) -> bool
+    ensures { result ≡ number_matches profile listed.now (octets destination.now) }
 {
     let listed = listed.lend();
-    listed.nature() == destination.nature() && destination.digits().begins_with(&listed.digits())
+    listed.agrees(destination, profile) && destination.digits().begins_with(&listed.digits())
 }
 
 fn basic_met(listed: &[BasicService], call: BasicService) -> bool

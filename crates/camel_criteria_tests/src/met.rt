@@ -3,7 +3,7 @@ use camel_criteria::{
     TEvent, criteria_mean, o_met, t_met,
 };
 use camel_fixtures::{DESTINATION, TELEPHONY, numbers_of};
-use camel_tbcd::Address;
+use camel_tbcd::{Address, Profile};
 use std::alloc::Global;
 use std::process::Abort;
 use std::test::Fail;
@@ -13,8 +13,8 @@ type NumberCase = (&'static [&'static [u8]], &'static [u8], &'static [u8], bool)
 
 const ONE_TWO_THREE: &[u8] = &[0x91, 0x21, 0xf3];
 
-/// By TS 23.078 a listed number matches a destination of its nature that begins with its digits. Bit 8 of octet 1 and
-/// the numbering plan are not compared.
+/// By TS 23.078 a listed number matches a destination of its nature that begins with its digits. Bit 8 of octet 1 is not
+/// compared, and the numbering plan is not under profile 1.
 const ENABLING: [NumberCase; 9] = [
     (&[ONE_TWO_THREE], &[], &[0x91, 0x21, 0x43], true),
     (&[&[0x91, 0x21, 0x43]], &[], &[0x91, 0x21, 0xf3], false),
@@ -60,6 +60,7 @@ fn check_numbers(
     rt: &impl Abort,
     alloc: Global,
     match_type: MatchType,
+    profile: Profile,
     cases: &[NumberCase],
 ) -> Result<(), Fail> {
     for (listed, lengths, destination, wanted) in cases {
@@ -70,7 +71,11 @@ fn check_numbers(
             cause: None,
         };
         let entry = number_entry(alloc, match_type, listed, lengths)?;
-        assert_eq!(rt; o_met(&entry, &event), *wanted, "{entry:?} and {event:?}");
+        assert_eq!(rt;
+            o_met(&entry, &event, profile),
+            *wanted,
+            "{entry:?} and {event:?} under {profile:?}"
+        );
     }
     Ok(())
 }
@@ -78,8 +83,42 @@ fn check_numbers(
 #[test]
 fn meets_a_number_criterion(rt: HostRuntime) -> Result<(), Fail> {
     criteria_mean();
-    check_numbers(&rt, rt.alloc(), MatchType::Enabling, &ENABLING)?;
-    check_numbers(&rt, rt.alloc(), MatchType::Inhibiting, &INHIBITING)
+    let (alloc, profile) = (rt.alloc(), Profile::One);
+    check_numbers(&rt, alloc, MatchType::Enabling, profile, &ENABLING)?;
+    check_numbers(&rt, alloc, MatchType::Inhibiting, profile, &INHIBITING)
+}
+
+/// Under profile 2 a listed number also has the numbering plan of the destination. A length is of any plan.
+const ENABLING_WITH_PLANS: [NumberCase; 5] = [
+    (&[ONE_TWO_THREE], &[], &[0x98, 0x21, 0x43], false),
+    (&[ONE_TWO_THREE], &[], &[0x91, 0x21, 0x43], true),
+    (&[&[0x11, 0x21, 0xf3]], &[], &[0x91, 0x21, 0x43], true),
+    (&[&[0x91]], &[], &[0x98, 0x21, 0x43], false),
+    (&[], &[4], &[0x98, 0x21, 0x43], true),
+];
+
+const INHIBITING_WITH_PLANS: [NumberCase; 2] = [
+    (&[ONE_TWO_THREE], &[], &[0x98, 0x21, 0x43], true),
+    (&[ONE_TWO_THREE], &[], &[0x91, 0x21, 0x43], false),
+];
+
+#[test]
+fn meets_a_number_criterion_by_its_plan_under_profile_2(rt: HostRuntime) -> Result<(), Fail> {
+    let (alloc, profile) = (rt.alloc(), Profile::Two);
+    check_numbers(
+        &rt,
+        alloc,
+        MatchType::Enabling,
+        profile,
+        &ENABLING_WITH_PLANS,
+    )?;
+    check_numbers(
+        &rt,
+        alloc,
+        MatchType::Inhibiting,
+        profile,
+        &INHIBITING_WITH_PLANS,
+    )
 }
 
 const SPEECH: &[BasicService] = &[BasicService::Tele(0x10)];
@@ -123,7 +162,8 @@ fn check_o_entries(rt: &impl Abort, alloc: Global, cases: &[OCase]) -> Result<()
             cause: cause.and_then(Cause::new),
         };
         let entry = OCriteria::new(alloc, 4, None, codes, *call_type, causes)?;
-        assert_eq!(rt; o_met(&entry, &event), *wanted, "{entry:?} and {event:?}");
+        let met = o_met(&entry, &event, Profile::One);
+        assert_eq!(rt; met, *wanted, "{entry:?} and {event:?}");
     }
     Ok(())
 }

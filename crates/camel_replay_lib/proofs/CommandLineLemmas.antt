@@ -1,5 +1,6 @@
 -- What the matches of the command line hold is what its words say.
 use Rattle.std.proofs.Common.{◌≡◌, ◌≤◌, ◌∙◌, ◌⊎◌, ℕ, List, true, Option, Some, None, IfSome, Result, Ok, Err, IfErr, IsErrAnd, refl, ap, subst, inl, inr, codes}
+use Rattle.camel_tbcd.specs.declared.profile.Profile.{Profile}
 use Rattle.clap.proofs.OnLiterals.{clap_on_literals}
 use Rattle.clap.proofs.WalkLemmas.{first_value-rows}
 use Rattle.clap.specs.Words.{App, HasKind, HasMatchesOf, IsAmong, Kinds, Text, fault_of, first_of, first_value, found_of, is_simple, is_simple_and_free, kind_of}
@@ -7,8 +8,8 @@ use Rattle.clap.specs.declared.error.Error.{Error}
 use Rattle.clap.specs.declared.error.kind.ErrorKind.{ErrorKind}
 use Rattle.clap.specs.declared.error.kind.ErrorKind.TheVariants.{DisplayHelp, OutOfMemory}
 use Rattle.clap.specs.declared.parser.matches.ArgMatches.{ArgMatches}
-use Rattle.camel_replay_lib.specs.CommandLine.{AsksForHelp, GivesNumber, HoldsLimit, HoldsThreads, LimitOf, MayGiveNumber, ThreadsOf, option_text, the_program}
-use Rattle.camel_replay_lib.specs.Limits.{max_limit, max_threads}
+use Rattle.camel_replay_lib.specs.CommandLine.{AsksForHelp, GivesNumber, HoldsLimit, HoldsProfile, HoldsThreads, LimitOf, MayGiveNumber, ProfileOf, ThreadsOf, option_text, profile_number, the_program}
+use Rattle.camel_replay_lib.specs.Limits.{max_limit, max_profile, max_threads}
 
 -- so `clap` says which matches every list of words has
 program_is_simple : is_simple the_program ≡ true
@@ -24,6 +25,10 @@ LimitOf-held words matches limit has held = subst (λ (given : Option Text). Giv
 pub ThreadsOf-held : (words : List Text) (matches : ArgMatches) (threads : Option ℕ) → HasMatchesOf the_program words matches → HoldsThreads matches threads → ThreadsOf words threads
 ThreadsOf-held words matches threads has held =
     subst (λ (given : Option Text). MayGiveNumber max_threads given threads) (text_held (codes "threads") words matches has) held
+
+pub ProfileOf-held : (words : List Text) (matches : ArgMatches) (profile : Profile) → HasMatchesOf the_program words matches → HoldsProfile matches profile → ProfileOf words profile
+ProfileOf-held words matches profile has held =
+    subst (λ (given : Option Text). GivesNumber max_profile given (profile_number profile)) (text_held (codes "profile") words matches has) held
 
 -- what the words say is in its range
 pub threads_in_range : (words : List Text) (threads : Option ℕ) → ThreadsOf words threads → IfSome threads (λ threads. (1 ≤ threads) × (threads ≤ max_threads))

@@ -4,6 +4,7 @@ use Rattle.std.proofs.KnownBytes.{Appends-kept, Appends-nil, Appends-trans, Keep
 use Rattle.std.proofs.lemmas.List.{append-nil, length-append}
 use Rattle.std.proofs.Math.Seq.{take-append-add, take-append_seam}
 use Rattle.std.specs.Io.KnownBytes.{Appends, Keeps}
+use Rattle.camel_tbcd.specs.declared.profile.Profile.{Profile}
 use Rattle.camel_script.specs.Line.{line_text}
 use Rattle.camel_script.specs.Script.{FaultsAs, Gives, IsOnlyFault, ScriptData}
 use Rattle.camel_script.specs.ScriptFault.{script_fault_code}
@@ -18,24 +19,24 @@ use Rattle.camel_replay_lib.specs.declared.script_replay.ReplayFault.{ReplayFaul
 
 -- The lines of the records so far were written, and the script still gives the rest. `lines` is said of
 -- every list of further records, so that it gives the whole output and that of the records so far.
-pub record Progress (old new : Option (List ℕ)) (all : ScriptData) (limit number : ℕ) (store : StoreData) (rest : ScriptData) : Type 0 where
+pub record Progress (old new : Option (List ℕ)) (all : ScriptData) (profile : Profile) (limit number : ℕ) (store : StoreData) (rest : ScriptData) : Type 0 where
   pub answered : List Record
   pub written : List ℕ
   pub appends : Appends old new written
   pub records : all.records ≡ answered ++ rest.records
-  pub lines : (more : List Record) → output limit (answered ++ more) ≡ written ++ output_from store.limit store.updates more
+  pub lines : (more : List Record) → output profile limit (answered ++ more) ≡ written ++ output_from store.profile store.limit store.updates more
   pub fault : all.fault ≡ rest.fault
   pub count : number ≡ length answered + 1
 
 -- the same, where the octets of the script are known
-abbrev pub Progresses : Option (List ℕ) → Option (List ℕ) → Option ScriptData → ℕ → ℕ → StoreData → Option ScriptData → Type 0
-Progresses old new None limit number store left = Unit {0}
-Progresses old new (Some all) limit number store None = ⊥
-Progresses old new (Some all) limit number store (Some rest) = Progress old new all limit number store rest
+abbrev pub Progresses : Option (List ℕ) → Option (List ℕ) → Option ScriptData → Profile → ℕ → ℕ → StoreData → Option ScriptData → Type 0
+Progresses old new None profile limit number store left = Unit {0}
+Progresses old new (Some all) profile limit number store None = ⊥
+Progresses old new (Some all) profile limit number store (Some rest) = Progress old new all profile limit number store rest
 
-pub progress_at_first : (old : Option (List ℕ)) (known : Option ScriptData) (limit : ℕ) → Progresses old old known limit 1 (empty_store limit) known
-progress_at_first old None limit = tt
-progress_at_first old (Some all) limit =
+pub progress_at_first : (old : Option (List ℕ)) (known : Option ScriptData) (profile : Profile) (limit : ℕ) → Progresses old old known profile limit 1 (empty_store profile limit) known
+progress_at_first old None profile limit = tt
+progress_at_first old (Some all) profile limit =
     record {
       answered = [];
       written = [];
@@ -47,48 +48,48 @@ progress_at_first old (Some all) limit =
     }
 
 -- one more record was answered by its line
-pub progress_by_one : (old mid new : Option (List ℕ)) (known left next : Option ScriptData) (limit number : ℕ) (store : StoreData) (script_record : Record)
-    → Progresses old mid known limit number store left → Gives left next (Some script_record) → Appends mid new (line_text (line_of store.limit store.updates script_record))
-    → Progresses old new known limit (number + 1) (store_after store script_record) next
+pub progress_by_one : (old mid new : Option (List ℕ)) (known left next : Option ScriptData) (profile : Profile) (limit number : ℕ) (store : StoreData) (script_record : Record)
+    → Progresses old mid known profile limit number store left → Gives left next (Some script_record) → Appends mid new (line_text (line_of store.profile store.limit store.updates script_record))
+    → Progresses old new known profile limit (number + 1) (store_after store script_record) next
 unfolding output_from
-progress_by_one old mid new None left next limit number store script_record so_far gives line = tt
-progress_by_one old mid new (Some all) None next limit number store script_record so_far gives line = absurd so_far
-progress_by_one old mid new (Some all) (Some rest) None limit number store script_record so_far gives line = absurd gives
-progress_by_one old mid new (Some all) (Some rest) (Some next) limit number store script_record so_far gives line =
-    let text = line_text (line_of store.limit store.updates script_record) in
+progress_by_one old mid new None left next profile limit number store script_record so_far gives line = tt
+progress_by_one old mid new (Some all) None next profile limit number store script_record so_far gives line = absurd so_far
+progress_by_one old mid new (Some all) (Some rest) None profile limit number store script_record so_far gives line = absurd gives
+progress_by_one old mid new (Some all) (Some rest) (Some next) profile limit number store script_record so_far gives line =
+    let text = line_text (line_of store.profile store.limit store.updates script_record) in
     record {
       answered = so_far.answered ++ script_record ∷ [];
       written = so_far.written ++ text;
       appends = Appends-trans old mid new so_far.written text so_far.appends line;
       records = so_far.records ∙ rw gives.0 (sym (append_assoc so_far.answered (script_record ∷ []) next.records));
       lines = λ more.
-          ap (λ (records : List Record). output limit records) (append_assoc so_far.answered (script_record ∷ []) more) ∙ so_far.lines (script_record ∷ more)
-          ∙ sym (append_assoc so_far.written text (output_from store.limit (store_after store script_record).updates more));
+          ap (λ (records : List Record). output profile limit records) (append_assoc so_far.answered (script_record ∷ []) more) ∙ so_far.lines (script_record ∷ more)
+          ∙ sym (append_assoc so_far.written text (output_from store.profile store.limit (store_after store script_record).updates more));
       fault = so_far.fault ∙ gives.1;
       count =
           let one_more : length (so_far.answered ++ script_record ∷ []) ≡ length so_far.answered + 1 = length-append so_far.answered (script_record ∷ []) in
           omega (arith, so_far.count);
     }
 
-module _ {old new : Option (List ℕ)} {all rest : ScriptData} {limit number : ℕ} {store : StoreData} (so_far : Progress old new all limit number store rest) where
-  whole_output : output limit all.records ≡ so_far.written ++ output_from store.limit store.updates rest.records
-  whole_output = ap (λ (records : List Record). output limit records) so_far.records ∙ so_far.lines rest.records
+module _ {old new : Option (List ℕ)} {all rest : ScriptData} {profile : Profile} {limit number : ℕ} {store : StoreData} (so_far : Progress old new all profile limit number store rest) where
+  whole_output : output profile limit all.records ≡ so_far.written ++ output_from store.profile store.limit store.updates rest.records
+  whole_output = ap (λ (records : List Record). output profile limit records) so_far.records ∙ so_far.lines rest.records
 
-  written_output : output limit so_far.answered ≡ so_far.written
+  written_output : output profile limit so_far.answered ≡ so_far.written
   unfolding output_from
   written_output =
-      ap (λ (records : List Record). output limit records) (sym (append-nil so_far.answered)) ∙ so_far.lines [] ∙ append-nil so_far.written
+      ap (λ (records : List Record). output profile limit records) (sym (append-nil so_far.answered)) ∙ so_far.lines [] ∙ append-nil so_far.written
 
   -- where nothing is left, what was written is the whole output
-  output_at_end : rest.records ≡ [] → output limit all.records ≡ so_far.written
+  output_at_end : rest.records ≡ [] → output profile limit all.records ≡ so_far.written
   unfolding output_from
   output_at_end none = whole_output ∙ rw none (append-nil so_far.written)
 
   answered_at_end : rest.records ≡ [] → all.records ≡ so_far.answered
   answered_at_end none = so_far.records ∙ rw none (append-nil so_far.answered)
 
-  part_of_output : AppendsPart old new (output limit all.records)
-  part_of_output = (so_far.written, output_from store.limit store.updates rest.records, whole_output, so_far.appends)
+  part_of_output : AppendsPart old new (output profile limit all.records)
+  part_of_output = (so_far.written, output_from store.profile store.limit store.updates rest.records, whole_output, so_far.appends)
 
   records_before : take (length so_far.answered) all.records ≡ so_far.answered
   records_before = rw so_far.records (take-append_seam so_far.answered rest.records)
@@ -98,18 +99,18 @@ module _ {old new : Option (List ℕ)} {all rest : ScriptData} {limit number : �
 
   -- the output begins with what was written, and then a part of the next record's line
   part_with_line : (after : Option (List ℕ)) (script_record : Record) (more : List Record) → rest.records ≡ script_record ∷ more
-      → AppendsProperPart new after (line_text (line_of store.limit store.updates script_record)) → AppendsPart old after (output limit all.records)
+      → AppendsProperPart new after (line_text (line_of store.profile store.limit store.updates script_record)) → AppendsPart old after (output profile limit all.records)
   unfolding output_from
   part_with_line after script_record more next part =
       let front = part.0 in
       let back = part.1 in
-      let later = output_from store.limit (store_after store script_record).updates more in
-      let whole : output limit all.records ≡ (so_far.written ++ front) ++ (back ++ later) =
+      let later = output_from store.profile store.limit (store_after store script_record).updates more in
+      let whole : output profile limit all.records ≡ (so_far.written ++ front) ++ (back ++ later) =
       whole_output ∙ rw (next, part.2) (simp append_assoc) in
       (so_far.written ++ front, back ++ later, whole, Appends-trans old new after so_far.written front so_far.appends part.4)
 
   -- nothing more was written
-  stops_before_line : (after : Option (List ℕ)) → Keeps new after → StopsBeforeLine old after limit all.records (Some number)
+  stops_before_line : (after : Option (List ℕ)) → Keeps new after → StopsBeforeLine old after profile limit all.records (Some number)
   stops_before_line after same =
       record {
         count = length so_far.answered;
@@ -120,14 +121,14 @@ module _ {old new : Option (List ℕ)} {all rest : ScriptData} {limit number : �
 
   -- a part of the next record's line was written, but not all of it
   stops_in_line : (after : Option (List ℕ)) (script_record : Record) (more : List Record) → rest.records ≡ script_record ∷ more
-      → AppendsProperPart new after (line_text (line_of store.limit store.updates script_record)) → StopsInLine old after limit all.records (Some number)
+      → AppendsProperPart new after (line_text (line_of store.profile store.limit store.updates script_record)) → StopsInLine old after profile limit all.records (Some number)
   unfolding output_from
   stops_in_line after script_record more next part =
       let front = part.0 in
       let back = part.1 in
       let up_to : take (length so_far.answered + 1) all.records ≡ so_far.answered ++ take 1 rest.records =
       rw so_far.records (take-append-add so_far.answered rest.records 1) in
-      let line : output_from store.limit store.updates (take 1 rest.records) ≡ front ++ back = rw (next, part.2) (append-nil (front ++ back)) in
+      let line : output_from store.profile store.limit store.updates (take 1 rest.records) ≡ front ++ back = rw (next, part.2) (append-nil (front ++ back)) in
       let one_more : length rest.records ≡ length more + 1 = rw next (omega arith) in
       record {
         count = length so_far.answered;
@@ -147,22 +148,22 @@ pub not_of_kind : (P : Type 0) (is_kind : ℕ → Bool) (code other : ℕ) → c
 not_of_kind P is_kind code other same none is = absurd (let wrong = rw (same, none) at is in cc)
 
 -- the record could not be answered: memory was refused, or its line could not be written whole
-pub stopped_in_record : (known : Option ScriptData) (old mid new : Option (List ℕ)) (left next : Option ScriptData) (limit number : ℕ) (store : StoreData) (script_record : Record) (stop : ReplayFault)
-    → Progresses old mid known limit number store left → Gives left next (Some script_record)
-    → ((stop.code ≡ 102) × Keeps mid new) ⊎ ((stop.code ≡ 208) × AppendsProperPart mid new (line_text (line_of store.limit store.updates script_record)))
-    → stop.number ≡ Some number → IfSome known (λ given. Stops old new limit given stop)
-stopped_in_record None old mid new left next limit number store script_record stop so_far gives fails place = tt
-stopped_in_record (Some given) old mid new None next limit number store script_record stop so_far gives fails place = absurd so_far
-stopped_in_record (Some given) old mid new (Some rest) None limit number store script_record stop so_far gives fails place = absurd gives
-stopped_in_record (Some given) old mid new (Some rest) (Some next) limit number store script_record stop so_far gives (inl memory) place =
+pub stopped_in_record : (known : Option ScriptData) (old mid new : Option (List ℕ)) (left next : Option ScriptData) (profile : Profile) (limit number : ℕ) (store : StoreData) (script_record : Record) (stop : ReplayFault)
+    → Progresses old mid known profile limit number store left → Gives left next (Some script_record)
+    → ((stop.code ≡ 102) × Keeps mid new) ⊎ ((stop.code ≡ 208) × AppendsProperPart mid new (line_text (line_of store.profile store.limit store.updates script_record)))
+    → stop.number ≡ Some number → IfSome known (λ given. Stops old new profile limit given stop)
+stopped_in_record None old mid new left next profile limit number store script_record stop so_far gives fails place = tt
+stopped_in_record (Some given) old mid new None next profile limit number store script_record stop so_far gives fails place = absurd so_far
+stopped_in_record (Some given) old mid new (Some rest) None profile limit number store script_record stop so_far gives fails place = absurd gives
+stopped_in_record (Some given) old mid new (Some rest) (Some next) profile limit number store script_record stop so_far gives (inl memory) place =
     record {
       part =
-          (so_far.written, output_from store.limit store.updates rest.records, whole_output so_far, Appends-kept old mid new so_far.written so_far.appends memory.1);
+          (so_far.written, output_from store.profile store.limit store.updates rest.records, whole_output so_far, Appends-kept old mid new so_far.written so_far.appends memory.1);
       text = not_of_kind _ is_text_code stop.code 102 memory.0 refl;
       memory_or_read = λ _. rw place (stops_before_line so_far new memory.1);
       write = not_of_kind _ is_write_code stop.code 102 memory.0 refl;
     }
-stopped_in_record (Some given) old mid new (Some rest) (Some next) limit number store script_record stop so_far gives (inr write) place =
+stopped_in_record (Some given) old mid new (Some rest) (Some next) profile limit number store script_record stop so_far gives (inr write) place =
     record {
       part = part_with_line so_far new script_record next.records gives.0 write.1;
       text = not_of_kind _ is_text_code stop.code 208 write.0 refl;
@@ -171,9 +172,9 @@ stopped_in_record (Some given) old mid new (Some rest) (Some next) limit number 
     }
 
 -- the script has this fault next
-at_text_fault : (old new : Option (List ℕ)) (all rest : ScriptData) (limit number : ℕ) (store : StoreData) (e : ScriptFault) (stop : ReplayFault)
-    → Progress old new all limit number store rest → stop ≡ record { number = Some number; code = script_fault_code e } → IsOnlyFault e (Some rest) → StopsAtFault old new limit all stop
-at_text_fault old new all rest limit number store e stop so_far is only =
+at_text_fault : (old new : Option (List ℕ)) (all rest : ScriptData) (profile : Profile) (limit number : ℕ) (store : StoreData) (e : ScriptFault) (stop : ReplayFault)
+    → Progress old new all profile limit number store rest → stop ≡ record { number = Some number; code = script_fault_code e } → IsOnlyFault e (Some rest) → StopsAtFault old new profile limit all stop
+at_text_fault old new all rest profile limit number store e stop so_far is only =
     let none : rest.records ≡ [] = ap (λ (given : ScriptData). given.records) only in
     let last : rest.fault ≡ Some e = ap (λ (given : ScriptData). given.fault) only in
     record {
@@ -207,12 +208,12 @@ is_no_write_fault fault.TooManyRecords = refl
 is_no_write_fault fault.Failed = refl
 
 -- the script answered a fault
-pub stopped_by_script : (known : Option ScriptData) (old new : Option (List ℕ)) (left : Option ScriptData) (limit number : ℕ) (store : StoreData) (e : ScriptFault) (stop : ReplayFault)
-    → Progresses old new known limit number store left → stop ≡ record { number = Some number; code = script_fault_code e } → FaultsAs e left
-    → IfSome known (λ given. Stops old new limit given stop)
-stopped_by_script None old new left limit number store e stop so_far is faults = tt
-stopped_by_script (Some given) old new None limit number store e stop so_far is faults = absurd so_far
-stopped_by_script (Some given) old new (Some rest) limit number store e stop so_far is faults =
+pub stopped_by_script : (known : Option ScriptData) (old new : Option (List ℕ)) (left : Option ScriptData) (profile : Profile) (limit number : ℕ) (store : StoreData) (e : ScriptFault) (stop : ReplayFault)
+    → Progresses old new known profile limit number store left → stop ≡ record { number = Some number; code = script_fault_code e } → FaultsAs e left
+    → IfSome known (λ given. Stops old new profile limit given stop)
+stopped_by_script None old new left profile limit number store e stop so_far is faults = tt
+stopped_by_script (Some given) old new None profile limit number store e stop so_far is faults = absurd so_far
+stopped_by_script (Some given) old new (Some rest) profile limit number store e stop so_far is faults =
     let place : stop.number ≡ Some number = ap (λ (x : ReplayFault). x.number) is in
     let code : stop.code ≡ script_fault_code e = ap (λ (x : ReplayFault). x.code) is in
     record {
@@ -222,39 +223,39 @@ stopped_by_script (Some given) old new (Some rest) limit number store e stop so_
       write = write faults code;
     }
   where
-    text : FaultsAs e (Some rest) → stop.code ≡ script_fault_code e → IsTrue (is_text_code stop.code) → StopsAtFault old new limit given stop
+    text : FaultsAs e (Some rest) → stop.code ≡ script_fault_code e → IsTrue (is_text_code stop.code) → StopsAtFault old new profile limit given stop
     text (inl (inl memory)) code = not_of_kind _ is_text_code stop.code 102 (code ∙ ap script_fault_code memory) refl
     text (inl (inr read)) code = not_of_kind _ is_text_code stop.code 206 (code ∙ ap script_fault_code read) refl
-    text (inr only) code = λ _. at_text_fault old new given rest limit number store e stop so_far is only
+    text (inr only) code = λ _. at_text_fault old new given rest profile limit number store e stop so_far is only
 
     write : {P : Type 0} → FaultsAs e (Some rest) → stop.code ≡ script_fault_code e → IsTrue (is_write_code stop.code) → P
     write faults code = not_of_kind _ is_write_code stop.code (script_fault_code e) code (is_no_write_fault e)
 
 -- the end of the script
-pub wrote_all : (known : Option ScriptData) (old mid new : Option (List ℕ)) (left next : Option ScriptData) (limit number : ℕ) (store : StoreData)
-    → Progresses old mid known limit number store left → Gives left next None → Keeps mid new
-    → IfSome known (λ given. WritesAll old new limit given)
-wrote_all None old mid new left next limit number store so_far gives same = tt
-wrote_all (Some given) old mid new None next limit number store so_far gives same = absurd so_far
-wrote_all (Some given) old mid new (Some rest) next limit number store so_far gives same =
+pub wrote_all : (known : Option ScriptData) (old mid new : Option (List ℕ)) (left next : Option ScriptData) (profile : Profile) (limit number : ℕ) (store : StoreData)
+    → Progresses old mid known profile limit number store left → Gives left next None → Keeps mid new
+    → IfSome known (λ given. WritesAll old new profile limit given)
+wrote_all None old mid new left next profile limit number store so_far gives same = tt
+wrote_all (Some given) old mid new None next profile limit number store so_far gives same = absurd so_far
+wrote_all (Some given) old mid new (Some rest) next profile limit number store so_far gives same =
     let none : rest.records ≡ [] = ap (λ (given : ScriptData). given.records) gives in
     let last : rest.fault ≡ None = ap (λ (given : ScriptData). given.fault) gives in
     (so_far.fault ∙ last, rw (output_at_end so_far none) (Appends-kept old mid new so_far.written so_far.appends same))
 
 -- the flush behind the last line failed
-pub stopped_at_flush : (known : Option ScriptData) (old mid new : Option (List ℕ)) (left next : Option ScriptData) (limit number : ℕ) (store : StoreData) (stop : ReplayFault)
-    → Progresses old mid known limit number store left → Gives left next None → Keeps mid new → stop ≡ record { number = Some (number - 1); code = 208 }
-    → IfSome known (λ given. Stops old new limit given stop)
-stopped_at_flush None old mid new left next limit number store stop so_far gives same is = tt
-stopped_at_flush (Some given) old mid new None next limit number store stop so_far gives same is = absurd so_far
-stopped_at_flush (Some given) old mid new (Some rest) next limit number store stop so_far gives same is =
+pub stopped_at_flush : (known : Option ScriptData) (old mid new : Option (List ℕ)) (left next : Option ScriptData) (profile : Profile) (limit number : ℕ) (store : StoreData) (stop : ReplayFault)
+    → Progresses old mid known profile limit number store left → Gives left next None → Keeps mid new → stop ≡ record { number = Some (number - 1); code = 208 }
+    → IfSome known (λ given. Stops old new profile limit given stop)
+stopped_at_flush None old mid new left next profile limit number store stop so_far gives same is = tt
+stopped_at_flush (Some given) old mid new None next profile limit number store stop so_far gives same is = absurd so_far
+stopped_at_flush (Some given) old mid new (Some rest) next profile limit number store stop so_far gives same is =
     let none : rest.records ≡ [] = ap (λ (given : ScriptData). given.records) gives in
     let done = output_at_end so_far none in
     let appends = Appends-kept old mid new so_far.written so_far.appends same in
     let code : stop.code ≡ 208 = ap (λ (x : ReplayFault). x.code) is in
     let place : stop.number ≡ Some (number - 1) = ap (λ (x : ReplayFault). x.number) is in
     let count : number - 1 ≡ length given.records = rw (answered_at_end so_far none) (omega (arith, so_far.count)) in
-    let whole : WritesAll old new limit given = wrote_all (Some given) old mid new (Some rest) next limit number store so_far gives same in
+    let whole : WritesAll old new profile limit given = wrote_all (Some given) old mid new (Some rest) next profile limit number store so_far gives same in
     record {
       part = (so_far.written, [], done ∙ sym (append-nil so_far.written), appends);
       text = not_of_kind _ is_text_code stop.code 208 code refl;

@@ -1,6 +1,7 @@
 -- How far a script is read.
 use Rattle.std.proofs.Common.{◌≡◌, ◌∙◌, ℕ, ◌+◌, List, [], ◌∷◌, ◌++◌, length, Option, Some, None, IfSome, IsTrue, refl, sym, ap, inl, inr, append_assoc, append-nil}
-use Rattle.camel_script.specs.Script.{FaultsAs, Gives, IsOnlyFault, ScriptData}
+use Rattle.camel_tbcd.specs.declared.profile.Profile.{Profile}
+use Rattle.camel_script.specs.Script.{FaultsAs, Gives, ScriptData}
 use Rattle.camel_script.specs.ScriptFault.{script_fault_code}
 use Rattle.camel_script.specs.declared.record.Record.{Record}
 use Rattle.camel_script.specs.declared.script_fault.ScriptFault.{ScriptFault}
@@ -8,7 +9,7 @@ use Rattle.camel_replay_lib.proofs.Progress.{not_of_kind}
 use Rattle.camel_replay_lib.specs.ReplayFault.{is_text_code, is_write_code}
 use Rattle.camel_replay_lib.specs.ThreadsOutput.{IsThreadsOutput}
 use Rattle.camel_replay_lib.specs.ThreadsWritten.{IsAllOf, StopsReading, ThreadsStop}
-use Rattle.camel_replay_lib.specs.Written.{AppendsPart, NamesFault}
+use Rattle.camel_replay_lib.specs.Written.{AppendsPart}
 use Rattle.camel_replay_lib.specs.declared.script_replay.ReplayFault.{ReplayFault}
 
 -- These records were read, and the script still gives the rest, where its octets are known.
@@ -61,11 +62,11 @@ stopped_reading (Some all) (Some rest) records e stop so_far (inr only) is =
     record { text = λ _. record { fault = rw (so_far.1 ∙ last, is) refl; place = rw (all_read, is) refl } }
 
 -- the output could not be written
-pub stopped_by_write : {X : Type 0} (given : X → ScriptData) (known : Option X) (old new : Option (List ℕ)) (threads limit : ℕ) (records : List Record) (octets : List ℕ) (stop : ReplayFault)
-    → IfSome known (λ x. IsAllOf (given x) records) → IsThreadsOutput threads limit records octets → AppendsPart old new octets → stop ≡ record { number = None; code = 208 }
-    → IfSome known (λ x. ThreadsStop old new threads limit (given x) stop)
-stopped_by_write given None old new threads limit records octets stop all output part is = tt
-stopped_by_write given (Some x) old new threads limit records octets stop all output part is =
+pub stopped_by_write : {X : Type 0} (given : X → ScriptData) (known : Option X) (old new : Option (List ℕ)) (threads : ℕ) (profile : Profile) (limit : ℕ) (records : List Record) (octets : List ℕ) (stop : ReplayFault)
+    → IfSome known (λ x. IsAllOf (given x) records) → IsThreadsOutput threads profile limit records octets → AppendsPart old new octets → stop ≡ record { number = None; code = 208 }
+    → IfSome known (λ x. ThreadsStop old new threads profile limit (given x) stop)
+stopped_by_write given None old new threads profile limit records octets stop all output part is = tt
+stopped_by_write given (Some x) old new threads profile limit records octets stop all output part is =
     let code : stop.code ≡ 208 = ap (λ (f : ReplayFault). f.code) is in
     let write : IsTrue (is_write_code stop.code) = rw code refl in
     record {

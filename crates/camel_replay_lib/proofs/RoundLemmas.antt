@@ -1,10 +1,9 @@
 -- What the workers of a round give back, put together.
-use Rattle.std.proofs.Common.{◌≡◌, ◌∙◌, ℕ, ◌+◌, ◌≤◌, All, List, [], ◌∷◌, ◌++◌, Option, None, Some, IfOk, IfSome, IsSomeAnd, Result, Ok, Err, length, map, refl, sym, ap, subst, arith, length-append}
-use Rattle.std.proofs.lemmas.List.Elements.{All-cons, All-head, All-map, All-nil, All-tail}
+use Rattle.std.proofs.Common.{◌≡◌, ◌∙◌, ℕ, ◌+◌, ◌≤◌, All, List, [], ◌∷◌, ◌++◌, Option, None, Some, IfOk, IfSome, IsSomeAnd, Result, Ok, Err, length, map, refl, ap, arith, length-append}
+use Rattle.std.proofs.lemmas.List.Elements.{All-cons, All-head, All-nil, All-tail}
 use Rattle.std.specs.List.{AllZip}
 use Rattle.camel_audit.specs.declared.transcript.Entry.{Entry}
 use Rattle.camel_audit.specs.declared.transcript.Job.{Job}
-use Rattle.camel_rows.specs.Event.{EventData}
 use Rattle.camel_rows.specs.Front.{Extends}
 use Rattle.camel_rows.specs.declared.subscriber.update.Update.{Update}
 use Rattle.camel_rows.specs.declared.trigger.outcome.Answer.{Answer}
@@ -86,14 +85,14 @@ SessionsAnswer-numbered threads number calls (seat ∷ seats) numbered answered 
 )
 
 -- each front extends the one that the session was told of last
-pub reaches-told : (limit : ℕ) (seen : List Update) (told : List (List Update)) (receipt : List Update) (entries : List Entry) (fronts : List (List Update))
-    → Run limit seen (told ++ receipt ∷ []) (map event_in entries) (map answer_in entries) fronts → All (FrontIsAtLeast (length receipt)) entries
-reaches-told limit seen told receipt [] fronts run = All-nil (FrontIsAtLeast (length receipt))
-reaches-told limit seen told receipt (entry ∷ entries) [] run = absurd run
-reaches-told limit seen told receipt (entry ∷ entries) (front ∷ fronts) run =
+pub reaches-told : (store : StoreId) (seen : List Update) (told : List (List Update)) (receipt : List Update) (entries : List Entry) (fronts : List (List Update))
+    → Run store seen (told ++ receipt ∷ []) (map event_in entries) (map answer_in entries) fronts → All (FrontIsAtLeast (length receipt)) entries
+reaches-told store seen told receipt [] fronts run = All-nil (FrontIsAtLeast (length receipt))
+reaches-told store seen told receipt (entry ∷ entries) [] run = absurd run
+reaches-told store seen told receipt (entry ∷ entries) (front ∷ fronts) run =
     let reaches = longer front receipt (all_last front told receipt run.0.reaches) in
     let count : entry.answer.front ≡ length front = ap (λ (answer : Answer). answer.front) run.0.decided in
-    All-cons (FrontIsAtLeast (length receipt)) entry entries (rw count reaches) (reaches-told limit front told receipt entries fronts run.1)
+    All-cons (FrontIsAtLeast (length receipt)) entry entries (rw count reaches) (reaches-told store front told receipt entries fronts run.1)
 
 pub AreNumbered-push : (number : ℕ) (seats : List Seat) (seat : Seat) → AreNumbered number seats → seat.number ≡ number + length seats
     → AreNumbered number (seats ++ seat ∷ [])

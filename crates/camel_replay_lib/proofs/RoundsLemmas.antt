@@ -2,8 +2,8 @@
 use Rattle.std.proofs.Common.{◌≡◌, ◌∙◌, ℕ, ◌+◌, ◌%◌, ◌==◌, true, All, List, [], ◌∷◌, ◌++◌, length, map, refl, sym, ap, subst, arith, append_assoc, length-append}
 use Rattle.std.proofs.lemmas.List.Elements.{All-cons, All-nil, filter-append}
 use Rattle.std.specs.List.{AllZip, filter}
-use Rattle.camel_audit.specs.declared.transcript.Entry.{Entry}
 use Rattle.camel_audit.specs.declared.transcript.Job.{Job}
+use Rattle.camel_tbcd.specs.declared.profile.Profile.{Profile}
 use Rattle.camel_rows.specs.Store.{Updates, no_updates}
 use Rattle.camel_script.specs.declared.record.Record.{Record}
 use Rattle.camel_script.specs.declared.record.Record.TheVariants as script_record
@@ -30,24 +30,25 @@ number-more done segment first is =
     let count = length-append (jobs_from 0 done) (jobs_from first segment) in
     omega (arith, is, count, ap length split)
 
-module _ (limit : ℕ) (done segment : List Record) (before after : WriterData) (store : before.store.store.limit ≡ limit)
-    (so_far : WritesScript limit done before) (lines : WritesLines (filter is_no_call segment) before after) where
+module _ (profile : Profile) (limit : ℕ) (done segment : List Record) (before after : WriterData)
+    (store_profile : before.store.store.profile ≡ profile) (store_limit : before.store.store.limit ≡ limit)
+    (so_far : WritesScript profile limit done before) (lines : WritesLines (filter is_no_call segment) before after) where
   updates-more : after.store.updates ≡ updates_from limit before.store.updates segment
-  updates-more = lines.updates ∙ rw store (updates_from-no_calls limit before.store.updates segment)
+  updates-more = lines.updates ∙ rw store_limit (updates_from-no_calls limit before.store.updates segment)
 
   -- the writer has answered the records of a segment more
-  pub WritesScript-more : WritesScript limit (done ++ segment) after
+  pub WritesScript-more : WritesScript profile limit (done ++ segment) after
   WritesScript-more =
-      let text : after.output ≡ before.output ++ output_from limit before.store.updates (filter is_no_call segment) = lines.output ∙ rw store refl in
+      let text : after.output ≡ before.output ++ output_from profile limit before.store.updates (filter is_no_call segment) = lines.output ∙ rw (store_profile, store_limit) refl in
       let now : before.store.updates ≡ updates_from limit no_updates (filter is_no_call done) = so_far.updates ∙ sym (updates_from-no_calls limit no_updates done) in
       record {
         updates = updates-more ∙ ap (λ (u : Updates). updates_from limit u segment) so_far.updates ∙ sym (updates_from-append limit no_updates done segment);
         output_written =
             text
-            ∙ ap (λ (written : List ℕ). written ++ output_from limit before.store.updates (filter is_no_call segment)) so_far.output_written
-            ∙ ap (λ (u : Updates). output limit (filter is_no_call done) ++ output_from limit u (filter is_no_call segment)) now
-            ∙ sym (output_from-append limit no_updates (filter is_no_call done) (filter is_no_call segment))
-            ∙ ap (λ (rs : List Record). output limit rs) (sym (filter-append is_no_call done segment));
+            ∙ ap (λ (written : List ℕ). written ++ output_from profile limit before.store.updates (filter is_no_call segment)) so_far.output_written
+            ∙ ap (λ (u : Updates). output profile limit (filter is_no_call done) ++ output_from profile limit u (filter is_no_call segment)) now
+            ∙ sym (output_from-append profile limit no_updates (filter is_no_call done) (filter is_no_call segment))
+            ∙ ap (λ (rs : List Record). output profile limit rs) (sym (filter-append is_no_call done segment));
       }
 
   -- the calls of a segment have the publications before and after the round around them
@@ -95,9 +96,9 @@ IsOf-more store least most threads jobs seats served round all =
     AllZip-All (ServesSeat least most threads jobs) (IsOfStore store) (IsOfStore store) (λ x y is of. is.store ∙ of) seats served round all
 
 -- before the first round nothing is answered
-pub WritesScript-none : (limit : ℕ) (writer : WriterData) → IsNewWriter writer → WritesScript limit [] writer
+pub WritesScript-none : (profile : Profile) (limit : ℕ) (writer : WriterData) → IsNewWriter writer → WritesScript profile limit [] writer
 unfolding output_from
-WritesScript-none limit writer new = record { updates = new.updates; output_written = new.output }
+WritesScript-none profile limit writer new = record { updates = new.updates; output_written = new.output }
 
 pub all-no_calls : (records : List Record) → All (λ (asked : Record). is_no_call asked ≡ true) (filter is_no_call records)
 all-no_calls [] = All-nil (λ (asked : Record). is_no_call asked ≡ true)

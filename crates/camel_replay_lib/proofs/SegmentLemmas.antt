@@ -1,9 +1,10 @@
 -- Segments of a script, and the calls among its records.
-use Rattle.std.proofs.Common.{zero, suc, ◌≡◌, ◌≢◌, ◌∙◌, ℕ, ◌+◌, ◌≤◌, Bool, true, false, List, [], ◌∷◌, ◌++◌, Option, Some, None, length, map, refl, sym, ap, subst, arith, append_assoc, append-nil}
+use Rattle.std.proofs.Common.{suc, ◌≡◌, ◌≢◌, ◌∙◌, ℕ, ◌+◌, ◌≤◌, Bool, true, false, List, [], ◌∷◌, ◌++◌, length, map, refl, sym, ap, subst, arith, append_assoc, append-nil}
 use Rattle.std.proofs.Math.Bool.{cond}
 use Rattle.std.proofs.lemmas.List.Elements.{filter-append}
 use Rattle.std.specs.List.{filter}
 use Rattle.camel_audit.specs.declared.transcript.Job.{Job}
+use Rattle.camel_tbcd.specs.declared.profile.Profile.{Profile}
 use Rattle.camel_rows.specs.Event.{EventData}
 use Rattle.camel_rows.specs.Store.{Updates}
 use Rattle.camel_script.specs.Line.{line_text}
@@ -93,14 +94,14 @@ updates_from-no_calls limit updates (script_record.Publish ∷ xs) = updates_fro
 updates_from-no_calls limit updates (script_record.Call event ∷ xs) = updates_from-no_calls limit updates xs
 updates_from-no_calls limit updates (script_record.Refused why ∷ xs) = updates_from-no_calls limit updates xs
 
-pub output_from-append : (limit : ℕ) (updates : Updates) (xs ys : List Record)
-    → output_from limit updates (xs ++ ys) ≡ output_from limit updates xs ++ output_from limit (updates_from limit updates xs) ys
+pub output_from-append : (profile : Profile) (limit : ℕ) (updates : Updates) (xs ys : List Record)
+    → output_from profile limit updates (xs ++ ys) ≡ output_from profile limit updates xs ++ output_from profile limit (updates_from limit updates xs) ys
 unfolding output_from
-output_from-append limit updates [] ys = refl
-output_from-append limit updates (next ∷ xs) ys =
+output_from-append profile limit updates [] ys = refl
+output_from-append profile limit updates (next ∷ xs) ys =
     let after = updates_after limit updates next in
-    ap (λ text. line_text (line_of limit updates next) ++ text) (output_from-append limit after xs ys)
-    ∙ sym (append_assoc (line_text (line_of limit updates next)) (output_from limit after xs) (output_from limit (updates_from limit after xs) ys))
+    ap (λ text. line_text (line_of profile limit updates next) ++ text) (output_from-append profile limit after xs ys)
+    ∙ sym (append_assoc (line_text (line_of profile limit updates next)) (output_from profile limit after xs) (output_from profile limit (updates_from limit after xs) ys))
 
 pub was_split : {X : Type 0} (done left was all : List X) (next : X) → was ≡ next ∷ left → done ++ was ≡ all → (done ++ next ∷ []) ++ left ≡ all
 was_split done left was all next popped whole = append_assoc done (next ∷ []) left ∙ sym (ap (λ xs. done ++ xs) popped) ∙ whole

@@ -1,9 +1,9 @@
 -- The fields of a store of one thread go on to agree.
 use Rattle.std.proofs.Common.{◌≡◌, ◌∙◌, ℕ, List, [], ◌∷◌, ◌++◌, ◌<◌, length, get_or, drop, drop-cons, None, refl, sym, ap, subst, append_assoc}
-use Rattle.std.specs.FinMap as map
 use Rattle.camel_rows.proofs.AdmissionLemmas.{IsAdmissionOf-empty}
 use Rattle.camel_rows.proofs.StoreLemmas.{IsAdmissionOf-with_update, IsFront-empty, IsFront-with_update, admits, first-pending}
 use Rattle.camel_rows.proofs.UpdateLemmas.{records_from-append}
+use Rattle.camel_rows.specs.ByImsi.{value_of}
 use Rattle.camel_rows.specs.Admission.{AdmissionData, admission_refusal, no_admissions, with_admission}
 use Rattle.camel_rows.specs.CsisPresent.{csis_after}
 use Rattle.camel_rows.specs.Records.{RecordsData, no_records}
@@ -23,7 +23,7 @@ IsSound-new limit = record {
 -- those of a store with an accepted update more
 pub IsSound-accept : (admission next : AdmissionData) (records : RecordsData) (updates : Updates) (update : Update) → IsSound admission records updates
     → admission_refusal admission update ≡ None
-    → next ≡ with_admission admission (update_imsi update) (csis_after (map.get admission.directory (update_imsi update)) update)
+    → next ≡ with_admission admission (update_imsi update) (csis_after (value_of admission.directory (update_imsi update)) update)
     → IsSound next records (with_update updates update)
 IsSound-accept admission next records updates update sound accepted next_is =
     let taken = sym (admits admission admission.limit updates update sound.admits) ∙ accepted in

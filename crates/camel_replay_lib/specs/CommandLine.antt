@@ -1,12 +1,14 @@
 -- The options of the command line, as the crate `clap` reads them.
 use Rattle.std.specs.Prelude.{◌≡◌, ℕ, ◌≤◌, List, [], ◌∷◌, Option, Some, None, codes}
 use Rattle.std.specs.Str.Parse.{IsNumeral, digits_value, without_leading_plus}
+use Rattle.camel_tbcd.specs.declared.profile.Profile.{Profile}
+use Rattle.camel_tbcd.specs.declared.profile.Profile.TheVariants as profile
 use Rattle.clap.specs.Words.{App, IsAmong, Rule, Text, fault_of, first_of, first_value, found_of, matches_of, new_app}
 use Rattle.clap.specs.Words.{new_rule, with_rule}
 use Rattle.clap.specs.declared.builder.value_parser.ValueParser.TheVariants.{Unsigned}
 use Rattle.clap.specs.declared.error.kind.ErrorKind.TheVariants.{DisplayHelp}
 use Rattle.clap.specs.declared.parser.matches.ArgMatches.{ArgMatches}
-use Rattle.camel_replay_lib.specs.Limits.{max_limit, max_threads}
+use Rattle.camel_replay_lib.specs.Limits.{max_limit, max_profile, max_threads}
 
 -- The option `--limit` is a number from 1 to 1000000, and 1000000 where it is not given.
 abbrev pub limit_rule : Rule
@@ -25,8 +27,17 @@ threads_rule = record (new_rule (codes "threads")) {
   parser = Some (Unsigned 1 max_threads);
 }
 
+-- The option `--profile` is the number of a profile, and 1 where it is not given.
+abbrev pub profile_rule : Rule
+profile_rule = record (new_rule (codes "profile")) {
+  long = Some (codes "profile");
+  value_names = 1;
+  defaults = codes "1" ∷ [];
+  parser = Some (Unsigned 1 max_profile);
+}
+
 abbrev pub the_program : App
-the_program = with_rule (with_rule (new_app (codes "camel_replay")) limit_rule) threads_rule
+the_program = with_rule (with_rule (with_rule (new_app (codes "camel_replay")) limit_rule) threads_rule) profile_rule
 
 -- The text of an option that `clap` finds in these words, the name of the program first.
 abbrev pub option_text : Text → List Text → Option Text
@@ -56,6 +67,15 @@ LimitOf words limit = GivesNumber max_limit (option_text (codes "limit") words) 
 abbrev pub ThreadsOf : List Text → Option ℕ → Type 0
 ThreadsOf words threads = MayGiveNumber max_threads (option_text (codes "threads") words) threads
 
+-- The number of a profile.
+abbrev pub profile_number : Profile → ℕ
+profile_number profile.One = 1
+profile_number profile.Two = 2
+
+-- The profile of these words.
+abbrev pub ProfileOf : List Text → Profile → Type 0
+ProfileOf words chosen = GivesNumber max_profile (option_text (codes "profile") words) (profile_number chosen)
+
 -- These words ask for the help text: `clap` answers them by it.
 abbrev pub AsksForHelp : List Text → Type 0
 AsksForHelp words = IsAmong DisplayHelp (fault_of the_program words)
@@ -63,6 +83,10 @@ AsksForHelp words = IsAmong DisplayHelp (fault_of the_program words)
 -- The limit that matches hold.
 abbrev pub HoldsLimit : ArgMatches → ℕ → Type 0
 HoldsLimit matches limit = GivesNumber max_limit (first_value (found_of matches) (codes "limit")) limit
+
+-- The profile that matches hold.
+abbrev pub HoldsProfile : ArgMatches → Profile → Type 0
+HoldsProfile matches chosen = GivesNumber max_profile (first_value (found_of matches) (codes "profile")) (profile_number chosen)
 
 -- How many threads matches hold.
 abbrev pub HoldsThreads : ArgMatches → Option ℕ → Type 0

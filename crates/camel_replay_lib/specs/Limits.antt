@@ -12,3 +12,7 @@ max_limit = 1000000
 -- Calls are answered by at most so many threads.
 abbrev pub max_threads : ℕ
 max_threads = 16
+
+-- The profiles have the numbers from 1 to this one.
+abbrev pub max_profile : ℕ
+max_profile = 2

@@ -1,7 +1,8 @@
 -- What a run of the program leaves, by the words with which it was started.
 use Rattle.std.specs.Prelude.{◌≡◌, ◌≢◌, ◌⊎◌, ℕ, Bool, true, List, Option, Some, None, IfSome}
+use Rattle.camel_tbcd.specs.declared.profile.Profile.{Profile}
 use Rattle.camel_script.specs.Script.{ScriptData, script}
-use Rattle.camel_replay_lib.specs.CommandLine.{AsksForHelp, LimitOf, ThreadsOf}
+use Rattle.camel_replay_lib.specs.CommandLine.{AsksForHelp, LimitOf, ProfileOf, ThreadsOf}
 use Rattle.camel_replay_lib.specs.FaultLine.{fault_line, fault_line_at}
 use Rattle.camel_replay_lib.specs.Limits.{max_records}
 use Rattle.camel_replay_lib.specs.ReplayFault.{is_replay_code, is_threaded_replay_code}
@@ -37,16 +38,16 @@ pub record Promise : Type 1 where
   pub stop : Option (List ℕ) → Option (List ℕ) → ScriptData → ReplayFault → Type 0
   pub codes : ℕ → Bool
 
--- What a replay under this limit promises: on one thread alone, or with so many threads that answer calls.
-abbrev pub promise_of : Option ℕ → ℕ → Promise
-promise_of None limit = record {
-  whole = λ old new given. WritesAll old new limit given;
-  stop = λ old new given fault. Stops old new limit given fault;
+-- What a replay under this profile and limit promises: on one thread alone, or with so many threads that answer calls.
+abbrev pub promise_of : Option ℕ → Profile → ℕ → Promise
+promise_of None profile limit = record {
+  whole = λ old new given. WritesAll old new profile limit given;
+  stop = λ old new given fault. Stops old new profile limit given fault;
   codes = is_replay_code;
 }
-promise_of (Some threads) limit = record {
-  whole = λ old new given. WritesThreadsOutput old new threads limit given;
-  stop = λ old new given fault. ThreadsStop old new threads limit given fault;
+promise_of (Some threads) profile limit = record {
+  whole = λ old new given. WritesThreadsOutput old new threads profile limit given;
+  stop = λ old new given fault. ThreadsStop old new threads profile limit given fault;
   codes = is_threaded_replay_code;
 }
 
@@ -81,6 +82,7 @@ LacksMemory run = (run.status ≡ 1) × IsSilent run.out × ShowsPart run.err (f
 -- A run does one of four things.
 abbrev pub Runs : List (List ℕ) → RunData → Type 0
 Runs words run =
-    ((threads : Option ℕ) × (limit : ℕ) × ThreadsOf words threads × LimitOf words limit
-    × Replays (promise_of threads limit) run)
+    ((threads : Option ℕ) × (profile : Profile) × (limit : ℕ)
+    × ThreadsOf words threads × ProfileOf words profile × LimitOf words limit
+    × Replays (promise_of threads profile limit) run)
     ⊎ (Rejects run ⊎ ((AsksForHelp words × Helps run) ⊎ LacksMemory run))

@@ -22,7 +22,7 @@ IsOfStore store seat = seat.session.store ≡ store
 
 -- the writer has answered these records by their lines
 pub record WritesLines (records : List Record) (before after : WriterData) : Type 0 where
-  pub output : after.output ≡ before.output ++ output_from before.store.store.limit before.store.updates records
+  pub output : after.output ≡ before.output ++ output_from before.store.store.profile before.store.store.limit before.store.updates records
   pub updates : after.store.updates ≡ updates_from before.store.store.limit before.store.updates records
 
 abbrev pub FrontIsAtLeast : ℕ → Entry → Type 0

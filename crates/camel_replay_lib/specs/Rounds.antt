@@ -2,6 +2,7 @@
 use Rattle.std.specs.Prelude.{◌≡◌, ℕ, ◌+◌, List, [], ◌∷◌}
 use Rattle.std.specs.List.{AllZip, filter}
 use Rattle.camel_audit.specs.declared.transcript.Entry.{Entry}
+use Rattle.camel_tbcd.specs.declared.profile.Profile.{Profile}
 use Rattle.camel_rows.specs.Store.{no_updates}
 use Rattle.camel_script.specs.declared.record.Record.{Record}
 use Rattle.camel_vlr.specs.Session.{SessionData}
@@ -35,6 +36,6 @@ pub record IsNewWriter (writer : WriterData) : Type 0 where
   pub output : writer.output ≡ []
 
 -- the writer has answered those of these records that are no calls, and no others
-pub record WritesScript (limit : ℕ) (records : List Record) (writer : WriterData) : Type 0 where
+pub record WritesScript (profile : Profile) (limit : ℕ) (records : List Record) (writer : WriterData) : Type 0 where
   pub updates : writer.store.updates ≡ updates_from limit no_updates records
-  pub output_written : writer.output ≡ output limit (filter is_no_call records)
+  pub output_written : writer.output ≡ output profile limit (filter is_no_call records)

@@ -5,6 +5,7 @@ use Rattle.std.specs.Prelude.{◌≡◌, ℕ, ◌+◌, ◌%◌, ◌==◌, ◌≤
 use Rattle.std.specs.List.{AllZip, filter, flat_map}
 use Rattle.camel_audit.specs.Audit.{Passes}
 use Rattle.camel_audit.specs.declared.transcript.Entry.{Entry}
+use Rattle.camel_tbcd.specs.declared.profile.Profile.{Profile}
 use Rattle.camel_rows.specs.Event.{EventData}
 use Rattle.camel_rows.specs.Store.{Updates, accepted_updates, no_updates}
 use Rattle.camel_script.specs.Line.{line_text}
@@ -69,10 +70,10 @@ SessionsAnswer threads session calls (entries ∷ transcripts) =
     AllZip AnswersCall (calls_of threads session calls) entries × SessionsAnswer threads (session + 1) calls transcripts
 
 -- the sessions answer the calls of a script, and what is published in the end explains each answer
-pub record ThreadsAnswer (threads limit : ℕ) (records : List Record) (transcripts : List (List Entry)) : Type 0 where
+pub record ThreadsAnswer (threads : ℕ) (profile : Profile) (limit : ℕ) (records : List Record) (transcripts : List (List Entry)) : Type 0 where
   pub count : length transcripts ≡ threads
   pub each : SessionsAnswer threads 0 (script_calls limit records) transcripts
-  pub passes : Passes (published_after limit records) transcripts
+  pub passes : Passes profile (published_after limit records) transcripts
 
 -- the lines of the session of this number
 abbrev pub session_text : ℕ → List Entry → List ℕ
@@ -84,12 +85,12 @@ sessions_text session [] = []
 sessions_text session (entries ∷ transcripts) = session_text session entries ++ sessions_text (session + 1) transcripts
 
 -- the whole output
-abbrev pub threads_output : ℕ → List Record → List (List Entry) → List ℕ
-threads_output limit records transcripts =
-    output limit (filter is_no_call records) ++ sessions_text 0 transcripts ++ line_text line.AuditOk
+abbrev pub threads_output : Profile → ℕ → List Record → List (List Entry) → List ℕ
+threads_output profile limit records transcripts =
+    output profile limit (filter is_no_call records) ++ sessions_text 0 transcripts ++ line_text line.AuditOk
 
 -- these octets are the output of a replay with so many sessions
-pub record IsThreadsOutput (threads limit : ℕ) (records : List Record) (octets : List ℕ) : Type 0 where
+pub record IsThreadsOutput (threads : ℕ) (profile : Profile) (limit : ℕ) (records : List Record) (octets : List ℕ) : Type 0 where
   pub transcripts : List (List Entry)
-  pub answer : ThreadsAnswer threads limit records transcripts
-  pub text : octets ≡ threads_output limit records transcripts
+  pub answer : ThreadsAnswer threads profile limit records transcripts
+  pub text : octets ≡ threads_output profile limit records transcripts

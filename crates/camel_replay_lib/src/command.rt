@@ -15,6 +15,7 @@ use crate::command::words::options;
 use crate::script_replay::write::write_all;
 use crate::script_replay::{ReplayFault, replay};
 use crate::threaded_replay::replay_threads;
+use camel_tbcd::Profile;
 use camel_workers::OpenGate;
 use clap::error::ErrorKind;
 use std::alloc::{AllocError, Global};
@@ -29,6 +30,8 @@ pub struct Options {
     pub threads: Option<usize>,
     /// How many updates are accepted at most, 1 to 1000000.
     pub limit: u64,
+    /// The profile under which calls are decided.
+    pub profile: Profile,
 }
 
 /// The status of a run that ended with a fault.
@@ -84,7 +87,7 @@ fn run_replay<R: Threads + Wait, I: Read + Drop, W: Write, E: Write>(
 ) -> u8
     requires threads { IfSome options.threads (λ threads. (1 ≤ threads) × (threads ≤ max_threads)) }
     requires limit { (1 ≤ options.limit) × (options.limit ≤ max_limit) }
-    ensures { Replays (promise_of options.threads options.limit) (record {
+    ensures { Replays (promise_of options.threads options.profile options.limit) (record {
       input = I.remaining reader;
       out = record { before = W.contents out.old; after = W.contents out.new };
       err = record { before = E.contents err.old; after = E.contents err.new };
@@ -111,16 +114,25 @@ fn replay_as<R: Threads + Wait, I: Read + Drop, W: Write>(
     requires threads { IfSome options.threads (λ threads. (1 ≤ threads) × (threads ≤ max_threads)) }
     requires limit { (1 ≤ options.limit) × (options.limit ≤ max_limit) }
     ensures whole { OnOk result (IfSome (I.remaining reader) (λ bytes.
-        (promise_of options.threads options.limit).whole (W.contents out.old) (W.contents out.new)
+        (promise_of options.threads options.profile options.limit).whole (W.contents out.old) (W.contents out.new)
         (script bytes max_records))) }
     ensures stopped { IfErr result (λ fault. IfSome (I.remaining reader) (λ bytes.
-        (promise_of options.threads options.limit).stop (W.contents out.old) (W.contents out.new)
+        (promise_of options.threads options.profile options.limit).stop (W.contents out.old) (W.contents out.new)
         (script bytes max_records) fault)) }
-    ensures codes { IfErr result (λ fault. (promise_of options.threads options.limit).codes fault.code ≡ true) }
+    ensures codes { IfErr result (λ fault. (promise_of options.threads options.profile options.limit).codes fault.code ≡ true) }
 {
     match options.threads {
-        None => replay(alloc, reader, out, options.limit),
-        Some(threads) => replay_threads(rt, alloc, reader, out, threads, options.limit, &OpenGate),
+        None => replay(alloc, reader, out, options.limit, options.profile),
+        Some(threads) => replay_threads(
+            rt,
+            alloc,
+            reader,
+            out,
+            threads,
+            options.limit,
+            options.profile,
+            &OpenGate,
+        ),
     }
 }
 

@@ -18,6 +18,7 @@ pub(crate) mod write;
 use crate::script_replay::store::Store;
 use crate::script_replay::write::write_all;
 use camel_script::{Record, Script, push_line};
+use camel_tbcd::Profile;
 use std::alloc::Global;
 use std::io::{Read, Write};
 use std::mem;
@@ -42,8 +43,8 @@ pub struct ReplayFault {
 
 /// Replays a script on one thread: the line of a record is written before the next record is read.
 ///
-/// At most `limit` updates are accepted. Ok: the script has no fault, and its whole output was written, with nothing
-/// else. After a fault a part of the output was written, from its beginning, and the fault names a record:
+/// At most `limit` updates are accepted, and calls are decided under the profile. Ok: the script has no fault, and its
+/// whole output was written, with nothing else. After a fault a part of the output was written, from its beginning, and the fault names a record:
 ///
 /// | Fault | Its number | What was written |
 /// |---|---|---|
@@ -62,18 +63,19 @@ pub fn replay<R: Read + Drop, W: Write>(
     reader: R,
     writer: &mut W,
     limit: u64,
+    profile: Profile,
 ) -> Result<(), ReplayFault>
     ensures whole { OnOk result (IfSome (R.remaining reader) (λ bytes.
-        WritesAll (W.contents writer.old) (W.contents writer.new) limit (script bytes max_records))) }
+        WritesAll (W.contents writer.old) (W.contents writer.new) profile limit (script bytes max_records))) }
     ensures stopped { IfErr result (λ fault. IfSome (R.remaining reader) (λ bytes.
-        Stops (W.contents writer.old) (W.contents writer.new) limit (script bytes max_records) fault)) }
+        Stops (W.contents writer.old) (W.contents writer.new) profile limit (script bytes max_records) fault)) }
     ensures codes { IfErr result (λ fault. is_replay_code fault.code ≡ true) }
 {
     let mut script = match Script::new(alloc, reader, MAX_RECORDS) {
         Ok(script) => script,
         Err(refusal) => return Err(fault_at(1, refusal.code())),
     };
-    let mut store = Store::new(alloc, limit);
+    let mut store = Store::new(alloc, limit, profile);
     let ended = answer_all(alloc, &mut script, &mut store, writer);
     // The process ends next, and this memory goes with it at once.
     mem::forget(store);
@@ -88,12 +90,12 @@ fn answer_all<R: Read + Drop, W: Write>(
     writer: &mut W,
 ) -> Result<(), ReplayFault>
     requires reads { script.old ≢ Failed }
-    requires empty { store.old ≡ empty_store store.old.limit }
+    requires empty { store.old ≡ empty_store store.old.profile store.old.limit }
     requires room { records_left script.old ≤ max_records }
     ensures whole { OnOk result (IfSome (still_gives script.old) (λ given.
-        WritesAll (W.contents writer.old) (W.contents writer.new) store.old.limit given)) }
+        WritesAll (W.contents writer.old) (W.contents writer.new) store.old.profile store.old.limit given)) }
     ensures stopped { IfErr result (λ fault. IfSome (still_gives script.old) (λ given.
-        Stops (W.contents writer.old) (W.contents writer.new) store.old.limit given fault)) }
+        Stops (W.contents writer.old) (W.contents writer.new) store.old.profile store.old.limit given fault)) }
     ensures codes { IfErr result (λ fault. is_replay_code fault.code ≡ true) }
 {
     let mut number = 1;
@@ -135,11 +137,11 @@ fn answer<W: Write>(
     script_record: Record,
 ) -> Result<(), u16>
     ensures line { OnOk result (Appends (W.contents writer.old) (W.contents writer.new)
-        (line_text (line_of store.old.limit store.old.updates script_record))) }
+        (line_text (line_of store.old.profile store.old.limit store.old.updates script_record))) }
     ensures after { OnOk result (store.new ≡ store_after store.old script_record) }
     ensures stopped { IfErr result (λ code. ((code ≡ 102) × Keeps (W.contents writer.old) (W.contents writer.new))
         ⊎ ((code ≡ 208) × AppendsProperPart (W.contents writer.old) (W.contents writer.new)
-        (line_text (line_of store.old.limit store.old.updates script_record)))) }
+        (line_text (line_of store.old.profile store.old.limit store.old.updates script_record)))) }
 {
     let line = match store.answer(script_record) {
         Ok(line) => line,

@@ -34,6 +34,7 @@ use crate::threaded_replay::threads_fault::ThreadsFault;
 use crate::threaded_replay::writer::Writer;
 use camel_audit::{Transcript, audit};
 use camel_script::{Line, Record, push_line};
+use camel_tbcd::Profile;
 use camel_vlr::{Session, Vlr};
 use camel_workers::Gate;
 use std::alloc::{AllocError, Global};
@@ -48,7 +49,8 @@ use std::thread::Threads;
 /// over the script, and the session `call % threads` answers a call. A session is told of the last publication before the round, and may see that of the
 /// round.
 ///
-/// At most `limit` updates (1 to 1000000) are accepted. The gate is asked before each call and before each publication.
+/// At most `limit` updates (1 to 1000000) are accepted, and calls are decided under the profile. The gate is asked before
+/// each call and before each publication.
 ///
 /// Ok: the script has no fault, and its whole output was written, with nothing else: the lines of the records that are no
 /// calls, the lines of the calls, session by session, and `audit ok`, since [`camel_audit::audit`] has found that the
@@ -76,18 +78,19 @@ pub fn replay_threads<I: Read + Drop, O: Write, G: Gate, R: Threads + Wait>(
     writer: &mut O,
     threads: usize,
     limit: u64,
+    profile: Profile,
     gate: &G,
 ) -> Result<(), ReplayFault>
     requires threads { (1 ≤ threads) × (threads ≤ max_threads) }
     requires limit { (1 ≤ limit) × (limit ≤ max_limit) }
     ensures whole { OnOk result (IfSome (I.remaining reader) (λ bytes.
-        WritesThreadsOutput (O.contents writer.old) (O.contents writer.new) threads limit (script bytes max_records))) }
+        WritesThreadsOutput (O.contents writer.old) (O.contents writer.new) threads profile limit (script bytes max_records))) }
     ensures stopped { IfErr result (λ fault. IfSome (I.remaining reader) (λ bytes.
-        ThreadsStop (O.contents writer.old) (O.contents writer.new) threads limit (script bytes max_records) fault)) }
+        ThreadsStop (O.contents writer.old) (O.contents writer.new) threads profile limit (script bytes max_records) fault)) }
     ensures codes { IfErr result (λ fault. is_threaded_replay_code fault.code ≡ true) }
 {
     let records = read_script(alloc, reader)?;
-    let output = match answer_script(rt, alloc, records, threads, limit, gate) {
+    let output = match answer_script(rt, alloc, records, threads, limit, profile, gate) {
         Ok(output) => output,
         Err(fault) => return Err(fault_of_run(fault.code())),
     };
@@ -123,13 +126,14 @@ fn answer_script<G: Gate, R: Threads + Wait>(
     records: VecDeque<Record>,
     threads: usize,
     limit: u64,
+    profile: Profile,
     gate: &G,
 ) -> Result<Vec<u8>, ThreadsFault>
     requires threads { (1 ≤ threads) × (threads ≤ max_threads) }
     requires limit { (1 ≤ limit) × (limit ≤ max_limit) }
-    ensures { IfOk result (λ output. IsThreadsOutput threads limit records.items output.items) }
+    ensures { IfOk result (λ output. IsThreadsOutput threads profile limit records.items output.items) }
 {
-    let (vlr, sessions) = Vlr::open(rt, alloc, threads, limit)?;
+    let (vlr, sessions) = Vlr::open(rt, alloc, threads, limit, profile)?;
     let writer = Writer {
         store: OpenStore { vlr, rt },
         accepted: Vec::new(alloc),
@@ -138,7 +142,7 @@ fn answer_script<G: Gate, R: Threads + Wait>(
     let seats = seats_of(alloc, sessions)?;
     let (writer, seats) = run_rounds(rt, alloc, writer, seats, records, gate)?;
     let transcripts = transcripts_of(alloc, seats)?;
-    audit(alloc, writer.published(), &transcripts)?;
+    audit(alloc, writer.published(), &transcripts, profile)?;
     finish_output(alloc, writer, &transcripts)
 }
 
@@ -207,7 +211,7 @@ fn run_rounds<G: Gate, R: Threads + Wait, W: Wait + Drop>(
     requires empty { All HasNoEntries seats.items }
     requires same_store { All (IsOfStore writer.store.store) seats.items }
     requires new { IsNewWriter writer }
-    ensures writer { IfOk result (λ done. WritesScript writer.store.store.limit records.items done.0) }
+    ensures writer { IfOk result (λ done. WritesScript writer.store.store.profile writer.store.store.limit records.items done.0) }
     ensures numbered { IfOk result (λ done. AreNumbered 0 done.1.items) }
     ensures count { IfOk result (λ done. length done.1.items ≡ length seats.items) }
     ensures answered { IfOk result (λ done.

@@ -1,5 +1,6 @@
 use crate::fixtures::words;
 use camel_replay_lib::options;
+use camel_tbcd::Profile;
 use std::alloc::Global;
 use std::test::Fail;
 
@@ -61,6 +62,33 @@ fn threads_read(alloc: Global, given: &[&str]) -> Result<Option<Option<usize>>, 
 fn reads_the_number_of_threads_as_it_may_stand(rt: HostRuntime) -> Result<(), Fail> {
     for (given, threads) in &THREADS {
         assert_eq!(rt; threads_read(rt.alloc(), given)?, *threads, "{given:?}");
+    }
+    Ok(())
+}
+
+// Options, and the profile that is read of them; None where they are rejected.
+const PROFILES: [(&[&str], Option<Profile>); 8] = [
+    (&[], Some(Profile::One)),
+    (&["--profile", "1"], Some(Profile::One)),
+    (&["--profile", "2"], Some(Profile::Two)),
+    (&["--threads", "2", "--profile=02"], Some(Profile::Two)),
+    (&["--profile", "0"], None),
+    (&["--profile", "3"], None),
+    (&["--profile", "two"], None),
+    (&["--profile"], None),
+];
+
+fn profile_read(alloc: Global, given: &[&str]) -> Result<Option<Profile>, Fail> {
+    match options(alloc, &words(alloc, given)?) {
+        Ok(options) => Ok(Some(options.profile)),
+        Err(_) => Ok(None),
+    }
+}
+
+#[test]
+fn reads_the_profile_as_it_may_stand(rt: HostRuntime) -> Result<(), Fail> {
+    for (given, profile) in &PROFILES {
+        assert_eq!(rt; profile_read(rt.alloc(), given)?, *profile, "{given:?}");
     }
     Ok(())
 }

@@ -1,5 +1,6 @@
 use crate::fixtures::{FIRST_CALL, FIRST_CALL_OUTPUT, words};
 use camel_replay_lib::{ReplayFault, replay, run};
+use camel_tbcd::Profile;
 use std::io;
 use std::io::{ErrorKind, Read, Write};
 use std::test::Fail;
@@ -96,7 +97,7 @@ fn a_failed_read_ends_the_run(rt: HostRuntime) {
             calls,
         };
         let mut out = Vec::new(rt.alloc());
-        let ended = replay(rt.alloc(), reader, &mut out, 10);
+        let ended = replay(rt.alloc(), reader, &mut out, 10, Profile::One);
         let fault = ReplayFault {
             number: Some(number),
             code: 206,
@@ -173,7 +174,13 @@ fn a_failed_write_ends_the_run(rt: HostRuntime) {
             most,
             then,
         };
-        let ended = replay(rt.alloc(), FIRST_CALL.as_bytes(), &mut out, 10);
+        let ended = replay(
+            rt.alloc(),
+            FIRST_CALL.as_bytes(),
+            &mut out,
+            10,
+            Profile::One,
+        );
         assert_eq!(rt; ended.err(), failed_write(number));
         assert_eq!(rt; out.taken.len(), written);
         assert!(rt;
@@ -228,6 +235,6 @@ fn a_fault_of_an_empty_script_is_that_of_its_flush(rt: HostRuntime) {
         most: 0,
         then: Then::FailsToFlush,
     };
-    let ended = replay(rt.alloc(), "".as_bytes(), &mut out, 10);
+    let ended = replay(rt.alloc(), "".as_bytes(), &mut out, 10, Profile::One);
     assert_eq!(rt; ended.err(), failed_write(Some(0)));
 }

@@ -1,4 +1,5 @@
 use camel_replay_lib::{ReplayFault, replay};
+use camel_tbcd::Profile;
 use std::alloc::Global;
 use std::test::Fail;
 
@@ -43,7 +44,7 @@ fn ends_with_the_fault_of_a_record(rt: HostRuntime) -> Result<(), Fail> {
     for (record, code) in FAULTS {
         let script = script_with(rt.alloc(), record)?;
         let mut out = Vec::new(rt.alloc());
-        let ended = replay(rt.alloc(), script.as_bytes(), &mut out, 10);
+        let ended = replay(rt.alloc(), script.as_bytes(), &mut out, 10, Profile::One);
         let fault = ReplayFault {
             number: Some(2),
             code,

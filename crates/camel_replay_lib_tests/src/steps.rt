@@ -1,4 +1,5 @@
 use camel_replay_lib::replay;
+use camel_tbcd::Profile;
 use std::cell::Cell;
 use std::io;
 use std::io::{ErrorKind, Read, Write};
@@ -72,7 +73,7 @@ fn writes_each_line_before_the_next_record_is_read(rt: HostRuntime) -> Result<()
         taken: Vec::new(rt.alloc()),
         written: &written,
     };
-    assert!(rt; replay(rt.alloc(), reader, &mut out, 10).is_ok());
+    assert!(rt; replay(rt.alloc(), reader, &mut out, 10, Profile::One).is_ok());
     assert_eq!(rt; out.taken.as_slice(), OUTPUT.as_bytes());
     Ok(())
 }
@@ -86,7 +87,7 @@ fn fails_where_a_line_is_not_written(rt: HostRuntime) {
         written: &written,
     };
     let mut out = Vec::new(rt.alloc());
-    let ended = replay(rt.alloc(), reader, &mut out, 10);
+    let ended = replay(rt.alloc(), reader, &mut out, 10, Profile::One);
     assert_eq!(rt; ended.err().map(|fault| fault.code), Some(206));
     assert_eq!(rt; out.as_slice(), "accepted 1\n".as_bytes());
 }

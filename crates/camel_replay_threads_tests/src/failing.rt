@@ -1,6 +1,7 @@
 use crate::gates::{NoCall, NoPublication};
 use crate::runs::{BUSY, REPEATS, ROW_ONE, Ran, is_repeated, run};
 use camel_replay_lib::{MAX_LIMIT, ReplayFault, replay_threads};
+use camel_tbcd::Profile;
 use camel_workers::OpenGate;
 use std::alloc::Global;
 use std::io;
@@ -66,6 +67,7 @@ fn ends_where_the_script_cannot_be_read(rt: HostRuntime) {
         &mut output,
         2,
         MAX_LIMIT,
+        Profile::One,
         &OpenGate,
     );
     let ran = Ran {
@@ -98,5 +100,15 @@ fn failed_write<R: Threads + Wait>(rt: &R, alloc: Global) -> Option<ReplayFault>
 
 fn failed_write_once<R: Threads + Wait>(rt: &R, alloc: Global) -> Option<ReplayFault> {
     let script = ROW_ONE.as_bytes();
-    replay_threads(rt, alloc, script, &mut Failing, 2, MAX_LIMIT, &OpenGate).err()
+    let ended = replay_threads(
+        rt,
+        alloc,
+        script,
+        &mut Failing,
+        2,
+        MAX_LIMIT,
+        Profile::One,
+        &OpenGate,
+    );
+    ended.err()
 }

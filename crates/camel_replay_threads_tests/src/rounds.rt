@@ -2,6 +2,7 @@ ghost use Rattle.std.specs.Prelude.{◌≤◌};
 
 use crate::runs::{BUSY, run};
 use camel_replay_lib::{MAX_LIMIT, MAX_THREADS, replay};
+use camel_tbcd::Profile;
 use camel_workers::OpenGate;
 use std::alloc::Global;
 use std::process::Abort;
@@ -134,7 +135,7 @@ fn script_of(alloc: Global, order: [usize; 3]) -> Result<String, Fail> {
 // What the one-thread replay of a script writes.
 fn replayed(rt: &impl Abort, alloc: Global, script: &str) -> Result<Vec<u8>, Fail> {
     let mut output = Vec::new(alloc);
-    let ended = replay(alloc, script.as_bytes(), &mut output, MAX_LIMIT);
+    let ended = replay(alloc, script.as_bytes(), &mut output, MAX_LIMIT, Profile::One);
     assert_eq!(rt; ended.err(), None);
     Ok(output)
 }

@@ -4,6 +4,7 @@ ghost use Rattle.std.specs.Prelude.{◌≤◌};
 
 use crate::gates::Fresh;
 use camel_replay_lib::{MAX_LIMIT, MAX_THREADS, ReplayFault, replay_threads};
+use camel_tbcd::Profile;
 use std::alloc::Global;
 use std::sync::Wait;
 use std::thread::Threads;
@@ -62,7 +63,16 @@ fn run_once<G: Fresh, R: Threads + Wait>(
 {
     let gate = G::fresh();
     let mut output = Vec::new(alloc);
-    let ended = replay_threads(rt, alloc, script, &mut output, threads, limit, &gate);
+    let ended = replay_threads(
+        rt,
+        alloc,
+        script,
+        &mut output,
+        threads,
+        limit,
+        Profile::One,
+        &gate,
+    );
     Ran {
         fault: ended.err(),
         output,

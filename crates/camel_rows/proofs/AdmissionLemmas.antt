@@ -4,7 +4,7 @@ use Rattle.std.proofs.Common.{◌≡◌, ◌+◌, ◌-◌, ◌==◌, ℕ, List, 
 use Rattle.std.specs.FinMap as map
 use Rattle.camel_rows.proofs.DirectoryLemmas.{IsDirectoryOf-after, IsDirectoryOf-empty, put_back-same, same_refusal}
 use Rattle.camel_rows.specs.Admission.{AdmissionData, IsAdmissionOf, admission_refusal, no_admissions, refusal_or_full, with_admission}
-use Rattle.camel_rows.specs.ByImsi.{with_value}
+use Rattle.camel_rows.specs.ByImsi.{value_of, with_value}
 use Rattle.camel_rows.specs.CsisPresent.{csis_after}
 use Rattle.camel_rows.specs.Records.{RecordsData, no_records}
 use Rattle.camel_rows.specs.Update.{records_after, refusal, update_imsi}
@@ -18,7 +18,7 @@ admission-refusal admission limit count m update is =
 
 pub IsAdmissionOf-after : (admission : AdmissionData) (limit count : ℕ) (m : RecordsData) (update : Update) → IsAdmissionOf admission limit count m
     → refusal m update ≡ None
-    → IsAdmissionOf (with_admission admission (update_imsi update) (csis_after (map.get admission.directory (update_imsi update)) update)) limit (count + 1) (records_after m update)
+    → IsAdmissionOf (with_admission admission (update_imsi update) (csis_after (value_of admission.directory (update_imsi update)) update)) limit (count + 1) (records_after m update)
 IsAdmissionOf-after admission limit count m update is accepted = record {
   same_limit = is.same_limit;
   same_count = ap (λ n. n + 1) is.same_count;
@@ -30,7 +30,7 @@ IsAdmissionOf-empty limit = record { same_limit = refl; same_count = refl; direc
 
 -- an acceptance that is taken back leaves the admission before it
 pub taken_back : (admission : AdmissionData) (imsi : List ℕ) (csis : CsisPresent)
-    → record (with_admission admission imsi (Some csis)) {
+    → record (with_admission admission (Some imsi) (Some csis)) {
       accepted = admission.accepted + 1 - 1;
       directory = with_value (map.insert admission.directory imsi csis) imsi (map.get admission.directory imsi);
     } ≡ admission

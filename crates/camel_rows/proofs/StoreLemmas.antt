@@ -5,8 +5,8 @@ use Rattle.std.proofs.lemmas.List.{length-append}
 use Rattle.camel_criteria.specs.declared.refusal.Refusal.{Refusal}
 use Rattle.camel_rows.proofs.AdmissionLemmas.{IsAdmissionOf-after, admission-refusal}
 use Rattle.camel_rows.proofs.UpdateLemmas.{AcceptedFrom-prefix, AcceptedFrom-push, records_from-append}
-use Rattle.std.specs.FinMap as map
 use Rattle.camel_rows.specs.Admission.{AdmissionData, admission_refusal, refusal_or_full, with_admission}
+use Rattle.camel_rows.specs.ByImsi.{value_of}
 use Rattle.camel_rows.specs.CsisPresent.{csis_after}
 use Rattle.camel_rows.specs.Front.{IsFront}
 use Rattle.camel_rows.specs.Records.{no_records}
@@ -64,7 +64,7 @@ admits admission limit updates update is = admission-refusal admission limit (le
 -- an admission of the accepted updates, with one accepted update more, is that of the updates with it
 pub IsAdmissionOf-with_update : (admission : AdmissionData) (limit : ℕ) (updates : Updates) (update : Update)
     → IsAdmissionOfUpdates admission limit updates → store_refusal limit updates update ≡ None
-    → IsAdmissionOfUpdates (with_admission admission (update_imsi update) (csis_after (map.get admission.directory (update_imsi update)) update)) limit
+    → IsAdmissionOfUpdates (with_admission admission (update_imsi update) (csis_after (value_of admission.directory (update_imsi update)) update)) limit
     (with_update updates update)
 IsAdmissionOf-with_update admission limit updates update is e =
     let accepted = not_refused (refusal (records_of (accepted_updates updates)) update) (length (accepted_updates updates) == limit) e in

@@ -1,33 +1,44 @@
 -- Updates, one and in a list.
-use Rattle.std.proofs.Common.{◌≡◌, ◌≢◌, ◌∙◌, ℕ, List, [], ◌∷◌, ◌++◌, Option, Some, None, is_some, refl, ap}
+use Rattle.std.proofs.Common.{◌≡◌, ◌∙◌, ℕ, true, false, List, [], ◌∷◌, ◌++◌, Option, Some, None, cond, is_some, refl, ap}
 use Rattle.std.proofs.lemmas.Bool.{cond_both}
+use Rattle.std.proofs.lemmas.Slice.Eq.{bytes_eq-Decides}
 use Rattle.std.specs.FinMap as map
 use Rattle.camel_criteria.specs.Criteria.{OCriteriaData, TCriteriaData}
-use Rattle.camel_rows.proofs.RecordsTable.{get-with_value_other, get-with_value_there}
+use Rattle.camel_rows.proofs.DirectoryLemmas.{record_after-none}
+use Rattle.camel_rows.proofs.RecordsTable.{get-with_value_of, get-with_value_there}
+use Rattle.camel_rows.specs.ByImsi.{value_of, with_value_of}
 use Rattle.camel_rows.specs.TdpRow.{TdpRowData}
 use Rattle.camel_rows.specs.Standard.{HasO, HasVt, csi_with}
 use Rattle.camel_rows.specs.Records.{RecordsData}
 use Rattle.camel_rows.specs.Subscriber.{empty_record}
-use Rattle.camel_rows.specs.Update.{AcceptedFrom, records_after, record_after, record_with_insert, refusal, records_from, update_imsi}
+use Rattle.camel_rows.specs.Update.{AcceptedFrom, is_of, records_after, record_after, record_with_insert, refusal, records_from, update_imsi}
 use Rattle.camel_rows.specs.declared.subscriber.update.Update.{Update}
 use Rattle.camel_rows.specs.declared.subscriber.update.Update.TheVariants.{Register, Insert}
 
--- an update leaves the records of the other IMSIs
-pub other_record : (m : RecordsData) (update : Update) (imsi : List ℕ) → imsi ≢ update_imsi update → map.get (records_after m update) imsi ≡ map.get m imsi
-other_record m update imsi apart =
-    let there = record_after (map.get m (update_imsi update)) update in
-    cond_both (is_some (refusal m update)) m _ (λ after. map.get after imsi ≡ map.get m imsi) (λ refused. refl)
-    (λ accepted. get-with_value_other m (update_imsi update) there imsi apart)
+-- what an update that is not refused leaves of a subscriber
+left_by : (m : RecordsData) (update : Update) (imsi : List ℕ)
+    → map.get (with_value_of m (update_imsi update) (record_after (value_of m (update_imsi update)) update)) imsi
+    ≡ cond (is_of imsi update) (record_after (value_of m (update_imsi update)) update) (map.get m imsi)
+left_by m update imsi =
+    let whom = update_imsi update in
+    get-with_value_of m whom (record_after (value_of m whom) update) imsi (record_after-none (value_of m whom) update)
 
--- an update that is not refused leaves its record
-pub own_record : (m : RecordsData) (update : Update) → refusal m update ≡ None → map.get (records_after m update) (update_imsi update) ≡ record_after (map.get m (update_imsi update)) update
-own_record m update accepted = rw accepted (get-with_value_there m (update_imsi update) (record_after (map.get m (update_imsi update)) update))
+-- an update leaves the records of the subscribers of whom it is not
+pub other_record : (m : RecordsData) (update : Update) (imsi : List ℕ) → is_of imsi update ≡ false → map.get (records_after m update) imsi ≡ map.get m imsi
+other_record m update imsi other =
+    cond_both (is_some (refusal m update)) m _ (λ after. map.get after imsi ≡ map.get m imsi) (λ refused. refl)
+    (λ accepted. left_by m update imsi ∙ rw other refl)
+
+-- an update that is not refused leaves its record of each subscriber of whom it is
+pub own_record : (m : RecordsData) (update : Update) (imsi : List ℕ) → is_of imsi update ≡ true → refusal m update ≡ None
+    → map.get (records_after m update) imsi ≡ record_after (value_of m (update_imsi update)) update
+own_record m update imsi own accepted = rw accepted (left_by m update imsi ∙ rw own refl)
 
 inserted : (m : RecordsData) (imsi : List ℕ) (o : Option (List TdpRowData)) (o_criteria : Option (List OCriteriaData)) (vt : Option (List TdpRowData)) (t_criteria : Option (List TCriteriaData))
     → refusal (records_after m (Register imsi)) (Insert imsi o o_criteria vt t_criteria) ≡ None
     → map.get (records_after (records_after m (Register imsi)) (Insert imsi o o_criteria vt t_criteria)) imsi ≡ Some (record_with_insert o o_criteria vt t_criteria empty_record)
 inserted m imsi o o_criteria vt t_criteria accepted =
-    own_record (records_after m (Register imsi)) (Insert imsi o o_criteria vt t_criteria) accepted
+    own_record (records_after m (Register imsi)) (Insert imsi o o_criteria vt t_criteria) imsi ((bytes_eq-Decides imsi imsi).1 refl) accepted
     ∙ ap (λ old. record_after old (Insert imsi o o_criteria vt t_criteria)) (get-with_value_there m imsi (Some empty_record))
 
 pub o_stands : (m : RecordsData) (imsi : List ℕ) (rows : List TdpRowData) (o_criteria : Option (List OCriteriaData)) (vt : Option (List TdpRowData)) (t_criteria : Option (List TCriteriaData))

@@ -1,9 +1,8 @@
 -- Which updates a store accepts: those that the data of all accepted ones do not refuse, as many as its limit.
 use Rattle.std.specs.Prelude.{◌≡◌, ℕ, ◌+◌, ◌==◌, Bool, true, false, List, Option, Some, None}
-use Rattle.std.specs.FinMap as map
 use Rattle.camel_criteria.specs.declared.refusal.Refusal.{Refusal}
 use Rattle.camel_criteria.specs.declared.refusal.Refusal.TheVariants.{HistoryFull}
-use Rattle.camel_rows.specs.ByImsi.{with_value}
+use Rattle.camel_rows.specs.ByImsi.{value_of, with_value_of}
 use Rattle.camel_rows.specs.CsisPresent.{csis_refusal}
 use Rattle.camel_rows.specs.Directory.{DirectoryData, IsDirectoryOf, empty_directory}
 use Rattle.camel_rows.specs.Records.{RecordsData}
@@ -29,14 +28,14 @@ refusal_or_full None false = None
 -- why an update is not accepted
 abbrev pub admission_refusal : AdmissionData → Update → Option Refusal
 admission_refusal admission update =
-    refusal_or_full (csis_refusal (map.get admission.directory (update_imsi update)) update) (admission.accepted == admission.limit)
+    refusal_or_full (csis_refusal (value_of admission.directory (update_imsi update)) update) (admission.accepted == admission.limit)
 
--- with one accepted update more, which leaves these CSIs, or no record, at one IMSI
-abbrev pub with_admission : AdmissionData → List ℕ → Option CsisPresent → AdmissionData
+-- with one accepted update more, of this subscriber or of all, which leaves these CSIs, or no record
+abbrev pub with_admission : AdmissionData → Option (List ℕ) → Option CsisPresent → AdmissionData
 with_admission admission imsi csis = record {
   limit = admission.limit;
   accepted = admission.accepted + 1;
-  directory = with_value admission.directory imsi csis;
+  directory = with_value_of admission.directory imsi csis;
 }
 
 -- it is that of a store with this limit, which has accepted so many updates, and they leave these data

@@ -8,7 +8,7 @@ use Rattle.camel_rows.specs.TdpRow.{TdpRowData}
 use Rattle.camel_rows.specs.Subscriber.{SubscriberData}
 use Rattle.camel_rows.specs.declared.subscriber.csis_present.CsisPresent.{CsisPresent}
 use Rattle.camel_rows.specs.declared.subscriber.update.Update.{Update}
-use Rattle.camel_rows.specs.declared.subscriber.update.Update.TheVariants.{Register, Insert, Delete, Cancel}
+use Rattle.camel_rows.specs.declared.subscriber.update.Update.TheVariants.{Register, Insert, Delete, Cancel, ClearAll}
 use Rattle.camel_rows.specs.declared.subscriber.update.Withdrawal.{Withdrawal}
 
 -- the CSIs that are stored in a record
@@ -41,7 +41,7 @@ removes_o what = what.o || what.everything
 abbrev pub removes_vt : Withdrawal → Bool
 removes_vt what = what.vt || what.everything
 
--- the CSIs that an update which is not refused leaves in the record of its IMSI
+-- the CSIs that an update which is not refused leaves in the record of its IMSI, or that it leaves no record
 abbrev pub csis_after : Option CsisPresent → Update → Option CsisPresent
 csis_after csis (Register imsi) = Some (record { o = false; vt = false })
 csis_after csis (Insert imsi o o_criteria vt t_criteria) =
@@ -52,3 +52,4 @@ csis_after csis (Delete imsi what) =
       vt = if removes_vt what then false else old.vt;
     }) csis
 csis_after csis (Cancel imsi) = None
+csis_after csis ClearAll = None

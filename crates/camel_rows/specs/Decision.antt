@@ -5,6 +5,7 @@ use Rattle.std.specs.FinMap as map
 use Rattle.std.specs.Option.{option_map}
 use Rattle.camel_criteria.specs.BasicService.{is_emergency}
 use Rattle.camel_criteria.specs.Met.{o_met, t_met}
+use Rattle.camel_tbcd.specs.declared.profile.Profile.{Profile}
 use Rattle.camel_rows.specs.TdpRow.{TdpRowData}
 use Rattle.camel_rows.specs.Event.{EventData, ShownData, ToO, ToVt, event_basic, event_dp, event_imsi, shown_of}
 use Rattle.camel_rows.specs.Subscriber.{EntryData, O, T, StoredCsiData, SubscriberData, entry_data, item_among}
@@ -42,14 +43,14 @@ module _ {Entry : Type 0} (dp_of : Entry → ℕ) (is_met : Entry → Bool) (ent
   by_csi event (Some csi) = by_row event (item_among (λ row. row.dp) (event_dp event) csi.rows) (item_among dp_of (event_dp event) csi.entries)
 
 -- the CSI of the record whose criteria the event is shown to decides
-abbrev pub by_shown : EventData → SubscriberData → ShownData → DecisionData
-by_shown event subscriber (ToO shown) = by_csi (λ entry. entry.dp) (λ entry. o_met entry shown) O event subscriber.o
-by_shown event subscriber (ToVt shown) = by_csi (λ entry. entry.dp) (λ entry. t_met entry shown) T event subscriber.vt
+abbrev pub by_shown : Profile → EventData → SubscriberData → ShownData → DecisionData
+by_shown profile event subscriber (ToO shown) = by_csi (λ entry. entry.dp) (λ entry. o_met profile entry shown) O event subscriber.o
+by_shown profile event subscriber (ToVt shown) = by_csi (λ entry. entry.dp) (λ entry. t_met entry shown) T event subscriber.vt
 
-abbrev pub by_record : EventData → Option SubscriberData → DecisionData
-by_record event None = TriggersNothing Unknown
-by_record event (Some subscriber) = by_shown event subscriber (shown_of event)
+abbrev pub by_record : Profile → EventData → Option SubscriberData → DecisionData
+by_record profile event None = TriggersNothing Unknown
+by_record profile event (Some subscriber) = by_shown profile event subscriber (shown_of event)
 
 -- what an event triggers over the data
-abbrev pub decision : RecordsData → EventData → DecisionData
-decision m event = by_record event (map.get m (event_imsi event))
+abbrev pub decision : Profile → RecordsData → EventData → DecisionData
+decision profile m event = by_record profile event (map.get m (event_imsi event))

@@ -4,31 +4,32 @@ use Rattle.std.specs.FinMap as map
 use Rattle.camel_criteria.specs.BasicService.{is_emergency}
 use Rattle.camel_criteria.specs.Criteria.{OCriteriaData, TCriteriaData}
 use Rattle.camel_criteria.specs.Means.{OMet, TMet}
+use Rattle.camel_tbcd.specs.declared.profile.Profile.{Profile}
 use Rattle.camel_rows.specs.TdpRow.{TdpRowData}
 use Rattle.camel_rows.specs.Event.{EventData, ShownData, ToO, ToVt, event_basic, event_dp, event_imsi, shown_of}
 use Rattle.camel_rows.specs.Records.{RecordsData}
 use Rattle.camel_rows.specs.Subscriber.{EntryData, O, T, StoredCsiData, SubscriberData, entry_at, row_at, rows_tested_at}
 
 -- what is shown to the criteria of a CSI meets an entry of that CSI where it meets each criterion that the entry holds
-abbrev pub ShownMeets : ShownData → EntryData → Type 0
-ShownMeets (ToO shown) (O entry) = OMet entry shown
-ShownMeets (ToVt shown) (T entry) = TMet entry shown
-ShownMeets shown entry = ⊥
+abbrev pub ShownMeets : Profile → ShownData → EntryData → Type 0
+ShownMeets profile (ToO shown) (O entry) = OMet profile entry shown
+ShownMeets profile (ToVt shown) (T entry) = TMet entry shown
+ShownMeets profile shown entry = ⊥
 
-abbrev pub Meets : EventData → EntryData → Type 0
-Meets event entry = ShownMeets (shown_of event) entry
+abbrev pub Meets : Profile → EventData → EntryData → Type 0
+Meets profile event entry = ShownMeets profile (shown_of event) entry
 
 -- The service of a row is invoked where there is a record of the subscriber with the CSI that the detection point
 -- is tested against, that CSI has this row of the detection point, the call is no emergency call, and the event
 -- meets the entry of the detection point, if there is one.
-pub record Invokes (m : RecordsData) (event : EventData) (row : TdpRowData) (entry : Option EntryData) : Type 0 where
+pub record Invokes (profile : Profile) (m : RecordsData) (event : EventData) (row : TdpRowData) (entry : Option EntryData) : Type 0 where
   pub subscriber : SubscriberData
   pub registered : map.get m (event_imsi event) ≡ Some subscriber
   pub stored : IsSome (rows_tested_at (event_dp event) subscriber)
   pub armed : row_at (event_dp event) subscriber ≡ Some row
   pub no_emergency : ¬ (IsTrue (is_emergency (event_basic event)))
   pub criteria : entry_at (event_dp event) subscriber ≡ entry
-  pub met : IfSome entry (Meets event)
+  pub met : IfSome entry (Meets profile event)
 
 -- there is no record of the subscriber
 abbrev pub IsUnknown : RecordsData → EventData → Type 0
@@ -55,14 +56,14 @@ pub record IsEmergencyCall (m : RecordsData) (event : EventData) : Type 0 where
   pub emergency : IsTrue (is_emergency (event_basic event))
 
 -- the detection point is armed, the call is no emergency call, and the event does not meet the entry of the detection point
-pub record FailsCriteria (m : RecordsData) (event : EventData) : Type 0 where
+pub record FailsCriteria (profile : Profile) (m : RecordsData) (event : EventData) : Type 0 where
   pub subscriber : SubscriberData
   pub registered : map.get m (event_imsi event) ≡ Some subscriber
   pub armed : IsSome (row_at (event_dp event) subscriber)
   pub no_emergency : ¬ (IsTrue (is_emergency (event_basic event)))
   pub entry : EntryData
   pub criteria : entry_at (event_dp event) subscriber ≡ Some entry
-  pub not_met : ¬ (Meets event entry)
+  pub not_met : ¬ (Meets profile event entry)
 
 -- a CSI with the criteria that came with it, or with none
 abbrev pub csi_with : {Entry : Type 0} → List TdpRowData → Option (List Entry) → StoredCsiData Entry

@@ -1,31 +1,35 @@
 -- What updates make of the subscriber data. Insert, Delete and Cancel are InsertSubscriberData,
--- DeleteSubscriberData and CancelLocation of TS 29.002; Register is profile 1's own, and so is what an update
--- leaves of a CSI that it does not name whole, that criteria without their CSI are refused where it is not stored,
--- and that an update which changes nothing is taken.
+-- DeleteSubscriberData and CancelLocation of TS 29.002; Register and ClearAll are profile 1's own, and so is what an
+-- update leaves of a CSI that it does not name whole, that criteria without their CSI are refused where it is not
+-- stored, and that an update which changes nothing is taken.
 use Rattle.std.specs.Prelude.{◌≡◌, ℕ, Bool, List, [], ◌∷◌, Option, Some, None, is_some, unwrap_or, if◌then◌else◌}
-use Rattle.std.specs.FinMap as map
 use Rattle.std.specs.Option.{option_map}
 use Rattle.camel_criteria.specs.Criteria.{OCriteriaData, TCriteriaData}
 use Rattle.camel_criteria.specs.declared.refusal.Refusal.{Refusal}
-use Rattle.camel_rows.specs.ByImsi.{with_value}
+use Rattle.camel_rows.specs.ByImsi.{concerns, value_of, with_value_of}
 use Rattle.camel_rows.specs.CsisPresent.{csis_of, csis_refusal, removes_o, removes_vt}
 use Rattle.camel_rows.specs.TdpRow.{TdpRowData}
 use Rattle.camel_rows.specs.Subscriber.{StoredCsiData, SubscriberData, empty_record}
 use Rattle.camel_rows.specs.Records.{RecordsData, no_records}
 use Rattle.camel_rows.specs.declared.subscriber.update.Update.{Update}
-use Rattle.camel_rows.specs.declared.subscriber.update.Update.TheVariants.{Register, Insert, Delete, Cancel}
+use Rattle.camel_rows.specs.declared.subscriber.update.Update.TheVariants.{Register, Insert, Delete, Cancel, ClearAll}
 use Rattle.camel_rows.specs.declared.subscriber.update.Withdrawal.{Withdrawal}
 
--- the subscriber whom an update concerns
-abbrev pub update_imsi : Update → List ℕ
-update_imsi (Register imsi) = imsi
-update_imsi (Insert imsi o o_criteria vt t_criteria) = imsi
-update_imsi (Delete imsi what) = imsi
-update_imsi (Cancel imsi) = imsi
+-- the subscriber whom an update concerns; none, where it concerns all of them
+abbrev pub update_imsi : Update → Option (List ℕ)
+update_imsi (Register imsi) = Some imsi
+update_imsi (Insert imsi o o_criteria vt t_criteria) = Some imsi
+update_imsi (Delete imsi what) = Some imsi
+update_imsi (Cancel imsi) = Some imsi
+update_imsi ClearAll = None
+
+-- an update is one of this subscriber: it concerns this one, or all
+abbrev pub is_of : List ℕ → Update → Bool
+is_of imsi update = concerns (update_imsi update) imsi
 
 -- why the data refuse an update, if they do: by the CSIs that are stored in the record of its IMSI
 abbrev pub refusal : RecordsData → Update → Option Refusal
-refusal m update = csis_refusal (option_map csis_of (map.get m (update_imsi update))) update
+refusal m update = csis_refusal (option_map csis_of (value_of m (update_imsi update))) update
 
 -- What an Insert leaves of a CSI. A CSI replaces rows and entries, by no entries where none come with it; entries
 -- alone replace the entries; where neither comes, the CSI stays.
@@ -49,18 +53,20 @@ csi_unless is_named csi = if is_named then None else csi
 abbrev pub record_without : Withdrawal → SubscriberData → SubscriberData
 record_without what subscriber = record { o = csi_unless (removes_o what) subscriber.o; vt = csi_unless (removes_vt what) subscriber.vt }
 
--- the record that an update which is not refused leaves at its IMSI, over the one that is there
+-- the record that an update which is not refused leaves, over the one that is there
 abbrev pub record_after : Option SubscriberData → Update → Option SubscriberData
 record_after old (Register imsi) = Some empty_record
 record_after old (Insert imsi o o_criteria vt t_criteria) = option_map (record_with_insert o o_criteria vt t_criteria) old
 record_after old (Delete imsi what) = option_map (record_without what) old
 record_after old (Cancel imsi) = None
+record_after old ClearAll = None
 
--- the data after an update: those before it, where it is refused; else only the place of its IMSI changes
+-- the data after an update: those before it, where it is refused; else only the record of its IMSI changes, and after
+-- ClearAll there is none
 abbrev pub records_after : RecordsData → Update → RecordsData
 records_after m update =
     if is_some (refusal m update) then m
-    else with_value m (update_imsi update) (record_after (map.get m (update_imsi update)) update)
+    else with_value_of m (update_imsi update) (record_after (value_of m (update_imsi update)) update)
 
 -- the data after a list of updates
 abbrev pub records_from : RecordsData → List Update → RecordsData

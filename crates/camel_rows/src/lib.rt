@@ -13,7 +13,7 @@ pub use csi::{Csi, OCsi, VtCsi};
 pub use subscriber::Subscriber;
 pub use subscriber::admission::Admission;
 pub use subscriber::csis_present::CsisPresent;
-pub use subscriber::laws::{inserted_csi_stands, updates_change_one_record};
+pub use subscriber::laws::{inserted_csi_stands, updates_change_own_records};
 pub use subscriber::lent::Lent;
 pub use subscriber::records::Records;
 pub use subscriber::update::{Update, Withdrawal};

@@ -23,8 +23,12 @@ fn copied_again(update: &Update) -> Result<Update, Refusal> {
     }
 }
 
-fn apply_again(rt: &impl Abort, records: &mut Records, update: &Update) -> Result<(), Refusal> {
-    let imsi = update.imsi();
+fn apply_again(
+    rt: &impl Abort,
+    records: &mut Records,
+    imsi: Imsi,
+    update: &Update,
+) -> Result<(), Refusal> {
     let before = stored_summary(records, &imsi, 2);
     match records.apply(update) {
         Err(Refusal::OutOfMemory) => {
@@ -42,13 +46,13 @@ fn copies_hold_the_same(rt: HostRuntime) -> Result<(), Fail> {
     let mut records = Records::new(rt.alloc());
     let unknown = Err(Refusal::UnidentifiedSubscriber);
     assert_eq!(rt; records.apply(&insert), unknown);
-    apply_again(&rt, &mut records, &Update::Register { imsi })?;
-    apply_again(&rt, &mut records, &insert)?;
+    apply_again(&rt, &mut records, imsi, &Update::Register { imsi })?;
+    apply_again(&rt, &mut records, imsi, &insert)?;
     let copied = match records.copy() {
         Err(Refusal::OutOfMemory) => records.copy()?,
         copied => copied?,
     };
-    apply_again(&rt, &mut records, &Update::Cancel { imsi })?;
+    apply_again(&rt, &mut records, imsi, &Update::Cancel { imsi })?;
     assert_eq!(rt; stored_summary(&records, &imsi, 2), None);
     let stored = Some((Some(ARMED), Some(LISTED)));
     assert_eq!(rt; stored_summary(&copied, &imsi, 2), stored);
@@ -65,10 +69,10 @@ fn an_admission_counts_what_it_accepts(rt: HostRuntime) -> Result<(), Fail> {
         vt: false,
     };
     assert_eq!(rt; admission.check(&register), Ok(Some(csis)));
-    if admission.accept(imsi, Some(csis)).is_err() {
+    if admission.accept(Some(imsi), Some(csis)).is_err() {
         assert_eq!(rt; (admission.accepted(), admission.csis(&imsi)), (0, None));
         if admission.accepted() == 0 {
-            admission.accept(imsi, Some(csis))?;
+            admission.accept(Some(imsi), Some(csis))?;
         }
     }
     assert_eq!(rt;
@@ -76,5 +80,18 @@ fn an_admission_counts_what_it_accepts(rt: HostRuntime) -> Result<(), Fail> {
         (1, Some(csis))
     );
     assert_eq!(rt; admission.check(&register), Err(Refusal::HistoryFull));
+    Ok(())
+}
+
+#[test]
+fn a_clear_leaves_no_subscriber_admitted(rt: HostRuntime) -> Result<(), Fail> {
+    let imsi = imsi_of(1)?;
+    let mut admission = Admission::new(rt.alloc(), 3);
+    assert_eq!(rt; Update::ClearAll.imsi(), None);
+    for turn in [1, 2] {
+        assert_eq!(rt; admission.check(&Update::ClearAll), Ok(None));
+        admission.accept_removal(None);
+        assert_eq!(rt; (admission.accepted(), admission.csis(&imsi)), (turn, None));
+    }
     Ok(())
 }

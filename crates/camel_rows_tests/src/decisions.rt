@@ -7,7 +7,7 @@ use camel_fixtures::{DESTINATION, TELEPHONY, imsi_of};
 use camel_rows::{
     CallEvent, Decision, Reason, Records, Update, decide_in, decisions_mean, on_failure,
 };
-use camel_tbcd::Imsi;
+use camel_tbcd::{Imsi, Profile};
 use std::alloc::Global;
 use std::process::Abort;
 use std::test::Fail;
@@ -127,7 +127,7 @@ fn check_call_of(rt: &impl Abort, records: &Records, imsi: Imsi, wanted: Told) -
 
 /// The service key of the row that triggers, borrowed from the records, or the reason.
 fn key_in(records: &Records, call: &CallEvent) -> Result<u32, Reason> {
-    match decide_in(records, &call.lend()) {
+    match decide_in(records, &call.lend(), Profile::One) {
         Decision::Trigger { row, .. } => Ok(row.key()),
         Decision::NoTrigger(reason) => Err(reason),
     }

@@ -8,7 +8,7 @@ use camel_rows::{
     CallAction, CallEvent, OCriteriaSet, OCsi, Outcome, Reason, Records, TCriteriaSet, TdpRow,
     Update, VtCsi, on_failure,
 };
-use camel_tbcd::{CallAddress, Imsi};
+use camel_tbcd::{CallAddress, Imsi, Profile};
 use std::alloc::Global;
 use std::process::Abort;
 use std::test::Fail;
@@ -223,7 +223,7 @@ pub(crate) type Told = Result<(u8, u32, CallAction), Reason>;
 
 /// What is told of an event. Each service is at the one gsmSCF address.
 pub(crate) fn told(rt: &impl Abort, records: &Records, call: &CallEvent) -> Told {
-    match Outcome::decide(records, call) {
+    match Outcome::decide(records, call, Profile::One) {
         Outcome::Trigger {
             dp,
             key,

@@ -5,7 +5,7 @@ use crate::marked::{Stored, csis_in, marked_insert};
 use camel_criteria::Refusal;
 use camel_fixtures::{O_ALONE, TELEPHONY, imsi_of};
 use camel_rows::{
-    Reason, Records, Update, Withdrawal, inserted_csi_stands, updates_change_one_record,
+    Reason, Records, Update, Withdrawal, inserted_csi_stands, updates_change_own_records,
 };
 use camel_tbcd::Imsi;
 use std::alloc::Global;
@@ -60,7 +60,7 @@ fn mark(mark: u8) -> Stored {
 #[test]
 fn an_insert_replaces_what_it_brings_and_leaves_the_rest(rt: HostRuntime) -> Result<(), Fail> {
     inserted_csi_stands();
-    updates_change_one_record();
+    updates_change_own_records();
     let mut records = base(rt.alloc(), &NOTHING)?;
     check_all_inserts(&rt, rt.alloc(), &mut records)
 }
@@ -278,6 +278,29 @@ fn check_cancelled(rt: &impl Abort, records: &mut Records) -> Result<(), Fail> {
     assert_eq!(rt; records.check(&delete), unknown);
     assert_eq!(rt; records.apply(&delete), unknown);
     check_calls(rt, records, &[(12, TELEPHONY, 0, Err(Reason::Unknown))])
+}
+
+#[test]
+fn after_a_clear_no_subscriber_has_a_record(rt: HostRuntime) -> Result<(), Fail> {
+    let mut records = base(rt.alloc(), &ONE_ROW)?;
+    let other = imsi_of(2)?;
+    records.apply(&Update::Register { imsi: other })?;
+    check_cleared(&rt, &mut records)?;
+    records.apply(&Update::Register { imsi: imsi_of(1)? })?;
+    check_calls(&rt, &records, &[(2, TELEPHONY, 0, Err(Reason::NoCsi))])
+}
+
+/// All records are cleared, and once more where there are none.
+fn check_cleared(rt: &impl Abort, records: &mut Records) -> Result<(), Fail> {
+    let cleared = [
+        records.apply(&Update::ClearAll),
+        records.apply(&Update::ClearAll.copy()?),
+    ];
+    assert_eq!(rt; cleared, [Ok(()); 2]);
+    for imsi in [imsi_of(1)?, imsi_of(2)?] {
+        assert!(rt; records.get(&imsi).is_none(), "{imsi:?}");
+    }
+    check_calls(rt, records, &[(2, TELEPHONY, 0, Err(Reason::Unknown))])
 }
 
 #[test]

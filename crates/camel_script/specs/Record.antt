@@ -77,9 +77,17 @@ delete_of fields =
       what ← in_turn withdrawal_with no_withdrawal (drop 2 fields)
       Ok (record_of_script.Update (update.Delete imsi what))
 
+-- a record that has a word alone
+unfoldable pub word_alone_of : List (List ℕ) → Record → Result Record RecordFault
+word_alone_of fields read = of_count 1 fields (Ok read)
+
+-- clear
+abbrev pub clear_of : List (List ℕ) → Result Record RecordFault
+clear_of fields = word_alone_of fields (record_of_script.Update update.ClearAll)
+
 -- publish
-unfoldable pub publish_of : List (List ℕ) → Result Record RecordFault
-publish_of fields = of_count 1 fields (Ok record_of_script.Publish)
+abbrev pub publish_of : List (List ℕ) → Result Record RecordFault
+publish_of fields = word_alone_of fields record_of_script.Publish
 
 -- the kind of record that a word names
 unfoldable pub kind_of_word : List ℕ → Result RecordKind RecordFault
@@ -88,6 +96,7 @@ kind_of_word word =
     else if bytes_eq word (codes "insert") then Ok kind.Insert
     else if bytes_eq word (codes "delete") then Ok kind.Delete
     else if bytes_eq word (codes "cancel") then Ok kind.Cancel
+    else if bytes_eq word (codes "clear") then Ok kind.Clear
     else if bytes_eq word (codes "publish") then Ok kind.Publish
     else if bytes_eq word (codes "call") then Ok kind.Call
     else Err record_fault.Word
@@ -98,6 +107,7 @@ reading_of_kind kind.Register fields = register_of fields
 reading_of_kind kind.Insert fields = insert_of fields
 reading_of_kind kind.Delete fields = delete_of fields
 reading_of_kind kind.Cancel fields = cancel_of fields
+reading_of_kind kind.Clear fields = clear_of fields
 reading_of_kind kind.Publish fields = publish_of fields
 reading_of_kind kind.Call fields = call_of fields
 

@@ -3,7 +3,7 @@
 ghost use Rattle.std.specs.Prelude.{◌≡◌, ◌⊎◌, IfErr, IfOk};
 ghost use Rattle.csv.specs.Records.{fields_of};
 ghost use Rattle.camel_script.specs.Reading.{ReadsAs};
-ghost use Rattle.camel_script.specs.Record.{cancel_of, imsi_alone_of, kind_of_word, publish_of, reading_of, record_of, register_of};
+ghost use Rattle.camel_script.specs.Record.{cancel_of, imsi_alone_of, kind_of_word, reading_of, record_of, register_of, word_alone_of};
 ghost use Rattle.camel_script.specs.ScriptFault.{IsRecordFault};
 
 pub(crate) mod call;
@@ -44,6 +44,7 @@ enum RecordKind {
     Insert,
     Delete,
     Cancel,
+    Clear,
     Publish,
     Call,
 }
@@ -78,7 +79,8 @@ fn parse_fields(alloc: Global, fields: &ByteRecord) -> Result<Record, RecordFaul
         RecordKind::Insert => parse_insert(alloc, fields),
         RecordKind::Delete => parse_delete(fields),
         RecordKind::Cancel => parse_cancel(fields),
-        RecordKind::Publish => parse_publish(fields),
+        RecordKind::Clear => parse_word_alone(fields, Record::Update(Update::ClearAll)),
+        RecordKind::Publish => parse_word_alone(fields, Record::Publish),
         RecordKind::Call => parse_call(alloc, fields),
     }
 }
@@ -93,6 +95,7 @@ fn parse_kind(word: &[u8]) -> Result<RecordKind, RecordFault>
         b"insert" => Ok(RecordKind::Insert),
         b"delete" => Ok(RecordKind::Delete),
         b"cancel" => Ok(RecordKind::Cancel),
+        b"clear" => Ok(RecordKind::Clear),
         b"publish" => Ok(RecordKind::Publish),
         b"call" => Ok(RecordKind::Call),
         _ => Err(RecordFault::Word),
@@ -124,12 +127,13 @@ fn parse_cancel(fields: &ByteRecord) -> Result<Record, RecordFault>
     Ok(Record::Update(Update::Cancel { imsi }))
 }
 
-#[tactic(auto, unfolding(crate::specs::Record::publish_of))]
-fn parse_publish(fields: &ByteRecord) -> Result<Record, RecordFault>
-    ensures { result ≡ publish_of (fields_of fields.now) }
+/// Reads a record that has a word alone, and so no texts.
+#[tactic(auto, unfolding(crate::specs::Record::word_alone_of))]
+fn parse_word_alone(fields: &ByteRecord, read: Record) -> Result<Record, RecordFault>
+    ensures { result ≡ word_alone_of (fields_of fields.now) read }
 {
     if fields.len() != 1 {
         return Err(RecordFault::FieldCount);
     }
-    Ok(Record::Publish)
+    Ok(read)
 }

@@ -7,4 +7,5 @@ pub mod Imsi
 pub mod ImsiFault
 pub mod ImsiOrder
 pub mod Nature
+pub mod Profile
 pub mod ShortList

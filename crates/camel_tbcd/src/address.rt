@@ -1,9 +1,10 @@
-ghost use Rattle.std.specs.Prelude.{◌≡◌, ◌≤◌, ◌<◌, ◌↔◌, length, IfOk, IsErrOf, OnOk};
+ghost use Rattle.std.specs.Prelude.{◌≡◌, ◌≤◌, ◌<◌, ◌↔◌, length, IfOk, IsTrue, IsErrOf, OnOk};
 ghost use Rattle.camel_tbcd.specs.Nature.{nature_of, plan_of};
 ghost use Rattle.camel_tbcd.specs.AddressFault.{address_fault_code};
 ghost use Rattle.camel_tbcd.specs.AddressLength.{IsAddress, max_address_length};
 
 use crate::digits::Digits;
+use crate::profile::Profile;
 use std::error::Error;
 use std::fmt;
 
@@ -56,6 +57,7 @@ impl<'a> Address<'a> {
     ghost use Rattle.camel_tbcd.specs.Address.{octets};
     ghost use Rattle.camel_tbcd.specs.DigitList.{digit_list};
     ghost use Rattle.camel_tbcd.specs.Digits.{digits};
+    ghost use Rattle.camel_tbcd.specs.Profile.{Agree, agrees, plans_agree};
 
     /// Borrows octets as an address.
     ///
@@ -93,6 +95,24 @@ impl<'a> Address<'a> {
         ensures range { result ≤ 15 }
     {
         self.bytes[0] % 16
+    }
+
+    /// Whether two addresses agree in what the profile compares of octet 1: the nature of address, and for
+    /// [`Profile::Two`] the numbering plan too. Bit 8 is never compared.
+    pub fn agrees(&self, other: &Address, profile: Profile) -> bool
+        ensures tested { result ≡ agrees profile (octets self.now) (octets other.now) }
+        ensures means { IsTrue result ↔ Agree profile (octets self.now) (octets other.now) }
+    {
+        self.nature() == other.nature() && self.plan_agrees(other, profile)
+    }
+
+    fn plan_agrees(&self, other: &Address, profile: Profile) -> bool
+        ensures { result ≡ plans_agree profile (octets self.now) (octets other.now) }
+    {
+        match profile {
+            Profile::One => true,
+            Profile::Two => self.plan() == other.plan(),
+        }
     }
 
     /// The octets that it was made of, 1 to 20.

@@ -9,6 +9,7 @@ mod call_address;
 mod digits;
 mod imsi;
 mod isdn_address;
+mod profile;
 mod short_list;
 
 pub use address::{Address, AddressFault, MAX_ADDRESS_LENGTH};
@@ -18,3 +19,4 @@ pub use imsi::{
     Imsi, ImsiFault, MAX_IMSI_DIGITS, MAX_IMSI_OCTETS, MIN_IMSI_DIGITS, MIN_IMSI_OCTETS,
 };
 pub use isdn_address::{IsdnAddress, MAX_ISDN_ADDRESS_LENGTH};
+pub use profile::Profile;

@@ -1,4 +1,4 @@
-use camel_tbcd::{Address, AddressFault, CallAddress, IsdnAddress};
+use camel_tbcd::{Address, AddressFault, CallAddress, IsdnAddress, Profile};
 use std::process::Abort;
 use std::test::Fail;
 
@@ -22,6 +22,27 @@ fn reads_octet_1(rt: HostRuntime) -> Result<(), Fail> {
         let address = Address::new(&octets)?;
         assert_eq!(rt; address.nature(), nature, "nature of {octet:x}");
         assert_eq!(rt; address.plan(), plan, "plan of {octet:x}");
+    }
+    Ok(())
+}
+
+/// Octets 1 of two addresses, and whether they agree under profile 1 and under profile 2. By TS 29.002 bits 765 are the
+/// nature of address and bits 4321 the numbering plan.
+const AGREEING: [(u8, u8, bool, bool); 5] = [
+    (0x91, 0x91, true, true),
+    (0x91, 0x11, true, true),
+    (0x91, 0x98, true, false),
+    (0x91, 0xa1, false, false),
+    (0x91, 0xa8, false, false),
+];
+
+#[test]
+fn compares_natures_and_under_profile_2_plans(rt: HostRuntime) -> Result<(), Fail> {
+    for (first, second, under_1, under_2) in AGREEING {
+        let (octets, others) = ([first, 0x21], [second, 0x43, 0x65]);
+        let (address, other) = (Address::new(&octets)?, Address::new(&others)?);
+        let agrees = [Profile::One, Profile::Two].map(|profile| address.agrees(&other, profile));
+        assert_eq!(rt; agrees, [under_1, under_2], "{first:x} and {second:x}");
     }
     Ok(())
 }

@@ -5,7 +5,7 @@ use mathlib.Core.List.{IsPrefix}
 use prog.Atomic.{either}
 use Rattle.logbook.specs.Pages.{Away, Cell, Goes, Moves, Nib, adds, cell, gives, may_write, no_nib, step}
 use Rattle.camel_rows.specs.declared.subscriber.update.Update.{Update}
-use Rattle.camel_vlr.specs.Chain.{AddsLink, AllUsedUp, IsUsedUp, MakesCell, UsedUp, limit_of, list_of, root_of, tail_of}
+use Rattle.camel_vlr.specs.Chain.{AddsLink, AllUsedUp, IsUsedUp, MakesCell, UsedUp, list_of, root_of, tail_of, terms_of}
 use Rattle.camel_vlr.specs.declared.history.link.Link.{Link}
 
 -- ---- cells
@@ -97,10 +97,10 @@ root-push [] link = refl
 root-push (x ∷ []) link = refl
 root-push (x ∷ y ∷ links) link = root-push (y ∷ links) link
 
-limit-push : (links : List Link) (link : Link) → limit_of (links ++ link ∷ []) ≡ link.limit
-limit-push [] link = refl
-limit-push (x ∷ []) link = refl
-limit-push (x ∷ y ∷ links) link = limit-push (y ∷ links) link
+terms-push : (links : List Link) (link : Link) → terms_of (links ++ link ∷ []) ≡ link.terms
+terms-push [] link = refl
+terms-push (x ∷ []) link = refl
+terms-push (x ∷ y ∷ links) link = terms-push (y ∷ links) link
 
 -- the chain in a beginning of the links begins the chain
 pub list_of-prefix : (start : ℕ) (seen links : List Link) → IsPrefix seen links → IsPrefix (list_of start seen) (list_of start links)
@@ -134,7 +134,7 @@ making : (seen links : List Link) (ask : Link) (others : List Cell) → AllUsedU
     → Goes UsedUp nothing_shown nothing_moved 0 (seen, (no_nib, None)) same_word (MakesCell (step 0 0 0 ask) (seen, (no_nib, None))) ((0, true) ∷ others) links
 making seen links ask others all =
     let cells : List Cell = (0, true) ∷ others in
-    let link : Link = record { cell = 0; updates = []; next = length cells; limit = ask.limit } in
+    let link : Link = record { cell = 0; updates = []; next = length cells; terms = ask.terms } in
     let used = used-push cells links link all (omega arith, refl) in
     let none = none-follows cells (length cells) (links ++ link ∷ []) (λ x same home. absurd (omega (arith, same, home.0))) used in (
       adds,
@@ -143,7 +143,7 @@ making seen links ask others all =
       tt,
       record { others = others ++ (0, false) ∷ []; head = refl; each = used-with-cell cells (links ++ link ∷ []) used },
       inl (refl, refl),
-      record { right = refl; list = none.0; tail = none.1; root = root-push links link; limit = limit-push links link },
+      record { right = refl; list = none.0; tail = none.1; root = root-push links link; terms = terms-push links link },
     )
 
 pub makes : (seen : List Link) (ask : Link) → Moves UsedUp nothing_shown nothing_moved 0 (seen, (no_nib, None)) same_word (MakesCell (step 0 0 0 ask) (seen, (no_nib, None)))
@@ -156,7 +156,7 @@ adding : (seen links : List Link) (updates : List Update) (next : ℕ) (ask : Li
 adding seen links updates next ask right_to others right away prefix all =
     let cells : List Cell = (0, true) ∷ others in
     let out = away right in
-    let link : Link = record { cell = right_to.key; updates = updates; next = next; limit = 0 } in
+    let link : Link = record { cell = right_to.key; updates = updates; next = next; terms = ask.terms } in
     let head = head-stays others right_to.key right_to.value out.1 in (
       gives,
       link ∷ [],

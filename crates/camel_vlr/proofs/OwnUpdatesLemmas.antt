@@ -1,23 +1,23 @@
 -- What the updates of one subscriber alone leave.
-use Rattle.std.proofs.Common.{◌≡◌, ◌≢◌, ◌∙◌, ℕ, Bool, true, false, List, [], ◌∷◌, None, refl, sym, ap, subst, arith}
-use Rattle.std.proofs.lemmas.Bool.Decides.{not_from_Decides}
+use Rattle.std.proofs.Common.{◌≡◌, ◌∙◌, ℕ, Bool, true, false, List, [], ◌∷◌, None, refl, sym, ap, arith}
 use Rattle.std.proofs.lemmas.List.Sums.{count_by-le-length, length-filter}
-use Rattle.std.proofs.lemmas.Slice.Eq.{bytes_eq-Decides}
 use Rattle.std.specs.FinMap as map
-use Rattle.std.specs.Str.{bytes_eq}
+use Rattle.camel_rows.proofs.RecordsTable.{value_of-same}
 use Rattle.camel_rows.proofs.UpdateLemmas.{other_record, own_record}
+use Rattle.camel_rows.specs.ByImsi.{value_of}
 use Rattle.std.specs.Option.{option_map}
 use Rattle.camel_rows.specs.CsisPresent.{csis_of, csis_refusal}
 use Rattle.camel_rows.specs.Decision.{by_record, decision}
 use Rattle.camel_rows.specs.Event.{EventData, event_imsi}
 use Rattle.camel_rows.specs.Front.{IsFront}
 use Rattle.camel_rows.specs.Records.{RecordsData, no_records}
-use Rattle.camel_rows.specs.Update.{AcceptedFrom, records_after, record_after, refusal, records_of, records_from, update_imsi}
+use Rattle.camel_rows.specs.Update.{AcceptedFrom, is_of, records_after, record_after, refusal, records_of, records_from, update_imsi}
 use Rattle.camel_rows.specs.declared.subscriber.update.Update.{Update}
 use Rattle.camel_vlr.specs.OwnUpdates.{DecidedByOwn, own_updates}
+use Rattle.camel_vlr.specs.Prefix.{StoreId}
 
 -- what refuses an update is its own subscriber's record
-same_refusal : (m n : RecordsData) (update : Update) → map.get m (update_imsi update) ≡ map.get n (update_imsi update) → refusal m update ≡ refusal n update
+same_refusal : (m n : RecordsData) (update : Update) → value_of m (update_imsi update) ≡ value_of n (update_imsi update) → refusal m update ≡ refusal n update
 same_refusal m n update same = ap (λ old. csis_refusal (option_map csis_of old) update) same
 
 -- from the same record on, a subscriber's own updates are accepted where they are among others, and leave the same record
@@ -28,28 +28,26 @@ record OwnLeave (imsi : List ℕ) (m n : RecordsData) (updates : List Update) : 
 own_leave : (imsi : List ℕ) (m n : RecordsData) (updates : List Update) → AcceptedFrom m updates → map.get m imsi ≡ map.get n imsi → OwnLeave imsi m n updates
 own_leave imsi m n [] accepted same = record { accepted = tt; leaves = same }
 own_leave imsi m n (update ∷ updates) accepted same =
-    by_test (λ k next. own_leave imsi (records_after m update) k updates accepted.1 next) (bytes_eq (update_imsi update) imsi) refl
+    by_test (λ k next. own_leave imsi (records_after m update) k updates accepted.1 next) (is_of imsi update) refl
   where
     by_test : ((k : RecordsData) → map.get (records_after m update) imsi ≡ map.get k imsi → OwnLeave imsi (records_after m update) k updates)
-        → (b : Bool) → bytes_eq (update_imsi update) imsi ≡ b → OwnLeave imsi m n (update ∷ updates)
+        → (b : Bool) → is_of imsi update ≡ b → OwnLeave imsi m n (update ∷ updates)
     by_test further true e =
-        let own : update_imsi update ≡ imsi = (bytes_eq-Decides (update_imsi update) imsi).0 e in
-        let there : map.get m (update_imsi update) ≡ map.get n (update_imsi update) = subst (λ (key : List ℕ). map.get m key ≡ map.get n key) (sym own) same in
+        let there = value_of-same m n (update_imsi update) imsi e same in
         let free : refusal n update ≡ None = sym (same_refusal m n update there) ∙ accepted.0 in
         let next : map.get (records_after m update) imsi ≡ map.get (records_after n update) imsi =
-        subst (λ (key : List ℕ). map.get (records_after m update) key ≡ map.get (records_after n update) key) own
-        (own_record m update accepted.0 ∙ ap (λ old. record_after old update) there ∙ sym (own_record n update free)) in
+        own_record m update imsi e accepted.0 ∙ ap (λ old. record_after old update) there ∙ sym (own_record n update imsi e free) in
         let rest = further (records_after n update) next in
         record { accepted = rw e (free, rest.accepted); leaves = rw e rest.leaves }
     by_test further false e =
-        let other : imsi ≢ update_imsi update = λ is. not_from_Decides (bytes_eq (update_imsi update) imsi) (bytes_eq-Decides (update_imsi update) imsi) e (sym is) in
-        let rest = further n (other_record m update imsi other ∙ same) in
+        let rest = further n (other_record m update imsi e ∙ same) in
         record { accepted = rw e rest.accepted; leaves = rw e rest.leaves }
 
-pub decided_by_own : (limit : ℕ) (front : List Update) (event : EventData) → IsFront limit front → DecidedByOwn limit front event (decision (records_of front) event)
-decided_by_own limit front event is =
-    let is_own : Update → Bool = λ update. bytes_eq (update_imsi update) (event_imsi event) in
+pub decided_by_own : (store : StoreId) (front : List Update) (event : EventData) → IsFront store.limit front
+    → DecidedByOwn store front event (decision store.profile (records_of front) event)
+decided_by_own store front event is =
+    let is_own : Update → Bool = is_of (event_imsi event) in
     let own = own_leave (event_imsi event) no_records no_records front is.accepted refl in record {
       own_front = record { accepted = own.accepted; few = omega (arith, is.few, length-filter is_own front, count_by-le-length is_own front) };
-      decision = ap (by_record event) own.leaves;
+      decision = ap (by_record store.profile event) own.leaves;
     }

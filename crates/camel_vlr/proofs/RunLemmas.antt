@@ -1,8 +1,9 @@
 -- What a session answers, put together.
-use Rattle.std.proofs.Common.{◌≡◌, ◌∙◌, ℕ, List, [], ◌∷◌, ◌++◌, refl, sym, ap}
+use Rattle.std.proofs.Common.{◌≡◌, ◌∙◌, List, [], ◌∷◌, ◌++◌, refl, sym, ap}
 use Rattle.camel_rows.specs.Event.{EventData}
 use Rattle.camel_rows.specs.declared.subscriber.update.Update.{Update}
 use Rattle.camel_rows.specs.declared.trigger.outcome.Answer.{Answer}
+use Rattle.camel_vlr.specs.Prefix.{StoreId}
 use Rattle.camel_vlr.specs.Run.{Answers, Run, last_seen}
 use Rattle.camel_vlr.specs.Session.{SessionData}
 
@@ -11,23 +12,23 @@ last_seen-append seen [] later = refl
 last_seen-append seen (front ∷ fronts) later = last_seen-append front fronts later
 
 -- the second run goes on at the front that the first one saw last
-Run-append : (limit : ℕ) (seen : List Update) (told : List (List Update)) (events next : List EventData) (answers more : List Answer) (fronts later : List (List Update))
-    → Run limit seen told events answers fronts → Run limit (last_seen seen fronts) told next more later
-    → Run limit seen told (events ++ next) (answers ++ more) (fronts ++ later)
-Run-append limit seen told [] next [] more [] later first second = second
-Run-append limit seen told (event ∷ events) next (answer ∷ answers) more (front ∷ fronts) later first second =
-    (first.0, Run-append limit front told events next answers more fronts later first.1 second)
-Run-append limit seen told [] next [] more (front ∷ fronts) later first second = absurd first
-Run-append limit seen told [] next (answer ∷ answers) more fronts later first second = absurd first
-Run-append limit seen told (event ∷ events) next [] more fronts later first second = absurd first
-Run-append limit seen told (event ∷ events) next (answer ∷ answers) more [] later first second = absurd first
+Run-append : (store : StoreId) (seen : List Update) (told : List (List Update)) (events next : List EventData) (answers more : List Answer) (fronts later : List (List Update))
+    → Run store seen told events answers fronts → Run store (last_seen seen fronts) told next more later
+    → Run store seen told (events ++ next) (answers ++ more) (fronts ++ later)
+Run-append store seen told [] next [] more [] later first second = second
+Run-append store seen told (event ∷ events) next (answer ∷ answers) more (front ∷ fronts) later first second =
+    (first.0, Run-append store front told events next answers more fronts later first.1 second)
+Run-append store seen told [] next [] more (front ∷ fronts) later first second = absurd first
+Run-append store seen told [] next (answer ∷ answers) more fronts later first second = absurd first
+Run-append store seen told (event ∷ events) next [] more fronts later first second = absurd first
+Run-append store seen told (event ∷ events) next (answer ∷ answers) more [] later first second = absurd first
 
 pub Answers-append : (before mid after : SessionData) (events next : List EventData) (answers more : List Answer)
     → Answers before events answers mid → Answers mid next more after → Answers before (events ++ next) (answers ++ more) after
 Answers-append before mid after events next answers more first second =
     record {
       fronts = first.fronts ++ second.fronts;
-      run = Run-append before.store.limit before.seen before.told events next answers more first.fronts second.fronts first.run (rw (← first.seen, ← first.told, ← first.store) second.run);
+      run = Run-append before.store before.seen before.told events next answers more first.fronts second.fronts first.run (rw (← first.seen, ← first.told, ← first.store) second.run);
       seen = second.seen ∙ ap (λ seen. last_seen seen second.fronts) first.seen ∙ sym (last_seen-append before.seen first.fronts second.fronts);
       told = second.told ∙ first.told;
       store = second.store ∙ first.store;

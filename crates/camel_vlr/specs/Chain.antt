@@ -3,8 +3,10 @@
 -- It is for the proof: no promise cites it.
 use Rattle.std.specs.Prelude.{ℕ, ◌≡◌, ◌==◌, ◌<◌, true, List, [], ◌∷◌, ◌++◌, length, if◌then◌else◌}
 use Rattle.logbook.specs.Pages.{Book, Cell, Named, Step, View, cell, may_make}
+use Rattle.camel_tbcd.specs.declared.profile.Profile.TheVariants.{One}
 use Rattle.camel_rows.specs.declared.subscriber.update.Update.{Update}
 use Rattle.camel_vlr.specs.declared.history.link.Link.{Link}
+use Rattle.camel_vlr.specs.declared.history.terms.Terms.{Terms}
 
 -- the one word of a book at which all steps are made
 abbrev pub head_of : Book → Named
@@ -40,19 +42,19 @@ root_of [] = 0
 root_of (link ∷ []) = link.next
 root_of (link ∷ second ∷ links) = root_of (second ∷ links)
 
--- the limit that the last link names
-abbrev pub limit_of : List Link → ℕ
-limit_of [] = 0
-limit_of (link ∷ []) = link.limit
-limit_of (link ∷ second ∷ links) = limit_of (second ∷ links)
+-- the terms that the last link names
+abbrev pub terms_of : List Link → Terms
+terms_of [] = record { limit = 0; profile = One }
+terms_of (link ∷ []) = link.terms
+terms_of (link ∷ second ∷ links) = terms_of (second ∷ links)
 
--- the step makes a new cell, which no link has used up and the last link names, with the limit that was asked
+-- the step makes a new cell, which no link has used up and the last link names, with the terms that were asked
 pub record MakesCell (step : Step Link) (before : View Link ℕ) (found : ℕ) (after : View Link ℕ) : Type 0 where
   pub right : after.1.0.right ≡ may_make
   pub list : list_of after.1.0.key after.0 ≡ []
   pub tail : tail_of after.1.0.key after.0 ≡ after.1.0.key
   pub root : root_of after.0 ≡ after.1.0.key
-  pub limit : limit_of after.0 ≡ step.ask.limit
+  pub terms : terms_of after.0 ≡ step.ask.terms
 
 -- the step puts the updates behind the chain whose next cell was the pen's, and the chain goes on at `next`
 abbrev pub AddsLink : List Update → ℕ → Step Link → View Link ℕ → ℕ → View Link ℕ → Type 0

@@ -17,3 +17,4 @@ pub record IsSession (a : Inside) : Type 0 where
   pub told : ExtendsAll a.longest.updates a.told.value
   pub store : a.longest.store ≡ a.seen.store
   pub front : IsFront a.seen.store.limit a.seen.updates
+  pub profile : a.profile ≡ a.seen.store.profile

@@ -33,6 +33,7 @@ pub record IsStore (a : Inside) : Type 0 where
   pub greatest : limit_in a ≤ MAX_UPDATES
   pub seat : Knows (view a.writer.desk.place) a.writer.desk.shown.value.front
   pub store : a.history.store ≡ a.writer.desk.shown.value.front.store
+  pub profile : a.profile ≡ a.writer.desk.shown.value.front.store.profile
   -- the history goes beyond what is published, and not beyond what is pending
   pub within : Extends (accepted_updates (updates_in a)) a.history.updates
   pub beyond : Extends a.history.updates (published_in a)

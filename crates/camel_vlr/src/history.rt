@@ -6,10 +6,12 @@ ghost use Rattle.logbook.specs.Pages.{may_write};
 pub(crate) mod link;
 pub(crate) mod prefix;
 pub(crate) mod rule;
+pub(crate) mod terms;
 pub(crate) mod told;
 
-use crate::history::link::{Head, Link, NoGain, OneChain, SeenLinks, WithLimit, make_cell};
+use crate::history::link::{Head, Link, NoGain, OneChain, SeenLinks, WithTerms, make_cell};
 use crate::history::prefix::Prefix;
+use crate::history::terms::{NO_TERMS, Terms};
 use camel_rows::Update;
 use logbook::{Offer, Pen, Play, Seen, Start, Word};
 use std::marker::{Brand, Model, PhantomData};
@@ -68,14 +70,15 @@ impl Model for History {
 }
 
 impl History {
-    /// An empty history of a store of its own, which is to take at most `limit` updates.
-    pub(crate) fn new(limit: u64) -> History
+    /// An empty history of a store of its own, which is opened with these terms.
+    pub(crate) fn new(terms: Terms) -> History
         ensures updates { result.updates ≡ [] }
-        ensures limit { result.store.limit ≡ limit }
+        ensures limit { result.store.limit ≡ terms.limit }
+        ensures profile { result.store.profile ≡ terms.profile }
     {
         let (mut seen, mut first, _second) = Seen::open(Start::alone(), 0, 0);
         let head = Word::tracked(0, &mut first);
-        let pen = make_cell(&head, &mut seen, limit);
+        let pen = make_cell(&head, &mut seen, terms);
         let start = seen.again();
         History {
             head,
@@ -100,7 +103,7 @@ impl History {
         ensures { (result.book ≡ self.now.store.book) × (result.nib.right ≡ may_write) }
     {
         let mut seen = self.seen.again();
-        make_cell(&self.head, &mut seen, 0)
+        make_cell(&self.head, &mut seen, NO_TERMS)
     }
 
     /// Puts the updates of `G` behind the history. There is no case in which it fails.
@@ -109,8 +112,8 @@ impl History {
         ensures { self.new ≡ record self.old { updates = self.old.updates ++ G.updates } }
     {
         let mut seen = self.seen.again();
-        let mut offer: Offer<Link, u64, OneChain, NoGain> = seen.plain::<NoGain, u64, WithLimit>(
-            &0,
+        let mut offer: Offer<Link, u64, OneChain, NoGain> = seen.plain::<NoGain, Terms, WithTerms>(
+            &NO_TERMS,
         );
         self.head
             .compare_exchange::<AddLink<G>, NoGain>(0, 0, &mut seen, &mut offer, &mut self.pen);

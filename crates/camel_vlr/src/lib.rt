@@ -23,10 +23,11 @@
 //! look.leave();
 //! ```
 //!
-//! A [`Look`] shows one front as long as it is held, and what it lends ends with it. A held look lets the next
-//! publication go through, and stalls the second one after it, and with it the writer: keep of a decision what is
-//! needed, as `camel_rows::Outcome` does, and leave the look. Calls that may wait take a handle that is `Wait`: what
-//! their clauses say holds if they return, and that they return is not proved.
+//! The trigger rules are those of the profile with which the store was opened. A [`Look`] shows one front as long as it
+//! is held, and what it lends ends with it. A held look lets the next publication go through, and stalls the second one
+//! after it, and with it the writer: keep of a decision what is needed, as `camel_rows::Outcome` does, and leave the
+//! look. Calls that may wait take a handle that is `Wait`: what their clauses say holds if they return, and that they
+//! return is not proved.
 #![tactic(auto)]
 
 mod history;

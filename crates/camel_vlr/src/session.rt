@@ -14,6 +14,7 @@ use crate::published_copy::PublishedCopy;
 use crate::receipt::Receipt;
 use crate::session::look::{Look, NoLook};
 use crate::session::seat::Seat;
+use camel_tbcd::Profile;
 use left_right::reader::Reader;
 use std::marker::Model;
 use std::mem;
@@ -32,6 +33,8 @@ pub struct Session {
     longest: Receipt,
     /// Each front that it has learnt.
     told: Snapshot<Told>,
+    /// That of its store.
+    profile: Profile,
 }
 
 impl Model for Session {
@@ -52,12 +55,14 @@ impl Session {
     ghost use Rattle.camel_vlr.specs.Rule.{Knows};
     ghost use Rattle.camel_vlr.specs.Session.{LeavesLook, Learns, Sees, session_told_nothing};
 
-    /// A session that has seen this front, and has learnt nothing.
+    /// A session that has seen this front, and has learnt nothing. The profile is that of its store.
     pub(crate) fn new(
         reader: Reader<PublishedCopy, Known, PublicationRule>,
         seen: Receipt,
+        profile: Profile,
     ) -> Session
-        requires { Knows (view reader.place) seen }
+        requires knows { Knows (view reader.place) seen }
+        requires profile { profile ≡ seen.store.profile }
         ensures { result ≡ session_told_nothing seen.store seen.updates }
     {
         let longest = seen.copy();
@@ -66,7 +71,15 @@ impl Session {
             seen,
             longest,
             told: Told::none(),
+            profile,
         }
+    }
+
+    /// The profile under which its looks decide: that with which its store was opened.
+    pub fn profile(&self) -> Profile
+        ensures { result ≡ self.now.store.profile }
+    {
+        self.profile
     }
 
     /// Lets the session learn the front of a receipt: its later looks extend it. The receipt has to be of the session's

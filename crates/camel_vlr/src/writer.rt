@@ -12,6 +12,7 @@ pub(crate) mod submission;
 
 use crate::history::History;
 use crate::history::rule::Introducing;
+use crate::history::terms::Terms;
 use crate::published_copy::PublishedCopy;
 use crate::receipt::Receipt;
 use crate::session::Session;
@@ -20,6 +21,7 @@ use crate::writer::publication::{StoreWriter, append, extend_history, publish_al
 use crate::writer::submission::accept;
 use camel_criteria::Refusal;
 use camel_rows::{Admission, Update};
+use camel_tbcd::Profile;
 use core::mem::replace_with;
 use left_right::writer::Writer;
 use std::alloc::Global;
@@ -34,13 +36,15 @@ pub const MAX_PLACES: usize = 64;
 
 /// The store's one writer. It takes updates, and publishes them.
 ///
-/// Contracts see which store it is, with the most updates that it takes, and the lists of the updates that are
-/// published and pending. It can't be dropped: [`Vlr::close`] or [`Vlr::end`] ends it.
+/// Contracts see which store it is, with the most updates that it takes and its profile, and the lists of the updates
+/// that are published and pending. It can't be dropped: [`Vlr::close`] or [`Vlr::end`] ends it.
 pub struct Vlr {
     writer: StoreWriter,
     history: History,
     /// Which updates are accepted, by the published and the pending ones.
     admission: Admission,
+    /// That of its sessions.
+    profile: Profile,
 }
 
 impl Model for Vlr {
@@ -56,7 +60,8 @@ impl Model for Vlr {
 
 impl Vlr {
     /// An empty store that takes at most `limit` updates (1 to [`MAX_UPDATES`]), and `places` sessions (1 to
-    /// [`MAX_PLACES`]), none of which has seen or learnt anything.
+    /// [`MAX_PLACES`]), none of which has seen or learnt anything. The sessions decide under the profile, which no call
+    /// changes.
     ///
     /// It fails with `OutOfMemory` (102) where memory was refused, and with `NoPlace` (103) where a session got no place;
     /// then nothing remains. It takes `Wait`, and nobody looks yet. What its clauses say holds if it returns; that it
@@ -66,16 +71,18 @@ impl Vlr {
         alloc: Global,
         places: usize,
         limit: u64,
+        profile: Profile,
     ) -> Result<(Vlr, Vec<Session>), Refusal>
         requires places { (1 ≤ places) × (places ≤ MAX_PLACES) }
         requires limit { (1 ≤ limit) × (limit ≤ MAX_UPDATES) }
         ensures empty { IfOk result (λ r. (r.0.updates ≡ no_updates) × (r.0.store.limit ≡ limit)) }
+        ensures profile { IfOk result (λ r. r.0.store.profile ≡ profile) }
         ensures places { IfOk result (λ r. vec_len r.1 ≡ places) }
         ensures sessions { IfOk result (λ r. All (λ s. s ≡ fresh_session r.0.store) r.1.items) }
         ensures only { IfErr result (λ why. (why ≡ Refusal.OutOfMemory) ⊎ (why ≡ Refusal.NoPlace)) }
     {
         let mut sessions = Vec::with_capacity(alloc, places)?;
-        let mut store = Vlr::empty(rt, alloc, places, limit)?;
+        let mut store = Vlr::empty(rt, alloc, places, Terms { limit, profile })?;
         while sessions.len() < places {
             let Some(session) = store.seat() else {
                 store.end(rt);
@@ -87,13 +94,14 @@ impl Vlr {
     }
 
     /// The first publication, of nothing, lets the writer know which store it is.
-    fn empty<R: Wait>(rt: &R, alloc: Global, places: usize, limit: u64) -> Result<Vlr, Refusal>
+    fn empty<R: Wait>(rt: &R, alloc: Global, places: usize, terms: Terms) -> Result<Vlr, Refusal>
         requires places { (1 ≤ places) × (places ≤ MAX_PLACES) }
-        requires limit { (1 ≤ limit) × (limit ≤ MAX_UPDATES) }
-        ensures empty { IfOk result (λ r. (r.updates ≡ no_updates) × (r.store.limit ≡ limit)) }
+        requires limit { (1 ≤ terms.limit) × (terms.limit ≤ MAX_UPDATES) }
+        ensures empty { IfOk result (λ r. (r.updates ≡ no_updates) × (r.store.limit ≡ terms.limit)) }
+        ensures profile { IfOk result (λ r. r.store.profile ≡ terms.profile) }
         ensures only { IfErr result (λ why. why ≡ Refusal.OutOfMemory) }
     {
-        let history = History::new(limit);
+        let history = History::new(terms);
         let front = history.prefix();
         let first = PublishedCopy::empty(alloc, front.copy());
         let second = PublishedCopy::empty(alloc, front.copy());
@@ -107,7 +115,8 @@ impl Vlr {
             Ok(()) => Ok(Vlr {
                 writer,
                 history,
-                admission: Admission::new(alloc, limit),
+                admission: Admission::new(alloc, terms.limit),
+                profile: terms.profile,
             }),
             Err(_) => {
                 drop(writer.take(rt));
@@ -124,7 +133,7 @@ impl Vlr {
     {
         let mut reader = self.writer.factory().reader().ok()?;
         reader.learn::<Introducing>(self.writer.tell::<Introducing>());
-        Some(Session::new(reader, self.receipt()))
+        Some(Session::new(reader, self.receipt(), self.profile))
     }
 
     /// Accepts an update behind those that are pending, and returns its number, the first being 1.
@@ -172,6 +181,13 @@ impl Vlr {
         self.writer.published().receipt()
     }
 
+    /// The profile under which its sessions decide: that with which it was opened.
+    pub fn profile(&self) -> Profile
+        ensures { result ≡ self.now.store.profile }
+    {
+        self.profile
+    }
+
     /// How many updates are published.
     pub fn published(&self) -> u64
         ensures { result ≡ length self.now.updates.published }
@@ -193,6 +209,7 @@ impl Vlr {
             writer,
             history: _history,
             admission: _admission,
+            profile: _profile,
         } = self;
         drop(writer.take(rt));
     }

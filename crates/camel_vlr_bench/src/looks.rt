@@ -2,6 +2,7 @@ use crate::data::{EVENTS, events};
 use crate::publications::{Concerned, batches, open_filled, with_csi};
 use camel_fixtures::{criteria_update, imsi_of};
 use camel_rows::{CallEvent, Decision, Records, Update, decide_in};
+use camel_tbcd::Profile;
 use camel_vlr::Session;
 use std::alloc::Global;
 use std::rt::Clock;
@@ -37,7 +38,7 @@ pub(crate) fn time_decisions<R: Clock>(
 fn count_triggers(records: &Records, events: &[CallEvent]) -> u64 {
     let mut triggers: u64 = 0;
     for event in events {
-        if let Decision::Trigger { .. } = decide_in(records, &event.lend()) {
+        if let Decision::Trigger { .. } = decide_in(records, &event.lend(), Profile::One) {
             triggers = triggers.wrapping_add(1);
         }
     }

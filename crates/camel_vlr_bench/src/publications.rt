@@ -1,6 +1,7 @@
 use crate::data::next;
 use camel_fixtures::{criteria_update, imsi_of};
 use camel_rows::Update;
+use camel_tbcd::Profile;
 use camel_vlr::{MAX_PLACES, MAX_UPDATES, Session, Vlr};
 use std::alloc::Global;
 use std::rt::Clock;
@@ -34,7 +35,7 @@ pub(crate) fn open_filled<R: Wait>(
     if places == 0 || places > MAX_PLACES {
         return None;
     }
-    let (mut store, sessions) = Vlr::open(rt, alloc, places, MAX_UPDATES).ok()?;
+    let (mut store, sessions) = Vlr::open(rt, alloc, places, MAX_UPDATES, Profile::One).ok()?;
     match fill(rt, alloc, &mut store, subscribers) {
         Some(()) => Some((store, sessions)),
         None => {

@@ -7,7 +7,7 @@ use crate::answers::{TURNS, check_asked, check_row, check_submit};
 use camel_criteria::Refusal;
 use camel_fixtures::{O_ALONE, call_of, criteria_update, entry_update, row_update};
 use camel_rows::{Records, Update};
-use camel_tbcd::Imsi;
+use camel_tbcd::{Imsi, Profile};
 use camel_vlr::{CloseRefused, MAX_PLACES, MAX_UPDATES, Receipt, Session, Vlr};
 use std::alloc::Global;
 use std::process::Abort;
@@ -26,6 +26,7 @@ pub(crate) enum Kind {
     Entry,
     DeleteO,
     Cancel,
+    ClearAll,
 }
 
 pub(crate) fn update_of(alloc: Global, imsi: Imsi, kind: Kind) -> Result<Update, Refusal> {
@@ -39,6 +40,7 @@ pub(crate) fn update_of(alloc: Global, imsi: Imsi, kind: Kind) -> Result<Update,
             what: O_ALONE,
         }),
         Kind::Cancel => Ok(Update::Cancel { imsi }),
+        Kind::ClearAll => Ok(Update::ClearAll),
     }
 }
 
@@ -48,6 +50,7 @@ fn opened<R: Wait>(
     alloc: Global,
     places: usize,
     limit: u64,
+    profile: Profile,
 ) -> Result<(Vlr, Vec<Session>), Refusal>
     requires places { (1 ≤ places) × (places ≤ MAX_PLACES) }
     requires limit { (1 ≤ limit) × (limit ≤ MAX_UPDATES) }
@@ -55,12 +58,12 @@ fn opened<R: Wait>(
     ensures sessions { IfOk result (λ r. All (λ s. s ≡ fresh_session r.0.store) r.1.items) }
 {
     for _ in 1..TURNS {
-        match Vlr::open(rt, alloc, places, limit) {
+        match Vlr::open(rt, alloc, places, limit, profile) {
             Err(Refusal::NoPlace) => {}
             opened => return opened,
         }
     }
-    Vlr::open(rt, alloc, places, limit)
+    Vlr::open(rt, alloc, places, limit, profile)
 }
 
 /// The same: the store, the sessions before the last one, and the last one.
@@ -69,13 +72,14 @@ pub(crate) fn opened_with_last<R: Wait>(
     alloc: Global,
     places: usize,
     limit: u64,
+    profile: Profile,
 ) -> Result<(Vlr, Vec<Session>, Session), Refusal>
     requires places { (1 ≤ places) × (places ≤ MAX_PLACES) }
     requires limit { (1 ≤ limit) × (limit ≤ MAX_UPDATES) }
     ensures others { IfOk result (λ r. All (λ s. s ≡ fresh_session r.0.store) r.1.items) }
     ensures last { IfOk result (λ r. r.2 ≡ fresh_session r.0.store) }
 {
-    let (store, mut sessions) = opened(rt, alloc, places, limit)?;
+    let (store, mut sessions) = opened(rt, alloc, places, limit, profile)?;
     let Some(last) = sessions.pop() else {
         store.end(rt);
         return Err(Refusal::NoPlace);
@@ -92,7 +96,7 @@ pub(crate) fn opened_with_one<R: Wait>(
     requires limit { (1 ≤ limit) × (limit ≤ MAX_UPDATES) }
     ensures session { IfOk result (λ r. r.1 ≡ fresh_session r.0.store) }
 {
-    let (store, _, session) = opened_with_last(rt, alloc, 1, limit)?;
+    let (store, _, session) = opened_with_last(rt, alloc, 1, limit, Profile::One)?;
     Ok((store, session))
 }
 
@@ -106,7 +110,7 @@ pub(crate) fn opened_with_two<R: Wait>(
     ensures first { IfOk result (λ r. r.1 ≡ fresh_session r.0.store) }
     ensures second { IfOk result (λ r. r.2 ≡ fresh_session r.0.store) }
 {
-    let (store, mut others, second) = opened_with_last(rt, alloc, 2, limit)?;
+    let (store, mut others, second) = opened_with_last(rt, alloc, 2, limit, Profile::One)?;
     let Some(first) = others.pop() else {
         store.end(rt);
         return Err(Refusal::NoPlace);

@@ -6,6 +6,8 @@ mod answering;
 #[cfg(test)]
 mod answers;
 #[cfg(test)]
+mod clearing;
+#[cfg(test)]
 mod closing;
 #[cfg(test)]
 mod given;
@@ -17,5 +19,7 @@ mod limits;
 mod looking;
 #[cfg(test)]
 mod memory;
+#[cfg(test)]
+mod profiles;
 #[cfg(test)]
 mod threads;

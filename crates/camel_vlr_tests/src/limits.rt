@@ -5,6 +5,7 @@ use crate::given::{opened_with_last, receipt_of};
 use camel_criteria::Refusal;
 use camel_fixtures::{call_of, imsi_of};
 use camel_rows::{Reason, Update};
+use camel_tbcd::Profile;
 use camel_vlr::{Receipt, Session, Vlr};
 use std::mem::size_of;
 use std::process::Abort;
@@ -15,7 +16,7 @@ const FULL: Result<u64, Refusal> = Err(Refusal::HistoryFull);
 
 #[test]
 fn the_last_of_64_sessions_looks_where_the_others_are_gone(rt: HostRuntime) -> Result<(), Fail> {
-    let (mut store, others, mut last) = opened_with_last(&rt, rt.alloc(), 64, 1)?;
+    let (mut store, others, mut last) = opened_with_last(&rt, rt.alloc(), 64, 1, Profile::One)?;
     let done = last_session_looks(&rt, &mut store, others, &mut last);
     store.end(&rt);
     done

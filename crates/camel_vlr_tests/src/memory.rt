@@ -313,30 +313,31 @@ fn a_register_that_got_no_memory_leaves_no_entry(rt: HostRuntime) -> Result<(), 
     done
 }
 
-fn cancel_leaves_the_entry<R: Wait + Abort>(
+fn removal_leaves_the_entry<R: Wait + Abort>(
     rt: &R,
     alloc: Global,
     store: &mut Vlr,
     session: &mut Session,
+    kind: Kind,
 ) -> Result<(), Fail>
     requires { session.old.store ≡ store.old.store }
 {
     let imsi = imsi_of(1)?;
     let call = call_of(imsi)?;
     with_row(rt, alloc, store, session, imsi)?;
-    let (entry, wanted) = after_cancel(rt, store, imsi);
+    let (entry, wanted) = after_removal(rt, store, update_again(alloc, imsi, kind)?);
     send(rt, alloc, store, session, &call, imsi, (Kind::Entry, entry));
     tell_again(rt, store, session, &call, 4)?;
     check_asked(rt, session, &call, 4, wanted);
     Ok(())
 }
 
-// Sends a Cancel behind a pending row. What criteria alone are answered next, and what a call is told then: after a
-// refused Cancel they are taken, and else not.
-fn after_cancel(rt: &impl Abort, store: &mut Vlr, imsi: Imsi) -> (Result<u64, Refusal>, Told)
+// Sends an update that leaves no record behind a pending row. What criteria alone are answered next, and what a call is
+// told then: after a refused update they are taken, and else not.
+fn after_removal(rt: &impl Abort, store: &mut Vlr, removal: Update) -> (Result<u64, Refusal>, Told)
     ensures { store.new.store ≡ store.old.store }
 {
-    match store.submit(Update::Cancel { imsi }) {
+    match store.submit(removal) {
         Err(Refusal::OutOfMemory) => {
             check_counts(rt, store, 2, 1);
             (Ok(4), Ok((100, Some(LISTED))))
@@ -351,7 +352,15 @@ fn after_cancel(rt: &impl Abort, store: &mut Vlr, imsi: Imsi) -> (Result<u64, Re
 #[test]
 fn a_cancel_that_got_no_memory_leaves_the_entry(rt: HostRuntime) -> Result<(), Fail> {
     let (mut store, mut session) = opened_again(&rt, rt.alloc())?;
-    let done = cancel_leaves_the_entry(&rt, rt.alloc(), &mut store, &mut session);
+    let done = removal_leaves_the_entry(&rt, rt.alloc(), &mut store, &mut session, Kind::Cancel);
+    store.end(&rt);
+    done
+}
+
+#[test]
+fn a_clear_that_got_no_memory_leaves_the_entry(rt: HostRuntime) -> Result<(), Fail> {
+    let (mut store, mut session) = opened_again(&rt, rt.alloc())?;
+    let done = removal_leaves_the_entry(&rt, rt.alloc(), &mut store, &mut session, Kind::ClearAll);
     store.end(&rt);
     done
 }

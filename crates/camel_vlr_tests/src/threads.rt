@@ -3,7 +3,7 @@ use crate::given::{Kind, opened_with_two, update_of};
 use camel_criteria::Refusal;
 use camel_fixtures::{call_of, imsi_of};
 use camel_rows::{CallEvent, Records, Update, decide_in};
-use camel_tbcd::Imsi;
+use camel_tbcd::{Imsi, Profile};
 use camel_vlr::{Session, Vlr};
 use std::alloc::Global;
 use std::process::Abort;
@@ -166,7 +166,7 @@ fn update_by(alloc: Global, imsis: &Three<Imsi>, number: u64) -> Result<Update, 
 
 fn told_in(records: &Records, call: &CallEvent) -> Told {
     let event = call.lend();
-    told(&decide_in(records, &event))
+    told(&decide_in(records, &event, Profile::One))
 }
 
 fn all_told(records: &Records, calls: &Three<CallEvent>) -> Three<Told> {

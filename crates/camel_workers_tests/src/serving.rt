@@ -2,6 +2,7 @@ use crate::given::{served, updates};
 use camel_audit::{Transcript, audit};
 use camel_fixtures::triggered;
 use camel_rows::{Answer, Outcome, Reason};
+use camel_tbcd::Profile;
 use camel_workers::{Ended, Gate, OpenGate, Served};
 use std::process::Abort;
 use std::sync::atomic::{AtomicU64, Ordering};
@@ -54,7 +55,8 @@ fn all_calls_are_answered_in_their_order(rt: HostRuntime) -> Result<(), Fail> {
     } = served(&rt, rt.alloc(), 1000, &OpenGate)?;
     assert_eq!(rt; ended, Ended::All);
     check_entries(&rt, &transcript, 1000)?;
-    let audited = audit(rt.alloc(), &updates(rt.alloc())?, &[transcript]);
+    let updates = updates(rt.alloc())?;
+    let audited = audit(rt.alloc(), &updates, &[transcript], Profile::One);
     assert_eq!(rt; audited, Ok(()));
     Ok(())
 }

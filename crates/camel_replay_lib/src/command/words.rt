@@ -1,10 +1,11 @@
 ghost use Rattle.std.specs.Prelude.{◌≡◌, false, IfErr, IfOk, IfSome, map, string_bytes};
 ghost use Rattle.clap.specs.Words.{app_of, kind_of, rule_of};
 ghost use Rattle.clap.specs.declared.error.kind.ErrorKind.TheVariants.{DisplayHelp, OutOfMemory};
-ghost use Rattle.camel_replay_lib.specs.CommandLine.{AsksForHelp, HoldsLimit, HoldsThreads, IsNumberUpTo, LimitOf};
-ghost use Rattle.camel_replay_lib.specs.CommandLine.{ThreadsOf, limit_rule, the_program, threads_rule};
+ghost use Rattle.camel_replay_lib.specs.CommandLine.{AsksForHelp, HoldsLimit, HoldsProfile, HoldsThreads, IsNumberUpTo, LimitOf};
+ghost use Rattle.camel_replay_lib.specs.CommandLine.{GivesNumber, ProfileOf, ThreadsOf, limit_rule, profile_number, profile_rule, the_program, threads_rule};
 
 use crate::command::Options;
+use camel_tbcd::Profile;
 use clap::builder::ValueParser;
 use clap::error::ErrorKind;
 use clap::{Arg, ArgMatches, Command, Error};
@@ -16,12 +17,16 @@ pub const MAX_LIMIT: u64 = 1_000_000;
 /// The greatest number of threads that answer calls.
 pub const MAX_THREADS: u64 = 16;
 
+/// The greatest number of a profile.
+const MAX_PROFILE: u64 = 2;
+
 /// The options of the words with which the program was started, its name first.
 ///
 /// The error is that of `clap`: a mistake in the words, a request for help, or out of memory.
 pub fn options(alloc: Global, words: &[String]) -> Result<Options, Error>
     ensures threads { IfOk result (λ options. ThreadsOf (map string_bytes words.now) options.threads) }
     ensures limit { IfOk result (λ options. LimitOf (map string_bytes words.now) options.limit) }
+    ensures profile { IfOk result (λ options. ProfileOf (map string_bytes words.now) options.profile) }
     ensures help { IfErr result (λ error.
         kind_of error ≡ DisplayHelp → AsksForHelp (map string_bytes words.now)) }
 {
@@ -43,7 +48,8 @@ fn command<'a>(alloc: Global) -> Result<Command<'a>, Error>
         .about(ABOUT)
         .after_help(AFTER_HELP)
         .arg(limit_argument(alloc))?
-        .arg(threads_argument(alloc))?;
+        .arg(threads_argument(alloc))?
+        .arg(profile_argument(alloc))?;
     Ok(command)
 }
 
@@ -72,17 +78,47 @@ fn threads_argument<'a>(alloc: Global) -> Arg<'a>
         .help("The number of threads that answer calls, 1 to 16; without it one thread does all")
 }
 
+/// The option `--profile`.
+fn profile_argument<'a>(alloc: Global) -> Arg<'a>
+    ensures rule { rule_of result ≡ profile_rule }
+    ensures own { result.global ≡ false }
+{
+    Arg::new(alloc, "profile")
+        .long("profile")
+        .value_name("N")
+        .default_value("1")
+        .value_parser(ValueParser::unsigned(1, MAX_PROFILE))
+        .help("The profile: with 1 numbering plans are not compared, with 2 they are")
+}
+
 /// The options that the matches hold.
 fn held_options(matches: &ArgMatches) -> Option<Options>
     ensures threads { IfSome result (λ options. HoldsThreads matches.now options.threads) }
     ensures limit { IfSome result (λ options. HoldsLimit matches.now options.limit) }
+    ensures profile { IfSome result (λ options. HoldsProfile matches.now options.profile) }
 {
     let limit = number(matches.get_str("limit")?, MAX_LIMIT)?;
     let threads = match matches.get_str("threads") {
         Some(text) => Some(number(text, MAX_THREADS)? as usize),
         None => None,
     };
-    Some(Options { threads, limit })
+    let profile = profile_of_number(number(matches.get_str("profile")?, MAX_PROFILE)?)?;
+    Some(Options {
+        threads,
+        limit,
+        profile,
+    })
+}
+
+/// The profile of a number.
+fn profile_of_number(number: u64) -> Option<Profile>
+    ensures { IfSome result (λ profile. profile_number profile ≡ number) }
+{
+    match number {
+        1 => Some(Profile::One),
+        2 => Some(Profile::Two),
+        _ => None,
+    }
 }
 
 /// The number of which a text is the numeral, from 1 up to the greatest.
@@ -109,6 +145,7 @@ Reads a script as CSV from standard input, and writes one line for each record t
                                               a row of the VT-CSI with its criteria
   delete,262010000000001,vt                   removes o, vt or all; several may be named
   cancel,262010000000001                      removes the record
+  clear                                       removes all records
   publish                                     calls see the updates before it from here on
   call,2,262010000000001,t11,91214365,n       a call at collectedInfo
   call,4,262010000000001,t11,91214365,f,17    at routeSelectFailure, forwarded, with a cause

@@ -7,6 +7,7 @@ use crate::script_replay::update_list::UpdateList;
 use camel_criteria::Refusal;
 use camel_rows::{Admission, Answer, CallEvent, Outcome, Records, Update};
 use camel_script::{Line, Record};
+use camel_tbcd::Profile;
 use std::alloc::Global;
 use std::collections::VecDeque;
 use std::marker::Model;
@@ -14,7 +15,7 @@ use std::snapshot::Snapshot;
 
 /// The subscriber data of one thread: what is published, and the accepted updates that are pending.
 ///
-/// Contracts see the limit, and the lists of the published and of the pending updates.
+/// Contracts see the profile, the limit, and the lists of the published and of the pending updates.
 #[derive(Drop)]
 pub(crate) struct Store {
     admission: Admission,
@@ -22,6 +23,7 @@ pub(crate) struct Store {
     /// The updates that leave the records, for contracts alone.
     published: Snapshot<UpdateList>,
     pending: VecDeque<Update>,
+    profile: Profile,
 }
 
 impl Model for Store {
@@ -33,6 +35,7 @@ impl Model for Store {
     ghost coded = { store_code };
 
     ghost view = { λ a. record {
+      profile = a.profile;
       limit = a.admission.limit;
       updates = record { published = a.published.value; pending = a.pending.items };
     } };
@@ -41,15 +44,16 @@ impl Model for Store {
 }
 
 impl Store {
-    /// A store that accepts at most `limit` updates, with no records.
-    pub(crate) fn new(alloc: Global, limit: u64) -> Store
-        ensures { result ≡ empty_store limit }
+    /// A store that accepts at most `limit` updates, with no records, and decides under the profile.
+    pub(crate) fn new(alloc: Global, limit: u64, profile: Profile) -> Store
+        ensures { result ≡ empty_store profile limit }
     {
         Store {
             admission: Admission::new(alloc, limit),
             records: Records::new(alloc),
             published: UpdateList::none(),
             pending: VecDeque::new(alloc),
+            profile,
         }
     }
 
@@ -57,7 +61,7 @@ impl Store {
     ///
     /// Fails with `OutOfMemory` alone. The store may then hold a part of a publication, so it is not used again.
     pub(crate) fn answer(&mut self, script_record: Record) -> Result<Line, Refusal>
-        ensures line { IfOk result (λ line. line ≡ line_of self.old.limit self.old.updates script_record) }
+        ensures line { IfOk result (λ line. line ≡ line_of self.old.profile self.old.limit self.old.updates script_record) }
         ensures after { OnOk result (self.new ≡ store_after self.old script_record) }
         ensures only { IfErr result (λ why. why ≡ Refusal.OutOfMemory) }
     {
@@ -71,7 +75,7 @@ impl Store {
 
     /// Submits an update, and returns its line.
     fn line_of_update(&mut self, update: Update) -> Result<Line, Refusal>
-        ensures line { IfOk result (λ line. line ≡ line_of self.old.limit self.old.updates (Record.Update update)) }
+        ensures line { IfOk result (λ line. line ≡ line_of self.old.profile self.old.limit self.old.updates (Record.Update update)) }
         ensures after { OnOk result (self.new ≡ store_after self.old (Record.Update update)) }
         ensures only { IfErr result (λ why. why ≡ Refusal.OutOfMemory) }
     {
@@ -119,11 +123,11 @@ impl Store {
 
     /// Decides a call over the published data.
     fn decide(&self, event: &CallEvent) -> Answer
-        ensures { result ≡ answer_of self.now.updates event.now }
+        ensures { result ≡ answer_of self.now.profile self.now.updates event.now }
     {
         Answer {
             front: self.admission.accepted() - self.pending.len() as u64,
-            outcome: Outcome::decide(&self.records, event),
+            outcome: Outcome::decide(&self.records, event, self.profile),
         }
     }
 }

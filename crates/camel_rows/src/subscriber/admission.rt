@@ -1,7 +1,7 @@
 ghost use Rattle.std.specs.Prelude.{◌≡◌, ◌<◌, ◌≤◌, ◌-◌, Some, None, IfErr, IfOk, IsSome, OnErr, OnOk};
 ghost use Rattle.std.specs.FinMap as map;
 ghost use Rattle.camel_rows.specs.Admission.{admission_refusal, no_admissions, with_admission};
-ghost use Rattle.camel_rows.specs.ByImsi.{with_value};
+ghost use Rattle.camel_rows.specs.ByImsi.{value_of, with_value};
 ghost use Rattle.camel_rows.specs.CsisPresent.{csis_after};
 ghost use Rattle.camel_rows.specs.Update.{update_imsi};
 
@@ -58,7 +58,7 @@ impl Admission {
     }
 
     /// The CSIs that an update leaves in the record of its IMSI, where it may be accepted; None where it leaves no
-    /// record. Nothing changes.
+    /// record, of its IMSI or of any. Nothing changes.
     ///
     /// Fails as `Records::check` with `UnidentifiedSubscriber` (5) and `DataMissing` (35) over the data that all accepted
     /// updates leave, and then with `HistoryFull` (101) where as many are accepted as the limit.
@@ -66,14 +66,22 @@ impl Admission {
         ensures refused { IfErr result (λ why. admission_refusal self.now update.now ≡ Some why) }
         ensures taken { OnOk result (admission_refusal self.now update.now ≡ None) }
         ensures room { OnOk result (self.now.accepted < self.now.limit) }
-        ensures csis { IfOk result (λ csis. csis ≡ csis_after (map.get self.now.directory (update_imsi update.now)) update.now) }
+        ensures csis { IfOk result (λ csis. csis ≡ csis_after (value_of self.now.directory (update_imsi update.now)) update.now) }
     {
-        let csis = self.csis(&update.imsi());
+        let csis = self.csis_before(update);
         check_update(csis, update)?;
         if self.accepted == self.limit {
             return Err(Refusal::HistoryFull);
         }
         Ok(csis_after(csis, update))
+    }
+
+    /// The CSIs in the record of the subscriber whom an update concerns; None where there is no record, or where it
+    /// concerns all of them.
+    fn csis_before(&self, update: &Update) -> Option<CsisPresent>
+        ensures { result ≡ value_of self.now.directory (update_imsi update.now) }
+    {
+        self.csis(&update.imsi()?)
     }
 
     /// The CSIs that are stored in the record of an IMSI; None where there is no record.
@@ -83,27 +91,35 @@ impl Admission {
         self.directory.get(imsi)
     }
 
-    /// Accepts an update that leaves a record with these CSIs, or no record. Fails with `AllocError` where memory is
-    /// refused; then it is not accepted.
-    pub fn accept(&mut self, imsi: Imsi, csis: Option<CsisPresent>) -> Result<(), AllocError>
+    /// Accepts an update of this subscriber that leaves a record with these CSIs, or no record; where it concerns all
+    /// of them, it leaves none. Fails with `AllocError` where memory is refused; then it is not accepted.
+    pub fn accept(
+        &mut self,
+        imsi: Option<Imsi>,
+        csis: Option<CsisPresent>,
+    ) -> Result<(), AllocError>
         requires { self.old.accepted < self.old.limit }
         ensures accepted { OnOk result (self.new ≡ with_admission self.old imsi csis) }
         ensures unchanged { OnErr result (self.new ≡ self.old) }
     {
-        match csis {
-            Some(csis) => self.directory.insert(imsi, csis)?,
-            None => self.directory.remove(&imsi),
+        match (imsi, csis) {
+            (Some(imsi), Some(csis)) => self.directory.insert(imsi, csis)?,
+            (Some(imsi), None) => self.directory.remove(&imsi),
+            (None, _) => self.directory.clear(),
         }
         self.accepted += 1;
         Ok(())
     }
 
-    /// Accepts an update that leaves no record. It takes no memory.
-    pub fn accept_removal(&mut self, imsi: &Imsi)
+    /// Accepts an update of this subscriber, or of all of them, that leaves no record. It takes no memory.
+    pub fn accept_removal(&mut self, imsi: Option<Imsi>)
         requires { self.old.accepted < self.old.limit }
-        ensures { self.new ≡ with_admission self.old imsi.now None }
+        ensures { self.new ≡ with_admission self.old imsi None }
     {
-        self.directory.remove(imsi);
+        match imsi {
+            Some(imsi) => self.directory.remove(&imsi),
+            None => self.directory.clear(),
+        }
         self.accepted += 1;
     }
 

@@ -24,7 +24,7 @@ pub(crate) fn check_update(csis: Option<CsisPresent>, update: &Update) -> Result
     ensures accepted { OnOk result (csis_refusal csis update.now ≡ None) }
 {
     match (update, csis) {
-        (Update::Register { .. } | Update::Cancel { .. }, _) => Ok(()),
+        (Update::Register { .. } | Update::Cancel { .. } | Update::ClearAll, _) => Ok(()),
         (_, None) => Err(Refusal::UnidentifiedSubscriber),
         (Update::Delete { .. }, Some(_)) => Ok(()),
         (
@@ -80,6 +80,6 @@ pub(crate) fn csis_after(csis: Option<CsisPresent>, update: &Update) -> Option<C
                 vt: old.vt && !what.removes_vt(),
             })
         }
-        Update::Cancel { .. } => None,
+        Update::Cancel { .. } | Update::ClearAll => None,
     }
 }

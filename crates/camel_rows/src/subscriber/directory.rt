@@ -75,4 +75,11 @@ impl Directory {
     {
         self.table.remove(imsi);
     }
+
+    /// Takes all entries out. It takes no memory.
+    pub(crate) fn clear(&mut self)
+        ensures { self.new ≡ empty_directory }
+    {
+        self.table.clear();
+    }
 }

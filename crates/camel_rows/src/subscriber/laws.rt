@@ -1,16 +1,18 @@
-ghost use Rattle.std.specs.Prelude.{◌≡◌, ◌≢◌, List, ℕ, Option, Some, None};
+ghost use Rattle.std.specs.Prelude.{◌≡◌, false, List, ℕ, Option, Some, None};
 ghost use Rattle.std.specs.FinMap as map;
 ghost use Rattle.camel_criteria.specs.Criteria.{OCriteriaData, TCriteriaData};
 ghost use Rattle.camel_rows.specs.TdpRow.{TdpRowData};
 ghost use Rattle.camel_rows.specs.Standard.{HasO, HasVt, csi_with};
-ghost use Rattle.camel_rows.specs.Records.{RecordsData};
-ghost use Rattle.camel_rows.specs.Update.{records_after, refusal, update_imsi};
+ghost use Rattle.camel_rows.specs.Records.{RecordsData, no_records};
+ghost use Rattle.camel_rows.specs.Update.{is_of, records_after, refusal};
 ghost use Rattle.camel_rows.specs.declared.subscriber.update.Update.{Update};
 
-/// A law of the definitions: an update changes the record of its own IMSI alone. It does nothing when it is called.
-pub fn updates_change_one_record()
-    ensures { (m : RecordsData) (update : Update) (imsi : List ℕ)
-        → imsi ≢ update_imsi update → map.get (records_after m update) imsi ≡ map.get m imsi }
+/// A law of the definitions: an update changes the record of its own IMSI alone, but for `ClearAll`, which concerns all
+/// and leaves none. It does nothing when it is called.
+pub fn updates_change_own_records()
+    ensures others { (m : RecordsData) (update : Update) (imsi : List ℕ)
+        → is_of imsi update ≡ false → map.get (records_after m update) imsi ≡ map.get m imsi }
+    ensures all { (m : RecordsData) → records_after m Update.ClearAll ≡ no_records }
 {}
 
 /// A law of the definitions: where a subscriber registers, and an Insert then brings a CSI and is not refused, that

@@ -1,15 +1,16 @@
 ghost use Rattle.std.specs.Prelude.{◌≡◌, ◌⊎◌, Some, IfErr, IfNone, IfOk, IfSome, IsOk, IsSome, OnErr, OnOk};
 ghost use Rattle.std.specs.FinMap as map;
 ghost use Rattle.std.specs.Option.{option_copied, option_map};
-ghost use Rattle.camel_rows.specs.ByImsi.{with_value};
+ghost use Rattle.camel_rows.specs.ByImsi.{value_of, with_value};
 ghost use Rattle.camel_rows.specs.CsiChange.{with_changes};
+ghost use Rattle.camel_rows.specs.CsisPresent.{csis_of};
 ghost use Rattle.camel_rows.specs.Records.{no_records};
-ghost use Rattle.camel_rows.specs.Update.{records_after, record_with_insert, record_without, refusal};
+ghost use Rattle.camel_rows.specs.Update.{records_after, record_with_insert, record_without, refusal, update_imsi};
 
 use crate::csi::criteria_set::{OCriteriaSet, TCriteriaSet};
 use crate::csi::{OCsi, VtCsi};
 use crate::subscriber::csi_change::CsiChange;
-use crate::subscriber::csis_present::check_update;
+use crate::subscriber::csis_present::{CsisPresent, check_update};
 use crate::subscriber::update::{Update, Withdrawal};
 use crate::subscriber::{StoredOCsi, StoredVtCsi, Subscriber};
 use camel_criteria::Refusal;
@@ -66,19 +67,28 @@ impl Records {
         ensures refused { IfSome (refusal self.now update.now) (λ why. result ≡ Err why) }
         ensures accepted { IfNone (refusal self.now update.now) (IsOk result) }
     {
-        check_update(self.get(&update.imsi()).map(Subscriber::csis), update)
+        check_update(self.csis_before(update), update)
+    }
+
+    /// The CSIs in the record of the subscriber whom an update concerns; None where there is no record, or where it
+    /// concerns all of them.
+    fn csis_before(&self, update: &Update) -> Option<CsisPresent>
+        ensures { result ≡ option_map csis_of (value_of self.now (update_imsi update.now)) }
+    {
+        Some(self.get(&update.imsi()?)?.csis())
     }
 
     /// Applies an update.
     ///
     /// Fails with the refusals of [`Records::check`], and with `OutOfMemory` (102) where memory is refused. After a
-    /// refusal the records are as before.
+    /// refusal the records are as before. `ClearAll` takes no memory, and does not fail.
     pub fn apply(&mut self, update: &Update) -> Result<(), Refusal>
         ensures refused { IfSome (refusal self.old update.now) (λ why. result ≡ Err why) }
         ensures applied { OnOk result (self.new ≡ records_after self.old update.now) }
         ensures unchanged { OnErr result (self.new ≡ self.old) }
         ensures only { IfErr result (λ why.
             (why ≡ Refusal.OutOfMemory) ⊎ (refusal self.old update.now ≡ Some why)) }
+        ensures clears { update.now ≡ Update.ClearAll → IsOk result }
     {
         self.check(update)?;
         match update {
@@ -92,6 +102,7 @@ impl Records {
             } => self.insert(imsi, *o, o_criteria, *vt, t_criteria)?,
             Update::Delete { imsi, what } => self.withdraw(imsi, *what),
             Update::Cancel { imsi } => self.take_out(imsi),
+            Update::ClearAll => self.clear(),
         }
         Ok(())
     }
@@ -158,6 +169,13 @@ impl Records {
         ensures { self.new ≡ map.remove self.old imsi.now }
     {
         self.table.remove(imsi);
+    }
+
+    /// Takes all records out.
+    fn clear(&mut self)
+        ensures { self.new ≡ no_records }
+    {
+        self.table.clear();
     }
 }
 

@@ -35,7 +35,7 @@ impl Withdrawal {
     }
 }
 
-/// A change of the subscriber data of one IMSI.
+/// A change of the subscriber data of one IMSI, or of all.
 #[derive(Debug, Drop)]
 pub enum Update {
     /// The subscriber registers: an empty record stands, whatever stood before. It is never refused. It is
@@ -67,18 +67,22 @@ pub enum Update {
     Cancel {
         imsi: Imsi,
     },
+    /// No record stands, of any subscriber. It is never refused. It is this product's own, for a restart of the home
+    /// location register or of the switch, after which no data may be relied on.
+    ClearAll,
 }
 
 impl Update {
-    /// The subscriber whom it concerns.
-    pub fn imsi(&self) -> Imsi
+    /// The subscriber whom it concerns; None where it concerns all of them.
+    pub fn imsi(&self) -> Option<Imsi>
         ensures { result ≡ update_imsi self.now }
     {
         match self {
             Update::Register { imsi }
             | Update::Insert { imsi, .. }
             | Update::Delete { imsi, .. }
-            | Update::Cancel { imsi } => *imsi,
+            | Update::Cancel { imsi } => Some(*imsi),
+            Update::ClearAll => None,
         }
     }
 
@@ -117,6 +121,7 @@ impl Clone for Update {
                 what: *what,
             },
             Update::Cancel { imsi } => Update::Cancel { imsi: *imsi },
+            Update::ClearAll => Update::ClearAll,
         })
     }
 }

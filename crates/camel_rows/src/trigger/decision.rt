@@ -1,5 +1,6 @@
 ghost use Rattle.std.specs.Prelude.{◌≡◌, Bool};
 ghost use Rattle.std.specs.Option.{option_copied};
+ghost use Rattle.camel_tbcd.specs.declared.profile.Profile.{Profile};
 ghost use Rattle.camel_criteria.specs.Event.{o_event_data};
 ghost use Rattle.camel_criteria.specs.Met.{o_met, t_met};
 ghost use Rattle.camel_rows.specs.Decision.{by_csi, decision, decision_data};
@@ -12,6 +13,7 @@ use crate::subscriber::records::Records;
 use crate::subscriber::stored_csi::StoredCsi;
 use crate::trigger::event::{Event, Shown};
 use camel_criteria::{CriteriaEntry, OCriteria, OEvent, TCriteria, TEvent, o_met, t_met};
+use camel_tbcd::Profile;
 
 /// Why an event triggers nothing, in the order in which the reasons are looked at.
 #[derive(Clone, Copy, Debug, PartialEq, Eq)]
@@ -41,16 +43,16 @@ pub enum Decision<'r> {
     NoTrigger(Reason),
 }
 
-/// Decides an event over the records by the trigger rules of TS 23.078.
-pub fn decide_in<'r>(records: &'r Records, event: &Event) -> Decision<'r>
-    ensures { decision_data result ≡ decision records.now (event_data event.now) }
+/// Decides an event over the records by the trigger rules of TS 23.078, under a profile.
+pub fn decide_in<'r>(records: &'r Records, event: &Event, profile: Profile) -> Decision<'r>
+    ensures { decision_data result ≡ decision profile records.now (event_data event.now) }
 {
     let Some(subscriber) = records.get(&event.imsi()) else {
         return Decision::NoTrigger(Reason::Unknown);
     };
     match event.show() {
-        Shown::O(shown) => decide_by(subscriber.stored_o(), event, &shown),
-        Shown::T(shown) => decide_by(subscriber.stored_vt(), event, &shown),
+        Shown::O(shown) => decide_by(subscriber.stored_o(), event, &shown, profile),
+        Shown::T(shown) => decide_by(subscriber.stored_vt(), event, &shown, profile),
     }
 }
 
@@ -59,9 +61,10 @@ fn decide_by<'r, const MOST: usize, E: CriteriaEntry, S: ShownTo<E>>(
     csi: Option<&'r StoredCsi<MOST, E>>,
     event: &Event,
     shown: &S,
+    profile: Profile,
 ) -> Decision<'r>
     ensures { decision_data result
-        ≡ by_csi E.dp_of (S.is_met shown.now) S.entry_as (event_data event.now) (option_copied csi.entry) }
+        ≡ by_csi E.dp_of (S.is_met profile shown.now) S.entry_as (event_data event.now) (option_copied csi.entry) }
 {
     let Some(csi) = csi else {
         return Decision::NoTrigger(Reason::NoCsi);
@@ -78,7 +81,7 @@ fn decide_by<'r, const MOST: usize, E: CriteriaEntry, S: ShownTo<E>>(
             row,
             criteria: None,
         },
-        Some(entry) if shown.meets(entry) => Decision::Trigger {
+        Some(entry) if shown.meets(entry, profile) => Decision::Trigger {
             row,
             criteria: Some(S::lend(entry)),
         },
@@ -88,25 +91,25 @@ fn decide_by<'r, const MOST: usize, E: CriteriaEntry, S: ShownTo<E>>(
 
 /// What an event shows to the entries of one CSI.
 trait ShownTo<E> {
-    ghost is_met: { Self → E → Bool };
+    ghost is_met: { Profile → Self → E → Bool };
 
     ghost entry_as: { E → EntryData };
 
-    /// Whether it meets an entry.
-    fn meets(&self, entry: &E) -> bool
-        ensures { result ≡ is_met self.now entry.now };
+    /// Whether it meets an entry, under a profile.
+    fn meets(&self, entry: &E, profile: Profile) -> bool
+        ensures { result ≡ is_met profile self.now entry.now };
 
     fn lend<'r>(entry: &'r E) -> Lent<'r>
         ensures { entry_data result ≡ entry_as entry.now };
 }
 
 impl ShownTo<OCriteria> for OEvent<'_> {
-    ghost is_met = { λ shown entry. o_met entry (o_event_data shown) };
+    ghost is_met = { λ profile shown entry. o_met profile entry (o_event_data shown) };
 
     ghost entry_as = { O };
 
-    fn meets(&self, entry: &OCriteria) -> bool {
-        o_met(entry, self)
+    fn meets(&self, entry: &OCriteria, profile: Profile) -> bool {
+        o_met(entry, self, profile)
     }
 
     fn lend<'r>(entry: &'r OCriteria) -> Lent<'r>
@@ -117,11 +120,11 @@ impl ShownTo<OCriteria> for OEvent<'_> {
 }
 
 impl ShownTo<TCriteria> for TEvent {
-    ghost is_met = { λ shown entry. t_met entry shown };
+    ghost is_met = { λ profile shown entry. t_met entry shown };
 
     ghost entry_as = { T };
 
-    fn meets(&self, entry: &TCriteria) -> bool {
+    fn meets(&self, entry: &TCriteria, _profile: Profile) -> bool {
         t_met(entry, self)
     }
 

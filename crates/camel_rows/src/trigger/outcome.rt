@@ -6,7 +6,7 @@ use crate::subscriber::records::Records;
 use crate::trigger::decision::{Decision, Reason, decide_in};
 use crate::trigger::event::CallEvent;
 use camel_criteria::Handling;
-use camel_tbcd::IsdnAddress;
+use camel_tbcd::{IsdnAddress, Profile};
 
 /// A decision with the row's four values, or the reason why no service is invoked.
 #[derive(Clone, Copy, Debug, PartialEq, Eq)]
@@ -24,11 +24,11 @@ pub enum Outcome {
 }
 
 impl Outcome {
-    /// The outcome of an event over the records.
-    pub fn decide(records: &Records, event: &CallEvent) -> Outcome
-        ensures { result ≡ outcome_of (decision records.now event.now) }
+    /// The outcome of an event over the records, under a profile.
+    pub fn decide(records: &Records, event: &CallEvent, profile: Profile) -> Outcome
+        ensures { result ≡ outcome_of (decision profile records.now event.now) }
     {
-        Outcome::of(&decide_in(records, &event.lend()))
+        Outcome::of(&decide_in(records, &event.lend(), profile))
     }
 
     /// What a decision says, without borrowing from the records.

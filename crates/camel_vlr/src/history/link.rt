@@ -1,18 +1,19 @@
 ghost use Rattle.std.specs.Prelude.{◌≡◌, []};
 ghost use Rattle.logbook.specs.Pages.{may_write};
-ghost use Rattle.camel_vlr.specs.Chain.{head_of, limit_of, list_of, root_of, tail_of};
+ghost use Rattle.camel_vlr.specs.Chain.{head_of, list_of, root_of, tail_of, terms_of};
 
+use crate::history::terms::Terms;
 use camel_rows::Update;
 use logbook::{Gain, Offer, Pen, Plain, Play, Rule, Seen, Word};
 use std::collections::LinkedList;
 
 /// A link of a chain: the cell that it uses up, the updates that it adds, and the cell that the link after it has to
-/// use up. `limit` is that of the history which begins at `next`. No value of it is made.
+/// use up. `terms` are those of the history which begins at `next`. No value of it is made.
 pub(crate) struct Link {
     pub cell: u64,
     pub updates: LinkedList<Update>,
     pub next: u64,
-    pub limit: u64,
+    pub terms: Terms,
 }
 
 /// Each link uses up a cell of its own, so no two links follow the same one.
@@ -51,15 +52,15 @@ impl Gain<Link, u64> for NoGain {
     ghost after = { λ names about answer. ftrue };
 }
 
-/// What is asked of a step: a cell at which a history with this limit may begin.
-pub(crate) struct WithLimit;
+/// What is asked of a step: a cell at which a history with these terms may begin.
+pub(crate) struct WithTerms;
 
-impl Plain<u64, Link, u64> for WithLimit {
+impl Plain<Terms, Link, u64> for WithTerms {
     ghost use Rattle.std.specs.Prelude.{None, []};
 
-    ghost ask = { λ limit. record { cell = 0; updates = []; next = 0; limit = limit } };
+    ghost ask = { λ terms. record { cell = 0; updates = []; next = 0; terms = terms } };
 
-    ghost state = { λ limit. None };
+    ghost state = { λ terms. None };
 }
 
 /// A step that makes a cell.
@@ -72,17 +73,17 @@ impl Play<Link, u64> for MakeCell {
 }
 
 /// A cell that no link has used up, and that the last link names.
-pub(crate) fn make_cell(head: &Head, seen: &mut SeenLinks, limit: u64) -> Pen
+pub(crate) fn make_cell(head: &Head, seen: &mut SeenLinks, terms: Terms) -> Pen
     requires { head.now ≡ head_of seen.old.book }
     ensures book { (result.book ≡ seen.old.book) × (seen.new.book ≡ seen.old.book) }
     ensures right { result.nib.right ≡ may_write }
     ensures list { list_of result.nib.key seen.new.log ≡ [] }
     ensures tail { tail_of result.nib.key seen.new.log ≡ result.nib.key }
     ensures root { root_of seen.new.log ≡ result.nib.key }
-    ensures limit { limit_of seen.new.log ≡ limit }
+    ensures terms { terms_of seen.new.log ≡ terms }
 {
-    let mut offer: Offer<Link, u64, OneChain, NoGain> = seen.plain::<NoGain, u64, WithLimit>(
-        &limit,
+    let mut offer: Offer<Link, u64, OneChain, NoGain> = seen.plain::<NoGain, Terms, WithTerms>(
+        &terms,
     );
     let mut pen = seen.no_pen();
     head.compare_exchange::<MakeCell, NoGain>(0, 0, seen, &mut offer, &mut pen);

@@ -7,5 +7,5 @@ use Rattle.camel_audit.proofs.checks.audit.Given as goal
 abbrev pub invariant-loop-session : goal.invariant-loop-session
 invariant-loop-session l = record {
   accepted : Accepted l.updates;
-  explained : All (AreExplained l.updates 0) (take l.session l.transcripts);
+  explained : All (AreExplained l.profile l.updates 0) (take l.session l.transcripts);
 }

@@ -12,14 +12,14 @@ records-init g c = record {
   place = omega arith;
   room = omega (arith, c.requires.room);
   so_far = rw c.requires.empty (progress_at_first (g.W.Write.contents c.args.writer.now)
-      (still_gives c.args.script.now) c.args.store.now.limit);
+      (still_gives c.args.script.now) c.args.store.now.profile c.args.store.now.limit);
 }
 
 pub returns-in-Err-clause-stopped : goal.returns-in-Err-clause-stopped
 returns-in-Err-clause-stopped g c =
     let held = g.W.Write.contents in
     stopped_by_script (still_gives c.args.script.now) (held c.args.writer.now) (held c.records.writer)
-    (still_gives c.records.script) c.args.store.now.limit c.records.number c.records.store c.in-Err.fault
+    (still_gives c.records.script) c.args.store.now.profile c.args.store.now.limit c.records.number c.records.store c.in-Err.fault
     c.fault_at.result c.records.invariant.so_far
     (rw c.code.ensures at c.fault_at.ensures) c.in-Err.ensures.faults
 
@@ -35,7 +35,7 @@ records-preserved g c =
       room = omega (arith, counts);
       so_far = rw c.in-Ok.ensures.after (progress_by_one (held c.args.writer.now) (held c.records.writer)
           (held c.answer.new.writer) known (still_gives c.records.script)
-          (still_gives c.read_record.new.self) c.args.store.now.limit c.records.number c.records.store
+          (still_gives c.read_record.new.self) c.args.store.now.profile c.args.store.now.limit c.records.number c.records.store
           c.in-Ok-Some.script_record c.records.invariant.so_far gives c.in-Ok.ensures.line);
     }
 
@@ -45,7 +45,7 @@ returns-in-Err-answer-clause-stopped g c =
     let gives = rw c.in-Ok-Some.field-0-is at c.in-Ok-Some.ensures.gives in
     stopped_in_record (still_gives c.args.script.now) (held c.args.writer.now) (held c.records.writer)
     (held c.answer.new.writer) (still_gives c.records.script)
-    (still_gives c.read_record.new.self) c.args.store.now.limit c.records.number c.records.store
+    (still_gives c.read_record.new.self) c.args.store.now.profile c.args.store.now.limit c.records.number c.records.store
     c.in-Ok-Some.script_record c.fault_at-in-Err-answer.result
     c.records.invariant.so_far gives (rw c.fault_at-in-Err-answer.ensures c.in-Err-answer.ensures.stopped)
     (rw c.fault_at-in-Err-answer.ensures refl)
@@ -55,7 +55,7 @@ returns-in-Ok-flush-clause-whole g c =
     let held = g.W.Write.contents in
     let gives = rw c.in-Ok-None.field-0-is at c.in-Ok-None.ensures.gives in
     wrote_all (still_gives c.args.script.now) (held c.args.writer.now) (held c.records.writer) (held c.flush.new.self)
-    (still_gives c.records.script) (still_gives c.read_record.new.self) c.args.store.now.limit c.records.number
+    (still_gives c.records.script) (still_gives c.read_record.new.self) c.args.store.now.profile c.args.store.now.limit c.records.number
     c.records.store c.records.invariant.so_far
     gives c.flush.ensures.bytes
 
@@ -65,7 +65,7 @@ returns-clause-stopped g c =
     let gives = rw c.in-Ok-None.field-0-is at c.in-Ok-None.ensures.gives in
     stopped_at_flush (still_gives c.args.script.now) (held c.args.writer.now) (held c.records.writer)
     (held c.flush.new.self) (still_gives c.records.script)
-    (still_gives c.read_record.new.self) c.args.store.now.limit c.records.number c.records.store
+    (still_gives c.read_record.new.self) c.args.store.now.profile c.args.store.now.limit c.records.number c.records.store
     c.fault_at-in-Err-flush.result c.records.invariant.so_far
     gives c.flush.ensures.bytes c.fault_at-in-Err-flush.ensures
 

@@ -9,7 +9,7 @@ invariant-records g l = record {
   place : 1 ≤ l.number;
   room : l.number + records_left l.script ≤ 1000001;
   so_far : Progresses (g.W.Write.contents l.fn.writer) (g.W.Write.contents l.writer)
-      (still_gives l.fn.script) l.fn.store.limit l.number l.store (still_gives l.script);
+      (still_gives l.fn.script) l.fn.store.profile l.fn.store.limit l.number l.store (still_gives l.script);
 }
 
 abbrev pub decreases-records : goal.decreases-records

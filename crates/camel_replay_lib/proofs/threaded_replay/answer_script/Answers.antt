@@ -1,6 +1,5 @@
-use Rattle.std.proofs.Common.{rules, arith, ◌≡◌, ◌∙◌, ◌++◌, All, List, length, map, refl, sym, ap, subst}
+use Rattle.std.proofs.Common.{rules, ◌≡◌, ◌∙◌, ◌++◌, All, List, length, sym, ap, subst}
 use Rattle.std.proofs.lemmas.List.{length-map}
-use Rattle.std.specs.List.{filter}
 use Rattle.camel_audit.specs.Audit.{Passes}
 use Rattle.camel_audit.specs.declared.transcript.Entry.{Entry}
 use Rattle.camel_rows.specs.Store.{Updates}
@@ -10,7 +9,7 @@ use Rattle.camel_script.specs.declared.line.Line.TheVariants as line
 use Rattle.camel_replay_lib.proofs.RoundLemmas.{IfOk-gives, IsOf-fresh, SessionsAnswer-numbered}
 use Rattle.camel_replay_lib.specs.Fronts.{published_after}
 use Rattle.camel_replay_lib.specs.Rounds.{HasAnswered, WritesScript, entries_in, session_in}
-use Rattle.camel_replay_lib.specs.ThreadsOutput.{SessionsAnswer, is_no_call, script_calls, sessions_text}
+use Rattle.camel_replay_lib.specs.ThreadsOutput.{SessionsAnswer, script_calls, sessions_text}
 use Rattle.camel_replay_lib.proofs.threaded_replay.answer_script.Goals as goal
 
 pub run_rounds-requires-clause-same_store : goal.run_rounds-requires-clause-same_store
@@ -21,6 +20,7 @@ pub returns : goal.returns
 returns g c =
     let records = c.args.records.items in
     let limit = c.args.limit in
+    let profile = c.args.profile in
     let threads = c.args.threads in
     let done = c.in_ok-writer.ensures in
     let seats = c.in_ok-writer.seats.items in
@@ -30,7 +30,8 @@ returns g c =
     let places : length c.in_ok-vlr.sessions.items ≡ threads = search rules in
     let count : length c.in_ok-seats.seats.items ≡ threads =
     sym (length-map c.in_ok-seats.seats.items session_in) ∙ ap length c.in_ok-seats.ensures.sessions ∙ places in
-    let written : WritesScript limit records writer = subst (λ n. WritesScript n records writer) same done.writer in
+    let written : WritesScript profile limit records writer =
+    subst (λ p. WritesScript p limit records writer) c.in_ok-vlr.ensures.profile (subst (λ n. WritesScript c.in_ok-vlr.vlr.store.profile n records writer) same done.writer) in
     let answered : All (HasAnswered threads (script_calls limit records)) seats =
     subst (λ n. All (HasAnswered threads (script_calls n records)) seats) same
     (subst (λ n. All (HasAnswered n (script_calls c.in_ok-vlr.vlr.store.limit records)) seats) count done.answered) in
@@ -38,9 +39,9 @@ returns g c =
     rw c.in_ok-transcripts.ensures (SessionsAnswer-numbered threads 0 (script_calls limit records) seats done.numbered answered) in
     let all : length transcripts ≡ threads = ap length c.in_ok-transcripts.ensures ∙ length-map seats entries_in ∙ done.count ∙ count in
     let published : writer.store.updates.published ≡ published_after limit records = ap (λ (u : Updates). u.published) written.updates in
-    let passes : Passes (published_after limit records) transcripts =
-    subst (λ (ts : List (List Entry)). Passes (published_after limit records) ts) c.deref.ensures.value
-    (subst (λ (us : List Update). Passes us c.deref.result.now) (c.published.ensures ∙ published) c.in_ok-audit.ensures.passes) in
+    let passes : Passes profile (published_after limit records) transcripts =
+    subst (λ (ts : List (List Entry)). Passes profile (published_after limit records) ts) c.deref.ensures.value
+    (subst (λ (us : List Update). Passes profile us c.deref.result.now) (c.published.ensures ∙ published) c.in_ok-audit.ensures.passes) in
     IfOk-gives _ _ c.finish_output.result
     (λ output text. record {
       transcripts = transcripts;

@@ -1,4 +1,4 @@
-use Rattle.std.proofs.Common.{rules, arith, ◌≡◌, ◌∙◌, ◌<◌, ◌+◌, ◌^◌, ◌++◌, All, List, [], ◌∷◌, length, map, refl, sym, ap, subst, append_assoc, append-nil, length-append}
+use Rattle.std.proofs.Common.{rules, arith, ◌≡◌, ◌∙◌, ◌<◌, ◌+◌, ◌^◌, ◌++◌, List, [], length, map, refl, sym, ap, subst, append_assoc, append-nil, length-append}
 use Rattle.std.proofs.lemmas.List.{nil_from_length}
 use Rattle.std.proofs.lemmas.Slice.Zip.{AllZip-long}
 use Rattle.std.specs.List.{filter}
@@ -21,7 +21,7 @@ segments-init g c = record {
   done = [];
   whole = refl;
   number = refl;
-  writer = WritesScript-none c.args.writer.store.store.limit c.args.writer c.requires.new;
+  writer = WritesScript-none c.args.writer.store.store.profile c.args.writer.store.store.limit c.args.writer c.requires.new;
   store = refl;
   same_store = c.requires.same_store;
   numbered = c.requires.numbered;
@@ -76,6 +76,7 @@ segments-preserved g c =
     let kept : c.len.result ≡ length c.in_ok-segment.segment.calls.items = search rules in
     let count : c.len.result ≡ length jobs = kept ∙ ap length cut.calls in
     let same : before.store.store.limit ≡ store.limit = ap (λ (s : StoreId). s.limit) so_far.store in
+    let same_profile : before.store.store.profile ≡ store.profile = ap (λ (s : StoreId). s.profile) so_far.store in
     let lines : WritesLines (filter is_no_call cut.records) before after =
     subst (λ (rs : List Record). WritesLines rs before after) cut.others (rw c.in_ok-seats.was at c.run_round-after.ensures.output) in
     let round : ServesRound before.store.updates after.store.updates jobs seats served =
@@ -85,13 +86,13 @@ segments-preserved g c =
       done = so_far.done ++ cut.records;
       whole = append_assoc so_far.done cut.records left ∙ ap (λ rs. so_far.done ++ rs) (sym cut.whole) ∙ so_far.whole;
       number = ap (λ n. first + n) count ∙ number-more so_far.done cut.records first so_far.number;
-      writer = WritesScript-more store.limit so_far.done cut.records before after same so_far.writer lines;
+      writer = WritesScript-more store.profile store.limit so_far.done cut.records before after same_profile same so_far.writer lines;
       store = c.run_round-after.ensures.store ∙ so_far.store;
       same_store = IsOf-more store least most (length seats) jobs seats served round so_far.same_store;
       numbered = AllZip-numbered (ServesSeat least most (length seats) jobs) (λ x y is. is.number) 0 seats served round so_far.numbered;
       count = AllZip-long (ServesSeat least most (length seats) jobs) seats served round ∙ so_far.count;
       calls = so_far.calls ++ map (call_between least most) jobs;
-      split = rw count (calls-more store.limit so_far.done cut.records before after same so_far.writer lines first so_far.calls c.args.records.items left cut.is_segment split);
+      split = rw count (calls-more store.profile store.limit so_far.done cut.records before after same_profile same so_far.writer lines first so_far.calls c.args.records.items left cut.is_segment split);
       answered = HasAnswered-more before.store.updates after.store.updates threads so_far.calls jobs seats served so_far.count round so_far.answered;
     }
 

@@ -13,7 +13,7 @@ invariant-segments g l = record {
   done : List Record;
   whole : done ++ l.records.items ≡ l.fn.records.items;
   number : l.first ≡ length (jobs_from 0 done);
-  writer : WritesScript l.fn.writer.store.store.limit done l.writer;
+  writer : WritesScript l.fn.writer.store.store.profile l.fn.writer.store.store.limit done l.writer;
   store : l.writer.store.store ≡ l.fn.writer.store.store;
   same_store : All (IsOfStore l.fn.writer.store.store) l.seats.items;
   numbered : AreNumbered 0 l.seats.items;

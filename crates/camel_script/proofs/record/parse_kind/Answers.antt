@@ -63,6 +63,17 @@ returns-in-cancel c =
       ),
     )) refl
 
+pub returns-in-clear : goal.returns-in-clear
+unfolding kind_of_word
+returns-in-clear c =
+    rw (text_from_reads c.args.word.now (codes "clear") (omega arith) (
+      omega arith,
+      (
+        omega arith,
+        (omega arith, (omega arith, (omega arith, tt))),
+      ),
+    )) refl
+
 pub returns-in-publish : goal.returns-in-publish
 unfolding kind_of_word
 returns-in-publish c =

@@ -1,4 +1,4 @@
-use Rattle.std.proofs.Common.{rules, arith, ◌≡◌, ◌∙◌, ◌+◌, ◌++◌, [], ◌∷◌, length, length-append, ap}
+use Rattle.std.proofs.Common.{arith, [], ◌∷◌, length-append}
 use Rattle.camel_script.specs.Script.{still_gives}
 use Rattle.camel_replay_lib.proofs.ReadLemmas.{HasRead-push}
 use Rattle.camel_replay_lib.proofs.threaded_replay.read.read_all.Goals as goal

@@ -1,8 +1,7 @@
-use Rattle.std.proofs.Common.{rules, arith, ◌≡◌, ◌≢◌, ◌∙◌, ◌++◌, All, length, map, refl, sym, ap, take_all}
+use Rattle.std.proofs.Common.{rules, arith, ◌≡◌, ◌≢◌, ◌∙◌, ◌++◌, All, length, refl, ap, take_all}
 use Rattle.camel_replay_lib.proofs.RoundLemmas.{reaches-told}
 use Rattle.camel_replay_lib.specs.Round.{FrontIsAtMost}
 use Rattle.camel_replay_lib.specs.declared.threaded_replay.work.Work.{Work}
-use Rattle.camel_workers.specs.Serves.{job_of}
 use Rattle.camel_workers.specs.declared.worker.Ended.TheVariants.{All as Answered, OutOfMemory}
 use Rattle.camel_replay_lib.proofs.threaded_replay.round.join.Goals as goal
 
@@ -26,7 +25,7 @@ returns-clause-joined g c =
           entries = entries;
           kept = c.in_ok-append.ensures.items ∙ ap (λ more. c.args.worker.entries.items ++ more) shown;
           jobs_served = is.jobs_served ∙ take_all (length entries) work.jobs.items (omega (arith, count));
-          at_least = reaches-told work.session.store.limit work.session.seen work.session.told work.told.updates entries answers.fronts answers.run;
+          at_least = reaches-told work.session.store work.session.seen work.session.told work.told.updates entries answers.fronts answers.run;
           at_most = rw (← shown) within;
         },
       );

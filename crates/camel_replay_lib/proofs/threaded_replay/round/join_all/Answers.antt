@@ -1,4 +1,4 @@
-use Rattle.std.proofs.Common.{rules, ◌≡◌, ◌∙◌, ◌++◌, [], ◌∷◌, refl, sym, ap, append_assoc}
+use Rattle.std.proofs.Common.{rules, ◌≡◌, ◌++◌, [], ◌∷◌}
 use Rattle.camel_replay_lib.proofs.RoundLemmas.{AllZip-append}
 use Rattle.camel_replay_lib.proofs.SegmentLemmas.{was_split}
 use Rattle.camel_replay_lib.specs.Round.{IsJoined}

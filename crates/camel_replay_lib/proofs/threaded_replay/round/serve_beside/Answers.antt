@@ -1,9 +1,8 @@
-use Rattle.std.proofs.Common.{◌≡◌, Err, IfOk, Ok, Result, length, subst, sym}
+use Rattle.std.proofs.Common.{length, subst}
 use Rattle.std.specs.List.{AllZip}
 use Rattle.camel_replay_lib.proofs.RoundLemmas.{AllZip-trans, IfOk-gives, ServesSeat-joined}
 use Rattle.camel_replay_lib.specs.Round.{AreWorkersOf, IsJoined, IsWorkerOf, ServesSeat}
 use Rattle.camel_replay_lib.specs.Segments.{jobs_for}
-use Rattle.camel_replay_lib.specs.declared.threaded_replay.round.Worker.{Worker}
 use Rattle.camel_replay_lib.specs.declared.threaded_replay.seat.Seat.{Seat}
 use Rattle.camel_replay_lib.proofs.threaded_replay.round.serve_beside.Goals as goal
 

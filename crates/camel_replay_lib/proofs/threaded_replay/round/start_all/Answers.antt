@@ -1,4 +1,4 @@
-use Rattle.std.proofs.Common.{rules, ◌≡◌, ◌∙◌, ◌++◌, All, List, [], ◌∷◌, length, refl, sym, ap, subst, append_assoc}
+use Rattle.std.proofs.Common.{rules, ◌≡◌, ◌∙◌, ◌++◌, All, List, [], ◌∷◌, length, ap, subst}
 use Rattle.std.proofs.lemmas.List.Elements.{All-tail}
 use Rattle.camel_audit.specs.declared.transcript.Job.{Job}
 use Rattle.camel_vlr.specs.Prefix.{PrefixData}

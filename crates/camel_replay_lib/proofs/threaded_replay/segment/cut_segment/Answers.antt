@@ -1,11 +1,9 @@
-use Rattle.std.proofs.Common.{rules, arith, ◌≡◌, ◌≢◌, ◌∙◌, ◌≤◌, ◌<◌, ◌+◌, ◌^◌, ◌++◌, List, [], ◌∷◌, length, refl, sym, ap, subst, append_assoc, length-append}
+use Rattle.std.proofs.Common.{rules, arith, ◌≡◌, ◌∙◌, ◌++◌, [], ◌∷◌, length, refl, sym, ap, length-append}
 use Rattle.std.proofs.lemmas.List.Elements.{filter-append}
-use Rattle.std.specs.List.{filter}
-use Rattle.camel_audit.specs.declared.transcript.Job.{Job}
 use Rattle.camel_script.specs.declared.record.Record.{Record}
 use Rattle.camel_script.specs.declared.record.Record.TheVariants as script_record
 use Rattle.camel_replay_lib.proofs.SegmentLemmas.{IsOther, IsQuiet-push, calls-push, is_other, jobs_from-length, no_calls-push, others-push, filter-push, was_split}
-use Rattle.camel_replay_lib.specs.Segments.{IsSegment, jobs_from}
+use Rattle.camel_replay_lib.specs.Segments.{jobs_from}
 use Rattle.camel_replay_lib.specs.ThreadsOutput.{is_no_call}
 use Rattle.camel_replay_lib.proofs.threaded_replay.segment.cut_segment.Goals as goal
 

@@ -1,5 +1,5 @@
-use Rattle.std.proofs.Common.{rules, arith, ◌≡◌, ◌∙◌, ◌+◌, ◌++◌, [], ◌∷◌, None, refl, length, length-append, ap, sym, append_assoc}
-use Rattle.camel_rows.specs.Store.{accepted_updates, store_refusal, with_update}
+use Rattle.std.proofs.Common.{rules, ◌≡◌, ◌∙◌, ◌+◌, [], ◌∷◌, None, refl, length, length-append, ap, sym, append_assoc}
+use Rattle.camel_rows.specs.Store.{accepted_updates, store_refusal}
 use Rattle.camel_vlr.specs.Store.{StoreData}
 use Rattle.camel_audit.proofs.AuditLemmas.{not_refused}
 use Rattle.camel_replay_lib.proofs.threaded_replay.writer.submit.Goals as goal

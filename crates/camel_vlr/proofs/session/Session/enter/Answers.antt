@@ -32,4 +32,5 @@ invariant_of-self-else-is_prefix_of c =
       told = i.told;
       store = i.store;
       front = i.front;
+      profile = i.profile;
     }

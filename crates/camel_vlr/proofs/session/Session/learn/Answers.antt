@@ -14,6 +14,7 @@ invariant_of-self c =
       told = rw told (all_push new a.told.value new (all_further new a.longest.updates a.told.value (c.if-is_prefix_of.ensures.yes refl) i.told) (prefix_refl new));
       store = c.requires ∙ sym (ap (λ s. s.store) (c.self.view_is ∙ c.leave.ensures));
       front = i.front;
+      profile = i.profile;
     }
 
 pub invariant_of-self-else-is_prefix_of : goal.invariant_of-self-else-is_prefix_of
@@ -26,4 +27,5 @@ invariant_of-self-else-is_prefix_of c =
       told = rw told (all_push a.longest.updates a.told.value new i.told (c.if-is_prefix_of.ensures.no refl));
       store = i.store;
       front = i.front;
+      profile = i.profile;
     }

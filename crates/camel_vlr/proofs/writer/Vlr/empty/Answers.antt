@@ -18,14 +18,15 @@ invariant_of-result g c =
     let pending : updates_among (pending_operations writer) ≡ [] = ap updates_among (IfOk-at_ok _ c.in-Ok.is c.publish_all-writer.ensures.none) in
     let same : copy.front ≡ c.new-history.result = shown.1 ∙ c.prefix-front.ensures in
     let published : copy.front.updates ≡ [] = ap (λ x. x.updates) same ∙ c.new-history.ensures.updates in
-    let limit : c.args.limit ≡ copy.front.store.limit = sym (ap (λ x. x.store.limit) same ∙ c.new-history.ensures.limit) in
+    let limit : c.args.terms.limit ≡ copy.front.store.limit = sym (ap (λ x. x.store.limit) same ∙ c.new-history.ensures.limit) in
     let all : copy.front.updates ++ updates_among (pending_operations writer) ≡ copy.front.updates = ap (λ x. copy.front.updates ++ x) pending ∙ append-nil copy.front.updates in record {
       shown = shown.0;
       all = subst (IsFront copy.front.store.limit) (sym all) shown.0.front;
-      admits = rw (c.new-in-Ok.ensures, ← limit, all ∙ published) (IsAdmissionOf-empty c.args.limit);
+      admits = rw (c.new-in-Ok.ensures, ← limit, all ∙ published) (IsAdmissionOf-empty c.args.terms.limit);
       greatest = subst (λ (n : ℕ). n ≤ MAX_UPDATES) limit c.requires.limit.1;
       seat = subst (λ (x : PrefixData). Knows (view writer.desk.place) x) (sym shown.1) seat;
       store = sym (ap (λ x. x.store) same);
       within = ([], append-nil c.new-history.result.updates ∙ sym (all ∙ ap (λ x. x.updates) same));
       beyond = ([], append-nil copy.front.updates ∙ ap (λ x. x.updates) same);
+      profile = sym (ap (λ x. x.store.profile) same ∙ c.new-history.ensures.profile);
     }

@@ -7,6 +7,7 @@ abbrev pub invariant-loop-store : goal.invariant-loop-store
 invariant-loop-store g l = record {
   empty : l.store.updates ≡ no_updates;
   limit : l.store.store.limit ≡ l.limit;
+  profile : l.store.store.profile ≡ l.fn.profile;
   few : vec_len l.sessions ≤ l.places;
   room : l.places ≤ vec_capacity l.sessions;
   fresh_all : All (λ s. s ≡ fresh_session l.store.store) l.sessions.items;

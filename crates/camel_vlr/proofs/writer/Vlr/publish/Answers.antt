@@ -40,6 +40,7 @@ invariant_of-self-in_err-replace_with g c =
       store = rw copy (c.extend_history.ensures.store ∙ i.store);
       within = rw (copy, pending, updates) (prefix_refl (published_in a ++ pending_in a));
       beyond = rw (copy, updates) (pending_in a, refl);
+      profile = rw copy i.profile;
     }
 
 pub returns-in_err-replace_with-clause-unchanged : goal.returns-in_err-replace_with-clause-unchanged

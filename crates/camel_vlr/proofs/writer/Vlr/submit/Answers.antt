@@ -1,9 +1,9 @@
 use base.Growing.{prefix_trans}
 use Rattle.std.proofs.Common.{rules, ◌≡◌, ◌∙◌, ◌++◌, ◌∷◌, [], Option, Some, None, sym, ap, append_assoc}
 use Rattle.camel_criteria.specs.declared.refusal.Refusal.{Refusal}
-use Rattle.std.specs.FinMap as map
 use Rattle.camel_rows.proofs.StoreLemmas.{IsAdmissionOf-with_update, IsFront-with_update, admits}
 use Rattle.camel_rows.specs.Admission.{admission_refusal, with_admission}
+use Rattle.camel_rows.specs.ByImsi.{value_of}
 use Rattle.camel_rows.specs.CsisPresent.{csis_after}
 use Rattle.camel_rows.specs.Store.{store_refusal, with_update}
 use Rattle.camel_rows.specs.Update.{update_imsi}
@@ -32,7 +32,7 @@ not_refused c = refuses c.self.inside c.args.update None c.self.invariant c.in_o
 pending : (c : In_ok-accept) → updates_among (pending_operations c.accept.new.writer) ≡ pending_in c.self.inside ++ c.args.update ∷ []
 pending c = ap updates_among c.in_ok-accept.ensures.pending ∙ updates_among-append (pending_operations c.self.inside.writer) (operation.Update c.args.update ∷ [])
 
-admitted : (c : In_ok-accept) → c.accept.new.admission ≡ with_admission c.self.inside.admission (update_imsi c.args.update) (csis_after (map.get c.self.inside.admission.directory (update_imsi c.args.update)) c.args.update)
+admitted : (c : In_ok-accept) → c.accept.new.admission ≡ with_admission c.self.inside.admission (update_imsi c.args.update) (csis_after (value_of c.self.inside.admission.directory (update_imsi c.args.update)) c.args.update)
 admitted c = c.in_ok-accept.ensures.accepted ∙ ap (with_admission c.self.inside.admission (update_imsi c.args.update)) c.in_ok-csis.ensures.csis
 
 pub invariant_of-self-2 : goal.invariant_of-self-2
@@ -49,6 +49,7 @@ invariant_of-self-2 c =
       store = rw desk i.store;
       within = rw (desk, pending at) (prefix_trans a.history.updates (p ++ q) (p ++ (q ++ update ∷ [])) i.within (update ∷ [], append_assoc p q (update ∷ [])));
       beyond = rw desk i.beyond;
+      profile = rw desk i.profile;
     }
 
 pub returns-clause-accepted : goal.returns-clause-accepted

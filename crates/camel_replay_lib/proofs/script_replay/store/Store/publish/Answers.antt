@@ -28,14 +28,14 @@ turn c =
 pub updates-preserved-in_ok-apply : goal.updates-preserved-in_ok-apply
 updates-preserved-in_ok-apply c =
     let next = turn (goal.at.updates-preserved-in_ok-apply c).After-pop_front in
-    record { sound = next.0; limit = c.updates.invariant.limit; accepted = next.1 ∙ c.updates.invariant.accepted }
+    record { sound = next.0; profile = c.updates.invariant.profile; limit = c.updates.invariant.limit; accepted = next.1 ∙ c.updates.invariant.accepted }
 
 pub updates-preserved-in_ok-apply-2 : goal.updates-preserved-in_ok-apply-2
 updates-preserved-in_ok-apply-2 c =
     let next = turn (goal.at.updates-preserved-in_ok-apply-2 c).After-pop_front in
-    record { sound = next.0; limit = c.updates.invariant.limit; accepted = next.1 ∙ c.updates.invariant.accepted }
+    record { sound = next.0; profile = c.updates.invariant.profile; limit = c.updates.invariant.limit; accepted = next.1 ∙ c.updates.invariant.accepted }
 
 pub updates-preserved-in_ok-apply-3 : goal.updates-preserved-in_ok-apply-3
 updates-preserved-in_ok-apply-3 c =
     let next = turn (goal.at.updates-preserved-in_ok-apply-3 c).After-pop_front in
-    record { sound = next.0; limit = c.updates.invariant.limit; accepted = next.1 ∙ c.updates.invariant.accepted }
+    record { sound = next.0; profile = c.updates.invariant.profile; limit = c.updates.invariant.limit; accepted = next.1 ∙ c.updates.invariant.accepted }

@@ -7,6 +7,7 @@ use Rattle.camel_replay_lib.proofs.script_replay.store.Store.publish.Given as go
 abbrev pub invariant-updates : goal.invariant-updates
 invariant-updates l = record {
   sound : IsSound l.self-inside.admission l.self-inside.records (record { published = l.self-inside.published.value; pending = l.self-inside.pending.items });
+  profile : l.self-inside.profile ≡ l.fn.self.profile;
   limit : l.self-inside.admission.limit ≡ l.fn.self.limit;
   accepted : accepted_updates (record { published = l.self-inside.published.value; pending = l.self-inside.pending.items }) ≡ accepted_updates l.fn.self.updates;
 }

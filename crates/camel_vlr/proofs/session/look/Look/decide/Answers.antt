@@ -9,5 +9,6 @@ pub returns-clause-own : goal.returns-clause-own
 returns-clause-own c =
     let session = c.args.self.now.session.now in
     let event = event_data c.args.event.now in
-    let decided = c.decide_in.ensures ∙ ap (λ m. decision m event) c.published.ensures.records in
-    subst (λ (d : DecisionData). DecidedByOwn session.store.limit session.seen event d) (sym decided) (decided_by_own session.store.limit session.seen event c.published.ensures.front)
+    let decided = c.decide_in.ensures ∙ ap (λ profile. decision profile c.published.result.now.records event) c.profile-profile.ensures
+    ∙ ap (λ m. decision session.store.profile m event) c.published.ensures.records in
+    subst (λ (d : DecisionData). DecidedByOwn session.store session.seen event d) (sym decided) (decided_by_own session.store session.seen event c.published.ensures.front)

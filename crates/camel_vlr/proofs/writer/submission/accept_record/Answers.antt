@@ -1,14 +1,14 @@
 use Rattle.std.proofs.Common.{◌∙◌, Some, rules}
 use Rattle.camel_rows.proofs.AdmissionLemmas.{taken_back}
 use Rattle.camel_rows.proofs.RecordsTable.{get-with_value_there}
-use Rattle.camel_vlr.proofs.writer.submission.accept.Goals as goal
+use Rattle.camel_vlr.proofs.writer.submission.accept_record.Goals as goal
 
 pub take_back-requires-clause-there : goal.take_back-requires-clause-there
 take_back-requires-clause-there c =
     let d = c.args.admission.now.directory in
-    rw (c.in_ok-accept.ensures.accepted, get-with_value_there d c.imsi-imsi.result (Some c.in-Some.csis)) (search rules)
+    rw (c.in_ok-accept.ensures.accepted, get-with_value_there d c.args.imsi (Some c.args.csis)) (search rules)
 
 pub returns-in-Err-clause-unchanged : goal.returns-in-Err-clause-unchanged
 returns-in-Err-clause-unchanged c =
     let d = c.args.admission.now in
-    c.take_back.ensures ∙ rw (c.in_ok-accept.ensures.accepted, c.csis-before.ensures) (taken_back d c.imsi-imsi.result c.in-Some.csis)
+    c.take_back.ensures ∙ rw (c.in_ok-accept.ensures.accepted, c.csis-before.ensures) (taken_back d c.args.imsi c.args.csis)
