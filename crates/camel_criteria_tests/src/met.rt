@@ -15,7 +15,7 @@ const ONE_TWO_THREE: &[u8] = &[0x91, 0x21, 0xf3];
 
 /// By TS 23.078 a listed number matches a destination of its nature that begins with its digits. Bit 8 of octet 1 is not
 /// compared, and the numbering plan is not under profile 1.
-const ENABLING: [NumberCase; 9] = [
+const ENABLING: [NumberCase; 11] = [
     (&[ONE_TWO_THREE], &[], &[0x91, 0x21, 0x43], true),
     (&[&[0x91, 0x21, 0x43]], &[], &[0x91, 0x21, 0xf3], false),
     (&[&[0x91, 0x21, 0x43]], &[], &[0xa1, 0x21, 0x43], false),
@@ -23,12 +23,15 @@ const ENABLING: [NumberCase; 9] = [
     (&[&[0x91]], &[], &[0xa1, 0x21, 0x43], false),
     (&[&[0x11, 0x21, 0xf3]], &[], &[0x91, 0x21, 0x43], true),
     (&[ONE_TWO_THREE], &[], &[0x98, 0x21, 0x43], true),
+    (&[&[0x91]], &[], &[0x98, 0x21, 0x43], true),
     (&[], &[4], &[0x91, 0xf1, 0x43], false),
     (&[], &[4], &[0x91, 0x21, 0x43], true),
+    (&[], &[4], &[0x98, 0x21, 0x43], true),
 ];
 
 /// An inhibiting criterion is met where the destination is not listed.
-const INHIBITING: [NumberCase; 3] = [
+const INHIBITING: [NumberCase; 4] = [
+    (&[ONE_TWO_THREE], &[], &[0x98, 0x21, 0x43], false),
     (
         &[&[0x91, 0x55], ONE_TWO_THREE],
         &[],

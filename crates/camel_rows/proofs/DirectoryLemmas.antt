@@ -20,7 +20,7 @@ use Rattle.camel_rows.specs.declared.subscriber.csis_present.CsisPresent.{CsisPr
 use Rattle.camel_rows.specs.declared.subscriber.update.Update.{Update}
 use Rattle.camel_rows.specs.declared.subscriber.update.Update.TheVariants.{Register, Insert, Delete, Cancel, ClearAll}
 
--- the directory holds the CSIs of the record of whom an update concerns
+-- the directory holds the CSIs of the record of the subscriber whom an update concerns
 value_of-shown : (directory : DirectoryData) (m : RecordsData) (whom : Option (List ℕ)) → IsDirectoryOf directory m
     → value_of directory whom ≡ option_map csis_of (value_of m whom)
 value_of-shown directory m None shown = refl

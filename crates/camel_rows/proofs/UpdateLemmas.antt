@@ -23,13 +23,13 @@ left_by m update imsi =
     let whom = update_imsi update in
     get-with_value_of m whom (record_after (value_of m whom) update) imsi (record_after-none (value_of m whom) update)
 
--- an update leaves the records of the subscribers of whom it is not
+-- an update leaves each record of a subscriber whom it does not concern
 pub other_record : (m : RecordsData) (update : Update) (imsi : List ℕ) → is_of imsi update ≡ false → map.get (records_after m update) imsi ≡ map.get m imsi
 other_record m update imsi other =
     cond_both (is_some (refusal m update)) m _ (λ after. map.get after imsi ≡ map.get m imsi) (λ refused. refl)
     (λ accepted. left_by m update imsi ∙ rw other refl)
 
--- an update that is not refused leaves its record of each subscriber of whom it is
+-- an update that is not refused leaves the same record of each subscriber whom it concerns
 pub own_record : (m : RecordsData) (update : Update) (imsi : List ℕ) → is_of imsi update ≡ true → refusal m update ≡ None
     → map.get (records_after m update) imsi ≡ record_after (value_of m (update_imsi update)) update
 own_record m update imsi own accepted = rw accepted (left_by m update imsi ∙ rw own refl)

@@ -14,7 +14,8 @@ abbrev pub with_value : {X : Type 0} → ByImsi X → List ℕ → Option X → 
 with_value m imsi None = map.remove m imsi
 with_value m imsi (Some value) = map.insert m imsi value
 
--- What concerns one subscriber has an IMSI, and what concerns all of them has none. Whether it concerns this one:
+-- What concerns one subscriber has an IMSI, and what concerns all of them has none. The subscriber with this IMSI is
+-- concerned.
 abbrev pub concerns : Option (List ℕ) → List ℕ → Bool
 concerns None imsi = true
 concerns (Some own) imsi = bytes_eq own imsi

@@ -88,10 +88,15 @@ fn a_clear_leaves_no_subscriber_admitted(rt: HostRuntime) -> Result<(), Fail> {
     let imsi = imsi_of(1)?;
     let mut admission = Admission::new(rt.alloc(), 3);
     assert_eq!(rt; Update::ClearAll.imsi(), None);
-    for turn in [1, 2] {
-        assert_eq!(rt; admission.check(&Update::ClearAll), Ok(None));
-        admission.accept_removal(None);
-        assert_eq!(rt; (admission.accepted(), admission.csis(&imsi)), (turn, None));
+    let csis = admission.check(&Update::Register { imsi })?;
+    if admission.accept(Some(imsi), csis).is_err() {
+        admission.accept(Some(imsi), csis)?;
     }
+    assert_eq!(rt; (admission.accepted(), admission.csis(&imsi)), (1, csis));
+    assert_eq!(rt; admission.check(&Update::ClearAll), Ok(None));
+    admission.accept_removal(None);
+    assert_eq!(rt; (admission.accepted(), admission.csis(&imsi)), (2, None));
+    admission.accept(None, None)?;
+    assert_eq!(rt; admission.accepted(), 3);
     Ok(())
 }

@@ -240,8 +240,8 @@ fn check_listed(rt: &impl Abort, records: &Records) -> Result<(), Fail> {
     Ok(())
 }
 
-// The row of a subscriber is published, and sent again, so that the list of changes has no room for the next one.
-fn with_row<R: Wait + Abort>(
+// The row of a subscriber is published.
+fn with_published_row<R: Wait + Abort>(
     rt: &R,
     alloc: Global,
     store: &mut Vlr,
@@ -271,6 +271,23 @@ fn with_row<R: Wait + Abort>(
         &call,
         (2, 0, Some((2, Ok((100, None))))),
     );
+    Ok(())
+}
+
+// The row is published, and sent again, so that the list of changes has no room for the next one.
+fn with_row<R: Wait + Abort>(
+    rt: &R,
+    alloc: Global,
+    store: &mut Vlr,
+    session: &mut Session,
+    imsi: Imsi,
+) -> Result<(), Fail>
+    requires { session.old.store ≡ store.old.store }
+    ensures store { store.new.store ≡ store.old.store }
+    ensures session { session.new.store ≡ session.old.store }
+{
+    with_published_row(rt, alloc, store, session, imsi)?;
+    let call = call_of(imsi)?;
     send(rt, alloc, store, session, &call, imsi, (Kind::Row, Ok(3)));
     Ok(())
 }
@@ -361,6 +378,50 @@ fn a_cancel_that_got_no_memory_leaves_the_entry(rt: HostRuntime) -> Result<(), F
 fn a_clear_that_got_no_memory_leaves_the_entry(rt: HostRuntime) -> Result<(), Fail> {
     let (mut store, mut session) = opened_again(&rt, rt.alloc())?;
     let done = removal_leaves_the_entry(&rt, rt.alloc(), &mut store, &mut session, Kind::ClearAll);
+    store.end(&rt);
+    done
+}
+
+fn clear_leaves_its_number<R: Wait + Abort>(
+    rt: &R,
+    alloc: Global,
+    store: &mut Vlr,
+    session: &mut Session,
+) -> Result<(), Fail>
+    requires { session.old.store ≡ store.old.store }
+{
+    let imsi = imsi_of(1)?;
+    let call = call_of(imsi)?;
+    with_published_row(rt, alloc, store, session, imsi)?;
+    let front = match store.submit(Update::ClearAll) {
+        Err(Refusal::OutOfMemory) => {
+            check_counts(rt, store, 2, 0);
+            send(rt, alloc, store, session, &call, imsi, (Kind::Row, Ok(3)));
+            send(
+                rt,
+                alloc,
+                store,
+                session,
+                &call,
+                imsi,
+                (Kind::ClearAll, Ok(4)),
+            );
+            4
+        }
+        answered => {
+            assert_eq!(rt; answered, Ok(3));
+            3
+        }
+    };
+    tell_again(rt, store, session, &call, front)?;
+    check_asked(rt, session, &call, front, Err(Reason::Unknown));
+    Ok(())
+}
+
+#[test]
+fn a_clear_that_got_no_memory_is_made_after_an_insert(rt: HostRuntime) -> Result<(), Fail> {
+    let (mut store, mut session) = opened_again(&rt, rt.alloc())?;
+    let done = clear_leaves_its_number(&rt, rt.alloc(), &mut store, &mut session);
     store.end(&rt);
     done
 }

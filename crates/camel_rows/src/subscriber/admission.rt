@@ -103,11 +103,12 @@ impl Admission {
         ensures unchanged { OnErr result (self.new ≡ self.old) }
     {
         match (imsi, csis) {
-            (Some(imsi), Some(csis)) => self.directory.insert(imsi, csis)?,
-            (Some(imsi), None) => self.directory.remove(&imsi),
-            (None, _) => self.directory.clear(),
+            (Some(imsi), Some(csis)) => {
+                self.directory.insert(imsi, csis)?;
+                self.accepted += 1;
+            }
+            (imsi, _) => self.accept_removal(imsi),
         }
-        self.accepted += 1;
         Ok(())
     }
 

@@ -67,8 +67,8 @@ pub enum Update {
     Cancel {
         imsi: Imsi,
     },
-    /// No record stands, of any subscriber. It is never refused. It is this product's own, for a restart of the home
-    /// location register or of the switch, after which no data may be relied on.
+    /// No record stands, of any subscriber. It is never refused. It is this product's own, for a switch that no longer
+    /// relies on the data that it has stored.
     ClearAll,
 }
 

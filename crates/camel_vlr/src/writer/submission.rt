@@ -29,8 +29,7 @@ pub(crate) fn accept(
 {
     match (update.imsi(), csis) {
         (Some(imsi), Some(csis)) => accept_record(writer, admission, update, imsi, csis),
-        (Some(imsi), None) => accept_removal(writer, admission, update, Some(imsi)),
-        (None, _) => accept_removal(writer, admission, update, None),
+        (imsi, _) => accept_removal(writer, admission, update, imsi),
     }
 }
 
