@@ -135,7 +135,13 @@ fn script_of(alloc: Global, order: [usize; 3]) -> Result<String, Fail> {
 // What the one-thread replay of a script writes.
 fn replayed(rt: &impl Abort, alloc: Global, script: &str) -> Result<Vec<u8>, Fail> {
     let mut output = Vec::new(alloc);
-    let ended = replay(alloc, script.as_bytes(), &mut output, MAX_LIMIT, Profile::One);
+    let ended = replay(
+        alloc,
+        script.as_bytes(),
+        &mut output,
+        MAX_LIMIT,
+        Profile::One,
+    );
     assert_eq!(rt; ended.err(), None);
     Ok(output)
 }
