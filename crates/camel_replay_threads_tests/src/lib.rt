@@ -10,6 +10,8 @@ mod many;
 #[cfg(test)]
 mod once;
 #[cfg(test)]
+mod profiles;
+#[cfg(test)]
 mod rounds;
 #[cfg(test)]
 mod runs;

@@ -29,7 +29,7 @@ pub(crate) struct Ran {
     pub(crate) output: Vec<u8>,
 }
 
-/// Runs a script. A run that ends with one of the faults is repeated with a new gate and a new writer.
+/// Runs a script under profile 1. A run that ends with one of the faults is repeated with a new gate and a new writer.
 pub(crate) fn run<G: Fresh, R: Threads + Wait>(
     rt: &R,
     alloc: Global,
@@ -41,12 +41,28 @@ pub(crate) fn run<G: Fresh, R: Threads + Wait>(
     requires threads { (1 ≤ threads) × (threads ≤ MAX_THREADS) }
     requires limit { (1 ≤ limit) × (limit ≤ MAX_LIMIT) }
 {
-    let mut ran = run_once::<G, R>(rt, alloc, script, threads, limit);
+    run_under::<G, R>(rt, alloc, script, threads, limit, Profile::One, repeated)
+}
+
+/// The same under a profile.
+pub(crate) fn run_under<G: Fresh, R: Threads + Wait>(
+    rt: &R,
+    alloc: Global,
+    script: &[u8],
+    threads: usize,
+    limit: u64,
+    profile: Profile,
+    repeated: &[u16],
+) -> Ran
+    requires threads { (1 ≤ threads) × (threads ≤ MAX_THREADS) }
+    requires limit { (1 ≤ limit) × (limit ≤ MAX_LIMIT) }
+{
+    let mut ran = run_once::<G, R>(rt, alloc, script, threads, limit, profile);
     for _ in 0..REPEATS {
         if !is_repeated(ran.fault, repeated) {
             break;
         }
-        ran = run_once::<G, R>(rt, alloc, script, threads, limit);
+        ran = run_once::<G, R>(rt, alloc, script, threads, limit, profile);
     }
     ran
 }
@@ -57,6 +73,7 @@ fn run_once<G: Fresh, R: Threads + Wait>(
     script: &[u8],
     threads: usize,
     limit: u64,
+    profile: Profile,
 ) -> Ran
     requires threads { (1 ≤ threads) × (threads ≤ MAX_THREADS) }
     requires limit { (1 ≤ limit) × (limit ≤ MAX_LIMIT) }
@@ -70,7 +87,7 @@ fn run_once<G: Fresh, R: Threads + Wait>(
         &mut output,
         threads,
         limit,
-        Profile::One,
+        profile,
         &gate,
     );
     Ran {
