@@ -1,14 +1,15 @@
 -- IMSIs are ordered as their numbers.
-use Rattle.std.proofs.Common.{◌≡◌, ◌∙◌, ℕ, zero, suc, ◌+◌, ◌*◌, ◌<◌, ◌≤◌, ◌-◌, ◌^◌, add-one, Bool, true, false, List, [], ◌∷◌, All, ◌==◌, nat_lt, length, drop, refl, sym, ap, arith}
+use Rattle.std.proofs.Common.{◌≡◌, ◌∙◌, ℕ, zero, suc, ◌+◌, ◌*◌, ◌<◌, ◌≤◌, ◌-◌, ◌^◌, add-one, Bool, true, false, List, [], ◌∷◌, All, ◌==◌, nat_eq, nat_lt, length, drop, refl, sym, ap, arith}
 use Rattle.std.proofs.Math.Nat.{pow-le-pow_right}
 use Rattle.std.proofs.lemmas.Bool.Decides.{nat_tests}
 use Rattle.std.proofs.lemmas.Grind.{common_steps}
 use Rattle.std.proofs.lemmas.List.Elements.{All-head, All-tail}
 use Rattle.std.specs.Cmp.Lexicographic.{slice_cmp}
-use Rattle.std.specs.Ordering.{nat_cmp, ordering_then}
+use Rattle.std.specs.Ordering.{eq_by_cmp, is_eq, nat_cmp, ordering_then}
 use Rattle.std.specs.declared.cmp.Ordering.{Ordering}
 use Rattle.std.specs.declared.cmp.Ordering.TheVariants.{Less, Equal, Greater}
-use Rattle.camel_tbcd.specs.ImsiOrder.{value_at, with_places}
+use Rattle.camel_tbcd.specs.Imsi.{IsImsi}
+use Rattle.camel_tbcd.specs.ImsiOrder.{order_number, value_at, with_places}
 
 abbrev IsDigit : ℕ → Type 0
 IsDigit digit = digit ≤ 9
@@ -102,3 +103,11 @@ next_number at number value digits total lt is so_far =
     let places : 15 - at ≡ suc (14 - at) = omega arith in
     let rest : 15 - (at + 1) ≡ 14 - at = omega arith in
     rw (rest, add-one, is) (sym (next_place (14 - at) at digits number) ∙ rw places at so_far)
+
+-- two numbers are equal where neither is the greater one
+by_order : (x y : ℕ) → nat_eq x y ≡ is_eq (nat_cmp x y)
+by_order x y = grind (arith, nat_tests)
+
+-- two IMSIs are equal where their numbers are
+pub same_number : (a b : List ℕ) → IsImsi a → IsImsi b → nat_eq (order_number a) (order_number b) ≡ eq_by_cmp (slice_cmp nat_cmp) a b
+same_number a b p q = by_order _ _ ∙ ap is_eq (same_order 15 a b 0 p.most q.most p.decimal q.decimal)

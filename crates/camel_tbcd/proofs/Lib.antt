@@ -1,3 +1,4 @@
 pub mod DigitLemmas
 pub mod ImsiOrderLemmas
+pub mod PackedImsiLemmas
 pub mod ProfileLemmas

@@ -7,5 +7,6 @@ pub mod Imsi
 pub mod ImsiFault
 pub mod ImsiOrder
 pub mod Nature
+pub mod PackedImsi
 pub mod Profile
 pub mod ShortList

@@ -152,6 +152,14 @@ impl Imsi {
     {
         self.digits.as_slice()
     }
+
+    /// Its digits as one number: the greater of two IMSIs has the greater one, and equal ones have the same.
+    pub fn number(&self) -> u64
+        ensures number { result ≡ order_number self.now }
+        ensures imsi { IsImsi self.now }
+    {
+        self.order
+    }
 }
 
 // The number whose order is that of the digits.

@@ -1,7 +1,7 @@
 //! Addresses and IMSIs in the encodings of 3GPP TS 29.002.
 //!
 //! An address is borrowed as an [`Address`] or kept as an [`IsdnAddress`] or a [`CallAddress`], and an
-//! [`Imsi`] is kept as its digits. A [`Profile`] says whether the numbering plans of two addresses are compared. No call
+//! [`Imsi`] is kept as its digits, or as a [`PackedImsi`] in 8 octets. A [`Profile`] says whether the numbering plans of two addresses are compared. No call
 //! of this crate takes memory.
 #![tactic(auto)]
 
@@ -10,6 +10,7 @@ mod call_address;
 mod digits;
 mod imsi;
 mod isdn_address;
+mod packed_imsi;
 mod profile;
 mod short_list;
 
@@ -20,4 +21,5 @@ pub use imsi::{
     Imsi, ImsiFault, MAX_IMSI_DIGITS, MAX_IMSI_OCTETS, MIN_IMSI_DIGITS, MIN_IMSI_OCTETS,
 };
 pub use isdn_address::{IsdnAddress, MAX_ISDN_ADDRESS_LENGTH};
+pub use packed_imsi::PackedImsi;
 pub use profile::Profile;

@@ -1,4 +1,4 @@
-ghost use Rattle.std.specs.Prelude.{◌≡◌, ◌≤◌, length, nat_eq};
+ghost use Rattle.std.specs.Prelude.{◌≡◌, ◌<◌, ◌≤◌, length, nat_eq};
 ghost use Rattle.std.specs.Cmp.{partial_equiv_from_equiv};
 ghost use Rattle.std.specs.Cmp.Lexicographic.{nat_list_eq_equiv, pointwise};
 
@@ -6,12 +6,13 @@ use std::marker::Model;
 
 // At most `MOST` octets or digits, which contracts see as a list. Two are equal where their items are.
 //
-// They are kept in place, so that a list of them is `Copy` and takes no memory.
+// They are kept in place, so that a list of them is `Copy` and takes no memory. `MOST` is below 256, so that their
+// count takes one octet.
 #[derive(Clone, Copy, Debug)]
 pub(crate) struct ShortList<const MOST: usize> {
     // The items, and 0 from `len` on, so that equal lists have equal fields.
     room: [u8; MOST],
-    len: usize,
+    len: u8,
 }
 
 impl<const MOST: usize> Model for ShortList<MOST> {
@@ -33,14 +34,15 @@ impl<const MOST: usize> Model for ShortList<MOST> {
 impl<const MOST: usize> ShortList<MOST> {
     // Keeps the items.
     pub(crate) fn from_slice(items: &[u8]) -> Self
-        requires { length items.now ≤ MOST }
+        requires fits { length items.now ≤ MOST }
+        requires counted { MOST < 256 }
         ensures { result ≡ items.now }
     {
         let mut room = [0; MOST];
         room[..items.len()].copy_from_slice(items);
         ShortList {
             room,
-            len: items.len(),
+            len: items.len() as u8,
         }
     }
 
@@ -48,7 +50,7 @@ impl<const MOST: usize> ShortList<MOST> {
     pub(crate) fn as_slice(&self) -> &[u8]
         ensures { result.now ≡ self.now }
     {
-        &self.room[..self.len]
+        &self.room[..usize::from(self.len)]
     }
 }
 

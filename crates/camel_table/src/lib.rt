@@ -1,0 +1,4 @@
+//! A table from IMSIs to values that finds a value in few places of memory, and grows a line at a time.
+#![tactic(auto)]
+
+mod segments;

@@ -1,0 +1,103 @@
+ghost use Rattle.std.specs.Prelude.{◌≡◌, ◌<◌, ◌++◌, [], ◌∷◌, length, slice_index_or, slice_set, OnErr, OnOk};
+ghost use Rattle.camel_table.specs.Segments.{AreFull, HasRoom, joined};
+
+use std::alloc::{AllocError, Global};
+use std::marker::Model;
+use std::mem;
+
+/// How many items a segment has room for.
+const SEGMENT: usize = 1024;
+
+/// A list that grows without moving what it holds: its items lie in segments, and a segment is never copied.
+///
+/// Contracts see it as a list.
+#[derive(Debug, Drop)]
+pub struct Segments<T> {
+    alloc: Global,
+    segments: Vec<Vec<T>>,
+}
+
+impl<T> Model for Segments<T> {
+    ghost use Rattle.std.specs.Prelude.{List};
+    ghost use Rattle.camel_table.specs.Segments.{AreFull, joined};
+
+    ghost Value = { List T };
+
+    ghost view = { λ a. joined a.segments.items };
+
+    ghost invariant = { λ a. AreFull a.segments.items };
+}
+
+impl<T> Segments<T> {
+    /// No items. It takes no memory yet.
+    pub(crate) fn new(alloc: Global) -> Segments<T>
+        ensures { result ≡ [] }
+    {
+        Segments {
+            alloc,
+            segments: Vec::new(alloc),
+        }
+    }
+
+    /// The item at a place, from 0.
+    pub(crate) fn get(&self, at: usize) -> &T
+        requires { at < length self.now }
+        ensures { result.now ≡ slice_index_or self.now at result.now }
+    {
+        &self.segments[at / SEGMENT][at % SEGMENT]
+    }
+
+    /// Puts an item in the place of another, which it returns.
+    pub(crate) fn replace(&mut self, at: usize, item: T) -> T
+        requires { at < length self.old }
+        ensures before { result ≡ slice_index_or self.old at result }
+        ensures after { self.new ≡ slice_set self.old at item }
+    {
+        mem::replace(&mut self.segments[at / SEGMENT][at % SEGMENT], item)
+    }
+}
+
+impl<T: Drop> Segments<T> {
+    /// Puts an item after the last one. Fails with `AllocError` where memory is refused; then nothing changes.
+    pub(crate) fn push(&mut self, item: T) -> Result<(), AllocError>
+        ensures pushed { OnOk result (self.new ≡ self.old ++ item ∷ []) }
+        ensures unchanged { OnErr result (self.new ≡ self.old) }
+    {
+        make_room(&mut self.segments, self.alloc)?;
+        push_last(&mut self.segments, item)
+    }
+
+    /// Takes all items out. It takes no memory.
+    pub(crate) fn clear(&mut self)
+        ensures { self.new ≡ [] }
+    {
+        self.segments.clear();
+    }
+}
+
+// Adds a segment where the last one is full, with all the memory that it will need.
+fn make_room<T: Drop>(segments: &mut Vec<Vec<T>>, alloc: Global) -> Result<(), AllocError>
+    requires { AreFull segments.old.items }
+    ensures full { AreFull segments.new.items }
+    ensures room { OnOk result (HasRoom segments.new.items) }
+    ensures same { joined segments.new.items ≡ joined segments.old.items }
+{
+    let count = segments.len();
+    if count > 0 && segments[count - 1].len() < SEGMENT {
+        return Ok(());
+    }
+    segments.push(Vec::with_capacity(alloc, SEGMENT)?)?;
+    Ok(())
+}
+
+fn push_last<T: Drop>(segments: &mut Vec<Vec<T>>, item: T) -> Result<(), AllocError>
+    requires full { AreFull segments.old.items }
+    requires room { HasRoom segments.old.items }
+    ensures full { AreFull segments.new.items }
+    ensures pushed { OnOk result (joined segments.new.items ≡ joined segments.old.items ++ item ∷ []) }
+    ensures unchanged { OnErr result (joined segments.new.items ≡ joined segments.old.items) }
+{
+    let last = segments.len() - 1;
+    segments[last].push(item)?;
+    Ok(())
+}

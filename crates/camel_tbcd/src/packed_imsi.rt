@@ -1,0 +1,58 @@
+ghost use Rattle.std.specs.Prelude.{◌≡◌};
+ghost use Rattle.std.specs.Cmp.Lexicographic.{slice_cmp};
+ghost use Rattle.std.specs.Ordering.{eq_by_cmp, nat_cmp};
+ghost use Rattle.camel_tbcd.specs.ImsiOrder.{order_number};
+
+use crate::imsi::Imsi;
+use std::marker::Model;
+
+/// An IMSI in 8 octets: the number of its digits alone.
+///
+/// Contracts see it as the list of its digits, as an [`Imsi`].
+#[derive(Clone, Copy, Debug)]
+pub struct PackedImsi {
+    number: u64,
+}
+
+impl Model for PackedImsi {
+    ghost use Rattle.std.specs.Prelude.{◌≡◌, ℕ, List};
+    ghost use Rattle.std.proofs.Common.{◌∙◌, ap, sym};
+    ghost use Rattle.camel_tbcd.specs.Imsi.{IsImsi};
+    ghost use Rattle.camel_tbcd.specs.ImsiOrder.{order_number};
+    ghost use Rattle.camel_tbcd.specs.PackedImsi.{digits_of_number};
+
+    ghost Value = { List ℕ };
+
+    ghost view = { λ a. digits_of_number a.number };
+
+    ghost invariant = { λ a. IsImsi (digits_of_number a.number) × (a.number ≡ order_number (digits_of_number a.number)) };
+
+    ghost inverse = { λ digits. record { number = order_number digits } };
+
+    ghost inverse_ok = { λ a h i. record { number = sym h.1 i } };
+}
+
+impl PackedImsi {
+    /// The same IMSI.
+    pub fn of(imsi: &Imsi) -> PackedImsi
+        ensures { result ≡ imsi.now }
+    {
+        PackedImsi {
+            number: imsi.number(),
+        }
+    }
+
+    /// Whether it is this IMSI.
+    pub fn is(&self, imsi: &Imsi) -> bool
+        ensures { result ≡ eq_by_cmp (slice_cmp nat_cmp) imsi.now self.now }
+    {
+        imsi.number() == self.number
+    }
+
+    /// The number of its digits, as [`Imsi::number`].
+    pub fn number(&self) -> u64
+        ensures { result ≡ order_number self.now }
+    {
+        self.number
+    }
+}
