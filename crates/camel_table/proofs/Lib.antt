@@ -1,1 +1,5 @@
+pub mod LineLemmas
+pub mod LinesLemmas
+pub mod PlacesLemmas
 pub mod SegmentsLemmas
+pub mod TableLemmas

@@ -4,7 +4,7 @@ use Rattle.std.specs.Global.{Vec}
 use Rattle.std.proofs.lemmas.List.{append-nil, append_assoc, get_or_append_left, get_or-append_right, length-set, set-append_left, set-append_right}
 use Rattle.std.proofs.lemmas.Nat.{div-add-mod'}
 use Rattle.std.proofs.Math.Nat.{mod-lt}
-use Rattle.camel_table.specs.Segments.{AreFull, HasRoom, joined, segment}
+use Rattle.camel_table.specs.Segments.{AreFull, HasRoom, joined}
 
 module _ {A : Type 0} where
   first_full : (first : Vec A) (rest : List (Vec A)) → AreFull (first ∷ rest) → length first.items ≤ 1024

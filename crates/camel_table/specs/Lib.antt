@@ -1,1 +1,4 @@
+pub mod ByImsi
+pub mod Lines
+pub mod Places
 pub mod Segments

@@ -1,4 +1,9 @@
 //! A table from IMSIs to values that finds a value in few places of memory, and grows a line at a time.
 #![tactic(auto)]
 
+mod line;
+mod places;
 mod segments;
+mod table;
+
+pub use table::Table;

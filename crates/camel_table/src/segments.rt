@@ -1,4 +1,4 @@
-ghost use Rattle.std.specs.Prelude.{◌≡◌, ◌<◌, ◌++◌, [], ◌∷◌, length, slice_index_or, slice_set, OnErr, OnOk};
+ghost use Rattle.std.specs.Prelude.{◌≡◌, ◌<◌, ◌^◌, ◌++◌, [], ◌∷◌, length, slice_index_or, slice_set, OnErr, OnOk};
 ghost use Rattle.camel_table.specs.Segments.{AreFull, HasRoom, joined};
 
 use std::alloc::{AllocError, Global};
@@ -15,17 +15,18 @@ const SEGMENT: usize = 1024;
 pub struct Segments<T> {
     alloc: Global,
     segments: Vec<Vec<T>>,
+    len: usize,
 }
 
 impl<T> Model for Segments<T> {
-    ghost use Rattle.std.specs.Prelude.{List};
+    ghost use Rattle.std.specs.Prelude.{◌≡◌, List, length};
     ghost use Rattle.camel_table.specs.Segments.{AreFull, joined};
 
     ghost Value = { List T };
 
     ghost view = { λ a. joined a.segments.items };
 
-    ghost invariant = { λ a. AreFull a.segments.items };
+    ghost invariant = { λ a. AreFull a.segments.items × (a.len ≡ length (joined a.segments.items)) };
 }
 
 impl<T> Segments<T> {
@@ -36,7 +37,15 @@ impl<T> Segments<T> {
         Segments {
             alloc,
             segments: Vec::new(alloc),
+            len: 0,
         }
+    }
+
+    /// How many items there are.
+    pub(crate) fn len(&self) -> usize
+        ensures { result ≡ length self.now }
+    {
+        self.len
     }
 
     /// The item at a place, from 0.
@@ -60,11 +69,14 @@ impl<T> Segments<T> {
 impl<T: Drop> Segments<T> {
     /// Puts an item after the last one. Fails with `AllocError` where memory is refused; then nothing changes.
     pub(crate) fn push(&mut self, item: T) -> Result<(), AllocError>
+        requires { length self.old < 2 ^ 34 }
         ensures pushed { OnOk result (self.new ≡ self.old ++ item ∷ []) }
         ensures unchanged { OnErr result (self.new ≡ self.old) }
     {
         make_room(&mut self.segments, self.alloc)?;
-        push_last(&mut self.segments, item)
+        push_last(&mut self.segments, item)?;
+        self.len += 1;
+        Ok(())
     }
 
     /// Takes all items out. It takes no memory.
@@ -72,6 +84,7 @@ impl<T: Drop> Segments<T> {
         ensures { self.new ≡ [] }
     {
         self.segments.clear();
+        self.len = 0;
     }
 }
 

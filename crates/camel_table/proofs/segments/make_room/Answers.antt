@@ -1,4 +1,4 @@
-use Rattle.std.proofs.Common.{◌≡◌, ◌∙◌, ◌<◌, ◌≤◌, ◌++◌, [], ◌∷◌, length, refl, sym, ap, subst, arith}
+use Rattle.std.proofs.Common.{◌≡◌, ◌∙◌, ◌<◌, ◌≤◌, length, sym, ap, subst, arith}
 use Rattle.camel_table.specs.Segments.{AreFull, HasRoom, joined}
 use Rattle.camel_table.proofs.SegmentsLemmas.{full_more, joined_more, last_length, last_measured, none_measured, room_by_length, room_more}
 use Rattle.camel_table.proofs.segments.make_room.Goals as goal

@@ -1,4 +1,4 @@
-use Rattle.std.proofs.Common.{◌≡◌, ◌∙◌, ◌+◌, ◌-◌, ◌++◌, [], ◌∷◌, Ok, Err, OnErr, length, length-append, slice_set, refl, sym, ap, arith}
+use Rattle.std.proofs.Common.{◌≡◌, ◌∙◌, ◌+◌, ◌-◌, [], ◌∷◌, Ok, Err, OnErr, length, length-append, slice_set, sym, ap, arith}
 use Rattle.std.proofs.lemmas.List.{append-nil}
 use Rattle.camel_table.specs.Segments.{joined}
 use Rattle.camel_table.proofs.SegmentsLemmas.{full_pushed, pushed_last}

@@ -1,0 +1,23 @@
+use Rattle.std.proofs.Common.{◌∙◌, ℕ, ◌==◌, Bool, List, not, ap, filter}
+use Rattle.std.specs.FinMap as map
+use Rattle.std.specs.Global.{Vec}
+use Rattle.camel_table.specs.ByImsi.{map_of}
+use Rattle.camel_table.specs.Places.{place_of}
+use Rattle.camel_table.proofs.LineLemmas.{kept}
+use Rattle.camel_table.proofs.line.Line.divide.Goals as goal
+
+pub returns-clause-stay : goal.returns-clause-stay
+returns-clause-stay g c =
+    let places = c.args.places.now in
+    let stays : List ℕ → Bool = λ key. place_of g.S.Hasher.Hasher.finish g.S.Hasher.Hasher.write (g.S.BuildHasher.build_hasher places.hashes) places.level places.count key == c.args.at in
+    ap map_of (c.divide.ensures.stay ∙ ap (λ (v : Vec _). filter (λ e. stays e.0) v.items) c.replace-entries.ensures.value)
+    ∙ kept stays c.self.inside.entries.items
+    ∙ ap (λ m. map.retain_keys m stays) c.self.view_is
+
+pub returns-clause-leave : goal.returns-clause-leave
+returns-clause-leave g c =
+    let places = c.args.places.now in
+    let leaves : List ℕ → Bool = λ key. not (place_of g.S.Hasher.Hasher.finish g.S.Hasher.Hasher.write (g.S.BuildHasher.build_hasher places.hashes) places.level places.count key == c.args.at) in
+    ap map_of (c.divide.ensures.leave ∙ ap (λ (v : Vec _). filter (λ e. leaves e.0) v.items) c.replace-entries.ensures.value)
+    ∙ kept leaves c.self.inside.entries.items
+    ∙ ap (λ m. map.retain_keys m leaves) c.self.view_is

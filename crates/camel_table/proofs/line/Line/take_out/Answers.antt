@@ -1,0 +1,13 @@
+use Rattle.std.proofs.Common.{rules, ◌∙◌, ap, not}
+use Rattle.std.specs.FinMap as map
+use Rattle.std.proofs.lemmas.Fn.{filter_same}
+use Rattle.camel_table.specs.ByImsi.{is_same, map_of}
+use Rattle.camel_table.proofs.LineLemmas.{removed}
+use Rattle.camel_table.proofs.line.Line.take_out.Goals as goal
+
+pub returns : goal.returns
+returns g c =
+    let key = c.args.imsi.now in
+    ap map_of (filter_same _ (λ e. not (is_same key e.0)) _ (λ x b f k. search rules) _ _ c.retain.ensures.filtered)
+    ∙ removed key c.self.inside.entries.items
+    ∙ ap (λ m. map.remove m key) c.self.view_is

@@ -1,0 +1,16 @@
+-- Finite maps from IMSIs, each the list of its digits.
+use Rattle.std.specs.Prelude.{ℕ, Bool, List}
+use Rattle.std.specs.Cmp.Lexicographic.{slice_cmp}
+use Rattle.std.specs.FinMap.{FinMap, from_entries}
+use Rattle.std.specs.Ordering.{eq_by_cmp, nat_cmp}
+
+abbrev pub ByImsi : Type 0 → Type 0
+ByImsi V = FinMap (slice_cmp nat_cmp) V
+
+-- the map of a list of entries, of which the first of an IMSI counts
+abbrev pub map_of : {V : Type 0} → List (List ℕ × V) → ByImsi V
+map_of entries = from_entries entries
+
+-- whether two IMSIs are the same
+abbrev pub is_same : List ℕ → List ℕ → Bool
+is_same imsi other = eq_by_cmp (slice_cmp nat_cmp) imsi other

@@ -1,0 +1,196 @@
+ghost use Rattle.std.specs.Prelude.{◌≡◌, ◌≤◌, ◌==◌, [], not, filter, find, vec_capacity, vec_len, IfOk, position, OnErr, OnOk, IfSome, IfNone, None};
+ghost use Rattle.std.specs.FinMap as map;
+ghost use Rattle.std.specs.Option.{option_copied, option_map};
+ghost use Rattle.camel_table.specs.ByImsi.{is_same};
+ghost use Rattle.camel_table.specs.Places.{place_of};
+
+use crate::places::Places;
+use camel_tbcd::{Imsi, PackedImsi};
+use std::alloc::{AllocError, Global};
+use std::hash::BuildHasher;
+use std::marker::Model;
+use std::mem;
+
+/// A key with its value.
+#[derive(Debug, Drop)]
+struct Entry<V> {
+    key: PackedImsi,
+    value: V,
+}
+
+impl<V> Model for Entry<V> {
+    ghost use Rattle.std.specs.Prelude.{ℕ, List};
+
+    ghost Value = { List ℕ × V };
+
+    ghost view = { λ a. (a.key, a.value) };
+}
+
+impl<V> Entry<V> {
+    fn is(&self, imsi: &Imsi) -> bool
+        ensures { result ≡ is_same imsi.now self.now.0 }
+    {
+        self.key.is(imsi)
+    }
+
+    fn value(&self) -> &V
+        ensures { result.now ≡ self.now.1 }
+    {
+        &self.value
+    }
+
+    fn is_at<S: BuildHasher>(&self, places: &Places<S>, at: usize) -> bool
+        requires { places.now.level ≤ 32 }
+        ensures { result ≡ (place_of S.Hasher.finish S.Hasher.write (S.build_hasher places.now.hashes) places.now.level places.now.count self.now.0 == at) }
+    {
+        places.place(self.key.number()) == at
+    }
+}
+
+/// The entries of the keys that have the same place in a table.
+///
+/// Contracts see it as a finite map from the lists of their digits.
+#[derive(Debug, Drop)]
+pub(crate) struct Line<V> {
+    entries: Vec<Entry<V>>,
+}
+
+impl<V> Model for Line<V> {
+    ghost use Rattle.std.specs.FinMap as map;
+    ghost use Rattle.std.specs.Coded.{coded_ℕ, coded_list};
+    ghost use Rattle.camel_table.specs.ByImsi.{ByImsi, map_of};
+
+    ghost Value = { ByImsi V };
+
+    ghost coded = { map.code (coded_list coded_ℕ) V.code };
+
+    ghost view = { λ a. map_of a.entries.items };
+}
+
+impl<V> Line<V> {
+    /// No entries. It takes no memory yet.
+    pub(crate) fn new(alloc: Global) -> Line<V>
+        ensures { result ≡ map.empty }
+    {
+        Line {
+            entries: Vec::new(alloc),
+        }
+    }
+
+    /// How many entries there are.
+    pub(crate) fn len(&self) -> usize {
+        self.entries.len()
+    }
+
+    /// The value of an IMSI, where there is one.
+    pub(crate) fn get(&self, imsi: &Imsi) -> Option<&V>
+        ensures { option_copied result ≡ map.get self.now imsi.now }
+    {
+        find_value(&self.entries, imsi)
+    }
+
+    /// Puts a value in the place of the one that an IMSI has, which it returns. Where it has none, nothing changes.
+    pub(crate) fn replace(&mut self, imsi: &Imsi, value: V) -> Option<V>
+    where
+        V: Drop,
+        ensures before { result ≡ map.get self.old imsi.now }
+        ensures replaced { IfSome result (λ _. self.new ≡ map.insert self.old imsi.now value) }
+        ensures unchanged { IfNone result (self.new ≡ self.old) }
+    {
+        let at = position(&self.entries, imsi)?;
+        Some(mem::replace(&mut self.entries[at].value, value))
+    }
+}
+
+impl<V: Drop> Line<V> {
+    /// Puts a value in the place of the one that an IMSI has, or of none. Fails with `AllocError` where memory is
+    /// refused; then nothing changes.
+    pub(crate) fn put(&mut self, imsi: &Imsi, value: V) -> Result<(), AllocError>
+        ensures put { OnOk result (self.new ≡ map.insert self.old imsi.now value) }
+        ensures unchanged { OnErr result (self.new ≡ self.old) }
+    {
+        if self.get(imsi).is_none() {
+            return self.add(imsi, value);
+        }
+        self.replace(imsi, value);
+        Ok(())
+    }
+
+    /// Puts the value of an IMSI that has none. Fails with `AllocError` where memory is refused; then nothing changes.
+    fn add(&mut self, imsi: &Imsi, value: V) -> Result<(), AllocError>
+        requires { map.get self.old imsi.now ≡ None }
+        ensures added { OnOk result (self.new ≡ map.insert self.old imsi.now value) }
+        ensures unchanged { OnErr result (self.new ≡ self.old) }
+    {
+        let key = PackedImsi::of(imsi);
+        self.entries.push(Entry { key, value })?;
+        Ok(())
+    }
+
+    /// Takes the entry of an IMSI out, if there is one.
+    pub(crate) fn take_out(&mut self, imsi: &Imsi)
+        ensures { self.new ≡ map.remove self.old imsi.now }
+    {
+        self.entries.retain(|entry| !entry.is(imsi));
+    }
+    /// Divides the entries: those with this place stay, and the others are returned. Fails with `AllocError` where memory
+    /// is refused; then nothing changes.
+    pub(crate) fn divide<S: BuildHasher>(
+        &mut self,
+        alloc: Global,
+        places: &Places<S>,
+        at: usize,
+    ) -> Result<Line<V>, AllocError>
+        requires { places.now.level ≤ 32 }
+        ensures stay { OnOk result (self.new ≡ map.retain_keys self.old (λ key.
+            place_of S.Hasher.finish S.Hasher.write (S.build_hasher places.now.hashes) places.now.level places.now.count key == at)) }
+        ensures leave { IfOk result (λ line. line ≡ map.retain_keys self.old (λ key.
+            not (place_of S.Hasher.finish S.Hasher.write (S.build_hasher places.now.hashes) places.now.level places.now.count key == at))) }
+        ensures unchanged { OnErr result (self.new ≡ self.old) }
+    {
+        let mut stay = Vec::with_capacity(alloc, self.entries.len())?;
+        let mut leave = Vec::with_capacity(alloc, self.entries.len())?;
+        let entries = mem::replace(&mut self.entries, Vec::new(alloc));
+        divide(entries, places, at, &mut stay, &mut leave);
+        self.entries = stay;
+        Ok(Line { entries: leave })
+    }
+}
+
+/// Moves the entries with a place to one list, and the others to another, each in its order.
+fn divide<V: Drop, S: BuildHasher>(
+    entries: Vec<Entry<V>>,
+    places: &Places<S>,
+    at: usize,
+    stay: &mut Vec<Entry<V>>,
+    leave: &mut Vec<Entry<V>>,
+)
+    requires level { places.now.level ≤ 32 }
+    requires stay { (stay.old.items ≡ []) × (vec_len entries ≤ vec_capacity stay.old) }
+    requires leave { (leave.old.items ≡ []) × (vec_len entries ≤ vec_capacity leave.old) }
+    ensures stay { stay.new.items ≡ filter (λ entry.
+        place_of S.Hasher.finish S.Hasher.write (S.build_hasher places.now.hashes) places.now.level places.now.count entry.0 == at) entries.items }
+    ensures leave { leave.new.items ≡ filter (λ entry.
+        not (place_of S.Hasher.finish S.Hasher.write (S.build_hasher places.now.hashes) places.now.level places.now.count entry.0 == at)) entries.items }
+{
+    for entry in entries {
+        if entry.is_at(places, at) {
+            stay.push_reserved(entry);
+        } else {
+            leave.push_reserved(entry);
+        }
+    }
+}
+
+fn find_value<'a, V>(entries: &'a [Entry<V>], imsi: &Imsi) -> Option<&'a V>
+    ensures { option_copied result ≡ option_map (λ entry. entry.1) (find (λ entry. is_same imsi.now entry.0) entries.now) }
+{
+    let entry = entries.iter().find(|entry| entry.is(imsi))?;
+    Some(entry.value())
+}
+
+fn position<V>(entries: &[Entry<V>], imsi: &Imsi) -> Option<usize>
+    ensures { result ≡ position (λ entry. is_same imsi.now entry.0) entries.now }
+{
+    entries.iter().position(|entry| entry.is(imsi))
+}
