@@ -1,3 +1,4 @@
+pub mod CloneLemmas
 pub mod LineLemmas
 pub mod LinesLemmas
 pub mod PlacesLemmas

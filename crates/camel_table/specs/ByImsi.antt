@@ -1,7 +1,8 @@
 -- Finite maps from IMSIs, each the list of its digits.
-use Rattle.std.specs.Prelude.{ℕ, Bool, List}
+use Rattle.std.specs.Prelude.{◌≡◌, ℕ, Bool, List}
 use Rattle.std.specs.Cmp.Lexicographic.{slice_cmp}
-use Rattle.std.specs.FinMap.{FinMap, from_entries}
+use Rattle.std.specs.FinMap.{FinMap, from_entries, get}
+use Rattle.std.specs.Option.{is_some}
 use Rattle.std.specs.Ordering.{eq_by_cmp, nat_cmp}
 
 abbrev pub ByImsi : Type 0 → Type 0
@@ -14,3 +15,7 @@ map_of entries = from_entries entries
 -- whether two IMSIs are the same
 abbrev pub is_same : List ℕ → List ℕ → Bool
 is_same imsi other = eq_by_cmp (slice_cmp nat_cmp) imsi other
+
+-- two maps have values of the same IMSIs
+abbrev pub HasSameKeys : {V : Type 0} → ByImsi V → ByImsi V → Type 0
+HasSameKeys m n = (imsi : List ℕ) → is_some (get n imsi) ≡ is_some (get m imsi)

@@ -47,6 +47,19 @@ impl<V> Entry<V> {
     }
 }
 
+impl<V: Clone> Clone for Entry<V> {
+    ghost use Rattle.std.specs.Prelude.{◌≡◌};
+
+    ghost is_clone = { λ old new. (new.0 ≡ old.0) × V.is_clone old.1 new.1 };
+
+    fn clone(&self) -> Result<Entry<V>, AllocError> {
+        Ok(Entry {
+            key: self.key,
+            value: self.value.clone()?,
+        })
+    }
+}
+
 /// The entries of the keys that have the same place in a table.
 ///
 /// Contracts see it as a finite map from the lists of their digits.
@@ -154,6 +167,20 @@ impl<V: Drop> Line<V> {
         divide(entries, places, at, &mut stay, &mut leave);
         self.entries = stay;
         Ok(Line { entries: leave })
+    }
+}
+
+impl<V: Clone> Clone for Line<V> {
+    ghost use Rattle.std.specs.Prelude.{◌≡◌, ℕ, List};
+    ghost use Rattle.camel_table.specs.ByImsi.{HasSameKeys};
+
+    // The same keys, and the same values where a clone of a value is the same.
+    ghost is_clone = { λ old new. HasSameKeys old new × (((x y : V) → V.is_clone x y → y ≡ x) → new ≡ old) };
+
+    fn clone(&self) -> Result<Line<V>, AllocError> {
+        Ok(Line {
+            entries: self.entries.clone()?,
+        })
     }
 }
 

@@ -88,6 +88,20 @@ impl<T: Drop> Segments<T> {
     }
 }
 
+impl<T: Clone> Clone for Segments<T> {
+    ghost use Rattle.std.specs.List.{AllZip};
+
+    ghost is_clone = { λ old new. AllZip T.is_clone old new };
+
+    fn clone(&self) -> Result<Segments<T>, AllocError> {
+        Ok(Segments {
+            alloc: self.alloc,
+            segments: self.segments.clone()?,
+            len: self.len,
+        })
+    }
+}
+
 // Adds a segment where the last one is full, with all the memory that it will need.
 fn make_room<T: Drop>(segments: &mut Vec<Vec<T>>, alloc: Global) -> Result<(), AllocError>
     requires { AreFull segments.old.items }

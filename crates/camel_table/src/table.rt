@@ -168,6 +168,20 @@ impl<V: Drop, S: BuildHasher + Copy> Table<V, S> {
     }
 }
 
+impl<V: Clone, S: BuildHasher + Copy> Clone for Table<V, S> {
+    ghost use Rattle.std.specs.Prelude.{◌≡◌};
+
+    ghost is_clone = { λ old new. ((x y : V) → V.is_clone x y → y ≡ x) → new ≡ old };
+
+    fn clone(&self) -> Result<Table<V, S>, AllocError> {
+        Ok(Table {
+            alloc: self.alloc,
+            places: self.places,
+            lines: self.lines.clone()?,
+        })
+    }
+}
+
 /// Adds an empty line where there are no more than so many.
 fn add_spare<V: Drop>(
     lines: &mut Segments<Line<V>>,

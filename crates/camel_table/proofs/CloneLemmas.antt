@@ -1,0 +1,82 @@
+-- What a clone of entries, segments or lines keeps.
+use Rattle.std.proofs.Common.{◌≡◌, ◌∙◌, ℕ, zero, suc, ◌≤◌, ◌^◌, Bool, true, false, cond, List, [], ◌∷◌, ◌++◌, Some, length, slice_index_or, inl, inr, refl, sym, ap, subst, arith}
+use Rattle.std.specs.Cmp.Lexicographic.{slice_cmp, nat_list_cmp_total}
+use Rattle.std.specs.FinMap.{empty, find, get-from_entries}
+use Rattle.std.specs.Global.{Vec}
+use Rattle.std.specs.List.{AllZip}
+use Rattle.std.specs.Option.{is_some}
+use Rattle.std.specs.Ordering.{nat_cmp}
+use Rattle.std.proofs.lemmas.Slice.Zip.{AllZip-long}
+use Rattle.camel_table.specs.ByImsi.{ByImsi, HasSameKeys, is_same, map_of}
+use Rattle.camel_table.specs.Lines.{IsTable}
+use Rattle.camel_table.specs.Segments.{AreFull, joined}
+
+-- lists that are the same place by place are the same
+pub same_list : {A : Type 0} (R : A → A → Type 0) → ((x y : A) → R x y → y ≡ x) → (xs ys : List A) → AllZip R xs ys → ys ≡ xs
+same_list R exact [] [] all = refl
+same_list R exact [] (y ∷ ys) all = absurd all
+same_list R exact (x ∷ xs) [] all = absurd all
+same_list R exact (x ∷ xs) (y ∷ ys) all = ap (λ v. v ∷ ys) (exact x y all.0) ∙ ap (λ vs. x ∷ vs) (same_list R exact xs ys all.1)
+
+both_lists : {A : Type 0} (R : A → A → Type 0) (xs ys more others : List A) → AllZip R xs ys → AllZip R more others → AllZip R (xs ++ more) (ys ++ others)
+both_lists R [] [] more others all rest = rest
+both_lists R [] (y ∷ ys) more others all rest = absurd all
+both_lists R (x ∷ xs) [] more others all rest = absurd all
+both_lists R (x ∷ xs) (y ∷ ys) more others all rest = (all.0, both_lists R xs ys more others all.1 rest)
+
+module _ {A : Type 0} (R : A → A → Type 0) (C : Vec A → Vec A → Type 0) (items : (v w : Vec A) → C v w → AllZip R v.items w.items) where
+  pub full_clone : (segments clones : List (Vec A)) → AllZip C segments clones → AreFull segments → AreFull clones
+  full_clone [] [] all full = tt
+  full_clone [] (c ∷ cs) all full = absurd all
+  full_clone (s ∷ ss) [] all full = absurd all
+  full_clone (s ∷ []) (c ∷ []) all full =
+      let long = AllZip-long R s.items c.items (items s c all.0) in
+      omega (arith, long, full)
+  full_clone (s ∷ []) (c ∷ d ∷ cs) all full = absurd all.1
+  full_clone (s ∷ t ∷ ss) (c ∷ []) all full = absurd all.1
+  full_clone (s ∷ t ∷ ss) (c ∷ d ∷ cs) all full = (AllZip-long R s.items c.items (items s c all.0) ∙ full.0, full_clone (t ∷ ss) (d ∷ cs) all.1 full.1)
+
+  pub joined_clone : (segments clones : List (Vec A)) → AllZip C segments clones → AllZip R (joined segments) (joined clones)
+  joined_clone [] [] all = tt
+  joined_clone [] (c ∷ cs) all = absurd all
+  joined_clone (s ∷ ss) [] all = absurd all
+  joined_clone (s ∷ ss) (c ∷ cs) all = both_lists R s.items c.items (joined ss) (joined cs) (items s c all.0) (joined_clone ss cs all.1)
+
+module _ {V : Type 0} where
+  -- entries with the same keys
+  pub same_keys : (R : (List ℕ × V) → (List ℕ × V) → Type 0) → ((x y : List ℕ × V) → R x y → y.0 ≡ x.0) → (es fs : List (List ℕ × V)) → AllZip R es fs → HasSameKeys (map_of es) (map_of fs)
+  same_keys R keys es fs all imsi =
+      ap is_some (get-from_entries nat_list_cmp_total fs imsi) ∙ found es fs all ∙ ap is_some (sym (get-from_entries nat_list_cmp_total es imsi))
+    where
+      found : (es fs : List (List ℕ × V)) → AllZip R es fs → is_some (find (slice_cmp nat_cmp) imsi fs) ≡ is_some (find (slice_cmp nat_cmp) imsi es)
+      found [] [] all = refl
+      found [] (f ∷ fs) all = absurd all
+      found (e ∷ es) [] all = absurd all
+      found (e ∷ es) (f ∷ fs) all =
+          ap (λ k. is_some (cond (is_same imsi k) (Some f.1) (find (slice_cmp nat_cmp) imsi fs))) (keys e f all.0)
+          ∙ either (is_same imsi e.0) (found es fs all.1)
+        where
+          either : (b : Bool) → is_some (find (slice_cmp nat_cmp) imsi fs) ≡ is_some (find (slice_cmp nat_cmp) imsi es)
+              → is_some (cond b (Some f.1) (find (slice_cmp nat_cmp) imsi fs)) ≡ is_some (cond b (Some e.1) (find (slice_cmp nat_cmp) imsi es))
+          either true rest = refl
+          either false rest = rest
+
+  same_keys_at : (R : ByImsi V → ByImsi V → Type 0) → ((m n : ByImsi V) → R m n → HasSameKeys m n) → (ms ns : List (ByImsi V)) → AllZip R ms ns
+      → (at : ℕ) → HasSameKeys (slice_index_or ms at empty) (slice_index_or ns at empty)
+  same_keys_at R keys [] [] all at imsi = refl
+  same_keys_at R keys [] (n ∷ ns) all at imsi = absurd all
+  same_keys_at R keys (m ∷ ms) [] all at imsi = absurd all
+  same_keys_at R keys (m ∷ ms) (n ∷ ns) all zero imsi = keys m n all.0 imsi
+  same_keys_at R keys (m ∷ ms) (n ∷ ns) all (suc at) imsi = same_keys_at R keys ms ns all.1 at imsi
+
+  -- a clone of a table is whole
+  pub whole_clone : (R : ByImsi V → ByImsi V → Type 0) → ((m n : ByImsi V) → R m n → HasSameKeys m n) → (place : ℕ → ℕ → List ℕ → ℕ) (level count : ℕ) (lines clones : List (ByImsi V))
+      → AllZip R lines clones → IsTable place level count lines → IsTable place level count clones
+  whole_clone R keys place level count lines clones all whole =
+      let same : length clones ≡ length lines = AllZip-long R lines clones all in
+      record {
+        low = whole.low;
+        round = elim whole.round [ inl none ↦ inl (none.0, same ∙ none.1) | inr round ↦ inr (round.0, (round.1.0, subst (λ n. count ≤ n) (sym same) round.1.1)) ];
+        few = subst (λ n. n ≤ 2 ^ 32) (sym same) whole.few;
+        placed = λ at imsi some. whole.placed at imsi (sym (same_keys_at R keys lines clones all at imsi) ∙ some);
+      }

@@ -1,0 +1,18 @@
+use Rattle.std.proofs.Common.{◌∙◌, ap, ap₂}
+use Rattle.std.specs.FinMap as map
+use Rattle.std.specs.Option.{is_some}
+use Rattle.camel_table.specs.ByImsi.{map_of}
+use Rattle.camel_table.proofs.CloneLemmas.{same_keys, same_list}
+use Rattle.camel_table.proofs.line.LineClone.clone.Goals as goal
+
+pub returns : goal.returns
+returns g c =
+    let old = c.self.inside.entries.items in
+    let new = c.in_ok-clone.field-0.items in
+    let all = c.in_ok-clone.ensures.cases.0 in
+    record {
+      cases = (
+        λ imsi. same_keys _ (λ x y both. both.0) old new all imsi ∙ ap (λ m. is_some (map.get m imsi)) c.self.view_is,
+        λ exact. ap map_of (same_list _ (λ x y both. ap₂ (λ k v. (k, v)) both.0 (exact x.1 y.1 both.1)) old new all) ∙ c.self.view_is,
+      );
+    }
