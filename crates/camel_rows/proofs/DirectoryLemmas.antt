@@ -8,7 +8,7 @@ use Rattle.std.specs.FinMap as map
 use Rattle.std.specs.FinMap.{same_map}
 use Rattle.std.specs.Option.{option_map}
 use Rattle.std.specs.Ordering.{nat_cmp, eq_by_cmp}
-use Rattle.camel_rows.proofs.RecordsTable.{get-with_value, get-with_value_of}
+use Rattle.camel_rows.proofs.ByImsiLemmas.{get-with_value, get-with_value_of}
 use Rattle.camel_rows.specs.ByImsi.{concerns, value_of, with_value, with_value_of}
 use Rattle.camel_rows.specs.TdpRow.{TdpRowData}
 use Rattle.camel_rows.specs.Records.{RecordsData}

@@ -1,9 +1,9 @@
 pub mod AdmissionLemmas
 pub mod ArrayLemmas
+pub mod ByImsiLemmas
 pub mod DirectoryLemmas
 pub mod PlacesLemmas
 pub mod ReceivedLemmas
-pub mod RecordsTable
 pub mod StandardLemmas
 pub mod StoreLemmas
 pub mod UpdateLemmas

@@ -5,7 +5,7 @@ use Rattle.std.proofs.lemmas.Slice.Eq.{bytes_eq-Decides}
 use Rattle.std.specs.FinMap as map
 use Rattle.camel_criteria.specs.Criteria.{OCriteriaData, TCriteriaData}
 use Rattle.camel_rows.proofs.DirectoryLemmas.{record_after-none}
-use Rattle.camel_rows.proofs.RecordsTable.{get-with_value_of, get-with_value_there}
+use Rattle.camel_rows.proofs.ByImsiLemmas.{get-with_value_of, get-with_value_there}
 use Rattle.camel_rows.specs.ByImsi.{value_of, with_value_of}
 use Rattle.camel_rows.specs.TdpRow.{TdpRowData}
 use Rattle.camel_rows.specs.Standard.{HasO, HasVt, csi_with}

@@ -3,7 +3,9 @@
 
 mod line;
 mod places;
+mod seed;
 mod segments;
 mod table;
 
+pub use seed::Seed;
 pub use table::Table;

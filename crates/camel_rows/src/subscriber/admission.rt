@@ -9,6 +9,7 @@ use crate::subscriber::csis_present::{CsisPresent, check_update, csis_after};
 use crate::subscriber::directory::Directory;
 use crate::subscriber::update::Update;
 use camel_criteria::Refusal;
+use camel_table::Seed;
 use camel_tbcd::Imsi;
 use std::alloc::{AllocError, Global};
 use std::marker::Model;
@@ -39,12 +40,20 @@ impl Model for Admission {
 }
 
 impl Admission {
-    /// No update is accepted yet, and at most `limit` ever are. It takes no memory yet.
+    /// No update is accepted yet, and at most `limit` ever are. It takes no memory yet. Its seed is fixed: where others
+    /// choose the IMSIs, [`Admission::seeded`] is meant.
     pub fn new(alloc: Global, limit: u64) -> Admission
         ensures { result ≡ no_admissions limit }
     {
+        Admission::seeded(alloc, limit, Seed::fixed())
+    }
+
+    /// The same, in a table with this seed.
+    pub fn seeded(alloc: Global, limit: u64, seed: Seed) -> Admission
+        ensures { result ≡ no_admissions limit }
+    {
         Admission {
-            directory: Directory::new(alloc),
+            directory: Directory::new(alloc, seed),
             accepted: 0,
             limit,
         }

@@ -4,9 +4,9 @@ ghost use Rattle.camel_rows.specs.ByImsi.{with_value};
 ghost use Rattle.camel_rows.specs.Directory.{empty_directory};
 
 use crate::subscriber::csis_present::CsisPresent;
+use camel_table::{Seed, Table};
 use camel_tbcd::Imsi;
 use std::alloc::{AllocError, Global};
-use std::collections::BTreeMap;
 use std::marker::Model;
 
 /// Which subscribers have a record, and which CSIs are stored in each: all that decides whether an update is
@@ -15,7 +15,7 @@ use std::marker::Model;
 /// Contracts see a finite map from IMSIs to the CSIs that are stored.
 #[derive(Debug, Drop)]
 pub(crate) struct Directory {
-    table: BTreeMap<Imsi, CsisPresent>,
+    table: Table<CsisPresent, Seed>,
 }
 
 impl Model for Directory {
@@ -28,16 +28,16 @@ impl Model for Directory {
 
     ghost coded = { map.code (coded_list coded_ℕ) csis.the_row.coded };
 
-    ghost view = { λ a. map.from_entries a.table.entries };
+    ghost view = { λ a. a.table };
 }
 
 impl Directory {
-    /// No subscriber has a record. It takes no memory yet.
-    pub(crate) fn new(alloc: Global) -> Directory
+    /// No subscriber has a record, in a table with this seed. It takes no memory yet.
+    pub(crate) fn new(alloc: Global, seed: Seed) -> Directory
         ensures { result ≡ empty_directory }
     {
         Directory {
-            table: BTreeMap::new(alloc),
+            table: Table::new(alloc, seed),
         }
     }
 
@@ -54,8 +54,7 @@ impl Directory {
         ensures put { OnOk result (self.new ≡ map.insert self.old imsi csis) }
         ensures unchanged { OnErr result (self.new ≡ self.old) }
     {
-        self.table.insert(imsi, csis)?;
-        Ok(())
+        self.table.put(&imsi, csis)
     }
 
     /// Puts back what stood before an insertion, where a subscriber has an entry since. It takes no memory.
@@ -64,7 +63,9 @@ impl Directory {
         ensures { self.new ≡ with_value self.old imsi.now before }
     {
         match before {
-            Some(csis) => *self.table.get_mut(imsi).unwrap() = csis,
+            Some(csis) => {
+                self.table.replace(imsi, csis);
+            }
             None => self.remove(imsi),
         }
     }
@@ -73,7 +74,7 @@ impl Directory {
     pub(crate) fn remove(&mut self, imsi: &Imsi)
         ensures { self.new ≡ map.remove self.old imsi.now }
     {
-        self.table.remove(imsi);
+        self.table.take_out(imsi);
     }
 
     /// Takes all entries out. It takes no memory.

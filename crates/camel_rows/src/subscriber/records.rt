@@ -14,9 +14,9 @@ use crate::subscriber::csis_present::{CsisPresent, check_update};
 use crate::subscriber::update::{Update, Withdrawal};
 use crate::subscriber::{StoredOCsi, StoredVtCsi, Subscriber};
 use camel_criteria::Refusal;
+use camel_table::{Seed, Table};
 use camel_tbcd::Imsi;
 use std::alloc::{AllocError, Global};
-use std::collections::BTreeMap;
 use std::marker::Model;
 
 /// The records of all subscribers, by IMSI.
@@ -25,7 +25,7 @@ use std::marker::Model;
 #[derive(Debug, Drop)]
 pub struct Records {
     alloc: Global,
-    table: BTreeMap<Imsi, Subscriber>,
+    table: Table<Subscriber, Seed>,
 }
 
 impl Model for Records {
@@ -38,17 +38,24 @@ impl Model for Records {
 
     ghost coded = { map.code (coded_list coded_ℕ) subscriber.the_row.coded };
 
-    ghost view = { λ a. map.from_entries a.table.entries };
+    ghost view = { λ a. a.table };
 }
 
 impl Records {
-    /// No records. It takes no memory yet.
+    /// No records. It takes no memory yet. Its seed is fixed: where others choose the IMSIs, [`Records::seeded`] is meant.
     pub fn new(alloc: Global) -> Records
+        ensures { result ≡ no_records }
+    {
+        Records::seeded(alloc, Seed::fixed())
+    }
+
+    /// No records, in a table with this seed. It takes no memory yet.
+    pub fn seeded(alloc: Global, seed: Seed) -> Records
         ensures { result ≡ no_records }
     {
         Records {
             alloc,
-            table: BTreeMap::new(alloc),
+            table: Table::new(alloc, seed),
         }
     }
 
@@ -151,8 +158,9 @@ impl Records {
         requires { IsSome (map.get self.old imsi.now) }
         ensures { self.new ≡ with_value self.old imsi.now (option_map (with_changes o vt) (map.get self.old imsi.now)) }
     {
-        let subscriber = self.table.get_mut(imsi).unwrap();
+        let mut subscriber = self.table.replace(imsi, Subscriber::new()).unwrap();
         subscriber.change(o, vt);
+        self.table.replace(imsi, subscriber);
     }
 
     /// Puts a record in the place of the one that is there.
@@ -160,15 +168,14 @@ impl Records {
         ensures put { OnOk result (self.new ≡ map.insert self.old imsi subscriber) }
         ensures unchanged { OnErr result (self.new ≡ self.old) }
     {
-        self.table.insert(imsi, subscriber)?;
-        Ok(())
+        self.table.put(&imsi, subscriber)
     }
 
     /// Takes the record of an IMSI out, if there is one.
     fn take_out(&mut self, imsi: &Imsi)
         ensures { self.new ≡ map.remove self.old imsi.now }
     {
-        self.table.remove(imsi);
+        self.table.take_out(imsi);
     }
 
     /// Takes all records out.

@@ -1,21 +1,23 @@
-use Rattle.std.proofs.Common.{◌≡◌, ◌∙◌, ap, subst, sym, IsSome, Some}
+use Rattle.std.proofs.Common.{◌≡◌, ◌∙◌, IfSome, Some, ap, subst, sym}
 use Rattle.std.specs.FinMap as map
-use Rattle.std.specs.Option.{option_copied_mut}
-use Rattle.camel_rows.proofs.RecordsTable.{get-entries, lent_there, with_value-entries}
+use Rattle.std.specs.Option.{option_map}
+use Rattle.camel_rows.specs.ByImsi.{with_value}
+use Rattle.camel_rows.specs.CsiChange.{with_changes}
+use Rattle.camel_rows.proofs.ByImsiLemmas.{get-with_value_there, insert_twice}
 use Rattle.camel_rows.proofs.subscriber.records.Records.change.Goals as goal
-
-pub unwrap-subscriber-requires : goal.unwrap-subscriber-requires
-unwrap-subscriber-requires c =
-    let stored = c.get_mut.ensures.value ∙ sym (get-entries c.self.inside.table.entries c.args.imsi.now) ∙ ap (λ m. map.get m c.args.imsi.now) c.self.view_is in
-    lent_there c.get_mut.result _ stored c.requires
 
 pub returns : goal.returns
 returns c =
-    let entries = c.self.inside.table.entries in
+    let before = c.args.self.now in
     let key = c.args.imsi.now in
-    let at_entries = sym (get-entries entries key) ∙ ap (λ m. map.get m key) c.self.view_is in
-    let stored : map.get c.args.self.now key ≡ Some c.unwrap-subscriber.result.now = sym (c.get_mut.ensures.value ∙ at_entries) ∙ ap option_copied_mut c.unwrap-subscriber.ensures in
-    let held = c.get_mut.follows.holds c.change.new.self in
-    let there = subst IsSome (sym at_entries) c.requires in
-    let placed = with_value-entries entries (c.get_mut.follows.lender c.change.new.self).entries key (Some c.change.new.self) (held.3 there).0 in
-    rw stored (placed ∙ ap (λ m. map.insert m key c.change.new.self) c.self.view_is ∙ ap (λ subscriber. map.insert c.args.self.now key subscriber) c.change.ensures)
+    let old = c.unwrap-subscriber.result in
+    let changed = c.change.new.self in
+    let some : c.replace.result ≡ Some old = c.unwrap-subscriber.ensures in
+    let first : c.replace.new.self ≡ map.insert c.self.inside.table key c.new.result = subst (λ o. IfSome o (λ _. c.replace.new.self ≡ map.insert c.self.inside.table key c.new.result)) some c.replace.ensures.replaced in
+    let held : c.replace-2.result ≡ Some c.new.result = c.replace-2.ensures.before ∙ ap (λ m. map.get m key) first ∙ get-with_value_there c.self.inside.table key (Some c.new.result) in
+    let second : c.replace-2.new.self ≡ map.insert c.replace.new.self key changed = subst (λ o. IfSome o (λ _. c.replace-2.new.self ≡ map.insert c.replace.new.self key changed)) held c.replace-2.ensures.replaced in
+    let stored : map.get before key ≡ Some old = ap (λ m. map.get m key) (sym c.self.view_is) ∙ sym c.replace.ensures.before ∙ some in
+    second ∙ ap (λ m. map.insert m key changed) first ∙ insert_twice c.self.inside.table key c.new.result changed
+    ∙ ap (λ m. map.insert m key changed) c.self.view_is
+    ∙ ap (map.insert before key) c.change.ensures
+    ∙ ap (λ o. with_value before key (option_map (with_changes c.args.o c.args.vt) o)) (sym stored)

@@ -1,11 +1,8 @@
--- The finite map that the entries of a table make, whose keys are lists of numbers, and what it holds at a key.
-use Rattle.std.proofs.Common.{◌≡◌, ◌∙◌, ℕ, true, List, [], ◌∷◌, Option, Some, None, IsSome, MutBor, cond, refl, sym, ap, subst}
-use Rattle.std.specs.BTreeMap.{is_at}
+-- What a map by IMSIs holds after a change at one of them, or at all.
+use Rattle.std.proofs.Common.{◌≡◌, ◌∙◌, ℕ, Bool, true, false, List, Option, Some, None, cond, refl, sym, ap, subst}
 use Rattle.std.specs.Cmp.{eq_by_cmp_equiv}
 use Rattle.std.specs.Cmp.Lexicographic.{slice_cmp, nat_list_cmp_total}
-use Rattle.std.specs.FinMap.{find, from_entries, get, get-empty, get-from_entries, get-insert, get-remove, same_map}
-use Rattle.std.specs.Map.{lookup}
-use Rattle.std.specs.Option.{option_copied_mut}
+use Rattle.std.specs.FinMap.{get, get-empty, get-insert, get-remove, insert, same_map}
 use Rattle.std.specs.Ordering.{eq_by_cmp, nat_cmp}
 use Rattle.std.specs.Str.{bytes_eq}
 use Rattle.std.proofs.lemmas.Bool.Decides.{same_from_decides}
@@ -23,18 +20,6 @@ same_test key imsi =
     same
 
 module _ {X : Type 0} where
-  -- what the entries hold at a key
-  abbrev pub entry_at : List (List ℕ × X) → List ℕ → Option X
-  entry_at entries key = lookup (is_at (slice_cmp nat_cmp key)) entries
-
-  find-entries : (entries : List (List ℕ × X)) (key : List ℕ) → find (slice_cmp nat_cmp) key entries ≡ entry_at entries key
-  find-entries [] key = refl
-  find-entries (entry ∷ entries) key = ap (cond (is_at (slice_cmp nat_cmp key) entry.0) (Some entry.1)) (find-entries entries key)
-
-  -- the map holds what the entries hold
-  pub get-entries : (entries : List (List ℕ × X)) (key : List ℕ) → get (from_entries {R = slice_cmp nat_cmp} entries) key ≡ entry_at entries key
-  get-entries entries key = get-from_entries nat_list_cmp_total entries key ∙ find-entries entries key
-
   -- a map with a value at one key holds it there, and elsewhere what it held
   pub get-with_value : (m : ByImsi X) (key : List ℕ) (value : Option X) (imsi : List ℕ)
       → get (with_value m key value) imsi ≡ cond (eq_by_cmp (slice_cmp nat_cmp) imsi key) value (get m imsi)
@@ -56,15 +41,14 @@ module _ {X : Type 0} where
   value_of-same m n None imsi own same = refl
   value_of-same m n (Some key) imsi own same = subst (λ (at : List ℕ). get m at ≡ get n at) (sym ((bytes_eq-Decides key imsi).0 own)) same
 
-  -- entries that differ at one key make maps that differ there
-  pub with_value-entries : (old new : List (List ℕ × X)) (key : List ℕ) (value : Option X)
-      → ((other : List ℕ) → entry_at new other ≡ cond (is_at (slice_cmp nat_cmp key) other) value (entry_at old other))
-      → from_entries {R = slice_cmp nat_cmp} new ≡ with_value (from_entries old) key value
-  with_value-entries old new key value differ = same_map nat_list_cmp_total exact_bytes _ _ (λ other.
-      get-entries new other ∙ differ other ∙ ap (λ b. cond b value (entry_at old other)) ((eq_by_cmp_equiv nat_list_cmp_total).symm key other)
-      ∙ sym (get-with_value (from_entries old) key value other ∙ ap (cond (is_at (slice_cmp nat_cmp other) key) value) (get-entries old other)))
-
-  -- what is lent is there where the value is
-  pub lent_there : (lent : Option (MutBor X)) (stored : Option X) → option_copied_mut lent ≡ stored → IsSome stored → IsSome lent
-  lent_there None stored e h = subst IsSome (sym e) h
-  lent_there (Some value) stored e h = subst IsSome (sym e) h
+  -- of two values at one key the later one stays
+  pub insert_twice : (m : ByImsi X) (key : List ℕ) (first second : X) → insert (insert m key first) key second ≡ insert m key second
+  insert_twice m key first second = same_map nat_list_cmp_total exact_bytes _ _ (λ q.
+      get-insert nat_list_cmp_total (insert m key first) key second q
+      ∙ ap (cond (eq_by_cmp (slice_cmp nat_cmp) q key) (Some second)) (get-insert nat_list_cmp_total m key first q)
+      ∙ either (eq_by_cmp (slice_cmp nat_cmp) q key) (get m q)
+      ∙ sym (get-insert nat_list_cmp_total m key second q))
+    where
+      either : (b : Bool) (held : Option X) → cond b (Some second) (cond b (Some first) held) ≡ cond b (Some second) held
+      either true held = refl
+      either false held = refl

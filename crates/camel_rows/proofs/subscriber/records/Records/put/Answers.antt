@@ -1,9 +1,0 @@
-use Rattle.std.proofs.Common.{◌∙◌, Some, ap}
-use Rattle.std.specs.FinMap as map
-use Rattle.camel_rows.proofs.RecordsTable.{with_value-entries}
-use Rattle.camel_rows.proofs.subscriber.records.Records.put.Goals as goal
-
-pub returns-clause-put : goal.returns-clause-put
-returns-clause-put c =
-    with_value-entries c.self.inside.table.entries c.insert.new.self.entries c.args.imsi (Some c.args.subscriber) c.in_ok-insert.ensures.updates.0
-    ∙ ap (λ m. map.insert m c.args.imsi c.args.subscriber) c.self.view_is
