@@ -34,6 +34,7 @@ use crate::threaded_replay::threads_fault::ThreadsFault;
 use crate::threaded_replay::writer::Writer;
 use camel_audit::{Transcript, audit};
 use camel_script::{Line, Record, push_line};
+use camel_table::Seed;
 use camel_tbcd::Profile;
 use camel_vlr::{Session, Vlr};
 use camel_workers::Gate;
@@ -133,7 +134,7 @@ fn answer_script<G: Gate, R: Threads + Wait>(
     requires limit { (1 ≤ limit) × (limit ≤ max_limit) }
     ensures { IfOk result (λ output. IsThreadsOutput threads profile limit records.items output.items) }
 {
-    let (vlr, sessions) = Vlr::open(rt, alloc, threads, limit, profile)?;
+    let (vlr, sessions) = Vlr::open_seeded(rt, alloc, threads, limit, profile, Seed::fixed())?;
     let writer = Writer {
         store: OpenStore { vlr, rt },
         accepted: Vec::new(alloc),

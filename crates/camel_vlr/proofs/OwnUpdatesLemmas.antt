@@ -2,7 +2,7 @@
 use Rattle.std.proofs.Common.{◌≡◌, ◌∙◌, ℕ, Bool, true, false, List, [], ◌∷◌, None, refl, sym, ap, arith}
 use Rattle.std.proofs.lemmas.List.Sums.{count_by-le-length, length-filter}
 use Rattle.std.specs.FinMap as map
-use Rattle.camel_rows.proofs.RecordsTable.{value_of-same}
+use Rattle.camel_rows.proofs.ByImsiLemmas.{value_of-same}
 use Rattle.camel_rows.proofs.UpdateLemmas.{other_record, own_record}
 use Rattle.camel_rows.specs.ByImsi.{value_of}
 use Rattle.std.specs.Option.{option_map}

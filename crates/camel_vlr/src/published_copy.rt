@@ -8,6 +8,7 @@ use crate::receipt::Receipt;
 use crate::writer::operation::Operation;
 use camel_criteria::Refusal;
 use camel_rows::Records;
+use camel_table::Seed;
 use left_right::Absorb;
 use std::alloc::{AllocError, Global};
 
@@ -20,14 +21,14 @@ pub(crate) struct PublishedCopy {
 }
 
 impl PublishedCopy {
-    /// A copy of no records.
-    pub(crate) fn empty(alloc: Global, front: Prefix) -> PublishedCopy
+    /// A copy of no records, in a table with this seed.
+    pub(crate) fn empty(alloc: Global, seed: Seed, front: Prefix) -> PublishedCopy
         ensures records { result.records ≡ no_records }
         ensures count { result.count ≡ 0 }
         ensures front { result.front ≡ front }
     {
         PublishedCopy {
-            records: Records::new(alloc),
+            records: Records::seeded(alloc, seed),
             count: 0,
             front,
         }

@@ -21,15 +21,17 @@ use crate::writer::publication::{StoreWriter, append, extend_history, publish_al
 use crate::writer::submission::accept;
 use camel_criteria::Refusal;
 use camel_rows::{Admission, Update};
+use camel_table::Seed;
 use camel_tbcd::Profile;
 use core::mem::replace_with;
 use left_right::writer::Writer;
 use std::alloc::Global;
 use std::marker::Model;
+use std::random::RandomSource;
 use std::sync::Wait;
 
-/// The most updates that a store may take.
-pub const MAX_UPDATES: u64 = 1_000_000;
+/// The most updates that a store may take: more than any switch lives to see.
+pub const MAX_UPDATES: u64 = 0x7FFF_FFFF_FFFF_FFFF;
 
 /// The most sessions that a store may have.
 pub const MAX_PLACES: usize = 64;
@@ -63,10 +65,13 @@ impl Vlr {
     /// [`MAX_PLACES`]), none of which has seen or learnt anything. The sessions decide under the profile, which no call
     /// changes.
     ///
+    /// The seed of its tables is from the runtime's random source, so that nobody who chooses IMSIs can make look-ups
+    /// slow. Where that source fails, the seed is the fixed one.
+    ///
     /// It fails with `OutOfMemory` (102) where memory was refused, and with `NoPlace` (103) where a session got no place;
     /// then nothing remains. It takes `Wait`, and nobody looks yet. What its clauses say holds if it returns; that it
     /// returns is not proved.
-    pub fn open<R: Wait>(
+    pub fn open<R: Wait + RandomSource>(
         rt: &R,
         alloc: Global,
         places: usize,
@@ -81,8 +86,29 @@ impl Vlr {
         ensures sessions { IfOk result (λ r. All (λ s. s ≡ fresh_session r.0.store) r.1.items) }
         ensures only { IfErr result (λ why. (why ≡ Refusal.OutOfMemory) ⊎ (why ≡ Refusal.NoPlace)) }
     {
+        let seed = Seed::random(rt).unwrap_or(Seed::fixed());
+        Vlr::open_seeded(rt, alloc, places, limit, profile, seed)
+    }
+
+    /// The same, with a seed that the switch hands in.
+    pub fn open_seeded<R: Wait>(
+        rt: &R,
+        alloc: Global,
+        places: usize,
+        limit: u64,
+        profile: Profile,
+        seed: Seed,
+    ) -> Result<(Vlr, Vec<Session>), Refusal>
+        requires places { (1 ≤ places) × (places ≤ MAX_PLACES) }
+        requires limit { (1 ≤ limit) × (limit ≤ MAX_UPDATES) }
+        ensures empty { IfOk result (λ r. (r.0.updates ≡ no_updates) × (r.0.store.limit ≡ limit)) }
+        ensures profile { IfOk result (λ r. r.0.store.profile ≡ profile) }
+        ensures places { IfOk result (λ r. vec_len r.1 ≡ places) }
+        ensures sessions { IfOk result (λ r. All (λ s. s ≡ fresh_session r.0.store) r.1.items) }
+        ensures only { IfErr result (λ why. (why ≡ Refusal.OutOfMemory) ⊎ (why ≡ Refusal.NoPlace)) }
+    {
         let mut sessions = Vec::with_capacity(alloc, places)?;
-        let mut store = Vlr::empty(rt, alloc, places, Terms { limit, profile })?;
+        let mut store = Vlr::empty(rt, alloc, places, Terms { limit, profile }, seed)?;
         while sessions.len() < places {
             let Some(session) = store.seat() else {
                 store.end(rt);
@@ -94,7 +120,13 @@ impl Vlr {
     }
 
     /// The first publication, of nothing, lets the writer know which store it is.
-    fn empty<R: Wait>(rt: &R, alloc: Global, places: usize, terms: Terms) -> Result<Vlr, Refusal>
+    fn empty<R: Wait>(
+        rt: &R,
+        alloc: Global,
+        places: usize,
+        terms: Terms,
+        seed: Seed,
+    ) -> Result<Vlr, Refusal>
         requires places { (1 ≤ places) × (places ≤ MAX_PLACES) }
         requires limit { (1 ≤ terms.limit) × (terms.limit ≤ MAX_UPDATES) }
         ensures empty { IfOk result (λ r. (r.updates ≡ no_updates) × (r.store.limit ≡ terms.limit)) }
@@ -103,8 +135,8 @@ impl Vlr {
     {
         let history = History::new(terms);
         let front = history.prefix();
-        let first = PublishedCopy::empty(alloc, front.copy());
-        let second = PublishedCopy::empty(alloc, front.copy());
+        let first = PublishedCopy::empty(alloc, seed, front.copy());
+        let second = PublishedCopy::empty(alloc, seed, front.copy());
         let mut writer = Writer::new(alloc, first, second, places)?;
         if append(&mut writer, Operation::Front(front.copy())).is_err() {
             drop(writer.take(rt));
@@ -115,7 +147,7 @@ impl Vlr {
             Ok(()) => Ok(Vlr {
                 writer,
                 history,
-                admission: Admission::new(alloc, terms.limit),
+                admission: Admission::seeded(alloc, terms.limit, seed),
                 profile: terms.profile,
             }),
             Err(_) => {

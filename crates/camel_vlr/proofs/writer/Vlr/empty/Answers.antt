@@ -1,4 +1,5 @@
-use Rattle.std.proofs.Common.{◌≡◌, ◌∙◌, ℕ, ◌≤◌, [], ◌++◌, append-nil, ap, subst, sym}
+use Rattle.std.proofs.Common.{◌≡◌, ◌∙◌, ℕ, ◌≤◌, false, T, Ok, Err, List, [], ◌∷◌, ◌++◌, append-nil, ap, subst, sym}
+use Rattle.std.specs.Result.{is_err, MatchResult}
 use Rattle.std.proofs.lemmas.Result.{IfOk-at_ok}
 use Rattle.left_right.specs.Sides.{view}
 use Rattle.camel_vlr.specs.Prefix.{PrefixData}
@@ -7,6 +8,8 @@ use Rattle.camel_rows.specs.Front.{IsFront}
 use Rattle.camel_vlr.specs.Operation.{pending_operations, updates_among}
 use Rattle.camel_vlr.specs.Rule.{Knows}
 use Rattle.camel_vlr.specs.declared.writer.TheConstants.{MAX_UPDATES}
+use Rattle.camel_vlr.specs.declared.writer.operation.Operation.{Operation}
+use Rattle.camel_vlr.specs.declared.writer.operation.Operation.TheVariants.{Front}
 use Rattle.camel_vlr.proofs.writer.Vlr.empty.Goals as goal
 
 pub invariant_of-result : goal.invariant_of-result
@@ -22,7 +25,7 @@ invariant_of-result g c =
     let all : copy.front.updates ++ updates_among (pending_operations writer) ≡ copy.front.updates = ap (λ x. copy.front.updates ++ x) pending ∙ append-nil copy.front.updates in record {
       shown = shown.0;
       all = subst (IsFront copy.front.store.limit) (sym all) shown.0.front;
-      admits = rw (c.new-in-Ok.ensures, ← limit, all ∙ published) (IsAdmissionOf-empty c.args.terms.limit);
+      admits = rw (c.seeded.ensures, ← limit, all ∙ published) (IsAdmissionOf-empty c.args.terms.limit);
       greatest = subst (λ (n : ℕ). n ≤ MAX_UPDATES) limit c.requires.limit.1;
       seat = subst (λ (x : PrefixData). Knows (view writer.desk.place) x) (sym shown.1) seat;
       store = sym (ap (λ x. x.store) same);
@@ -30,3 +33,13 @@ invariant_of-result g c =
       beyond = ([], append-nil copy.front.updates ∙ ap (λ x. x.updates) same);
       profile = sym (ap (λ x. x.store.profile) same ∙ c.new-history.ensures.profile);
     }
+
+pub publish_all-writer-requires-clause-last : goal.publish_all-writer-requires-clause-last
+publish_all-writer-requires-clause-last g c =
+    let old = pending_operations c.in_ok-writer.writer in
+    let new = pending_operations c.append.new.writer in
+    let front = c.prefix-front.result in
+    elim c.append.result as (λ r. is_err r ≡ false → MatchResult r (λ _. new ≡ old ++ Front c.copy-3.result ∷ []) (λ _. new ≡ old) → (x : List Operation) × (new ≡ x ++ Front front ∷ [])) [
+      | Ok done ↦ λ ok pending. (old, pending ∙ ap (λ f. old ++ Front f ∷ []) c.copy-3.ensures)
+      | Err why ↦ λ ok pending. absurd (subst T ok tt)
+    ] (sym c.if-is_err.ensures.value) c.append.ensures.pending

@@ -1,6 +1,6 @@
 use Rattle.std.proofs.Common.{◌∙◌, Some, rules}
 use Rattle.camel_rows.proofs.AdmissionLemmas.{taken_back}
-use Rattle.camel_rows.proofs.RecordsTable.{get-with_value_there}
+use Rattle.camel_rows.proofs.ByImsiLemmas.{get-with_value_there}
 use Rattle.camel_vlr.proofs.writer.submission.accept_record.Goals as goal
 
 pub take_back-requires-clause-there : goal.take_back-requires-clause-there
