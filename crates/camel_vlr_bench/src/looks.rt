@@ -1,5 +1,5 @@
 use crate::data::{EVENTS, events};
-use crate::publications::{Concerned, batches, open_filled, with_csi};
+use crate::publications::{Concerned, batches, open_filled};
 use camel_fixtures::{criteria_update, imsi_of};
 use camel_rows::{CallEvent, Decision, Records, Update, decide_in};
 use camel_tbcd::Profile;
@@ -21,9 +21,7 @@ pub(crate) fn time_decisions<R: Clock>(
     for number in 0..subscribers {
         let imsi = imsi_of(number).ok()?;
         records.apply(&Update::Register { imsi }).ok()?;
-        if number < with_csi(subscribers) {
-            records.apply(&criteria_update(alloc, imsi).ok()?).ok()?;
-        }
+        records.apply(&criteria_update(alloc, imsi).ok()?).ok()?;
     }
     let events = events(alloc, subscribers)?;
     let start = Instant::now(rt).ok()?;

@@ -1,6 +1,7 @@
 use crate::data::next;
 use camel_fixtures::{criteria_update, imsi_of};
 use camel_rows::Update;
+use camel_table::Seed;
 use camel_tbcd::Profile;
 use camel_vlr::{MAX_PLACES, MAX_UPDATES, Session, Vlr};
 use std::alloc::Global;
@@ -25,7 +26,7 @@ pub(crate) fn time_publications<R: Clock + Wait>(
     Some(u64::try_from(taken?.as_nanos()).ok()? / rounds.max(1))
 }
 
-/// A store with so many subscribers, of whom as many have an O-CSI as the limit allows, and its sessions.
+/// A store with so many subscribers, each with an O-CSI, and its sessions.
 pub(crate) fn open_filled<R: Wait>(
     rt: &R,
     alloc: Global,
@@ -35,7 +36,14 @@ pub(crate) fn open_filled<R: Wait>(
     if places == 0 || places > MAX_PLACES {
         return None;
     }
-    let (mut store, sessions) = Vlr::open(rt, alloc, places, MAX_UPDATES, Profile::One).ok()?;
+    let (mut store, sessions) = Vlr::open_seeded(
+        rt,
+        alloc,
+        places,
+        MAX_UPDATES,
+        Profile::One,
+        Seed::fixed(),
+    ).ok()?;
     match fill(rt, alloc, &mut store, subscribers) {
         Some(()) => Some((store, sessions)),
         None => {
@@ -45,18 +53,11 @@ pub(crate) fn open_filled<R: Wait>(
     }
 }
 
-/// How many of so many subscribers have an O-CSI: as many as the limit of updates leaves room for.
-pub(crate) fn with_csi(subscribers: u64) -> u64 {
-    (MAX_UPDATES.saturating_sub(subscribers) / 2).min(subscribers)
-}
-
 fn fill<R: Wait>(rt: &R, alloc: Global, store: &mut Vlr, subscribers: u64) -> Option<()> {
     for number in 0..subscribers {
         let imsi = imsi_of(number).ok()?;
         store.submit(Update::Register { imsi }).ok()?;
-        if number < with_csi(subscribers) {
-            store.submit(criteria_update(alloc, imsi).ok()?).ok()?;
-        }
+        store.submit(criteria_update(alloc, imsi).ok()?).ok()?;
         if number % 1000 == 999 {
             store.publish(rt).ok()?;
         }

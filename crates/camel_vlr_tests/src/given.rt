@@ -7,6 +7,7 @@ use crate::answers::{TURNS, check_asked, check_row, check_submit};
 use camel_criteria::Refusal;
 use camel_fixtures::{O_ALONE, call_of, criteria_update, entry_update, row_update};
 use camel_rows::{Records, Update};
+use camel_table::Seed;
 use camel_tbcd::{Imsi, Profile};
 use camel_vlr::{CloseRefused, MAX_PLACES, MAX_UPDATES, Receipt, Session, Vlr};
 use std::alloc::Global;
@@ -58,12 +59,12 @@ fn opened<R: Wait>(
     ensures sessions { IfOk result (λ r. All (λ s. s ≡ fresh_session r.0.store) r.1.items) }
 {
     for _ in 1..TURNS {
-        match Vlr::open(rt, alloc, places, limit, profile) {
+        match Vlr::open_seeded(rt, alloc, places, limit, profile, Seed::fixed()) {
             Err(Refusal::NoPlace) => {}
             opened => return opened,
         }
     }
-    Vlr::open(rt, alloc, places, limit, profile)
+    Vlr::open_seeded(rt, alloc, places, limit, profile, Seed::fixed())
 }
 
 /// The same: the store, the sessions before the last one, and the last one.

@@ -22,4 +22,6 @@ mod memory;
 #[cfg(test)]
 mod profiles;
 #[cfg(test)]
+mod seeds;
+#[cfg(test)]
 mod threads;

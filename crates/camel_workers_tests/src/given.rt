@@ -6,6 +6,7 @@ use camel_audit::Job;
 use camel_criteria::Refusal;
 use camel_fixtures::{call_of, imsi_of, row_update};
 use camel_rows::Update;
+use camel_table::Seed;
 use camel_tbcd::Profile;
 use camel_vlr::{Receipt, Session, Vlr};
 use camel_workers::{Ended, Gate, Served, serve};
@@ -104,7 +105,7 @@ fn opened<R: Wait>(rt: &R, alloc: Global) -> Result<(Vlr, Session), Refusal>
 fn opened_once<R: Wait>(rt: &R, alloc: Global) -> Result<(Vlr, Session), Refusal>
     ensures { IfOk result (λ r. r.1.store ≡ r.0.store) }
 {
-    let (store, mut sessions) = Vlr::open(rt, alloc, 1, 10, Profile::One)?;
+    let (store, mut sessions) = Vlr::open_seeded(rt, alloc, 1, 10, Profile::One, Seed::fixed())?;
     let Some(session) = sessions.pop() else {
         store.end(rt);
         return Err(Refusal::NoPlace);

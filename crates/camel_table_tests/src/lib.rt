@@ -1,0 +1,11 @@
+//! The tests of `camel_table`, which call it from outside, as its users do.
+#![tactic(auto)]
+
+#[cfg(test)]
+mod given;
+#[cfg(test)]
+mod growth;
+#[cfg(test)]
+mod one_line;
+#[cfg(test)]
+mod registers;

@@ -1,0 +1,48 @@
+use crate::given::put_again;
+use camel_fixtures::imsi_of;
+use camel_table::Table;
+use std::hash::{BuildHasher, Hasher};
+use std::test::Fail;
+
+// A hasher that has one hash for all.
+#[derive(Clone, Copy, Drop)]
+struct Poor;
+
+impl Hasher for Poor {
+    ghost write = { λ hasher _. hasher };
+
+    ghost finish = { λ _. 5 };
+
+    fn finish(&self) -> u64 {
+        5
+    }
+
+    fn write(&mut self, _bytes: &[u8]) {}
+}
+
+impl BuildHasher for Poor {
+    type Hasher = Poor;
+
+    ghost build_hasher = { λ hasher. hasher };
+
+    fn build_hasher(&self) -> Poor {
+        *self
+    }
+}
+
+const SUBSCRIBERS: u64 = 1_000;
+
+#[test]
+fn finds_each_where_all_are_in_one_line(rt: HostRuntime) -> Result<(), Fail> {
+    let mut table = Table::new(rt.alloc(), Poor);
+    for number in 0..SUBSCRIBERS {
+        put_again(&rt, &mut table, &imsi_of(number)?, number)?;
+    }
+    table.take_out(&imsi_of(0)?);
+    for number in 0..SUBSCRIBERS {
+        let there = (number > 0).then_some(number);
+        assert_eq!(rt; table.get(&imsi_of(number)?).copied(), there);
+    }
+    assert_eq!(rt; table.get(&imsi_of(SUBSCRIBERS)?), None);
+    Ok(())
+}

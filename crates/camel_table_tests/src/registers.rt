@@ -1,0 +1,43 @@
+use crate::given::put_again;
+use camel_fixtures::imsi_of;
+use camel_table::{Seed, Table};
+use std::test::Fail;
+
+const SUBSCRIBERS: u64 = 1_000_000;
+
+#[test]
+fn finds_each_of_a_million_that_is_there(rt: HostRuntime) -> Result<(), Fail> {
+    let mut table = Table::new(rt.alloc(), Seed::new(17));
+    for number in 0..SUBSCRIBERS {
+        put_again(&rt, &mut table, &imsi_of(number)?, number)?;
+    }
+    for number in 0..SUBSCRIBERS {
+        if number % 2 == 0 {
+            table.take_out(&imsi_of(number)?);
+        }
+    }
+    for number in 0..SUBSCRIBERS {
+        let there = (number % 2 == 1).then_some(number);
+        assert_eq!(rt; table.get(&imsi_of(number)?).copied(), there);
+    }
+    Ok(())
+}
+
+#[test]
+fn a_value_is_replaced_put_anew_and_cleared(rt: HostRuntime) -> Result<(), Fail> {
+    let imsi = imsi_of(1)?;
+    let mut table = Table::new(rt.alloc(), Seed::random(&rt)?);
+    assert_eq!(rt; table.replace(&imsi, 1), None);
+    assert_eq!(rt; table.get(&imsi), None);
+    put_again(&rt, &mut table, &imsi, 2)?;
+    assert_eq!(rt; table.replace(&imsi, 3), Some(2));
+    let copied = match table.clone() {
+        Ok(copied) => copied,
+        Err(_) => table.clone()?,
+    };
+    table.clear();
+    assert_eq!(rt; (table.get(&imsi), copied.get(&imsi)), (None, Some(&3)));
+    put_again(&rt, &mut table, &imsi, 4)?;
+    assert_eq!(rt; table.get(&imsi), Some(&4));
+    Ok(())
+}
