@@ -7,7 +7,7 @@ PROGRAM := crates/camel_replay/out/camel_replay
 LOG := crates/camel_replay/out/build.log
 BENCH_LOG := crates/camel_vlr_bench/out/build.log
 
-.PHONY: program replay examples scripts bench bench-program bench-vlr count-vlr test
+.PHONY: program replay examples scripts bench bench-program bench-vlr bench-peers count-vlr test
 
 # Proves and builds the program where a source has changed, about 15 minutes the first time.
 program:
@@ -33,6 +33,10 @@ bench-program:
 
 bench-vlr: bench-program
 	@bench/run-vlr
+
+# Says which Debian packages it needs, where one is missing.
+bench-peers:
+	@bench/run-peers
 
 # Needs valgrind.
 count-vlr: bench-program

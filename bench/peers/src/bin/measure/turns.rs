@@ -1,0 +1,62 @@
+use super::answers;
+use super::faults::Notes;
+use super::figures::Figures;
+use super::programs::Program;
+use super::settings::Settings;
+use peers::protocol::{Measurement, Request};
+use peers::reference::Sums;
+
+const MOST_READERS: usize = 4;
+const BATCH: usize = 10;
+
+/// What is measured at a number of subscribers: decisions of one reader and of four, and publications.
+fn measurements(known: u64, seconds: f64) -> [Measurement; 3] {
+    [(1, 0), (MOST_READERS, 0), (0, BATCH)].map(|(readers, batch)| Measurement {
+        known,
+        readers,
+        seconds,
+        batch,
+        rate: 0.0,
+        repeat: 1,
+    })
+}
+
+/// The figures of each program, and None where it answered wrongly. The programs take turns, so that what else the
+/// machine does concerns them alike.
+pub fn figures(
+    programs: &[Program],
+    known: u64,
+    settings: &Settings,
+    notes: &mut Notes,
+) -> Vec<Option<Figures>> {
+    let sums = Sums::of_readers(MOST_READERS, known);
+    let mut all = vec![Some(Figures::default()); programs.len()];
+    for turn in 1..=settings.turns {
+        eprintln!("{known} subscribers, turn {turn} of {}", settings.turns);
+        for asked in measurements(known, settings.seconds) {
+            for (program, figures) in programs.iter().zip(&mut all) {
+                *figures = figures.and_then(|so_far| after(so_far, program, &asked, &sums, notes));
+            }
+        }
+    }
+    all
+}
+
+/// The figures of a program after one turn more.
+fn after(
+    mut figures: Figures,
+    program: &Program,
+    asked: &Measurement,
+    sums: &Sums,
+    notes: &mut Notes,
+) -> Option<Figures> {
+    match answers::runs(program, asked, sums) {
+        Ok(Some(runs)) => runs.iter().for_each(|run| figures.note(run, asked.known)),
+        Ok(None) => notes.add_absence(&program.name, &Request::Measurement(*asked)),
+        Err(fault) => {
+            notes.add_fault(&program.name, &Request::Measurement(*asked), &fault);
+            return None;
+        }
+    }
+    Some(figures)
+}

@@ -1,0 +1,170 @@
+//! Compares the decision over a block with that by the rules, for criteria that the workload does not have.
+use peers::flat::{self, FlatRecord};
+use peers::reference;
+use peers::workload::{
+    BasicService, CallType, Criteria, Csi, DetectionPoint, Event, Handling, Imsi, IsdnAddress,
+    MatchType, NumberCriterion, Reason, Record, TdpRow, imsi_of,
+};
+
+const INTERNATIONAL: u8 = 0x91;
+const NATIONAL: u8 = 0xA1;
+
+fn address(first_octet: u8, digits: &[u8]) -> IsdnAddress {
+    IsdnAddress::of_digits(first_octet, digits.iter().copied())
+}
+
+fn addresses() -> Vec<IsdnAddress> {
+    let digits: [&[u8]; 6] = [&[], &[1], &[1, 2], &[1, 2, 0], &[1, 2, 0, 0], &[0; 16]];
+    let mut addresses: Vec<_> = digits
+        .iter()
+        .flat_map(|digits| [INTERNATIONAL, NATIONAL].map(|of| address(of, digits)))
+        .collect();
+    // A filler before the last octet ends the digits.
+    addresses.push(IsdnAddress {
+        octets: [0x91, 0xF1, 0x02, 0, 0, 0, 0, 0, 0],
+        length: 3,
+    });
+    addresses
+}
+
+fn services() -> Vec<BasicService> {
+    let codes = [
+        0x00, 0x10, 0x11, 0x12, 0x17, 0x18, 0x1F, 0x20, 0x60, 0x63, 0x80, 0x91,
+    ];
+    codes
+        .into_iter()
+        .flat_map(|code| [BasicService::Tele(code), BasicService::Bearer(code)])
+        .collect()
+}
+
+fn entry(number: Option<NumberCriterion>) -> Criteria {
+    Criteria {
+        detection_point: DetectionPoint::CollectedInfo,
+        number,
+        basic: Vec::new(),
+        call_type: None,
+        causes: Vec::new(),
+    }
+}
+
+fn record(criteria: Vec<Criteria>) -> Record {
+    let row = TdpRow {
+        service_key: 100,
+        detection_point: DetectionPoint::CollectedInfo,
+        handling: Handling::Release,
+        scf: address(INTERNATIONAL, &[4, 9, 1, 7, 6]),
+    };
+    Record {
+        o: Some(Csi {
+            rows: vec![row],
+            criteria,
+        }),
+        vt: None,
+    }
+}
+
+fn event(destination: IsdnAddress, basic: BasicService, call_type: CallType) -> Event {
+    Event {
+        imsi: imsi_of(0),
+        destination,
+        basic,
+        call_type,
+    }
+}
+
+/// Both decisions are made, and the same.
+fn decided(record: &Record, event: &Event) -> peers::workload::Outcome {
+    let outcome = flat::decide(Some(&FlatRecord::from(record)), event);
+    assert_eq!(
+        outcome,
+        reference::decide(Some(record), event),
+        "{record:?} {event:?}"
+    );
+    outcome
+}
+
+#[test]
+fn numbers_and_lengths() {
+    let mut triggers = 0;
+    for match_type in [MatchType::Enabling, MatchType::Inhibiting] {
+        for lengths in [vec![], vec![2], vec![3, 16], vec![1, 2, 4]] {
+            for listed in addresses() {
+                let numbers = vec![address(NATIONAL, &[7]), listed];
+                let criterion = NumberCriterion {
+                    match_type,
+                    numbers,
+                    lengths: lengths.clone(),
+                };
+                let record = record(vec![entry(Some(criterion))]);
+                for destination in addresses() {
+                    let call = event(destination, BasicService::Tele(0x11), CallType::Forwarded);
+                    triggers += usize::from(decided(&record, &call).is_ok());
+                }
+            }
+        }
+    }
+    assert!(triggers > 0);
+}
+
+#[test]
+fn basic_services_and_call_types() {
+    let destination = address(INTERNATIONAL, &[1, 2, 3]);
+    for listed in services() {
+        for call_type in [
+            None,
+            Some(CallType::Forwarded),
+            Some(CallType::NotForwarded),
+        ] {
+            let basic = vec![BasicService::Bearer(0x42), listed];
+            let record = record(vec![Criteria {
+                basic,
+                call_type,
+                ..entry(None)
+            }]);
+            for code in services() {
+                for call_type in [CallType::Forwarded, CallType::NotForwarded] {
+                    let _ = decided(&record, &event(destination, code, call_type));
+                }
+            }
+        }
+    }
+}
+
+#[test]
+fn entries_of_other_detection_points() {
+    let call = event(
+        address(INTERNATIONAL, &[1]),
+        BasicService::Tele(0x11),
+        CallType::Forwarded,
+    );
+    let never = Criteria {
+        causes: vec![17],
+        ..entry(None)
+    };
+    let later = Criteria {
+        detection_point: DetectionPoint::RouteSelectFailure,
+        ..never.clone()
+    };
+    assert!(decided(&record(vec![later.clone()]), &call).is_ok());
+    assert_eq!(
+        decided(&record(vec![later, never]), &call),
+        Err(Reason::Criteria)
+    );
+    assert_eq!(decided(&Record::default(), &call), Err(Reason::NoCsi));
+    assert_eq!(flat::decide(None, &call), Err(Reason::Unknown));
+}
+
+#[test]
+fn imsis_have_the_order_of_their_digits() {
+    let lists: [&[u8]; 4] = [
+        &[2, 6, 2, 0, 0],
+        &[2, 6, 2, 0, 0, 0],
+        &[2, 6, 2, 0, 1],
+        &[3, 0, 0, 0, 0],
+    ];
+    assert!(
+        lists
+            .map(|digits| Imsi::of_digits(digits.iter().copied()))
+            .is_sorted()
+    );
+}
