@@ -37,12 +37,16 @@ fn a_put_moves_the_entries_of_one_line_at_most(rt: HostRuntime) -> Result<(), Fa
         made: &made,
     };
     let mut table = Table::new(rt.alloc(), counted);
+    let mut moved: u64 = 0;
     for number in 0..SUBSCRIBERS {
         let imsi = imsi_of(number)?;
         made.set(0);
         table.put(&imsi, number)?;
         assert!(rt; made.get() <= 1 + MOST_IN_A_LINE, "{number}");
+        moved = moved.wrapping_add(made.get());
     }
+    // A table that does not grow hashes each of them once.
+    assert!(rt; moved > SUBSCRIBERS / 2 * 3);
     let last = imsi_of(SUBSCRIBERS)?;
     put_again(&rt, &mut table, &last, 0)?;
     made.set(0);
