@@ -14,6 +14,9 @@ pub enum BasicService {
     Bearer(u8),
 }
 
+// What stands in the places of a list that hold no code.
+pub(crate) const BLANK: BasicService = BasicService::Tele(0);
+
 impl BasicService {
     /// Whether it is the teleservice of emergency calls, to which CAMEL does not apply (TS 23.078).
     pub fn is_emergency(&self) -> bool

@@ -2,6 +2,8 @@ ghost use Rattle.std.specs.Prelude.{◌≡◌, ◌==◌};
 ghost use Rattle.std.specs.List.{list_any};
 ghost use Rattle.std.specs.Option.{option_copied};
 ghost use Rattle.camel_tbcd.specs.Address.{octets};
+ghost use Rattle.camel_tbcd.specs.DigitList.{digit_list};
+ghost use Rattle.camel_tbcd.specs.Digits.{digits};
 ghost use Rattle.camel_criteria.specs.BasicService.{covers};
 ghost use Rattle.camel_criteria.specs.Event.{o_event_data};
 ghost use Rattle.camel_criteria.specs.Met.{basic_met, cause_met, held_number_met, is_listed, number_matches, number_met, o_met, t_met, type_met};
@@ -13,7 +15,7 @@ use crate::event::{OEvent, TEvent};
 use crate::number_criterion::NumberCriterion;
 use crate::o_criteria::OCriteria;
 use crate::t_criteria::TCriteria;
-use camel_tbcd::{Address, IsdnAddress, Profile};
+use camel_tbcd::{Address, Digits, IsdnAddress, Profile};
 
 /// Whether an event meets each criterion that an entry of the O-CSI holds. One that holds none is met by every
 /// event. The detection points are not compared. The profile says what of octet 1 a listed number and the destination
@@ -61,16 +63,22 @@ fn number_met(criterion: &NumberCriterion, destination: &Address, profile: Profi
 fn is_listed(criterion: &NumberCriterion, destination: &Address, profile: Profile) -> bool
     ensures { result ≡ is_listed profile criterion.now (octets destination.now) }
 {
-    has_number(criterion.numbers(), destination, profile)
-        || has_length(criterion.lengths(), destination.digits().len())
+    let digits = destination.digits();
+    has_number(criterion.numbers(), destination, &digits, profile)
+        || has_length(criterion.lengths(), digits.len())
 }
 
-fn has_number(numbers: &[IsdnAddress], destination: &Address, profile: Profile) -> bool
+// The digits are those of the destination.
+fn has_number(
+    numbers: &[IsdnAddress],
+    destination: &Address,
+    destination_digits: &Digits,
+    profile: Profile,
+) -> bool
+    requires { digit_list destination_digits.now ≡ digits (octets destination.now) }
     ensures { result ≡ list_any (λ listed. number_matches profile listed (octets destination.now)) numbers.now }
 {
-    numbers
-        .iter()
-        .any(|listed| number_matches(listed, destination, profile))
+    numbers.iter().any(|listed| number_matches(listed, destination, destination_digits, profile))
 }
 
 fn has_length(lengths: &[u8], count: usize) -> bool
@@ -79,11 +87,18 @@ fn has_length(lengths: &[u8], count: usize) -> bool
     lengths.iter().any(|listed| usize::from(*listed) == count)
 }
 
-fn number_matches(listed: &IsdnAddress, destination: &Address, profile: Profile) -> bool
+// The digits are those of the destination.
+fn number_matches(
+    listed: &IsdnAddress,
+    destination: &Address,
+    destination_digits: &Digits,
+    profile: Profile,
+) -> bool
+    requires { digit_list destination_digits.now ≡ digits (octets destination.now) }
     ensures { result ≡ number_matches profile listed.now (octets destination.now) }
 {
     let listed = listed.lend();
-    listed.agrees(destination, profile) && destination.digits().begins_with(&listed.digits())
+    listed.agrees(destination, profile) && destination_digits.begins_with(&listed.digits())
 }
 
 fn basic_met(listed: &[BasicService], call: BasicService) -> bool

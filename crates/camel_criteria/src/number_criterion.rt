@@ -6,6 +6,7 @@ ghost use Rattle.camel_criteria.specs.Criteria.{is_length, number_criterion_of};
 ghost use Rattle.camel_criteria.specs.Refusal.{MakesOf};
 
 use crate::criteria::MatchType;
+use crate::in_place::InPlace;
 use crate::listed_numbers::ListedNumbers;
 use crate::refusal::Refusal;
 use camel_tbcd::{Address, IsdnAddress};
@@ -23,8 +24,8 @@ pub const MAX_LENGTHS: usize = 3;
 #[derive(Debug, Drop)]
 pub struct NumberCriterion {
     match_type: MatchType,
+    lengths: InPlace<u8, MAX_LENGTHS>,
     numbers: ListedNumbers,
-    lengths: Vec<u8>,
 }
 
 impl Model for NumberCriterion {
@@ -33,7 +34,7 @@ impl Model for NumberCriterion {
 
     ghost Value = { NumberCriterionData };
 
-    ghost view = { λ a. record { match_type = a.match_type; numbers = numbers_of a.numbers; lengths = a.lengths.items } };
+    ghost view = { λ a. record { match_type = a.match_type; numbers = numbers_of a.numbers; lengths = a.lengths } };
 }
 
 impl NumberCriterion {
@@ -59,8 +60,8 @@ impl NumberCriterion {
         }
         Ok(NumberCriterion {
             match_type,
+            lengths: InPlace::from_slice(lengths, 0),
             numbers: ListedNumbers::from_slice(alloc, numbers)?,
-            lengths: Vec::from_slice(alloc, lengths)?,
         })
     }
 
@@ -92,7 +93,7 @@ impl NumberCriterion {
     pub fn lengths(&self) -> &[u8]
         ensures { result.now ≡ self.now.lengths }
     {
-        &self.lengths
+        self.lengths.as_slice()
     }
 }
 
@@ -110,8 +111,8 @@ impl Clone for NumberCriterion {
     fn clone(&self) -> Result<NumberCriterion, AllocError> {
         Ok(NumberCriterion {
             match_type: self.match_type,
+            lengths: self.lengths.copy(),
             numbers: self.numbers.copy()?,
-            lengths: self.lengths.clone()?,
         })
     }
 }

@@ -1,15 +1,15 @@
-ghost use Rattle.std.specs.Prelude.{◌≡◌, IfErr};
+ghost use Rattle.std.specs.Prelude.{◌≡◌};
 ghost use Rattle.std.specs.Option.{option_copied};
 ghost use Rattle.camel_criteria.specs.Criteria.{o_criteria_of};
-ghost use Rattle.camel_criteria.specs.Refusal.{MakesOf};
 
-use crate::basic_service::BasicService;
+use crate::basic_service::{BLANK, BasicService};
 use crate::criteria::CallType;
 use crate::detection_point::COLLECTED_INFO;
-use crate::entry_limits::{MAX_BASIC_SERVICES, are_causes_at};
+use crate::entry_limits::{MAX_BASIC_SERVICES, MAX_CAUSES, are_causes_at};
+use crate::in_place::InPlace;
 use crate::number_criterion::NumberCriterion;
 use crate::refusal::Refusal;
-use std::alloc::{AllocError, Global};
+use std::alloc::AllocError;
 use std::marker::Model;
 
 /// The criteria of a detection point of the O-CSI (O-BcsmCamelTDP-Criteria of TS 29.002): any of a destination
@@ -17,10 +17,10 @@ use std::marker::Model;
 #[derive(Debug, Drop)]
 pub struct OCriteria {
     dp: u8,
-    number: Option<NumberCriterion>,
-    basic: Vec<BasicService>,
     call_type: Option<CallType>,
-    causes: Vec<u8>,
+    causes: InPlace<u8, MAX_CAUSES>,
+    basic: InPlace<BasicService, MAX_BASIC_SERVICES>,
+    number: Option<NumberCriterion>,
 }
 
 impl Model for OCriteria {
@@ -28,34 +28,32 @@ impl Model for OCriteria {
 
     ghost Value = { OCriteriaData };
 
-    ghost view = { λ a. record { dp = a.dp; number = a.number; basic = a.basic.items; call_type = a.call_type; causes = a.causes.items } };
+    ghost view = { λ a. record { dp = a.dp; number = a.number; basic = a.basic; call_type = a.call_type; causes = a.causes } };
 }
 
 impl OCriteria {
-    /// The criteria of a detection point. An empty slice is an absent criterion.
+    /// The criteria of a detection point. An empty slice is an absent criterion. It takes no memory.
     ///
-    /// `UnexpectedDataValue` (36) is answered for more than 5 codes, more than 5 causes, a cause over 127, or
-    /// any cause at detection point 2, and `OutOfMemory` (102) where memory was refused. Nothing was made then.
+    /// Fails with `UnexpectedDataValue` (36) for more than 5 codes, more than 5 causes, a cause over 127, or any cause
+    /// at detection point 2. The number criterion is dropped then.
     pub fn new(
-        alloc: Global,
         dp: u8,
         number: Option<NumberCriterion>,
         basic: &[BasicService],
         call_type: Option<CallType>,
         causes: &[u8],
     ) -> Result<OCriteria, Refusal>
-        ensures made { MakesOf result (o_criteria_of dp number basic.now call_type causes.now) }
-        ensures refused { IfErr (o_criteria_of dp number basic.now call_type causes.now) (λ why. result ≡ Err why) }
+        ensures { result ≡ o_criteria_of dp number basic.now call_type causes.now }
     {
         if basic.len() > MAX_BASIC_SERVICES || !are_causes_at(COLLECTED_INFO, dp, causes) {
             return Err(Refusal::UnexpectedDataValue);
         }
         Ok(OCriteria {
             dp,
-            number,
-            basic: Vec::from_slice(alloc, basic)?,
             call_type,
-            causes: Vec::from_slice(alloc, causes)?,
+            causes: InPlace::from_slice(causes, 0),
+            basic: InPlace::from_slice(basic, BLANK),
+            number,
         })
     }
 
@@ -77,7 +75,7 @@ impl OCriteria {
     pub fn basic(&self) -> &[BasicService]
         ensures { result.now ≡ self.now.basic }
     {
-        &self.basic
+        self.basic.as_slice()
     }
 
     /// The call type criterion, where there is one.
@@ -91,7 +89,7 @@ impl OCriteria {
     pub fn causes(&self) -> &[u8]
         ensures { result.now ≡ self.now.causes }
     {
-        &self.causes
+        self.causes.as_slice()
     }
 }
 
@@ -103,10 +101,10 @@ impl Clone for OCriteria {
     fn clone(&self) -> Result<OCriteria, AllocError> {
         Ok(OCriteria {
             dp: self.dp,
-            number: self.number.clone()?,
-            basic: self.basic.clone()?,
             call_type: self.call_type,
-            causes: self.causes.clone()?,
+            causes: self.causes.copy(),
+            basic: self.basic.copy(),
+            number: self.number.clone()?,
         })
     }
 }

@@ -1,12 +1,12 @@
-ghost use Rattle.std.specs.Prelude.{◌≡◌, IfErr};
+ghost use Rattle.std.specs.Prelude.{◌≡◌};
 ghost use Rattle.camel_criteria.specs.Criteria.{t_criteria_of};
-ghost use Rattle.camel_criteria.specs.Refusal.{MakesOf};
 
-use crate::basic_service::BasicService;
+use crate::basic_service::{BLANK, BasicService};
 use crate::detection_point::TERMINATING_ATTEMPT;
-use crate::entry_limits::{MAX_BASIC_SERVICES, are_causes_at};
+use crate::entry_limits::{MAX_BASIC_SERVICES, MAX_CAUSES, are_causes_at};
+use crate::in_place::InPlace;
 use crate::refusal::Refusal;
-use std::alloc::{AllocError, Global};
+use std::alloc::AllocError;
 use std::marker::Model;
 
 /// The criteria of a detection point of the VT-CSI (T-BCSM-CAMEL-TDP-Criteria of TS 29.002): a basic service
@@ -14,8 +14,8 @@ use std::marker::Model;
 #[derive(Debug, Drop)]
 pub struct TCriteria {
     dp: u8,
-    basic: Vec<BasicService>,
-    causes: Vec<u8>,
+    causes: InPlace<u8, MAX_CAUSES>,
+    basic: InPlace<BasicService, MAX_BASIC_SERVICES>,
 }
 
 impl Model for TCriteria {
@@ -23,30 +23,24 @@ impl Model for TCriteria {
 
     ghost Value = { TCriteriaData };
 
-    ghost view = { λ a. record { dp = a.dp; basic = a.basic.items; causes = a.causes.items } };
+    ghost view = { λ a. record { dp = a.dp; basic = a.basic; causes = a.causes } };
 }
 
 impl TCriteria {
-    /// The criteria of a detection point. An empty slice is an absent criterion.
+    /// The criteria of a detection point. An empty slice is an absent criterion. It takes no memory.
     ///
-    /// `UnexpectedDataValue` (36) is answered for more than 5 codes, more than 5 causes, a cause over 127, or
-    /// any cause at detection point 12, and `OutOfMemory` (102) where memory was refused. Nothing was made then.
-    pub fn new(
-        alloc: Global,
-        dp: u8,
-        basic: &[BasicService],
-        causes: &[u8],
-    ) -> Result<TCriteria, Refusal>
-        ensures made { MakesOf result (t_criteria_of dp basic.now causes.now) }
-        ensures refused { IfErr (t_criteria_of dp basic.now causes.now) (λ why. result ≡ Err why) }
+    /// Fails with `UnexpectedDataValue` (36) for more than 5 codes, more than 5 causes, a cause over 127, or any cause
+    /// at detection point 12.
+    pub fn new(dp: u8, basic: &[BasicService], causes: &[u8]) -> Result<TCriteria, Refusal>
+        ensures { result ≡ t_criteria_of dp basic.now causes.now }
     {
         if basic.len() > MAX_BASIC_SERVICES || !are_causes_at(TERMINATING_ATTEMPT, dp, causes) {
             return Err(Refusal::UnexpectedDataValue);
         }
         Ok(TCriteria {
             dp,
-            basic: Vec::from_slice(alloc, basic)?,
-            causes: Vec::from_slice(alloc, causes)?,
+            causes: InPlace::from_slice(causes, 0),
+            basic: InPlace::from_slice(basic, BLANK),
         })
     }
 
@@ -61,14 +55,14 @@ impl TCriteria {
     pub fn basic(&self) -> &[BasicService]
         ensures { result.now ≡ self.now.basic }
     {
-        &self.basic
+        self.basic.as_slice()
     }
 
     /// The causes of the cause criterion, in the order received; none where it is absent.
     pub fn causes(&self) -> &[u8]
         ensures { result.now ≡ self.now.causes }
     {
-        &self.causes
+        self.causes.as_slice()
     }
 }
 
@@ -80,8 +74,8 @@ impl Clone for TCriteria {
     fn clone(&self) -> Result<TCriteria, AllocError> {
         Ok(TCriteria {
             dp: self.dp,
-            basic: self.basic.clone()?,
-            causes: self.causes.clone()?,
+            causes: self.causes.copy(),
+            basic: self.basic.copy(),
         })
     }
 }

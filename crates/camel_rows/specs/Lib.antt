@@ -6,6 +6,7 @@ pub mod CsiChange
 pub mod CsisPresent
 pub mod Decision
 pub mod Directory
+pub mod Entries
 pub mod Event
 pub mod Front
 pub mod Outcome

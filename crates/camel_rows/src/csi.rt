@@ -6,6 +6,7 @@ ghost use Rattle.camel_rows.specs.Received.{kept_of, o_csi_of, vt_csi_of};
 ghost use Rattle.camel_rows.specs.Subscriber.{item_among};
 
 pub(crate) mod criteria_set;
+pub(crate) mod entries;
 pub(crate) mod received;
 pub(crate) mod tdp_row;
 

@@ -13,6 +13,7 @@ pub(crate) mod csis_present;
 pub(crate) mod directory;
 pub(crate) mod laws;
 pub(crate) mod lent;
+pub(crate) mod one_block;
 pub(crate) mod records;
 pub(crate) mod stored_csi;
 pub(crate) mod update;
@@ -23,6 +24,7 @@ use crate::csi::{OCsi, VtCsi};
 use crate::subscriber::csi_change::CsiChange;
 use crate::subscriber::csis_present::CsisPresent;
 use crate::subscriber::lent::Lent;
+use crate::subscriber::one_block::OneBlock;
 use crate::subscriber::stored_csi::StoredCsi;
 use camel_criteria::{OCriteria, TCriteria, is_o_detection_point, is_vt_detection_point};
 use std::alloc::{AllocError, Global};
@@ -40,8 +42,9 @@ pub(crate) type StoredVtCsi = StoredCsi<3, TCriteria>;
 /// Contracts see the two, each none or the list of its rows with the list of its criteria entries.
 #[derive(Drop)]
 pub struct Subscriber {
-    o: Option<StoredOCsi>,
-    vt: Option<StoredVtCsi>,
+    // Each CSI with its criteria in one block, so that one that is not stored takes little room.
+    o: Option<OneBlock<StoredOCsi>>,
+    vt: Option<OneBlock<StoredVtCsi>>,
 }
 
 impl Model for Subscriber {
@@ -64,14 +67,14 @@ impl Subscriber {
     pub fn o(&self) -> Option<&OCsi>
         ensures { option_copied result ≡ option_map rows_of self.now.o }
     {
-        Some(self.o.as_ref()?.csi())
+        Some(self.stored_o()?.csi())
     }
 
     /// The VT-CSI, where it is stored.
     pub fn vt(&self) -> Option<&VtCsi>
         ensures { option_copied result ≡ option_map rows_of self.now.vt }
     {
-        Some(self.vt.as_ref()?.csi())
+        Some(self.stored_vt()?.csi())
     }
 
     /// The TDP row of a detection point, where it is armed.
@@ -93,9 +96,9 @@ impl Subscriber {
         ensures { option_map entry_data result ≡ entry_at dp self.now }
     {
         if is_o_detection_point(dp) {
-            Some(Lent::O(self.o.as_ref()?.entry(dp)?))
+            Some(Lent::O(self.stored_o()?.entry(dp)?))
         } else if is_vt_detection_point(dp) {
-            Some(Lent::T(self.vt.as_ref()?.entry(dp)?))
+            Some(Lent::T(self.stored_vt()?.entry(dp)?))
         } else {
             None
         }
@@ -105,14 +108,14 @@ impl Subscriber {
     pub(crate) fn stored_o(&self) -> Option<&StoredOCsi>
         ensures { option_copied result ≡ self.now.o }
     {
-        self.o.as_ref()
+        Some(self.o.as_ref()?.get())
     }
 
     /// The VT-CSI with its criteria, where it is stored.
     pub(crate) fn stored_vt(&self) -> Option<&StoredVtCsi>
         ensures { option_copied result ≡ self.now.vt }
     {
-        self.vt.as_ref()
+        Some(self.vt.as_ref()?.get())
     }
 
     /// Which CSIs are stored.
@@ -131,10 +134,10 @@ impl Subscriber {
         alloc: Global,
         csi: Option<OCsi>,
         criteria: &Option<OCriteriaSet>,
-    ) -> Result<CsiChange<StoredOCsi>, AllocError>
+    ) -> Result<CsiChange<OneBlock<StoredOCsi>>, AllocError>
         ensures { IfOk result (λ change. changed_by change self.now.o ≡ csi_after self.now.o csi criteria.now) }
     {
-        StoredCsi::after_insert(alloc, self.o.as_ref(), csi, criteria)
+        StoredCsi::after_insert(alloc, self.stored_o(), csi, criteria)?.in_one_block(alloc)
     }
 
     /// What an Insert makes of the VT-CSI.
@@ -143,14 +146,18 @@ impl Subscriber {
         alloc: Global,
         csi: Option<VtCsi>,
         criteria: &Option<TCriteriaSet>,
-    ) -> Result<CsiChange<StoredVtCsi>, AllocError>
+    ) -> Result<CsiChange<OneBlock<StoredVtCsi>>, AllocError>
         ensures { IfOk result (λ change. changed_by change self.now.vt ≡ csi_after self.now.vt csi criteria.now) }
     {
-        StoredCsi::after_insert(alloc, self.vt.as_ref(), csi, criteria)
+        StoredCsi::after_insert(alloc, self.stored_vt(), csi, criteria)?.in_one_block(alloc)
     }
 
     /// Changes both CSIs.
-    pub(crate) fn change(&mut self, o: CsiChange<StoredOCsi>, vt: CsiChange<StoredVtCsi>)
+    pub(crate) fn change(
+        &mut self,
+        o: CsiChange<OneBlock<StoredOCsi>>,
+        vt: CsiChange<OneBlock<StoredVtCsi>>,
+    )
         ensures { self.new ≡ with_changes o vt self.old }
     {
         o.apply(&mut self.o);
@@ -175,12 +182,9 @@ impl fmt::Debug for Subscriber {
     fn fmt<W: fmt::Write>(&self, f: &mut fmt::Formatter<W>) -> fmt::Result {
         f.debug_struct("Subscriber")
             .field("o", &self.o())
-            .field("o_criteria", &self.o.as_ref().and_then(StoredCsi::criteria))
+            .field("o_criteria", &self.stored_o().map(StoredCsi::criteria))
             .field("vt", &self.vt())
-            .field(
-                "t_criteria",
-                &self.vt.as_ref().and_then(StoredCsi::criteria),
-            )
+            .field("t_criteria", &self.stored_vt().map(StoredCsi::criteria))
             .finish()
     }
 }

@@ -69,8 +69,8 @@ fn entries_in<E: CriteriaEntry>(set: &CriteriaSet<E>, dp: u8) -> (usize, [Option
 fn a_set_of_criteria_keeps_its_entries_in_order(rt: HostRuntime) -> Result<(), Fail> {
     let (mut o, mut t) = (Vec::new(rt.alloc()), Vec::new(rt.alloc()));
     for dp in [14, 4, 12, 2] {
-        o.push(OCriteria::new(rt.alloc(), dp, None, &[], None, &[])?)?;
-        t.push(TCriteria::new(rt.alloc(), dp, &[], &[])?)?;
+        o.push(OCriteria::new(dp, None, &[], None, &[])?)?;
+        t.push(TCriteria::new(dp, &[], &[])?)?;
     }
     let (o, t) = (OCriteriaSet::new(o)?, TCriteriaSet::new(t)?);
     assert_eq!(rt; entries_in(&o, 2), (2, [Some(4), Some(2), Some(2)]));

@@ -105,7 +105,6 @@ pub(crate) fn o_entry_of(alloc: Global, plain: &PlainO) -> Result<OCriteria, Ref
         None => None,
     };
     OCriteria::new(
-        alloc,
         plain.dp,
         number,
         plain.basic.as_slice(),
@@ -125,7 +124,7 @@ pub(crate) fn o_entries_of(alloc: Global, plain: &[PlainO]) -> Result<Vec<OCrite
 pub(crate) fn t_entries_of(alloc: Global, plain: &[PlainT]) -> Result<Vec<TCriteria>, Refusal> {
     let mut entries = Vec::new(alloc);
     for PlainT(dp, basic, cause) in plain {
-        entries.push(TCriteria::new(alloc, *dp, basic.as_slice(), cause.as_slice())?)?;
+        entries.push(TCriteria::new(*dp, basic.as_slice(), cause.as_slice())?)?;
     }
     Ok(entries)
 }

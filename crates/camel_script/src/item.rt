@@ -94,7 +94,7 @@ fn push_o_entry(alloc: Global, entries: &mut Vec<OCriteria>, item: &[u8]) -> Res
         return Err(RecordFault::FieldCount);
     }
     let entry = parse_o_entry(alloc, item)?;
-    // The vector itself is stored, and most have one entry: room for one more and no other.
+    // A set of several entries keeps the vector itself: room for one more and no other.
     entries.reserve_exact(1)?;
     entries.push(entry)?;
     Ok(())
@@ -108,7 +108,7 @@ fn push_t_entry(alloc: Global, entries: &mut Vec<TCriteria>, item: &[u8]) -> Res
         return Err(RecordFault::FieldCount);
     }
     let entry = parse_t_entry(alloc, item)?;
-    // The vector itself is stored, and most have one entry: room for one more and no other.
+    // A set of several entries keeps the vector itself: room for one more and no other.
     entries.reserve_exact(1)?;
     entries.push(entry)?;
     Ok(())
@@ -138,7 +138,7 @@ fn parse_o_entry(alloc: Global, item: &[u8]) -> Result<OCriteria, RecordFault>
     let call_type = parse_call_type(item_part(item, 4))?;
     let causes = parse_small_decimals(alloc, item_part(item, 5))?;
     let number = make_number_criterion(alloc, &texts)?;
-    Ok(OCriteria::new(alloc, dp, number, &basic, call_type, &causes)?)
+    Ok(OCriteria::new(dp, number, &basic, call_type, &causes)?)
 }
 
 /// Reads an entry of the criteria of the VT-CSI. The texts of all its parts are read before its data are checked.
@@ -149,7 +149,7 @@ fn parse_t_entry(alloc: Global, item: &[u8]) -> Result<TCriteria, RecordFault>
     let dp = parse_small_decimal(item_part(item, 1))?;
     let basic = parse_basic_services(alloc, item_part(item, 2))?;
     let causes = parse_small_decimals(alloc, item_part(item, 3))?;
-    Ok(TCriteria::new(alloc, dp, &basic, &causes)?)
+    Ok(TCriteria::new(dp, &basic, &causes)?)
 }
 
 /// The part of an item at a place, from 0; empty past the last.

@@ -3,9 +3,10 @@ ghost use Rattle.std.specs.Option.{option_copied};
 ghost use Rattle.camel_rows.specs.Received.{items_at, kept_of};
 ghost use Rattle.camel_rows.specs.Subscriber.{item_among};
 
+use crate::csi::entries::Entries;
 use crate::csi::received::{check_list, has_no_two};
 use camel_criteria::{CriteriaEntry, OCriteria, Refusal, TCriteria, is_among};
-use std::alloc::AllocError;
+use std::alloc::{AllocError, Global};
 use std::marker::Model;
 
 /// The criteria entries of a CSI, in the order received, without the ignored ones.
@@ -13,7 +14,7 @@ use std::marker::Model;
 /// Contracts see it as the list of its entries. It may hold none.
 #[derive(Debug, Drop)]
 pub struct CriteriaSet<E> {
-    entries: Vec<E>,
+    entries: Entries<E>,
 }
 
 /// The criteria entries of an O-CSI (O-BcsmCamelTDPCriteriaList of TS 29.002), of detection points 2 and 4.
@@ -24,10 +25,11 @@ pub type TCriteriaSet = CriteriaSet<TCriteria>;
 
 impl<E> Model for CriteriaSet<E> {
     ghost use Rattle.std.specs.Prelude.{List};
+    ghost use Rattle.camel_rows.specs.Entries.{entries_of};
 
     ghost Value = { List E };
 
-    ghost view = { λ a. a.entries.items };
+    ghost view = { λ a. entries_of a.entries };
 }
 
 impl<E: CriteriaEntry> CriteriaSet<E> {
@@ -42,29 +44,38 @@ impl<E: CriteriaEntry> CriteriaSet<E> {
         let points = E::detection_points();
         check_list(received.len(), has_no_two(&received, points))?;
         Ok(CriteriaSet {
-            entries: kept_entries(received, points),
+            entries: Entries::of(kept_entries(received, points)),
         })
+    }
+
+    /// The set without entries. It takes no memory.
+    pub(crate) fn without_entries(alloc: Global) -> CriteriaSet<E>
+        ensures { result ≡ [] }
+    {
+        CriteriaSet {
+            entries: Entries::Apart(Vec::new(alloc)),
+        }
     }
 
     /// Whether it holds no entry.
     pub fn is_empty(&self) -> bool
         ensures { IsTrue result ↔ (self.now ≡ []) }
     {
-        self.entries.is_empty()
+        self.entries.as_slice().is_empty()
     }
 
     /// How many entries it holds.
     pub fn len(&self) -> usize
         ensures { result ≡ length self.now }
     {
-        self.entries.len()
+        self.entries.as_slice().len()
     }
 
     /// The entry at a place, from 0; None from `len` on.
     pub fn get(&self, at: usize) -> Option<&E>
         ensures { option_copied result ≡ slice_get self.now at }
     {
-        self.entries.get(at)
+        self.entries.as_slice().get(at)
     }
 
     /// The entry of a detection point, where it has one.
@@ -72,6 +83,7 @@ impl<E: CriteriaEntry> CriteriaSet<E> {
         ensures { option_copied result ≡ item_among E.dp_of dp self.now }
     {
         self.entries
+            .as_slice()
             .iter()
             .find(|entry| entry.detection_point() == dp)
     }
@@ -84,7 +96,7 @@ impl<E: CriteriaEntry> Clone for CriteriaSet<E> {
 
     fn clone(&self) -> Result<CriteriaSet<E>, AllocError> {
         Ok(CriteriaSet {
-            entries: self.entries.clone()?,
+            entries: self.entries.copy()?,
         })
     }
 }

@@ -1,5 +1,8 @@
-ghost use Rattle.std.specs.Prelude.{◌≡◌};
+ghost use Rattle.std.specs.Prelude.{◌≡◌, IfOk};
 ghost use Rattle.camel_rows.specs.CsiChange.{changed_by, removal_if};
+
+use crate::subscriber::one_block::OneBlock;
+use std::alloc::{AllocError, Global};
 
 /// What an update makes of a stored CSI.
 #[derive(Drop)]
@@ -22,6 +25,17 @@ impl<C: Drop> CsiChange<C> {
         } else {
             CsiChange::Keep
         }
+    }
+
+    /// The same change, with the CSI in a block of its own.
+    pub(crate) fn in_one_block(self, alloc: Global) -> Result<CsiChange<OneBlock<C>>, AllocError>
+        ensures { IfOk result (λ change. change ≡ self) }
+    {
+        Ok(match self {
+            CsiChange::Keep => CsiChange::Keep,
+            CsiChange::Remove => CsiChange::Remove,
+            CsiChange::Replace(csi) => CsiChange::Replace(OneBlock::new(alloc, csi)?),
+        })
     }
 
     pub(crate) fn apply(self, stored: &mut Option<C>)

@@ -11,6 +11,7 @@ use crate::csi::criteria_set::{OCriteriaSet, TCriteriaSet};
 use crate::csi::{OCsi, VtCsi};
 use crate::subscriber::csi_change::CsiChange;
 use crate::subscriber::csis_present::{CsisPresent, check_update};
+use crate::subscriber::one_block::OneBlock;
 use crate::subscriber::update::{Update, Withdrawal};
 use crate::subscriber::{StoredOCsi, StoredVtCsi, Subscriber};
 use camel_criteria::Refusal;
@@ -154,7 +155,12 @@ impl Records {
     }
 
     /// Changes the record of an IMSI in its place.
-    fn change(&mut self, imsi: &Imsi, o: CsiChange<StoredOCsi>, vt: CsiChange<StoredVtCsi>)
+    fn change(
+        &mut self,
+        imsi: &Imsi,
+        o: CsiChange<OneBlock<StoredOCsi>>,
+        vt: CsiChange<OneBlock<StoredVtCsi>>,
+    )
         requires { IsSome (map.get self.old imsi.now) }
         ensures { self.new ≡ with_value self.old imsi.now (option_map (with_changes o vt) (map.get self.old imsi.now)) }
     {

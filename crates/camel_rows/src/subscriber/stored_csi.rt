@@ -12,21 +12,20 @@ use camel_criteria::CriteriaEntry;
 use std::alloc::{AllocError, Global};
 use std::marker::Model;
 
-/// A CSI that is stored, with its criteria, if it has some.
+/// A CSI that is stored, with the entries of its criteria, if it has some.
 #[derive(Drop)]
 pub(crate) struct StoredCsi<const MOST: usize, E> {
-    // Boxed, so that the records of many subscribers lie close together in their table.
-    csi: Box<Csi<MOST>>,
-    criteria: Option<CriteriaSet<E>>,
+    csi: Csi<MOST>,
+    criteria: CriteriaSet<E>,
 }
 
 impl<const MOST: usize, E> Model for StoredCsi<MOST, E> {
-    ghost use Rattle.std.specs.Prelude.{◌≤◌, [], unwrap_or};
+    ghost use Rattle.std.specs.Prelude.{◌≤◌};
     ghost use Rattle.camel_rows.specs.Subscriber.{StoredCsiData};
 
     ghost Value = { StoredCsiData E };
 
-    ghost view = { λ a. record { rows = a.csi.value; entries = unwrap_or a.criteria [] } };
+    ghost view = { λ a. record { rows = a.csi; entries = a.criteria } };
 
     // At most 3 places, so that a CSI is known to fit into memory.
     ghost invariant = { λ a. MOST ≤ 3 };
@@ -46,13 +45,14 @@ impl<const MOST: usize, E: CriteriaEntry> StoredCsi<MOST, E> {
     {
         let csi = match (csi, stored, criteria) {
             (Some(csi), _, _) => csi,
-            (None, Some(stored), Some(_)) => *stored.csi,
+            (None, Some(stored), Some(_)) => stored.csi,
             _ => return Ok(CsiChange::Keep),
         };
-        Ok(CsiChange::Replace(StoredCsi {
-            csi: Box::new(alloc, csi)?,
-            criteria: criteria.clone()?,
-        }))
+        let criteria = match criteria {
+            Some(criteria) => criteria.clone()?,
+            None => CriteriaSet::without_entries(alloc),
+        };
+        Ok(CsiChange::Replace(StoredCsi { csi, criteria }))
     }
 
     pub(crate) fn csi(&self) -> &Csi<MOST>
@@ -61,8 +61,8 @@ impl<const MOST: usize, E: CriteriaEntry> StoredCsi<MOST, E> {
         &self.csi
     }
 
-    pub(crate) fn criteria(&self) -> Option<&CriteriaSet<E>> {
-        self.criteria.as_ref()
+    pub(crate) fn criteria(&self) -> &CriteriaSet<E> {
+        &self.criteria
     }
 
     /// The row of a detection point, where it is armed.
@@ -76,7 +76,7 @@ impl<const MOST: usize, E: CriteriaEntry> StoredCsi<MOST, E> {
     pub(crate) fn entry(&self, dp: u8) -> Option<&E>
         ensures { option_copied result ≡ item_among E.dp_of dp self.now.entries }
     {
-        self.criteria.as_ref()?.entry(dp)
+        self.criteria.entry(dp)
     }
 }
 
@@ -87,7 +87,7 @@ impl<const MOST: usize, E: CriteriaEntry> Clone for StoredCsi<MOST, E> {
 
     fn clone(&self) -> Result<StoredCsi<MOST, E>, AllocError> {
         Ok(StoredCsi {
-            csi: self.csi.clone()?,
+            csi: self.csi,
             criteria: self.criteria.clone()?,
         })
     }
