@@ -135,6 +135,8 @@ impl<V: Drop> Line<V> {
         ensures added { OnOk result (self.new ≡ map.insert self.old imsi.now value) }
         ensures unchanged { OnErr result (self.new ≡ self.old) }
     {
+        // Most lines have few entries, so that room for one more and no other saves a third of their memory.
+        self.entries.reserve_exact(1)?;
         let key = PackedImsi::of(imsi);
         self.entries.push(Entry { key, value })?;
         Ok(())
@@ -146,6 +148,7 @@ impl<V: Drop> Line<V> {
     {
         self.entries.retain(|entry| !entry.is(imsi));
     }
+
     /// Divides the entries: those with this place stay, and the others are returned. Fails with `AllocError` where memory
     /// is refused; then nothing changes.
     pub(crate) fn divide<S: BuildHasher>(
@@ -165,6 +168,8 @@ impl<V: Drop> Line<V> {
         let mut leave = Vec::with_capacity(alloc, self.entries.len())?;
         let entries = mem::replace(&mut self.entries, Vec::new(alloc));
         divide(entries, places, at, &mut stay, &mut leave);
+        stay.shrink_to_fit();
+        leave.shrink_to_fit();
         self.entries = stay;
         Ok(Line { entries: leave })
     }

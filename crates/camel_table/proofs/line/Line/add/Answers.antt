@@ -9,6 +9,6 @@ returns-clause-added g c =
     let items = c.self.inside.entries.items in
     let key = c.args.imsi.now in
     let value = c.args.value in
-    ap map_of (c.in_ok-push.ensures.items ∙ ap (λ k. items ++ (k, value) ∷ []) c.of-key.ensures)
+    ap map_of (c.in_ok-push.ensures.items ∙ ap (λ kept. kept ++ (c.of-key.result, value) ∷ []) c.reserve_exact.ensures.items ∙ ap (λ k. items ++ (k, value) ∷ []) c.of-key.ensures)
     ∙ added key value items (ap (λ m. map.get m key) c.self.view_is ∙ c.requires)
     ∙ ap (λ m. map.insert m key value) c.self.view_is

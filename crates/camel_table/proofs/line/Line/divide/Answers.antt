@@ -10,7 +10,7 @@ pub returns-clause-stay : goal.returns-clause-stay
 returns-clause-stay g c =
     let places = c.args.places.now in
     let stays : List ℕ → Bool = λ key. place_of g.S.Hasher.Hasher.finish g.S.Hasher.Hasher.write (g.S.BuildHasher.build_hasher places.hashes) places.level places.count key == c.args.at in
-    ap map_of (c.divide.ensures.stay ∙ ap (λ (v : Vec _). filter (λ e. stays e.0) v.items) c.replace-entries.ensures.value)
+    ap map_of (c.shrink_to_fit.ensures.items ∙ c.divide.ensures.stay ∙ ap (λ (v : Vec _). filter (λ e. stays e.0) v.items) c.replace-entries.ensures.value)
     ∙ kept stays c.self.inside.entries.items
     ∙ ap (λ m. map.retain_keys m stays) c.self.view_is
 
@@ -18,6 +18,6 @@ pub returns-clause-leave : goal.returns-clause-leave
 returns-clause-leave g c =
     let places = c.args.places.now in
     let leaves : List ℕ → Bool = λ key. not (place_of g.S.Hasher.Hasher.finish g.S.Hasher.Hasher.write (g.S.BuildHasher.build_hasher places.hashes) places.level places.count key == c.args.at) in
-    ap map_of (c.divide.ensures.leave ∙ ap (λ (v : Vec _). filter (λ e. leaves e.0) v.items) c.replace-entries.ensures.value)
+    ap map_of (c.shrink_to_fit-2.ensures.items ∙ c.divide.ensures.leave ∙ ap (λ (v : Vec _). filter (λ e. leaves e.0) v.items) c.replace-entries.ensures.value)
     ∙ kept leaves c.self.inside.entries.items
     ∙ ap (λ m. map.retain_keys m leaves) c.self.view_is
