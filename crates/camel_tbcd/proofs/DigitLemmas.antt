@@ -1,5 +1,7 @@
 -- Where the nibbles of octets stand.
-use Rattle.std.proofs.Common.{◌≡◌, ◌≤◌, ◌<◌, ℕ, zero, suc, ◌+◌, ◌-◌, ◌*◌, ◌/◌, ◌%◌, ◌==◌, false, true, ◌↔◌, IsTrue, List, [], ◌∷◌, ◌++◌, length, take, drop, get_or, slice_index, min, nat_eq, refl, sym, ap, ◌∙◌, arith}
+use Rattle.std.proofs.Common.{◌≡◌, ◌≤◌, ◌<◌, ℕ, zero, suc, ◌+◌, ◌-◌, ◌*◌, ◌/◌, ◌%◌, ◌==◌, false, true, ◌↔◌, IsTrue, List, [], ◌∷◌, ◌++◌, length, take, drop, get_or, slice_index, min, nat_eq, refl, sym, ap, ◌∙◌, arith, below_more}
+use Rattle.std.proofs.lemmas.Bool.{eq-eqb, ne_eqb}
+use Rattle.std.proofs.lemmas.Grind.{get_or_after_one}
 use Rattle.std.proofs.lemmas.List.{get_or-take, length-drop, length-take, length-take-le, take-append-drop}
 use Rattle.std.proofs.lemmas.List.Sums.{position_or_len_is}
 use Rattle.std.proofs.Math.ListN.{length-set, set}
@@ -39,6 +41,46 @@ length-digits octets at within none here =
     let first : position_or_len (λ nibble. nibble == 15) (nibbles (drop 1 octets)) ≡ at = position_or_len_is (λ nibble. nibble == 15) (nibbles (drop 1 octets)) at 0 within none here in
     sym (length-take-le _ (nibbles (drop 1 octets)) (rw first within) ∙ first)
 
+pub length-digits-le : (octets : List ℕ) → length (digits octets) ≤ 2 * (length octets - 1)
+length-digits-le octets =
+    let all : List ℕ = nibbles (drop 1 octets) in
+    let end : ℕ = position_or_len (λ nibble. nibble == 15) all in
+    let room : length (take end all) ≡ min end (length all) = length-take end all in
+    omega (arith, length-nibbles-drop octets)
+
+-- no nibble of so many is the filler
+abbrev NoFiller : List ℕ → ℕ → Type 0
+NoFiller octets count = (k : ℕ) → k < count → (slice_index (nibbles (drop 1 octets)) k == 15) ≡ false
+
+low_after_one : (octets : List ℕ) (at : ℕ) → at < length octets - 1 → get_or (nibbles (drop 1 octets)) (2 * at) 0 ≡ get_or octets (1 + at) 0 % 16
+low_after_one octets at within =
+    low_nibble (drop 1 octets) at (2 * at) (omega arith) (omega (arith, length-drop 1 octets)) ∙ ap (λ n. n % 16) (get_or_after_one octets at 0)
+
+high_after_one : (octets : List ℕ) (at : ℕ) → at < length octets - 1 → get_or (nibbles (drop 1 octets)) (2 * at + 1) 0 ≡ get_or octets (1 + at) 0 / 16
+high_after_one octets at within =
+    high_nibble (drop 1 octets) at (2 * at + 1) (omega arith) (omega (arith, length-drop 1 octets)) ∙ ap (λ n. n / 16) (get_or_after_one octets at 0)
+
+low_more : (octets : List ℕ) (at : ℕ) → at < length octets - 1 → (get_or octets (1 + at) 0 % 16 ≡ 15 → ⊥) → NoFiller octets (2 * at) → NoFiller octets (2 * at + 1)
+low_more octets at within low so_far =
+    below_more (λ (k : ℕ). (slice_index (nibbles (drop 1 octets)) k == 15) ≡ false) (2 * at) so_far (ne_eqb _ _ (λ is. low (sym (low_after_one octets at within) ∙ is)))
+
+-- two nibbles more, of the next octet
+pub octet_more : (octets : List ℕ) (at : ℕ) → at < length octets - 1 → (get_or octets (1 + at) 0 % 16 ≡ 15 → ⊥) → (get_or octets (1 + at) 0 / 16 ≡ 15 → ⊥)
+    → NoFiller octets (2 * at) → NoFiller octets (2 * (at + 1))
+octet_more octets at within low high so_far k below =
+    below_more (λ (k : ℕ). (slice_index (nibbles (drop 1 octets)) k == 15) ≡ false) (2 * at + 1) (low_more octets at within low so_far)
+    (ne_eqb _ _ (λ is. high (sym (high_after_one octets at within) ∙ is))) k (omega arith)
+
+-- the filler in the next octet ends the digits
+pub low_filler : (octets : List ℕ) (at : ℕ) → at < length octets - 1 → get_or octets (1 + at) 0 % 16 ≡ 15 → NoFiller octets (2 * at) → 2 * at ≡ length (digits octets)
+low_filler octets at within is none =
+    length-digits octets (2 * at) (omega (arith, length-nibbles-drop octets)) none (λ _. eq-eqb _ _ (low_after_one octets at within ∙ is))
+
+pub high_filler : (octets : List ℕ) (at : ℕ) → at < length octets - 1 → (get_or octets (1 + at) 0 % 16 ≡ 15 → ⊥) → get_or octets (1 + at) 0 / 16 ≡ 15 → NoFiller octets (2 * at)
+    → 2 * at + 1 ≡ length (digits octets)
+high_filler octets at within low is none =
+    length-digits octets (2 * at + 1) (omega (arith, length-nibbles-drop octets)) (low_more octets at within low none) (λ _. eq-eqb _ _ (high_after_one octets at within ∙ is))
+
 -- a digit is the nibble at its place
 pub get-digits : (octets : List ℕ) (at : ℕ) → at < length (digits octets) → get_or (digits octets) at 0 ≡ get_or (nibbles (drop 1 octets)) at 0
 get-digits octets at within =
@@ -46,6 +88,10 @@ get-digits octets at within =
     let n : ℕ = position_or_len (λ nibble. nibble == 15) all in
     let room : length (take n all) ≡ min n (length all) = length-take n all in
     get_or-take n all at 0 (omega arith)
+
+-- the same fronts hold the same digits
+pub same_in_fronts : (all front : List ℕ) (count k : ℕ) → take count all ≡ take count front → k < count → get_or all k 0 ≡ get_or front k 0
+same_in_fronts all front count k same below = sym (get_or-take count all k 0 below) ∙ ap (λ digits. get_or digits k 0) same ∙ get_or-take count front k 0 below
 
 -- std's test of a prefix tells mathlib's fact
 pub starts_with-IsPrefix : (all front : List ℕ) → IsTrue (starts_with nat_eq all front) ↔ IsPrefix front all

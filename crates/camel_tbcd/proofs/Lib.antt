@@ -1,4 +1,5 @@
 pub mod DigitLemmas
 pub mod ImsiOrderLemmas
+pub mod PackedDigitLemmas
 pub mod PackedImsiLemmas
 pub mod ProfileLemmas

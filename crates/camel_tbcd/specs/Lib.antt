@@ -7,6 +7,7 @@ pub mod Imsi
 pub mod ImsiFault
 pub mod ImsiOrder
 pub mod Nature
+pub mod PackedDigits
 pub mod PackedImsi
 pub mod Profile
 pub mod ShortList

@@ -1,8 +1,12 @@
-ghost use Rattle.std.specs.Prelude.{◌≡◌, ◌<◌, ◌↔◌, [], IsTrue, drop, length, nat_eq, slice_get, slice_index};
+ghost use Rattle.std.specs.Prelude.{◌≡◌, ◌≤◌, ◌<◌, ◌↔◌, [], All, IsTrue, drop, length, nat_eq, take};
+ghost use Rattle.std.specs.Prelude.{slice_get, slice_index};
 ghost use Rattle.std.specs.List.{starts_with};
 ghost use mathlib.Core.List.{IsPrefix};
 ghost use Rattle.camel_tbcd.specs.AddressLength.{IsAddress, max_address_length};
 ghost use Rattle.camel_tbcd.specs.Digits.{digits, nibbles};
+ghost use Rattle.camel_tbcd.specs.PackedDigits.{packed_digits};
+
+use crate::short_list::ShortList;
 
 /// The digits of an address, read where its octets stand: no list is made of them.
 ///
@@ -11,7 +15,11 @@ ghost use Rattle.camel_tbcd.specs.Digits.{digits, nibbles};
 pub struct Digits<'a> {
     bytes: &'a [u8],
     len: usize,
+    // The digits of octets 2 to 9 as one number, so that up to 16 digits are compared in one step.
+    number: u64,
     ghost counted: { len ≡ length (digits bytes.now) },
+    ghost octets: { All (λ octet. octet < 256) bytes.now },
+    ghost numbered: { number ≡ packed_digits bytes.now },
 }
 
 impl<'a> Digits<'a> {
@@ -25,7 +33,17 @@ impl<'a> Digits<'a> {
         Digits {
             bytes,
             len: digit_count(bytes),
+            number: packed_digits(bytes),
         }
+    }
+
+    // The digits of an address of these octets, of which count and number are known.
+    pub(crate) fn of_counted(bytes: &'a [u8], len: usize, number: u64) -> Digits<'a>
+        requires counted { len ≡ length (digits bytes.now) }
+        requires numbered { number ≡ packed_digits bytes.now }
+        ensures { digit_list result ≡ digits bytes.now }
+    {
+        Digits { bytes, len, number }
     }
 
     /// How many digits there are.
@@ -64,15 +82,30 @@ impl<'a> Digits<'a> {
     fn has_front(&self, front: &Digits) -> bool
         ensures { IsTrue result ↔ IsPrefix (digit_list front.now) (digit_list self.now) }
     {
-        if self.len < front.len {
+        if self.len < front.len || !self.shares(front, front.len.min(PACKED_DIGITS)) {
             return false;
         }
-        for at in 0..front.len {
+        for at in PACKED_DIGITS..front.len {
             if nibble(self.bytes, at) != nibble(front.bytes, at) {
                 return false;
             }
         }
         true
+    }
+
+    // Whether so many digits are the same in both, from the first one on. What is shifted out of the numbers are the
+    // digits behind these.
+    fn shares(&self, other: &Digits, count: usize) -> bool
+        requires packed { count ≤ 16 }
+        requires mine { count ≤ length (digit_list self.now) }
+        requires theirs { count ≤ length (digit_list other.now) }
+        ensures { IsTrue result ↔ (take count (digit_list self.now) ≡ take count (digit_list other.now)) }
+    {
+        if count == 0 {
+            return true;
+        }
+        let others = 64 - 4 * count;
+        self.number << others == other.number << others
     }
 
     /// Whether the digits are the same, whatever octets hold them.
@@ -93,18 +126,38 @@ fn nibble(bytes: &[u8], at: usize) -> u8
 }
 
 // How many nibbles stand after octet 1 and before the first filler.
-fn digit_count(bytes: &[u8]) -> usize
+pub(crate) fn digit_count(bytes: &[u8]) -> usize
     requires { IsAddress max_address_length bytes.now }
     ensures { result ≡ length (digits bytes.now) }
 {
-    let end = 2 * (bytes.len() - 1);
+    let end = bytes.len() - 1;
     for at in 0..end {
-        if nibble(bytes, at) == FILLER {
-            return at;
+        let octet = bytes[1 + at];
+        if octet % 16 == FILLER {
+            return 2 * at;
+        }
+        if octet / 16 == FILLER {
+            return 2 * at + 1;
         }
     }
-    end
+    2 * end
 }
+
+// The digits of octets 2 to 9 as one number, the first one lowest, and 0 where there are no more octets.
+fn packed_digits(bytes: &[u8]) -> u64
+    requires { 1 ≤ length bytes.now }
+    ensures { result ≡ packed_digits bytes.now }
+{
+    let octets = &bytes[1..];
+    let few = &octets[..octets.len().min(PACKED_OCTETS)];
+    u64::from_le_bytes(*ShortList::<PACKED_OCTETS>::from_slice(few).room())
+}
+
+// How many digits are compared as one number: those that a u64 has room for.
+const PACKED_DIGITS: usize = 16;
+
+// How many octets these digits stand in.
+const PACKED_OCTETS: usize = 8;
 
 /// The nibble that fills an odd count of digits, 1111 of TS 29.002.
 pub(crate) const FILLER: u8 = 15;

@@ -1,6 +1,7 @@
 ghost use Rattle.std.specs.Prelude.{◌≡◌, ◌<◌, ◌≤◌, length, nat_eq};
 ghost use Rattle.std.specs.Cmp.{partial_equiv_from_equiv};
 ghost use Rattle.std.specs.Cmp.Lexicographic.{nat_list_eq_equiv, pointwise};
+ghost use Rattle.camel_tbcd.specs.ShortList.{room_with};
 
 use std::marker::Model;
 
@@ -51,6 +52,13 @@ impl<const MOST: usize> ShortList<MOST> {
         ensures { result.now ≡ self.now }
     {
         &self.room[..usize::from(self.len)]
+    }
+
+    // The items, and 0 after them up to the end of the room.
+    pub(crate) fn room(&self) -> &[u8; MOST]
+        ensures { result.now ≡ room_with MOST self.now }
+    {
+        &self.room
     }
 }
 

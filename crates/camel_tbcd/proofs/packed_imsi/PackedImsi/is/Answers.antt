@@ -1,4 +1,4 @@
-use Rattle.std.proofs.Common.{◌≡◌, ◌∙◌, ap, ap₂, nat_eq}
+use Rattle.std.proofs.Common.{◌∙◌, ap, ap₂, nat_eq}
 use Rattle.std.specs.Cmp.Lexicographic.{slice_cmp}
 use Rattle.std.specs.Ordering.{eq_by_cmp, nat_cmp}
 use Rattle.camel_tbcd.specs.PackedImsi.{digits_of_number}

@@ -1,4 +1,4 @@
-use Rattle.std.proofs.Common.{◌≡◌, ◌∙◌, ap, sym, subst}
+use Rattle.std.proofs.Common.{◌∙◌, ap, sym, subst}
 use Rattle.camel_tbcd.specs.Imsi.{IsImsi}
 use Rattle.camel_tbcd.specs.ImsiOrder.{order_number}
 use Rattle.camel_tbcd.specs.PackedImsi.{digits_of_number}

@@ -1,0 +1,143 @@
+-- The number of digits says whether two fronts of digits are the same.
+use Rattle.std.proofs.Common.{◌≡◌, ◌∙◌, ℕ, zero, suc, ◌+◌, ◌-◌, ◌*◌, ◌/◌, ◌%◌, ◌==◌, ◌<◌, ◌≤◌, ◌^◌, ◌↔◌, List, [], ◌∷◌, ◌++◌, length, take, drop, replicate, min, All, refl, sym, ap, ap₂, arith}
+use Rattle.std.proofs.Math.Nat.{add-mul, eq_of_mul-eq-mul_right, min_comm, mul-lt-mul_of_pos_right, mul_assoc, mul_left_comm, one-le-pow, pow-succ'}
+use Rattle.std.proofs.lemmas.List.{drop-replicate, length-append, length-drop, length-replicate, length-take, length-take-le, take-take, take_all, take_min}
+use Rattle.std.proofs.lemmas.Nat.{div-add-mod', mod-mul-add, mod_below, pow-add}
+use Rattle.std.proofs.lemmas.List.Elements.{All-cons, All-drop, All-head, All-nil, All-same, All-tail, All-take}
+use Rattle.std.specs.Int.{from_le_bytes, w64}
+use Rattle.std.specs.List.{position_or_len}
+use Rattle.camel_tbcd.specs.Digits.{digits, nibbles}
+use Rattle.camel_tbcd.specs.PackedDigits.{packed, packed_digits}
+use Rattle.camel_tbcd.specs.ShortList.{room_with}
+
+-- an octet more is a factor of 256 more
+packed-octet : (octet : ℕ) (octets : List ℕ) → packed (nibbles (octet ∷ octets)) ≡ octet + 256 * packed (nibbles octets)
+packed-octet octet octets = omega arith
+
+-- zeros behind octets do not change their number
+packed-append : (octets zeros : List ℕ) → packed (nibbles zeros) ≡ 0 → packed (nibbles (octets ++ zeros)) ≡ packed (nibbles octets)
+packed-append [] zeros none = none
+packed-append (octet ∷ octets) zeros none = let rest = packed-append octets zeros none in omega arith
+
+packed-replicate : (count : ℕ) → packed (nibbles (replicate count 0)) ≡ 0
+packed-replicate zero = refl
+packed-replicate (suc count) = let rest = packed-replicate count in omega arith
+
+pub packed-room : (most : ℕ) (octets : List ℕ) → packed (nibbles (room_with most octets)) ≡ packed (nibbles octets)
+packed-room most octets =
+    packed-append octets _ (ap (λ zeros. packed (nibbles zeros)) (drop-replicate (length octets) most 0) ∙ packed-replicate _)
+
+pub length-room : (most : ℕ) (octets : List ℕ) → length octets ≤ most → length (room_with most octets) ≡ most
+length-room most octets fits =
+    let zeros : List ℕ = replicate most 0 in
+    let all : length zeros ≡ most = length-replicate most 0 in
+    length-append octets (drop (length octets) zeros) ∙ omega (arith, length-drop (length octets) zeros)
+
+pub front_octets : (octets : List ℕ) (count : ℕ) → take (min (length octets) count) octets ≡ take count octets
+front_octets octets count = ap (λ n. take n octets) (min_comm (length octets) count) ∙ take_min count octets
+
+-- std's number of 8 octets
+pub from_le_bytes-8 : (room : List ℕ) → length room ≡ 8 → from_le_bytes w64 room ≡ packed (nibbles room)
+from_le_bytes-8 (a ∷ b ∷ c ∷ d ∷ e ∷ f ∷ g ∷ h ∷ []) full = omega arith
+from_le_bytes-8 room full = absurd (omega arith)
+
+abbrev IsNibble : ℕ → Type 0
+IsNibble nibble = nibble < 16
+
+abbrev IsOctet : ℕ → Type 0
+IsOctet octet = octet < 256
+
+All-nibbles : (octets : List ℕ) → All IsOctet octets → All IsNibble (nibbles octets)
+All-nibbles [] few = All-nil IsNibble
+All-nibbles (octet ∷ octets) few =
+    let small = All-head IsOctet octet octets few in
+    let rest = All-nibbles octets (All-tail IsOctet octet octets few) in
+    All-cons IsNibble (octet % 16) (octet / 16 ∷ nibbles octets) (omega arith) (All-cons IsNibble (octet / 16) (nibbles octets) (omega (arith, small)) rest)
+
+-- the lowest digit of a number is its first nibble
+low_digit : (nibble number most : ℕ) → nibble < 16 → 0 < most → (nibble + 16 * number) % (16 * most) ≡ nibble + 16 * (number % most)
+low_digit nibble number most small some =
+    let rest : number % most < most = mod_below number most some in
+    let parts : number / most * most + number % most ≡ number = div-add-mod' number most in
+    let turned : number / most * (16 * most) ≡ 16 * (number / most * most) = mul_left_comm (number / most) 16 most in
+    let sum : nibble + 16 * number ≡ number / most * (16 * most) + (nibble + 16 * (number % most)) = omega arith in
+    rw sum (mod-mul-add (number / most) (16 * most) (nibble + 16 * (number % most)) (omega arith))
+
+-- the lowest digits of a number are those of the first nibbles
+packed-mod : (all : List ℕ) (count : ℕ) → All IsNibble all → packed all % 16 ^ count ≡ packed (take count all)
+packed-mod all zero few = omega arith
+packed-mod [] (suc count) few = omega arith
+packed-mod (nibble ∷ all) (suc count) few =
+    let small = All-head IsNibble nibble all few in
+    rw pow-succ' (low_digit nibble (packed all) (16 ^ count) small (one-le-pow count 16 (omega arith)) ∙ ap (λ rest. nibble + 16 * rest) (packed-mod all count (All-tail IsNibble nibble all few)))
+
+-- as many nibbles of the same number are the same
+same_from_packed : (some others : List ℕ) → length some ≡ length others → All IsNibble some → All IsNibble others → packed some ≡ packed others → some ≡ others
+same_from_packed [] [] counts few fewer same = refl
+same_from_packed [] (other ∷ others) counts few fewer same = absurd (omega arith)
+same_from_packed (one ∷ some) [] counts few fewer same = absurd (omega arith)
+same_from_packed (one ∷ some) (other ∷ others) counts few fewer same =
+    let small = All-head IsNibble one some few in
+    let smaller = All-head IsNibble other others fewer in
+    ap₂ (λ first rest. first ∷ rest) (omega (arith, small, smaller, same))
+    (same_from_packed some others (omega arith) (All-tail IsNibble one some few) (All-tail IsNibble other others fewer) (omega (arith, small, smaller, same)))
+
+nibbles-take : (count twice : ℕ) (octets : List ℕ) → twice ≡ count + count → nibbles (take count octets) ≡ take twice (nibbles octets)
+nibbles-take zero twice octets is = let none : twice ≡ 0 = omega arith in rw none refl
+nibbles-take (suc count) twice [] is = sym (take_all twice [] (omega arith))
+nibbles-take (suc count) twice (octet ∷ octets) is =
+    let more : twice ≡ suc (suc (count + count)) = omega arith in
+    rw more (ap (λ rest. octet % 16 ∷ octet / 16 ∷ rest) (nibbles-take count (count + count) octets refl))
+
+-- the first 16 digits stand in octets 2 to 9
+front_nibbles : (octets : List ℕ) (count : ℕ) → count ≤ length (digits octets) → count ≤ 16 → take count (nibbles (take 8 (drop 1 octets))) ≡ take count (digits octets)
+front_nibbles octets count within few =
+    let all : List ℕ = nibbles (drop 1 octets) in
+    let end : ℕ = position_or_len (λ nibble. nibble == 15) all in
+    let room : length (take end all) ≡ min end (length all) = length-take end all in
+    ap (take count) (nibbles-take 8 16 (drop 1 octets) refl) ∙ take-take count 16 all few ∙ sym (take-take count end all (omega arith))
+
+-- the digits that the lowest digits of the number are
+front_number : (octets : List ℕ) (count : ℕ) → All IsOctet octets → count ≤ length (digits octets) → count ≤ 16 → packed_digits octets % 16 ^ count ≡ packed (take count (digits octets))
+front_number octets count small within few =
+    packed-mod (nibbles (take 8 (drop 1 octets))) count (All-nibbles _ (All-take IsOctet 8 (drop 1 octets) (All-drop IsOctet 1 octets small)))
+    ∙ ap packed (front_nibbles octets count within few)
+
+front_small : (octets : List ℕ) (count : ℕ) → All IsOctet octets → count ≤ length (digits octets) → count ≤ 16 → All IsNibble (take count (digits octets))
+front_small octets count small within few =
+    All-same IsNibble _ (take count (nibbles (take 8 (drop 1 octets)))) (sym (front_nibbles octets count within few))
+    (All-take IsNibble count _ (All-nibbles _ (All-take IsOctet 8 (drop 1 octets) (All-drop IsOctet 1 octets small))))
+
+product-mod : (number most factor : ℕ) → 0 < most → 0 < factor → (number * factor) % (most * factor) ≡ number % most * factor
+product-mod number most factor some more =
+    let left : ℕ = number % most in
+    let fits : left * factor < most * factor = mul-lt-mul_of_pos_right (mod_below number most some) more in
+    ap (λ n. n * factor % (most * factor)) (sym (div-add-mod' number most))
+    ∙ ap (λ n. n % (most * factor)) (add-mul (number / most * most) left factor ∙ ap (λ n. n + left * factor) (mul_assoc (number / most) most factor))
+    ∙ mod-mul-add (number / most) (most * factor) (left * factor) fits
+
+pow-16 : (count : ℕ) → 2 ^ (4 * count) ≡ 16 ^ count
+pow-16 zero = refl
+pow-16 (suc count) =
+    let more : 4 * suc count ≡ 4 + 4 * count = omega arith in
+    rw (more, pow-succ') (pow-add 2 4 (4 * count) ∙ ap (λ n. 16 * n) (pow-16 count))
+
+-- a shift leaves the lowest digits alone
+shifted : (number count : ℕ) → count ≤ 16 → number * 2 ^ (64 - 4 * count) % 2 ^ 64 ≡ number % 16 ^ count * 2 ^ (64 - 4 * count)
+shifted number count few =
+    let places : 64 ≡ 4 * count + (64 - 4 * count) = omega arith in
+    let whole : 2 ^ 64 ≡ 16 ^ count * 2 ^ (64 - 4 * count) =
+    ap (λ n. 2 ^ n) places ∙ pow-add 2 (4 * count) (64 - 4 * count) ∙ ap (λ n. n * 2 ^ (64 - 4 * count)) (pow-16 count) in
+    ap (λ n. number * 2 ^ (64 - 4 * count) % n) whole ∙ product-mod number (16 ^ count) (2 ^ (64 - 4 * count)) (one-le-pow count 16 (omega arith)) (one-le-pow (64 - 4 * count) 2 (omega arith))
+
+-- the numbers, shifted so that so many digits are left, are the same where these digits are
+pub same_shifted : (all others : List ℕ) (count : ℕ) → All IsOctet all → All IsOctet others → count ≤ 16 → count ≤ length (digits all) → count ≤ length (digits others)
+    → (packed_digits all * 2 ^ (64 - 4 * count) % 2 ^ 64 ≡ packed_digits others * 2 ^ (64 - 4 * count) % 2 ^ 64) ↔ (take count (digits all) ≡ take count (digits others))
+same_shifted all others count small smaller few within inside =
+    let mine = shifted (packed_digits all) count few in
+    let theirs = shifted (packed_digits others) count few in
+    let my_front = front_number all count small within few in
+    let their_front = front_number others count smaller inside few in (
+      λ same. same_from_packed _ _ (length-take-le count (digits all) within ∙ sym (length-take-le count (digits others) inside)) (front_small all count small within few) (front_small others count smaller inside few) (sym my_front ∙ eq_of_mul-eq-mul_right (2 ^ (64 - 4 * count)) (one-le-pow (64 - 4 * count) 2 (omega arith)) _ _ (sym mine ∙ same ∙ theirs) ∙ their_front),
+      λ same. mine ∙ ap (λ n. n * 2 ^ (64 - 4 * count)) (my_front ∙ ap packed same ∙ sym their_front) ∙ sym theirs,
+    )
