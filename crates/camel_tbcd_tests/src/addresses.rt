@@ -140,3 +140,53 @@ fn compares_digits_and_not_octets(rt: HostRuntime) -> Result<(), Fail> {
         ],
     )
 }
+
+/// Octets 2 to 9 have 16 digits, which are compared as one number, and the digits after them one by one.
+#[test]
+fn compares_more_than_16_digits(rt: HostRuntime) -> Result<(), Fail> {
+    let (mut odd, mut other, mut longer) = (OCTETS, OCTETS, OCTETS);
+    odd[9] = 0xf8;
+    other[9] = 0x68;
+    longer[10] = 0xf1;
+    check_compared(
+        &rt,
+        &[
+            (&OCTETS[..20], &OCTETS[..20], true, true),
+            (&OCTETS[..20], &OCTETS[..9], true, false),
+            (&OCTETS[..20], &OCTETS[..10], true, false),
+            (&OCTETS[..10], &OCTETS[..20], false, false),
+            (&OCTETS[..20], &odd[..10], true, false),
+            (&OCTETS[..20], &other[..10], false, false),
+            (&OCTETS[..20], &longer[..20], false, false),
+        ],
+    )
+}
+
+/// Octets of a kept address, with how many digits it has, and whether they are the first ones of 123456.
+fn check_kept(rt: &impl Abort, cases: &[(&[u8], usize, bool)]) -> Result<(), Fail> {
+    let destination = [0x91, 0x21, 0x43, 0x65];
+    for (octets, count, begins) in cases {
+        let kept = IsdnAddress::from_bytes(octets)?;
+        let digits = kept.digits();
+        let compared = Address::new(&destination)?.digits().begins_with(&digits);
+        assert_eq!(rt; digits.len(), *count, "of {octets:?}");
+        assert_eq!(rt; compared, *begins, "of {octets:?}");
+        assert!(rt; digits.same(&kept.lend().digits()), "of {octets:?}");
+    }
+    Ok(())
+}
+
+#[test]
+fn reads_the_digits_of_a_kept_isdn_address(rt: HostRuntime) -> Result<(), Fail> {
+    check_kept(
+        &rt,
+        &[
+            (&[0x91], 0, true),
+            (&[0x91, 0xf1], 1, true),
+            (&[0x91, 0x21, 0x43], 4, true),
+            (&[0x91, 0x21, 0xf3], 3, true),
+            (&[0x91, 0x21, 0xf4], 3, false),
+            (&OCTETS[..9], 16, false),
+        ],
+    )
+}
