@@ -41,6 +41,7 @@ length-digits octets at within none here =
     let first : position_or_len (λ nibble. nibble == 15) (nibbles (drop 1 octets)) ≡ at = position_or_len_is (λ nibble. nibble == 15) (nibbles (drop 1 octets)) at 0 within none here in
     sym (length-take-le _ (nibbles (drop 1 octets)) (rw first within) ∙ first)
 
+-- an octet holds two digits at most
 pub length-digits-le : (octets : List ℕ) → length (digits octets) ≤ 2 * (length octets - 1)
 length-digits-le octets =
     let all : List ℕ = nibbles (drop 1 octets) in
@@ -52,14 +53,17 @@ length-digits-le octets =
 abbrev NoFiller : List ℕ → ℕ → Type 0
 NoFiller octets count = (k : ℕ) → k < count → (slice_index (nibbles (drop 1 octets)) k == 15) ≡ false
 
+-- the low nibble of an octet after octet 1
 low_after_one : (octets : List ℕ) (at : ℕ) → at < length octets - 1 → get_or (nibbles (drop 1 octets)) (2 * at) 0 ≡ get_or octets (1 + at) 0 % 16
 low_after_one octets at within =
     low_nibble (drop 1 octets) at (2 * at) (omega arith) (omega (arith, length-drop 1 octets)) ∙ ap (λ n. n % 16) (get_or_after_one octets at 0)
 
+-- the high nibble of an octet after octet 1
 high_after_one : (octets : List ℕ) (at : ℕ) → at < length octets - 1 → get_or (nibbles (drop 1 octets)) (2 * at + 1) 0 ≡ get_or octets (1 + at) 0 / 16
 high_after_one octets at within =
     high_nibble (drop 1 octets) at (2 * at + 1) (omega arith) (omega (arith, length-drop 1 octets)) ∙ ap (λ n. n / 16) (get_or_after_one octets at 0)
 
+-- one nibble more, the low one of the next octet
 low_more : (octets : List ℕ) (at : ℕ) → at < length octets - 1 → (get_or octets (1 + at) 0 % 16 ≡ 15 → ⊥) → NoFiller octets (2 * at) → NoFiller octets (2 * at + 1)
 low_more octets at within low so_far =
     below_more (λ (k : ℕ). (slice_index (nibbles (drop 1 octets)) k == 15) ≡ false) (2 * at) so_far (ne_eqb _ _ (λ is. low (sym (low_after_one octets at within) ∙ is)))
@@ -71,11 +75,12 @@ octet_more octets at within low high so_far k below =
     below_more (λ (k : ℕ). (slice_index (nibbles (drop 1 octets)) k == 15) ≡ false) (2 * at + 1) (low_more octets at within low so_far)
     (ne_eqb _ _ (λ is. high (sym (high_after_one octets at within) ∙ is))) k (omega arith)
 
--- the filler in the next octet ends the digits
+-- a low nibble that is the filler ends the digits
 pub low_filler : (octets : List ℕ) (at : ℕ) → at < length octets - 1 → get_or octets (1 + at) 0 % 16 ≡ 15 → NoFiller octets (2 * at) → 2 * at ≡ length (digits octets)
 low_filler octets at within is none =
     length-digits octets (2 * at) (omega (arith, length-nibbles-drop octets)) none (λ _. eq-eqb _ _ (low_after_one octets at within ∙ is))
 
+-- and so does a high one
 pub high_filler : (octets : List ℕ) (at : ℕ) → at < length octets - 1 → (get_or octets (1 + at) 0 % 16 ≡ 15 → ⊥) → get_or octets (1 + at) 0 / 16 ≡ 15 → NoFiller octets (2 * at)
     → 2 * at + 1 ≡ length (digits octets)
 high_filler octets at within low is none =

@@ -2,8 +2,8 @@
 use Rattle.std.proofs.Common.{◌≡◌, ◌∙◌, ℕ, zero, suc, ◌+◌, ◌-◌, ◌*◌, ◌/◌, ◌%◌, ◌==◌, ◌<◌, ◌≤◌, ◌^◌, ◌↔◌, List, [], ◌∷◌, ◌++◌, length, take, drop, replicate, min, All, refl, sym, ap, ap₂, arith}
 use Rattle.std.proofs.Math.Nat.{add-mul, eq_of_mul-eq-mul_right, min_comm, mul-lt-mul_of_pos_right, mul_assoc, mul_left_comm, one-le-pow, pow-succ'}
 use Rattle.std.proofs.lemmas.List.{drop-replicate, length-append, length-drop, length-replicate, length-take, length-take-le, take-take, take_all, take_min}
-use Rattle.std.proofs.lemmas.Nat.{div-add-mod', mod-mul-add, mod_below, pow-add}
 use Rattle.std.proofs.lemmas.List.Elements.{All-cons, All-drop, All-head, All-nil, All-same, All-tail, All-take}
+use Rattle.std.proofs.lemmas.Nat.{div-add-mod', mod-mul-add, mod_below, pow-add}
 use Rattle.std.specs.Int.{from_le_bytes, w64}
 use Rattle.std.specs.List.{position_or_len}
 use Rattle.camel_tbcd.specs.Digits.{digits, nibbles}
@@ -19,34 +19,41 @@ packed-append : (octets zeros : List ℕ) → packed (nibbles zeros) ≡ 0 → p
 packed-append [] zeros none = none
 packed-append (octet ∷ octets) zeros none = let rest = packed-append octets zeros none in omega arith
 
+-- zeros alone have the number 0
 packed-replicate : (count : ℕ) → packed (nibbles (replicate count 0)) ≡ 0
 packed-replicate zero = refl
 packed-replicate (suc count) = let rest = packed-replicate count in omega arith
 
+-- so a room of octets has the number of its octets
 pub packed-room : (most : ℕ) (octets : List ℕ) → packed (nibbles (room_with most octets)) ≡ packed (nibbles octets)
 packed-room most octets =
     packed-append octets _ (ap (λ zeros. packed (nibbles zeros)) (drop-replicate (length octets) most 0) ∙ packed-replicate _)
 
+-- a room is full
 pub length-room : (most : ℕ) (octets : List ℕ) → length octets ≤ most → length (room_with most octets) ≡ most
 length-room most octets fits =
     let zeros : List ℕ = replicate most 0 in
     let all : length zeros ≡ most = length-replicate most 0 in
     length-append octets (drop (length octets) zeros) ∙ omega (arith, length-drop (length octets) zeros)
 
+-- as many of the first octets as there are
 pub front_octets : (octets : List ℕ) (count : ℕ) → take (min (length octets) count) octets ≡ take count octets
 front_octets octets count = ap (λ n. take n octets) (min_comm (length octets) count) ∙ take_min count octets
 
--- std's number of 8 octets
+-- the number that std makes of 8 octets is that of their nibbles
 pub from_le_bytes-8 : (room : List ℕ) → length room ≡ 8 → from_le_bytes w64 room ≡ packed (nibbles room)
 from_le_bytes-8 (a ∷ b ∷ c ∷ d ∷ e ∷ f ∷ g ∷ h ∷ []) full = omega arith
 from_le_bytes-8 room full = absurd (omega arith)
 
+-- a nibble is below 16
 abbrev IsNibble : ℕ → Type 0
 IsNibble nibble = nibble < 16
 
+-- an octet is below 256
 abbrev IsOctet : ℕ → Type 0
 IsOctet octet = octet < 256
 
+-- octets have nibbles
 All-nibbles : (octets : List ℕ) → All IsOctet octets → All IsNibble (nibbles octets)
 All-nibbles [] few = All-nil IsNibble
 All-nibbles (octet ∷ octets) few =
@@ -71,7 +78,7 @@ packed-mod (nibble ∷ all) (suc count) few =
     let small = All-head IsNibble nibble all few in
     rw pow-succ' (low_digit nibble (packed all) (16 ^ count) small (one-le-pow count 16 (omega arith)) ∙ ap (λ rest. nibble + 16 * rest) (packed-mod all count (All-tail IsNibble nibble all few)))
 
--- as many nibbles of the same number are the same
+-- as many nibbles with the same number are the same
 same_from_packed : (some others : List ℕ) → length some ≡ length others → All IsNibble some → All IsNibble others → packed some ≡ packed others → some ≡ others
 same_from_packed [] [] counts few fewer same = refl
 same_from_packed [] (other ∷ others) counts few fewer same = absurd (omega arith)
@@ -82,6 +89,7 @@ same_from_packed (one ∷ some) (other ∷ others) counts few fewer same =
     ap₂ (λ first rest. first ∷ rest) (omega (arith, small, smaller, same))
     (same_from_packed some others (omega arith) (All-tail IsNibble one some few) (All-tail IsNibble other others fewer) (omega (arith, small, smaller, same)))
 
+-- the nibbles of the first octets are twice as many of the first nibbles
 nibbles-take : (count twice : ℕ) (octets : List ℕ) → twice ≡ count + count → nibbles (take count octets) ≡ take twice (nibbles octets)
 nibbles-take zero twice octets is = let none : twice ≡ 0 = omega arith in rw none refl
 nibbles-take (suc count) twice [] is = sym (take_all twice [] (omega arith))
@@ -97,17 +105,22 @@ front_nibbles octets count within few =
     let room : length (take end all) ≡ min end (length all) = length-take end all in
     ap (take count) (nibbles-take 8 16 (drop 1 octets) refl) ∙ take-take count 16 all few ∙ sym (take-take count end all (omega arith))
 
--- the digits that the lowest digits of the number are
+-- what stands there are nibbles
+front_all : (octets : List ℕ) → All IsOctet octets → All IsNibble (nibbles (take 8 (drop 1 octets)))
+front_all octets small = All-nibbles _ (All-take IsOctet 8 (drop 1 octets) (All-drop IsOctet 1 octets small))
+
+-- the lowest digits of the number of an address are its first digits
 front_number : (octets : List ℕ) (count : ℕ) → All IsOctet octets → count ≤ length (digits octets) → count ≤ 16 → packed_digits octets % 16 ^ count ≡ packed (take count (digits octets))
 front_number octets count small within few =
-    packed-mod (nibbles (take 8 (drop 1 octets))) count (All-nibbles _ (All-take IsOctet 8 (drop 1 octets) (All-drop IsOctet 1 octets small)))
-    ∙ ap packed (front_nibbles octets count within few)
+    packed-mod (nibbles (take 8 (drop 1 octets))) count (front_all octets small) ∙ ap packed (front_nibbles octets count within few)
 
+-- the first digits are nibbles
 front_small : (octets : List ℕ) (count : ℕ) → All IsOctet octets → count ≤ length (digits octets) → count ≤ 16 → All IsNibble (take count (digits octets))
 front_small octets count small within few =
     All-same IsNibble _ (take count (nibbles (take 8 (drop 1 octets)))) (sym (front_nibbles octets count within few))
-    (All-take IsNibble count _ (All-nibbles _ (All-take IsOctet 8 (drop 1 octets) (All-drop IsOctet 1 octets small))))
+    (All-take IsNibble count _ (front_all octets small))
 
+-- a factor of both stays
 product-mod : (number most factor : ℕ) → 0 < most → 0 < factor → (number * factor) % (most * factor) ≡ number % most * factor
 product-mod number most factor some more =
     let left : ℕ = number % most in
@@ -116,6 +129,7 @@ product-mod number most factor some more =
     ∙ ap (λ n. n % (most * factor)) (add-mul (number / most * most) left factor ∙ ap (λ n. n + left * factor) (mul_assoc (number / most) most factor))
     ∙ mod-mul-add (number / most) (most * factor) (left * factor) fits
 
+-- a digit in base 16 is 4 bits
 pow-16 : (count : ℕ) → 2 ^ (4 * count) ≡ 16 ^ count
 pow-16 zero = refl
 pow-16 (suc count) =
@@ -137,7 +151,9 @@ same_shifted all others count small smaller few within inside =
     let mine = shifted (packed_digits all) count few in
     let theirs = shifted (packed_digits others) count few in
     let my_front = front_number all count small within few in
-    let their_front = front_number others count smaller inside few in (
-      λ same. same_from_packed _ _ (length-take-le count (digits all) within ∙ sym (length-take-le count (digits others) inside)) (front_small all count small within few) (front_small others count smaller inside few) (sym my_front ∙ eq_of_mul-eq-mul_right (2 ^ (64 - 4 * count)) (one-le-pow (64 - 4 * count) 2 (omega arith)) _ _ (sym mine ∙ same ∙ theirs) ∙ their_front),
+    let their_front = front_number others count smaller inside few in
+    let lengths = length-take-le count (digits all) within ∙ sym (length-take-le count (digits others) inside) in (
+      λ same. same_from_packed _ _ lengths (front_small all count small within few) (front_small others count smaller inside few)
+          (sym my_front ∙ eq_of_mul-eq-mul_right (2 ^ (64 - 4 * count)) (one-le-pow (64 - 4 * count) 2 (omega arith)) _ _ (sym mine ∙ same ∙ theirs) ∙ their_front),
       λ same. mine ∙ ap (λ n. n * 2 ^ (64 - 4 * count)) (my_front ∙ ap packed same ∙ sym their_front) ∙ sym theirs,
     )

@@ -37,7 +37,7 @@ impl<'a> Digits<'a> {
         }
     }
 
-    // The digits of an address of these octets, of which count and number are known.
+    // The digits of an address of these octets, where their count and their number are known.
     pub(crate) fn of_counted(bytes: &'a [u8], len: usize, number: u64) -> Digits<'a>
         requires counted { len ≡ length (digits bytes.now) }
         requires numbered { number ≡ packed_digits bytes.now }
@@ -82,7 +82,7 @@ impl<'a> Digits<'a> {
     fn has_front(&self, front: &Digits) -> bool
         ensures { IsTrue result ↔ IsPrefix (digit_list front.now) (digit_list self.now) }
     {
-        if self.len < front.len || !self.shares(front, front.len.min(PACKED_DIGITS)) {
+        if self.len < front.len || !self.has_same_first(front, front.len.min(PACKED_DIGITS)) {
             return false;
         }
         for at in PACKED_DIGITS..front.len {
@@ -93,10 +93,9 @@ impl<'a> Digits<'a> {
         true
     }
 
-    // Whether so many digits are the same in both, from the first one on. What is shifted out of the numbers are the
-    // digits behind these.
-    fn shares(&self, other: &Digits, count: usize) -> bool
-        requires packed { count ≤ 16 }
+    // Whether the first `count` digits of both are the same: of a number shifted left, these are left.
+    fn has_same_first(&self, other: &Digits, count: usize) -> bool
+        requires packed { count ≤ PACKED_DIGITS }
         requires mine { count ≤ length (digit_list self.now) }
         requires theirs { count ≤ length (digit_list other.now) }
         ensures { IsTrue result ↔ (take count (digit_list self.now) ≡ take count (digit_list other.now)) }
@@ -104,8 +103,8 @@ impl<'a> Digits<'a> {
         if count == 0 {
             return true;
         }
-        let others = 64 - 4 * count;
-        self.number << others == other.number << others
+        let rest = 64 - 4 * count;
+        self.number << rest == other.number << rest
     }
 
     /// Whether the digits are the same, whatever octets hold them.
@@ -143,7 +142,7 @@ pub(crate) fn digit_count(bytes: &[u8]) -> usize
     2 * end
 }
 
-// The digits of octets 2 to 9 as one number, the first one lowest, and 0 where there are no more octets.
+// The digits of octets 2 to 9 as one number, the first one lowest, with 0 for octets that there are not.
 fn packed_digits(bytes: &[u8]) -> u64
     requires { 1 ≤ length bytes.now }
     ensures { result ≡ packed_digits bytes.now }
@@ -153,10 +152,10 @@ fn packed_digits(bytes: &[u8]) -> u64
     u64::from_le_bytes(*ShortList::<PACKED_OCTETS>::from_slice(few).room())
 }
 
-// How many digits are compared as one number: those that a u64 has room for.
+// How many digits are compared as one number: as many as a u64 has room for.
 const PACKED_DIGITS: usize = 16;
 
-// How many octets these digits stand in.
+// How many octets hold these digits.
 const PACKED_OCTETS: usize = 8;
 
 /// The nibble that fills an odd count of digits, 1111 of TS 29.002.

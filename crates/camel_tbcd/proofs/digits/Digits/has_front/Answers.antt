@@ -5,7 +5,7 @@ use Rattle.camel_tbcd.proofs.DigitLemmas.{get-digits, same_in_fronts}
 use Rattle.camel_tbcd.proofs.digits.Digits.has_front.Goals as goal
 
 pub loop-at-init : goal.loop-at-init
-loop-at-init c k below within = same_in_fronts _ _ c.min.result k (c.shares.ensures.0 c.if-not-shares.false) (omega arith)
+loop-at-init c k below within = same_in_fronts _ _ c.min.result k (c.has_same_first.ensures.0 c.if-not-has_same_first.false) (omega arith)
 
 pub loop-at-preserved : goal.loop-at-preserved
 loop-at-preserved c =
