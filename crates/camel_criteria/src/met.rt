@@ -97,8 +97,7 @@ fn number_matches(
     requires { digit_list destination_digits.now ≡ digits (octets destination.now) }
     ensures { result ≡ number_matches profile listed.now (octets destination.now) }
 {
-    let listed = listed.lend();
-    listed.agrees(destination, profile) && destination_digits.begins_with(&listed.digits())
+    listed.lend().agrees(destination, profile) && destination_digits.begins_with(&listed.digits())
 }
 
 fn basic_met(listed: &[BasicService], call: BasicService) -> bool
