@@ -4,13 +4,14 @@ ghost use Rattle.camel_criteria.specs.ListedNumbers.{numbers_of};
 use camel_tbcd::IsdnAddress;
 use std::alloc::{AllocError, Global};
 
-// The listed numbers of a criterion. One or two, as most criteria have, are kept in place, so that they are read
-// with the criterion; others are kept apart from it.
+// The listed numbers of a criterion. Up to three are kept in place, so that they are read with the criterion; more are
+// kept apart from it, in a box, since the head of a vector would take more room than three numbers do.
 #[derive(Debug, Drop)]
 pub(crate) enum ListedNumbers {
     One([IsdnAddress; 1]),
     Two([IsdnAddress; 2]),
-    Apart(Vec<IsdnAddress>),
+    Three([IsdnAddress; 3]),
+    Apart(Box<Vec<IsdnAddress>>),
 }
 
 impl ListedNumbers {
@@ -23,8 +24,15 @@ impl ListedNumbers {
         match numbers {
             [first] => Ok(ListedNumbers::One([*first])),
             [first, second] => Ok(ListedNumbers::Two([*first, *second])),
-            _ => Ok(ListedNumbers::Apart(Vec::from_slice(alloc, numbers)?)),
+            [first, second, third] => Ok(ListedNumbers::Three([*first, *second, *third])),
+            _ => ListedNumbers::apart(alloc, Vec::from_slice(alloc, numbers)?),
         }
+    }
+
+    fn apart(alloc: Global, numbers: Vec<IsdnAddress>) -> Result<ListedNumbers, AllocError>
+        ensures { IfOk result (λ kept. numbers_of kept ≡ numbers.items) }
+    {
+        Ok(ListedNumbers::Apart(Box::new(alloc, numbers)?))
     }
 
     pub(crate) fn as_slice(&self) -> &[IsdnAddress]
@@ -33,6 +41,7 @@ impl ListedNumbers {
         match self {
             ListedNumbers::One(numbers) => numbers,
             ListedNumbers::Two(numbers) => numbers,
+            ListedNumbers::Three(numbers) => numbers,
             ListedNumbers::Apart(numbers) => numbers,
         }
     }
@@ -43,6 +52,7 @@ impl ListedNumbers {
         Ok(match self {
             ListedNumbers::One(numbers) => ListedNumbers::One(*numbers),
             ListedNumbers::Two(numbers) => ListedNumbers::Two(*numbers),
+            ListedNumbers::Three(numbers) => ListedNumbers::Three(*numbers),
             ListedNumbers::Apart(numbers) => ListedNumbers::Apart(numbers.clone()?),
         })
     }

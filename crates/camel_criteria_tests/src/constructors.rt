@@ -48,7 +48,7 @@ fn check_number_criterion(
     Ok(())
 }
 
-/// One or two numbers are stored in place, and three apart.
+/// Up to three numbers are stored in place, and more apart.
 #[test]
 fn reads_and_copies_a_number_criterion(rt: HostRuntime) -> Result<(), Fail> {
     for count in 1..=3 {
