@@ -1,38 +1,37 @@
 //! Measures looks, decisions and publications of the store in `camel_vlr`, and decisions over plain records.
-//! `bench/run-vlr` starts it; without words it does nothing.
+//! `bench/run-vlr` starts it, and so does `bench/run-peers`, with the words of the protocol in `bench/peers`. Without
+//! words it does nothing.
 #![tactic(auto)]
 
 mod data;
+mod harness;
 mod looks;
+mod protocol;
 mod publications;
+mod workload;
 
+use crate::protocol::Request;
 use crate::publications::Concerned;
 use std::io;
 use std::process::ExitCode;
+use std::rt::Clock;
+use std::sync::Wait;
+use std::thread::Threads;
 
 fn main(rt: HostRuntime) -> ExitCode {
     let Ok(words) = words(&rt) else {
         return ExitCode::FAILURE;
     };
-    let what = words.get(1).map_or("", |word| word.as_str());
-    let subscribers = number(&words, 2);
-    let done = match what {
-        "" => Some(0),
-        "records" => looks::time_decisions(&rt, rt.alloc(), subscribers, number(&words, 3)),
-        "looks" => {
-            let readers = number(&words, 4) as usize;
-            let concerned = concerned(subscribers, number(&words, 6));
-            let (rounds, publications) = (number(&words, 3), number(&words, 5));
-            looks::time_sessions(&rt, rt.alloc(), &concerned, rounds, readers, publications)
-        }
-        "publish" => {
-            let concerned = concerned(subscribers, number(&words, 5));
-            let (updates, rounds) = (number(&words, 3), number(&words, 4));
-            publications::time_publications(&rt, rt.alloc(), &concerned, updates, rounds)
-        }
-        _ => None,
-    };
-    match done {
+    if let Some(request) = request(&words) {
+        return match harness::answer(&rt, &request) {
+            Ok(()) => ExitCode::SUCCESS,
+            Err(error) => {
+                let _ = eprintln!(rt; "camel_vlr_bench: {error}");
+                ExitCode::FAILURE
+            }
+        };
+    }
+    match measured(&rt, &words) {
         Some(nanoseconds) if nanoseconds > 0 => match println!(rt; "{nanoseconds}") {
             Ok(()) => ExitCode::SUCCESS,
             Err(_) => ExitCode::FAILURE,
@@ -44,6 +43,36 @@ fn main(rt: HostRuntime) -> ExitCode {
 
 fn words(rt: &HostRuntime) -> io::Result<Vec<String>> {
     Ok(std::env::args(rt)?.collect(rt.alloc())?)
+}
+
+// What is asked in the words of the protocol, which come behind the name of the program.
+fn request(words: &[String]) -> Option<Request> {
+    let (_program, asked) = words.split_first()?;
+    Request::from_words(asked)
+}
+
+// The nanoseconds of what `bench/run-vlr` names, and 0 where nothing is named.
+fn measured<R: AllocGlobal + Clock + Threads + Wait + Sync>(
+    rt: &R,
+    words: &[String],
+) -> Option<u64> {
+    let subscribers = number(words, 2);
+    match words.get(1).map_or("", |word| word.as_str()) {
+        "" => Some(0),
+        "records" => looks::time_decisions(rt, rt.alloc(), subscribers, number(words, 3)),
+        "looks" => {
+            let readers = number(words, 4) as usize;
+            let concerned = concerned(subscribers, number(words, 6));
+            let (rounds, publications) = (number(words, 3), number(words, 5));
+            looks::time_sessions(rt, rt.alloc(), &concerned, rounds, readers, publications)
+        }
+        "publish" => {
+            let concerned = concerned(subscribers, number(words, 5));
+            let (updates, rounds) = (number(words, 3), number(words, 4));
+            publications::time_publications(rt, rt.alloc(), &concerned, updates, rounds)
+        }
+        _ => None,
+    }
 }
 
 // So many of these subscribers; with 0, all of them.

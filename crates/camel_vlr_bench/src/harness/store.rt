@@ -1,0 +1,74 @@
+use crate::workload::records::insert_of;
+use crate::workload::subscribers::imsi_of;
+use anyhow::{Result, ensure};
+use camel_rows::{CallEvent, Outcome, Update};
+use camel_table::Seed;
+use camel_tbcd::Profile;
+use camel_vlr::{MAX_PLACES, MAX_UPDATES, NoLook, Session, Vlr};
+use std::alloc::Global;
+use std::sync::Wait;
+
+/// A store is filled in publications of so many subscribers: what a publication takes in memory stays, and is to be
+/// little.
+const FILLED_AT_ONCE: u64 = 10;
+
+/// A store with so many known subscribers, and its sessions.
+pub(super) fn open<R: Wait>(
+    rt: &R,
+    alloc: Global,
+    known: u64,
+    sessions: usize,
+) -> Result<(Vlr, Vec<Session>)> {
+    ensure!(
+        sessions > 0 && sessions <= MAX_PLACES,
+        "a store has not so many sessions"
+    );
+    let seed = Seed::fixed();
+    let (mut store, sessions) = Vlr::open_seeded(
+        rt,
+        alloc,
+        sessions,
+        MAX_UPDATES,
+        Profile::One,
+        seed,
+    )?;
+    match fill(rt, alloc, &mut store, known) {
+        Ok(()) => Ok((store, sessions)),
+        Err(error) => {
+            store.end(rt);
+            Err(error)
+        }
+    }
+}
+
+// The last publication is of nothing: it leaves the second copy as the first one is.
+fn fill<R: Wait>(rt: &R, alloc: Global, store: &mut Vlr, known: u64) -> Result<()> {
+    for subscriber in 0..known {
+        let imsi = imsi_of(subscriber)?;
+        store.submit(Update::Register { imsi })?;
+        store.submit(insert_of(alloc, subscriber, 0)?)?;
+        if subscriber % FILLED_AT_ONCE == FILLED_AT_ONCE - 1 {
+            store.publish(rt)?;
+        }
+    }
+    store.publish(rt)?;
+    store.publish(rt)?;
+    Ok(())
+}
+
+/// Publishes a batch of updates, and leaves it empty. Each decision that begins afterwards is made over them all.
+pub(super) fn publish<R: Wait>(rt: &R, store: &mut Vlr, batch: &mut Vec<Update>) -> Result<()> {
+    for update in batch.drain(..) {
+        store.submit(update)?;
+    }
+    store.publish(rt)?;
+    Ok(())
+}
+
+/// What one look of the session decides of an event. What is needed of the decision is kept, and the look left.
+pub(super) fn decide(session: &mut Session, event: &CallEvent) -> Result<Outcome, NoLook> {
+    let look = session.look()?;
+    let outcome = Outcome::of(&look.decide(&event.lend()));
+    look.leave();
+    Ok(outcome)
+}
