@@ -35,7 +35,7 @@ bench-vlr: bench-program
 	@bench/run-vlr
 
 # Says which Debian packages it needs, where one is missing.
-bench-peers:
+bench-peers: bench-program
 	@bench/run-peers
 
 # Needs valgrind.

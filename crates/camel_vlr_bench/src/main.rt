@@ -8,6 +8,7 @@ mod harness;
 mod looks;
 mod protocol;
 mod publications;
+mod registers;
 mod workload;
 
 use crate::protocol::Request;
@@ -32,7 +33,7 @@ fn main(rt: HostRuntime) -> ExitCode {
         };
     }
     match measured(&rt, &words) {
-        Some(nanoseconds) if nanoseconds > 0 => match println!(rt; "{nanoseconds}") {
+        Some(figure) if figure > 0 => match println!(rt; "{figure}") {
             Ok(()) => ExitCode::SUCCESS,
             Err(_) => ExitCode::FAILURE,
         },
@@ -51,7 +52,7 @@ fn request(words: &[String]) -> Option<Request> {
     Request::from_words(asked)
 }
 
-// The nanoseconds of what `bench/run-vlr` names, and 0 where nothing is named.
+// The figure of what `bench/run-vlr` names, and 0 where nothing is named.
 fn measured<R: AllocGlobal + Clock + Threads + Wait + Sync>(
     rt: &R,
     words: &[String],
@@ -71,6 +72,7 @@ fn measured<R: AllocGlobal + Clock + Threads + Wait + Sync>(
             let (updates, rounds) = (number(words, 3), number(words, 4));
             publications::time_publications(rt, rt.alloc(), &concerned, updates, rounds)
         }
+        "registers" => registers::slowest_to_median(rt, rt.alloc(), subscribers),
         _ => None,
     }
 }
