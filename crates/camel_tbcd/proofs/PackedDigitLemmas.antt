@@ -1,5 +1,5 @@
 -- The number of digits says whether two fronts of digits are the same.
-use Rattle.std.proofs.Common.{◌≡◌, ◌∙◌, ℕ, zero, suc, ◌+◌, ◌-◌, ◌*◌, ◌/◌, ◌%◌, ◌==◌, ◌<◌, ◌≤◌, ◌^◌, ◌↔◌, List, [], ◌∷◌, ◌++◌, length, take, drop, replicate, min, All, refl, sym, ap, ap₂, arith}
+use Rattle.std.proofs.Common.{◌≡◌, ◌∙◌, ℕ, zero, suc, ◌+◌, ◌-◌, ◌*◌, ◌/◌, ◌%◌, ◌==◌, ◌<◌, ◌≤◌, ◌^◌, ◌↔◌, List, [], ◌∷◌, ◌++◌, length, take, drop, replicate, get_or, min, All, refl, sym, ap, ap₂, arith}
 use Rattle.std.proofs.Math.Nat.{add-mul, eq_of_mul-eq-mul_right, min_comm, mul-lt-mul_of_pos_right, mul_assoc, mul_left_comm, one-le-pow, pow-succ'}
 use Rattle.std.proofs.lemmas.List.{drop-replicate, length-append, length-drop, length-replicate, length-take, length-take-le, take-take, take_all, take_min}
 use Rattle.std.proofs.lemmas.List.Elements.{All-cons, All-drop, All-head, All-nil, All-same, All-tail, All-take}
@@ -44,6 +44,32 @@ front_octets octets count = ap (λ n. take n octets) (min_comm (length octets) c
 pub from_le_bytes-8 : (room : List ℕ) → length room ≡ 8 → from_le_bytes w64 room ≡ packed (nibbles room)
 from_le_bytes-8 (a ∷ b ∷ c ∷ d ∷ e ∷ f ∷ g ∷ h ∷ []) full = omega arith
 from_le_bytes-8 room full = absurd (omega arith)
+
+-- the number that std makes of octets 2 to 9 of a room is that of their nibbles
+pub from_le_bytes-room : (room : List ℕ) → 9 ≤ length room
+    → from_le_bytes w64 (get_or room 1 0 ∷ get_or room 2 0 ∷ get_or room 3 0 ∷ get_or room 4 0 ∷ get_or room 5 0 ∷ get_or room 6 0 ∷ get_or room 7 0 ∷ get_or room 8 0 ∷ [])
+    ≡ packed (nibbles (take 8 (drop 1 room)))
+from_le_bytes-room (o ∷ a ∷ b ∷ c ∷ d ∷ e ∷ f ∷ g ∷ h ∷ rest) full = from_le_bytes-8 (a ∷ b ∷ c ∷ d ∷ e ∷ f ∷ g ∷ h ∷ []) refl
+from_le_bytes-room room full = absurd (omega arith)
+
+-- the first of zeros have the number 0
+packed-take-replicate : (count most : ℕ) → packed (nibbles (take most (replicate count 0))) ≡ 0
+packed-take-replicate count zero = refl
+packed-take-replicate zero (suc most) = refl
+packed-take-replicate (suc count) (suc most) = let rest = packed-take-replicate count most in omega arith
+
+-- zeros behind octets do not change the number of the first ones
+packed-take-append : (most : ℕ) (octets zeros : List ℕ) → ((n : ℕ) → packed (nibbles (take n zeros)) ≡ 0)
+    → packed (nibbles (take most (octets ++ zeros))) ≡ packed (nibbles (take most octets))
+packed-take-append zero octets zeros none = refl
+packed-take-append (suc most) [] zeros none = none (suc most)
+packed-take-append (suc most) (octet ∷ octets) zeros none = let rest = packed-take-append most octets zeros none in omega arith
+
+-- so octets 2 to 9 of a room have the number of the digits of its octets
+pub packed_digits-room : (most : ℕ) (octets : List ℕ) → 1 ≤ length octets → packed_digits (room_with most octets) ≡ packed_digits octets
+packed_digits-room most [] some = absurd (omega arith)
+packed_digits-room most (first ∷ octets) some =
+    packed-take-append 8 octets _ (λ n. ap (λ zeros. packed (nibbles (take n zeros))) (drop-replicate (length (first ∷ octets)) most 0) ∙ packed-take-replicate _ n)
 
 -- a nibble is below 16
 abbrev IsNibble : ℕ → Type 0

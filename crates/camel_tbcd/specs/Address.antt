@@ -4,4 +4,4 @@ use Rattle.camel_tbcd.specs.declared.address.Address.{Address}
 
 -- the octets that it lends
 abbrev pub octets : Address → List ℕ
-octets address = address.bytes.now
+octets address = address.digits.bytes.now

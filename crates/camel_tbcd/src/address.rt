@@ -49,8 +49,9 @@ impl Error for AddressFault {}
 /// 4321, and TBCD digits follow. No octet is refused for its value.
 #[derive(Clone, Copy, Debug)]
 pub struct Address<'a> {
-    bytes: &'a [u8],
-    ghost address: { IsAddress max_address_length bytes.now },
+    // Its octets, and its digits with their count, so that they are counted once.
+    digits: Digits<'a>,
+    ghost address: { IsAddress max_address_length digits.bytes.now },
 }
 
 impl<'a> Address<'a> {
@@ -68,15 +69,17 @@ impl<'a> Address<'a> {
         ensures too_long { IsErrOf result AddressFault.TooLong ↔ (max_address_length < length bytes.now) }
     {
         check_length(bytes, MAX_ADDRESS_LENGTH)?;
-        Ok(Address { bytes })
+        Ok(Address {
+            digits: Digits::of_address(bytes),
+        })
     }
 
-    // The address whose octets an owned address keeps.
-    pub(crate) fn of_kept(bytes: &'a [u8]) -> Address<'a>
-        requires { IsAddress max_address_length bytes.now }
-        ensures { octets result ≡ bytes.now }
+    // The address that has these digits.
+    pub(crate) fn of_digits(digits: Digits<'a>) -> Address<'a>
+        requires { IsAddress max_address_length digits.bytes.now }
+        ensures { octets result ≡ digits.entry.bytes.now }
     {
-        Address { bytes }
+        Address { digits }
     }
 
     /// The nature of address, 0 to 7: bits 765 of octet 1. TS 29.002 names 0 unknown, 1 international,
@@ -85,7 +88,7 @@ impl<'a> Address<'a> {
         ensures nature { result ≡ nature_of (octets self.now) }
         ensures range { result ≤ 7 }
     {
-        self.bytes[0] / 16 % 8
+        self.bytes()[0] / 16 % 8
     }
 
     /// The numbering plan, 0 to 15: bits 4321 of octet 1. TS 29.002 names 0 unknown, 1 E.164, 3 X.121,
@@ -94,7 +97,7 @@ impl<'a> Address<'a> {
         ensures plan { result ≡ plan_of (octets self.now) }
         ensures range { result ≤ 15 }
     {
-        self.bytes[0] % 16
+        self.bytes()[0] % 16
     }
 
     /// Whether two addresses agree in what the profile compares of octet 1: the nature of address, and for
@@ -120,7 +123,7 @@ impl<'a> Address<'a> {
         ensures same { result.now ≡ octets self.now }
         ensures address { IsAddress max_address_length (octets self.now) }
     {
-        self.bytes
+        self.digits.bytes()
     }
 
     /// Its digits: the nibbles after octet 1, low nibble first, before the first filler. Nothing after that
@@ -128,7 +131,7 @@ impl<'a> Address<'a> {
     pub fn digits(&self) -> Digits<'a>
         ensures { digit_list result ≡ digits (octets self.now) }
     {
-        Digits::of_address(self.bytes)
+        self.digits
     }
 }
 

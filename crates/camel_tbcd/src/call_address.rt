@@ -3,7 +3,7 @@ ghost use Rattle.camel_tbcd.specs.Address.{octets};
 ghost use Rattle.camel_tbcd.specs.AddressLength.{IsAddress, max_address_length};
 
 use crate::address::{Address, AddressFault, MAX_ADDRESS_LENGTH, check_length};
-use crate::short_list::ShortList;
+use crate::kept_octets::KeptOctets;
 use std::marker::Model;
 
 /// An owned AddressString of TS 29.002, as the destination of a call: 1 to 20 octets.
@@ -11,7 +11,7 @@ use std::marker::Model;
 /// Contracts see it as the list of its octets. Two are equal where their octets are.
 #[derive(Clone, Copy, Debug, PartialEq, Eq)]
 pub struct CallAddress {
-    octets: ShortList<MAX_ADDRESS_LENGTH>,
+    octets: KeptOctets<MAX_ADDRESS_LENGTH>,
 }
 
 impl Model for CallAddress {
@@ -38,7 +38,7 @@ impl CallAddress {
     {
         check_length(bytes, MAX_ADDRESS_LENGTH)?;
         Ok(CallAddress {
-            octets: ShortList::from_slice(bytes),
+            octets: KeptOctets::from_slice(bytes),
         })
     }
 
@@ -47,6 +47,6 @@ impl CallAddress {
         ensures same { octets result ≡ self.now }
         ensures address { IsAddress max_address_length self.now }
     {
-        Address::of_kept(self.octets.as_slice())
+        self.octets.lend()
     }
 }

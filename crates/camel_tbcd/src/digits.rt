@@ -28,7 +28,7 @@ impl<'a> Digits<'a> {
     // The digits of an address of these octets.
     pub(crate) fn of_address(bytes: &'a [u8]) -> Digits<'a>
         requires { IsAddress max_address_length bytes.now }
-        ensures { digit_list result ≡ digits bytes.now }
+        ensures { result.bytes.now ≡ bytes.now }
     {
         Digits {
             bytes,
@@ -41,9 +41,16 @@ impl<'a> Digits<'a> {
     pub(crate) fn of_counted(bytes: &'a [u8], len: usize, number: u64) -> Digits<'a>
         requires counted { len ≡ length (digits bytes.now) }
         requires numbered { number ≡ packed_digits bytes.now }
-        ensures { digit_list result ≡ digits bytes.now }
+        ensures { result.bytes.now ≡ bytes.now }
     {
         Digits { bytes, len, number }
+    }
+
+    // The octets of that address.
+    pub(crate) fn bytes(&self) -> &'a [u8]
+        ensures { result.now ≡ self.now.bytes.now }
+    {
+        self.bytes
     }
 
     /// How many digits there are.

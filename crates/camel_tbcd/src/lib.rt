@@ -10,6 +10,7 @@ mod call_address;
 mod digits;
 mod imsi;
 mod isdn_address;
+mod kept_octets;
 mod packed_imsi;
 mod profile;
 mod short_list;
