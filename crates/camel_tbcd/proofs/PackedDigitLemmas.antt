@@ -156,7 +156,7 @@ product-mod number most factor some more =
     ∙ mod-mul-add (number / most) (most * factor) (left * factor) fits
 
 -- a digit in base 16 is 4 bits
-pow-16 : (count : ℕ) → 2 ^ (4 * count) ≡ 16 ^ count
+pub pow-16 : (count : ℕ) → 2 ^ (4 * count) ≡ 16 ^ count
 pow-16 zero = refl
 pow-16 (suc count) =
     let more : 4 * suc count ≡ 4 + 4 * count = omega arith in

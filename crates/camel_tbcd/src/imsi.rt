@@ -135,7 +135,8 @@ impl Imsi {
         }
     }
 
-    fn of_decimal(digits: &[u8]) -> Imsi
+    // The IMSI of these digits.
+    pub(crate) fn of_decimal(digits: &[u8]) -> Imsi
         requires { IsImsi digits.now }
         ensures { result ≡ digits.now }
     {

@@ -3,7 +3,7 @@ ghost use Rattle.std.specs.Cmp.Lexicographic.{slice_cmp};
 ghost use Rattle.std.specs.Ordering.{eq_by_cmp, nat_cmp};
 ghost use Rattle.camel_tbcd.specs.ImsiOrder.{order_number};
 
-use crate::imsi::Imsi;
+use crate::imsi::{Imsi, MAX_IMSI_DIGITS};
 use std::marker::Model;
 
 /// An IMSI in 8 octets: the number of its digits alone.
@@ -47,6 +47,22 @@ impl PackedImsi {
         ensures { result ≡ eq_by_cmp (slice_cmp nat_cmp) imsi.now self.now }
     {
         imsi.number() == self.number
+    }
+
+    /// The same IMSI, with its digits apart.
+    pub fn imsi(&self) -> Imsi
+        ensures { result ≡ self.now }
+    {
+        let mut digits = [0; MAX_IMSI_DIGITS];
+        for at in 0..MAX_IMSI_DIGITS {
+            let value = (self.number >> (4 * (MAX_IMSI_DIGITS - 1 - at))) % 16;
+            // A digit stands in its place as the digit plus 1, and 0 stands after the last one.
+            if value == 0 {
+                return Imsi::of_decimal(&digits[..at]);
+            }
+            digits[at] = (value - 1) as u8;
+        }
+        Imsi::of_decimal(&digits)
     }
 
     /// The number of its digits, as [`Imsi::number`].
