@@ -1,6 +1,7 @@
 pub mod CloneLemmas
 pub mod LineLemmas
 pub mod LinesLemmas
+pub mod ListedLemmas
 pub mod PlacesLemmas
 pub mod SegmentsLemmas
 pub mod TableLemmas

@@ -1,5 +1,5 @@
 -- Finite maps from IMSIs, each the list of its digits.
-use Rattle.std.specs.Prelude.{◌≡◌, ℕ, Bool, List}
+use Rattle.std.specs.Prelude.{◌≡◌, ℕ, ◌+◌, Bool, List, count_by, if◌then◌else◌}
 use Rattle.std.specs.Cmp.Lexicographic.{slice_cmp}
 use Rattle.std.specs.FinMap.{FinMap, from_entries, get}
 use Rattle.std.specs.Option.{is_some}
@@ -19,3 +19,19 @@ is_same imsi other = eq_by_cmp (slice_cmp nat_cmp) imsi other
 -- two maps have values of the same IMSIs
 abbrev pub HasSameKeys : {V : Type 0} → ByImsi V → ByImsi V → Type 0
 HasSameKeys m n = (imsi : List ℕ) → is_some (get n imsi) ≡ is_some (get m imsi)
+
+-- how often a list has an IMSI
+abbrev pub times_listed : List ℕ → List (List ℕ) → ℕ
+times_listed imsi imsis = count_by (λ listed. is_same imsi listed) imsis
+
+-- how many values a map has of an IMSI, one or none
+abbrev pub times_stored : {V : Type 0} → List ℕ → ByImsi V → ℕ
+times_stored imsi m = if is_some (get m imsi) then 1 else 0
+
+-- a list has each IMSI of which the map has a value once, and no others
+abbrev pub ListsEachOnce : {V : Type 0} → List (List ℕ) → ByImsi V → Type 0
+ListsEachOnce imsis m = (imsi : List ℕ) → times_listed imsi imsis ≡ times_stored imsi m
+
+-- a longer list has each IMSI of which the map has a value once more, and the others as often as before
+abbrev pub ListsEachOnceMore : {V : Type 0} → List (List ℕ) → List (List ℕ) → ByImsi V → Type 0
+ListsEachOnceMore before imsis m = (imsi : List ℕ) → times_listed imsi imsis ≡ times_listed imsi before + times_stored imsi m

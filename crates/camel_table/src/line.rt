@@ -1,7 +1,7 @@
 ghost use Rattle.std.specs.Prelude.{◌≡◌, ◌≤◌, ◌==◌, [], not, filter, find, vec_capacity, vec_len, IfOk, position, OnErr, OnOk, IfSome, IfNone, None};
 ghost use Rattle.std.specs.FinMap as map;
 ghost use Rattle.std.specs.Option.{option_copied, option_map};
-ghost use Rattle.camel_table.specs.ByImsi.{is_same};
+ghost use Rattle.camel_table.specs.ByImsi.{ListsEachOnceMore, is_same};
 ghost use Rattle.camel_table.specs.Places.{place_of};
 
 use crate::places::Places;
@@ -31,6 +31,12 @@ impl<V> Entry<V> {
         ensures { result ≡ is_same imsi.now self.now.0 }
     {
         self.key.is(imsi)
+    }
+
+    fn imsi(&self) -> Imsi
+        ensures { result ≡ self.now.0 }
+    {
+        self.key.imsi()
     }
 
     fn value(&self) -> &V
@@ -100,6 +106,20 @@ impl<V> Line<V> {
         ensures { option_copied result ≡ map.get self.now imsi.now }
     {
         find_value(&self.entries, imsi)
+    }
+
+    /// Lists each IMSI that has a value, after those that are listed. Fails with `AllocError` where memory is refused.
+    pub(crate) fn push_imsis(&self, imsis: &mut Vec<Imsi>) -> Result<(), AllocError>
+        ensures { OnOk result (ListsEachOnceMore imsis.old.items imsis.new.items self.now) }
+    {
+        for at in 0..self.entries.len() {
+            let imsi = self.entries[at].imsi();
+            // Only the first entry of an IMSI counts, and no invariant says that there is no other one.
+            if find_value(&self.entries[..at], &imsi).is_none() {
+                imsis.push(imsi)?;
+            }
+        }
+        Ok(())
     }
 
     /// Puts a value in the place of the one that an IMSI has, which it returns. Where it has none, nothing changes.

@@ -1,6 +1,7 @@
-ghost use Rattle.std.specs.Prelude.{◌≡◌, ◌⊎◌, ◌<◌, ◌≤◌, ◌^◌, ◌++◌, [], ◌∷◌, length, IfNone, IfSome, OnErr, OnOk};
+ghost use Rattle.std.specs.Prelude.{◌≡◌, ◌⊎◌, ◌<◌, ◌≤◌, ◌^◌, ◌++◌, [], ◌∷◌, length, IfNone, IfOk, IfSome, OnErr, OnOk};
 ghost use Rattle.std.specs.FinMap as map;
 ghost use Rattle.std.specs.Option.{option_copied};
+ghost use Rattle.camel_table.specs.ByImsi.{ListsEachOnce};
 
 use crate::line::Line;
 use crate::places::Places;
@@ -67,6 +68,18 @@ impl<V, S: BuildHasher + Copy> Table<V, S> {
             return None;
         }
         self.lines.get(self.places.place(imsi.number())).get(imsi)
+    }
+
+    /// The IMSIs that have values, each once, in no order that is promised. Fails with `AllocError` where memory is
+    /// refused.
+    pub fn imsis(&self) -> Result<Vec<Imsi>, AllocError>
+        ensures { IfOk result (λ imsis. ListsEachOnce imsis.items self.now) }
+    {
+        let mut imsis = Vec::new(self.alloc);
+        for at in 0..self.lines.len() {
+            self.lines.get(at).push_imsis(&mut imsis)?;
+        }
+        Ok(imsis)
     }
 }
 

@@ -2,6 +2,7 @@
 
 use camel_table::Table;
 use camel_tbcd::Imsi;
+use std::alloc::AllocError;
 use std::hash::BuildHasher;
 use std::process::Abort;
 use std::test::Fail;
@@ -19,4 +20,14 @@ pub(crate) fn put_again<S: BuildHasher + Copy>(
         table.put(imsi, value)?;
     }
     Ok(())
+}
+
+/// The IMSIs that have values. A call that fails for want of memory is made again.
+pub(crate) fn imsis_again<S: BuildHasher + Copy>(
+    table: &Table<u64, S>,
+) -> Result<Vec<Imsi>, AllocError> {
+    match table.imsis() {
+        Ok(imsis) => Ok(imsis),
+        Err(_) => table.imsis(),
+    }
 }

@@ -1,4 +1,4 @@
-use crate::given::put_again;
+use crate::given::{imsis_again, put_again};
 use camel_fixtures::imsi_of;
 use camel_table::Table;
 use std::hash::{BuildHasher, Hasher};
@@ -44,5 +44,22 @@ fn finds_each_where_all_are_in_one_line(rt: HostRuntime) -> Result<(), Fail> {
         assert_eq!(rt; table.get(&imsi_of(number)?).copied(), there);
     }
     assert_eq!(rt; table.get(&imsi_of(SUBSCRIBERS)?), None);
+    Ok(())
+}
+
+#[test]
+fn lists_each_where_all_are_in_one_line(rt: HostRuntime) -> Result<(), Fail> {
+    let mut table = Table::new(rt.alloc(), Poor);
+    for number in 0..SUBSCRIBERS {
+        put_again(&rt, &mut table, &imsi_of(number)?, number)?;
+    }
+    table.take_out(&imsi_of(0)?);
+    let mut imsis = imsis_again(&table)?;
+    imsis.sort_unstable();
+    assert_eq!(rt; imsis.len() as u64, SUBSCRIBERS - 1);
+    for number in 1..SUBSCRIBERS {
+        let imsi = imsi_of(number)?;
+        assert_eq!(rt; imsis.get(number as usize - 1), Some(&imsi));
+    }
     Ok(())
 }

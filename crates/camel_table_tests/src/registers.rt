@@ -1,9 +1,11 @@
-use crate::given::put_again;
+use crate::given::{imsis_again, put_again};
 use camel_fixtures::imsi_of;
 use camel_table::{Seed, Table};
 use std::test::Fail;
 
 const SUBSCRIBERS: u64 = 1_000_000;
+
+const LISTED: u64 = 10_000;
 
 #[test]
 fn finds_each_of_a_million_that_is_there(rt: HostRuntime) -> Result<(), Fail> {
@@ -19,6 +21,28 @@ fn finds_each_of_a_million_that_is_there(rt: HostRuntime) -> Result<(), Fail> {
     for number in 0..SUBSCRIBERS {
         let there = (number % 2 == 1).then_some(number);
         assert_eq!(rt; table.get(&imsi_of(number)?).copied(), there);
+    }
+    Ok(())
+}
+
+#[test]
+fn lists_each_that_is_there(rt: HostRuntime) -> Result<(), Fail> {
+    let mut table = Table::new(rt.alloc(), Seed::fixed());
+    assert!(rt; table.imsis()?.is_empty());
+    for number in 0..LISTED {
+        put_again(&rt, &mut table, &imsi_of(number)?, number)?;
+    }
+    for number in 0..LISTED {
+        if number % 2 == 0 {
+            table.take_out(&imsi_of(number)?);
+        }
+    }
+    let mut imsis = imsis_again(&table)?;
+    imsis.sort_unstable();
+    assert_eq!(rt; imsis.len() as u64, LISTED / 2);
+    for number in 0..LISTED / 2 {
+        let imsi = imsi_of(2 * number + 1)?;
+        assert_eq!(rt; imsis.get(number as usize), Some(&imsi));
     }
     Ok(())
 }

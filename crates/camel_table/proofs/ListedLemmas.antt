@@ -1,0 +1,126 @@
+-- How often a list has an IMSI, after the entries of a line, or the lines of a table, that are gone through.
+use Rattle.std.proofs.Common.{◌≡◌, ◌∙◌, ℕ, zero, suc, ◌+◌, ◌<◌, ◌≤◌, Bool, true, false, cond, T, List, [], ◌∷◌, ◌++◌, Some, None, IsSome, length, nat_lt, take, inl, inr, refl, sym, ap, subst, arith}
+use Rattle.std.specs.Cmp.Lexicographic.{slice_cmp, nat_list_cmp_total}
+use Rattle.std.specs.FinMap.{empty, find, get, get-empty, get-from_entries}
+use Rattle.std.specs.Option.{is_some}
+use Rattle.std.specs.Ordering.{nat_cmp}
+use Rattle.std.proofs.Math.Nat.{add-zero, add_assoc, zero-add}
+use Rattle.std.proofs.lemmas.Bool.{ltb-false, ltb-true}
+use Rattle.std.proofs.lemmas.Bool.Decides.{eqb_tells}
+use Rattle.std.proofs.lemmas.List.{get_or-take}
+use Rattle.std.proofs.lemmas.List.Sums.{sum_by-append}
+use Rattle.camel_table.specs.ByImsi.{ByImsi, ListsEachOnce, ListsEachOnceMore, is_same, map_of, times_listed, times_stored}
+use Rattle.camel_table.specs.Lines.{ArePlaced, table_map}
+use Rattle.camel_table.proofs.LineLemmas.{same_are_equal}
+use Rattle.camel_table.proofs.LinesLemmas.{get-table, line_at}
+
+abbrev once_if : Bool → ℕ
+once_if b = cond b 1 0
+
+-- an IMSI more in the list
+listed_more : (q imsi : List ℕ) (imsis : List (List ℕ)) → times_listed q (imsis ++ imsi ∷ []) ≡ times_listed q imsis + once_if (is_same q imsi)
+listed_more q imsi imsis = sum_by-append (λ listed. once_if (is_same q listed)) imsis (imsi ∷ []) ∙ omega arith
+
+abbrev Entries : Type 0 → Type 0
+Entries V = List (List ℕ × V)
+
+module _ {V : Type 0} where
+  -- an entry more is found where none before it has its IMSI
+  found_more : (q : List ℕ) (es : Entries V) (e : List ℕ × V) → is_some (find (slice_cmp nat_cmp) q (es ++ e ∷ [])) ≡ cond (is_some (find (slice_cmp nat_cmp) q es)) true (is_same q e.0)
+  found_more q [] e = elim (is_same q e.0) as (λ b. is_some (cond b (Some e.1) None) ≡ b) [ true ↦ refl | false ↦ refl ]
+  found_more q (x ∷ es) e =
+      elim (is_same q x.0) as (λ b. is_some (cond b (Some x.1) (find (slice_cmp nat_cmp) q (es ++ e ∷ []))) ≡ cond (is_some (cond b (Some x.1) (find (slice_cmp nat_cmp) q es))) true (is_same q e.0)) [
+        | true ↦ refl
+        | false ↦ found_more q es e
+      ]
+
+  stored_more : (q : List ℕ) (es : Entries V) (e : List ℕ × V) → is_some (get (map_of (es ++ e ∷ [])) q) ≡ cond (is_some (get (map_of es) q)) true (is_same q e.0)
+  stored_more q es e =
+      ap is_some (get-from_entries nat_list_cmp_total (es ++ e ∷ []) q) ∙ found_more q es e
+      ∙ ap (λ o. cond (is_some o) true (is_same q e.0)) (sym (get-from_entries nat_list_cmp_total es q))
+
+  none_stored : (q : List ℕ) (m : ByImsi V) → m ≡ empty → is_some (get m q) ≡ false
+  none_stored q m none = ap (λ l. is_some (get l q)) none ∙ ap is_some (get-empty (slice_cmp nat_cmp) q)
+
+  -- nothing is stored
+  pub none_more : (before : List (List ℕ)) (m : ByImsi V) → m ≡ empty → ListsEachOnceMore before before m
+  none_more before m none q = sym (ap (λ n. times_listed q before + n) (ap once_if (none_stored q m none)) ∙ add-zero _)
+
+  pub none_listed : (m : ByImsi V) → m ≡ empty → ListsEachOnce [] m
+  none_listed m none q = sym (ap once_if (none_stored q m none))
+
+  -- the first entry of an IMSI, which is listed
+  pub first_listed : (before imsis : List (List ℕ)) (es : Entries V) (e : List ℕ × V) → is_some (get (map_of es) e.0) ≡ false
+      → ListsEachOnceMore before imsis (map_of es) → ListsEachOnceMore before (imsis ++ e.0 ∷ []) (map_of (es ++ e ∷ []))
+  first_listed before imsis es e first so_far q =
+      listed_more q e.0 imsis ∙ ap (λ n. n + once_if (is_same q e.0)) (so_far q) ∙ add_assoc (times_listed q before) (times_stored q (map_of es)) _
+      ∙ ap (λ n. times_listed q before + n) (either (is_some (get (map_of es) q)) (is_same q e.0) refl refl ∙ ap once_if (sym (stored_more q es e)))
+    where
+      either : (stored same : Bool) → is_some (get (map_of es) q) ≡ stored → is_same q e.0 ≡ same → once_if stored + once_if same ≡ once_if (cond stored true same)
+      either true true s p = absurd (subst T (sym s ∙ ap (λ key. is_some (get (map_of es) key)) (same_are_equal q e.0 p) ∙ first) tt)
+      either true false s p = refl
+      either false same s p = zero-add _
+
+  -- a further entry of an IMSI, which is passed over
+  pub further_passed : (before imsis : List (List ℕ)) (es : Entries V) (e : List ℕ × V) → is_some (get (map_of es) e.0) ≡ true
+      → ListsEachOnceMore before imsis (map_of es) → ListsEachOnceMore before imsis (map_of (es ++ e ∷ []))
+  further_passed before imsis es e further so_far q =
+      so_far q ∙ ap (λ b. times_listed q before + once_if b) (either (is_some (get (map_of es) q)) (is_same q e.0) refl refl ∙ sym (stored_more q es e))
+    where
+      either : (stored same : Bool) → is_some (get (map_of es) q) ≡ stored → is_same q e.0 ≡ same → stored ≡ cond stored true same
+      either true same s p = refl
+      either false true s p = sym s ∙ ap (λ key. is_some (get (map_of es) key)) (same_are_equal q e.0 p) ∙ further
+      either false false s p = refl
+
+  -- of the first lines, there are those before their end
+  line_within : (n at : ℕ) (lines : List (ByImsi V)) → at < n → line_at (take n lines) at ≡ line_at lines at
+  line_within n at lines lt = get_or-take n lines at empty lt
+
+  line_beyond : (n at : ℕ) (lines : List (ByImsi V)) → n ≤ at → line_at (take n lines) at ≡ empty
+  line_beyond zero at lines le = refl
+  line_beyond (suc n) at [] le = refl
+  line_beyond (suc n) zero (line ∷ lines) le = absurd (omega (arith, le))
+  line_beyond (suc n) (suc at) (line ∷ lines) le = line_beyond n at lines (omega (arith, le))
+
+  module _ (place : List ℕ → ℕ) (lines : List (ByImsi V)) (placed : ArePlaced place lines) where
+    placed_first : (n : ℕ) → ArePlaced place (take n lines)
+    placed_first n at q some =
+        elim (nat_lt at n) as (λ b. nat_lt at n ≡ b → place q ≡ at) [
+          | true ↦ λ p. placed at q (subst (λ line. IsSome (get line q)) (line_within n at lines (ltb-true at n p)) some)
+          | false ↦ λ p. absurd (subst T (sym (sym (none_stored q _ (line_beyond n at lines (ltb-false at n p))) ∙ some)) tt)
+        ] refl
+
+    stored_first : (n : ℕ) (q : List ℕ) → is_some (get (table_map (take n lines)) q) ≡ is_some (get (line_at (take n lines) (place q)) q)
+    stored_first n q = ap is_some (get-table place (take n lines) (placed_first n) q)
+
+    elsewhere : (at : ℕ) (q : List ℕ) → (place q ≡ at → ⊥) → is_some (get (line_at lines at) q) ≡ false
+    elsewhere at q differ = elim (is_some (get (line_at lines at) q)) as (λ b. is_some (get (line_at lines at) q) ≡ b → b ≡ false) [
+      | true ↦ λ some. absurd (differ (placed at q some))
+      | false ↦ λ none. refl
+    ] refl
+
+    same_line : (at i : ℕ) → (i ≡ at → ⊥) → line_at (take at lines) i ≡ line_at (take (at + 1) lines) i
+    same_line at i differ = elim (nat_lt i at) as (λ b. nat_lt i at ≡ b → line_at (take at lines) i ≡ line_at (take (at + 1) lines) i) [
+      | true ↦ λ p. let lt = ltb-true i at p in line_within at i lines lt ∙ sym (line_within (at + 1) i lines (omega (arith, lt)))
+      | false ↦ λ p. let le = ltb-false i at p in line_beyond at i lines le ∙ sym (line_beyond (at + 1) i lines (omega (arith, le, differ)))
+    ] refl
+
+    -- an IMSI stands in the lines so far, or in the next line, or in neither
+    next_stored : (at : ℕ) → at < length lines → (q : List ℕ)
+        → times_stored q (table_map (take at lines)) + times_stored q (line_at lines at) ≡ times_stored q (table_map (take (at + 1) lines))
+    next_stored at inside q =
+        elim (eqb_tells (place q) at) [
+          | inl here ↦
+              ap (λ n. n + times_stored q (line_at lines at)) (ap once_if (stored_first at q ∙ none_stored q _ (line_beyond at (place q) lines (omega (arith, here.1)))))
+              ∙ zero-add _
+              ∙ ap once_if (sym (stored_first (at + 1) q ∙ ap (λ line. is_some (get line q)) (line_within (at + 1) (place q) lines (omega (arith, here.1)) ∙ ap (line_at lines) here.1)))
+          | inr there ↦
+              ap (λ n. times_stored q (table_map (take at lines)) + n) (ap once_if (elsewhere at q (λ same. there.1 same)))
+              ∙ add-zero _
+              ∙ ap once_if (stored_first at q ∙ ap (λ line. is_some (get line q)) (same_line at (place q) there.1) ∙ sym (stored_first (at + 1) q))
+        ]
+
+    -- a line more that is gone through
+    pub line_listed : (at : ℕ) → at < length lines → (before imsis : List (List ℕ)) → ListsEachOnce before (table_map (take at lines))
+        → ListsEachOnceMore before imsis (line_at lines at) → ListsEachOnce imsis (table_map (take (at + 1) lines))
+    line_listed at inside before imsis so_far more q = more q ∙ ap (λ n. n + times_stored q (line_at lines at)) (so_far q) ∙ next_stored at inside q
