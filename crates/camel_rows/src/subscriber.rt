@@ -1,11 +1,11 @@
 //! What is stored: the record of a subscriber, the records of all, and the updates that change them.
 
-ghost use Rattle.std.specs.Prelude.{◌≡◌, IfOk};
+ghost use Rattle.std.specs.Prelude.{◌≡◌, IfErr, IfOk, None, Some};
 ghost use Rattle.std.specs.Option.{option_copied, option_map};
 ghost use Rattle.camel_rows.specs.CsiChange.{changed_by, with_changes};
-ghost use Rattle.camel_rows.specs.CsisPresent.{csis_of};
+ghost use Rattle.camel_rows.specs.CsisPresent.{csis_of, csis_refusal};
 ghost use Rattle.camel_rows.specs.Subscriber.{empty_record, entry_at, entry_data, row_at, rows_of};
-ghost use Rattle.camel_rows.specs.Update.{csi_after};
+ghost use Rattle.camel_rows.specs.Update.{csi_after, record_after, update_imsi};
 
 pub(crate) mod admission;
 pub(crate) mod csi_change;
@@ -26,7 +26,9 @@ use crate::subscriber::csis_present::CsisPresent;
 use crate::subscriber::lent::Lent;
 use crate::subscriber::one_block::OneBlock;
 use crate::subscriber::stored_csi::StoredCsi;
-use camel_criteria::{OCriteria, TCriteria, is_o_detection_point, is_vt_detection_point};
+use crate::subscriber::update::Update;
+use camel_criteria::{OCriteria, Refusal, TCriteria, is_o_detection_point, is_vt_detection_point};
+use camel_tbcd::Imsi;
 use std::alloc::{AllocError, Global};
 use std::fmt;
 use std::marker::Model;
@@ -102,6 +104,23 @@ impl Subscriber {
         } else {
             None
         }
+    }
+
+    /// An Insert that is not refused where the IMSI has the empty record, and makes it equal to this one. Fails with
+    /// `OutOfMemory` (102) where memory is refused.
+    pub fn to_insert(&self, imsi: Imsi) -> Result<Update, Refusal>
+        ensures equal { IfOk result (λ update. record_after (Some empty_record) update ≡ Some self.now) }
+        ensures accepted { IfOk result (λ update. csis_refusal (Some (csis_of empty_record)) update ≡ None) }
+        ensures imsi { IfOk result (λ update. update_imsi update ≡ Some imsi) }
+        ensures only { IfErr result (λ why. why ≡ Refusal.OutOfMemory) }
+    {
+        Ok(Update::Insert {
+            imsi,
+            o: self.o().copied(),
+            o_criteria: self.stored_o().map(StoredCsi::criteria).cloned()?,
+            vt: self.vt().copied(),
+            t_criteria: self.stored_vt().map(StoredCsi::criteria).cloned()?,
+        })
     }
 
     /// The O-CSI with its criteria, where it is stored.

@@ -23,7 +23,7 @@ fn copied_again(update: &Update) -> Result<Update, Refusal> {
     }
 }
 
-fn apply_again(
+pub(crate) fn apply_again(
     rt: &impl Abort,
     records: &mut Records,
     imsi: Imsi,

@@ -16,4 +16,6 @@ mod given;
 #[cfg(test)]
 mod marked;
 #[cfg(test)]
+mod refill;
+#[cfg(test)]
 mod updates;

@@ -1,6 +1,7 @@
 ghost use Rattle.std.specs.Prelude.{◌≡◌, ◌⊎◌, Some, IfErr, IfNone, IfOk, IfSome, IsOk, IsSome, OnErr, OnOk};
 ghost use Rattle.std.specs.FinMap as map;
 ghost use Rattle.std.specs.Option.{option_copied, option_map};
+ghost use Rattle.camel_table.specs.ByImsi.{ListsEachOnce};
 ghost use Rattle.camel_rows.specs.ByImsi.{value_of, with_value};
 ghost use Rattle.camel_rows.specs.CsiChange.{with_changes};
 ghost use Rattle.camel_rows.specs.CsisPresent.{csis_of};
@@ -65,6 +66,14 @@ impl Records {
         ensures { option_copied result ≡ map.get self.now imsi.now }
     {
         self.table.get(imsi)
+    }
+
+    /// Each subscriber's IMSI, once, in no order that is promised. Fails with `OutOfMemory` (102) where memory is refused.
+    pub fn imsis(&self) -> Result<Vec<Imsi>, Refusal>
+        ensures each_once { IfOk result (λ imsis. ListsEachOnce imsis.items self.now) }
+        ensures only { IfErr result (λ why. why ≡ Refusal.OutOfMemory) }
+    {
+        Ok(self.table.imsis()?)
     }
 
     /// Whether an update may be applied.

@@ -61,7 +61,9 @@ impl<const MOST: usize, E: CriteriaEntry> StoredCsi<MOST, E> {
         &self.csi
     }
 
-    pub(crate) fn criteria(&self) -> &CriteriaSet<E> {
+    pub(crate) fn criteria(&self) -> &CriteriaSet<E>
+        ensures { result.now ≡ self.now.entries }
+    {
         &self.criteria
     }
 
