@@ -8,6 +8,7 @@ ghost use Rattle.camel_rows.specs.Subscriber.{empty_record, entry_at, entry_data
 ghost use Rattle.camel_rows.specs.Update.{csi_after, record_after, update_imsi};
 
 pub(crate) mod admission;
+pub(crate) mod csi_blocks;
 pub(crate) mod csi_change;
 pub(crate) mod csis_present;
 pub(crate) mod directory;
@@ -21,6 +22,7 @@ pub(crate) mod update;
 use crate::csi::criteria_set::{OCriteriaSet, TCriteriaSet};
 use crate::csi::tdp_row::TdpRow;
 use crate::csi::{OCsi, VtCsi};
+use crate::subscriber::csi_blocks::CsiBlocks;
 use crate::subscriber::csi_change::CsiChange;
 use crate::subscriber::csis_present::CsisPresent;
 use crate::subscriber::lent::Lent;
@@ -30,8 +32,8 @@ use crate::subscriber::update::Update;
 use camel_criteria::{OCriteria, Refusal, TCriteria, is_o_detection_point, is_vt_detection_point};
 use camel_tbcd::Imsi;
 use std::alloc::{AllocError, Global};
-use std::fmt;
 use std::marker::Model;
+use std::{fmt, mem};
 
 /// A stored O-CSI with its criteria.
 pub(crate) type StoredOCsi = StoredCsi<2, OCriteria>;
@@ -44,17 +46,16 @@ pub(crate) type StoredVtCsi = StoredCsi<3, TCriteria>;
 /// Contracts see the two, each none or the list of its rows with the list of its criteria entries.
 #[derive(Drop)]
 pub struct Subscriber {
-    // Each CSI with its criteria in one block, so that one that is not stored takes little room.
-    o: Option<OneBlock<StoredOCsi>>,
-    vt: Option<OneBlock<StoredVtCsi>>,
+    csis: CsiBlocks,
 }
 
 impl Model for Subscriber {
+    ghost use Rattle.camel_rows.specs.CsiBlocks.{o_in, vt_in};
     ghost use Rattle.camel_rows.specs.Subscriber.{SubscriberData};
 
     ghost Value = { SubscriberData };
 
-    ghost view = { λ a. record { o = a.o; vt = a.vt } };
+    ghost view = { λ a. record { o = o_in a.csis; vt = vt_in a.csis } };
 }
 
 impl Subscriber {
@@ -62,7 +63,9 @@ impl Subscriber {
     pub(crate) fn new() -> Subscriber
         ensures { result ≡ empty_record }
     {
-        Subscriber { o: None, vt: None }
+        Subscriber {
+            csis: CsiBlocks::Neither,
+        }
     }
 
     /// The O-CSI, where it is stored.
@@ -127,14 +130,14 @@ impl Subscriber {
     pub(crate) fn stored_o(&self) -> Option<&StoredOCsi>
         ensures { option_copied result ≡ self.now.o }
     {
-        Some(self.o.as_ref()?.get())
+        self.csis.o()
     }
 
     /// The VT-CSI with its criteria, where it is stored.
     pub(crate) fn stored_vt(&self) -> Option<&StoredVtCsi>
         ensures { option_copied result ≡ self.now.vt }
     {
-        Some(self.vt.as_ref()?.get())
+        self.csis.vt()
     }
 
     /// Which CSIs are stored.
@@ -142,8 +145,8 @@ impl Subscriber {
         ensures { result ≡ csis_of self.now }
     {
         CsisPresent {
-            o: self.o.is_some(),
-            vt: self.vt.is_some(),
+            o: self.csis.o().is_some(),
+            vt: self.csis.vt().is_some(),
         }
     }
 
@@ -179,8 +182,11 @@ impl Subscriber {
     )
         ensures { self.new ≡ with_changes o vt self.old }
     {
-        o.apply(&mut self.o);
-        vt.apply(&mut self.vt);
+        let csis = mem::replace(&mut self.csis, CsiBlocks::Neither);
+        let (mut stored_o, mut stored_vt) = csis.into_parts();
+        o.apply(&mut stored_o);
+        vt.apply(&mut stored_vt);
+        self.csis = CsiBlocks::of(stored_o, stored_vt);
     }
 }
 
@@ -191,8 +197,7 @@ impl Clone for Subscriber {
 
     fn clone(&self) -> Result<Subscriber, AllocError> {
         Ok(Subscriber {
-            o: self.o.clone()?,
-            vt: self.vt.clone()?,
+            csis: self.csis.copy()?,
         })
     }
 }
