@@ -68,7 +68,9 @@ impl Records {
         self.table.get(imsi)
     }
 
-    /// Each subscriber's IMSI, once, in no order that is promised. Fails with `OutOfMemory` (102) where memory is refused.
+    /// Each subscriber's IMSI, once, in no order that is promised.
+    ///
+    /// Fails with `OutOfMemory` (102) where memory is refused.
     pub fn imsis(&self) -> Result<Vec<Imsi>, Refusal>
         ensures each_once { IfOk result (λ imsis. ListsEachOnce imsis.items self.now) }
         ensures only { IfErr result (λ why. why ≡ Refusal.OutOfMemory) }
