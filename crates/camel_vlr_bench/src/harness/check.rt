@@ -2,9 +2,9 @@ use crate::harness::store::{decide, open, publish};
 use crate::protocol::Check;
 use crate::workload::changes::Changes;
 use crate::workload::events::events_of;
-use crate::workload::sums::{Kind, Kinds, full, weighed};
+use crate::workload::sums::{Kinds, full, weighed};
 use anyhow::{Context, Result, anyhow};
-use camel_rows::{CallEvent, Decision};
+use camel_rows::CallEvent;
 use camel_vlr::{Session, Vlr};
 use std::sync::Wait;
 
@@ -36,20 +36,16 @@ fn check_session<R: AllocGlobal + Print + Wait>(
             changes.add_to(&mut batch, asked.batch)?;
             publish(rt, store, &mut batch)?;
         }
-        let (kind, outcome) = decide(session, event_at(&events, place)?, kind_and_sum)
+        let outcome = decide(session, event_at(&events, place)?)
             .ok()
             .context("the reader got no look")?;
-        kinds.count(kind);
-        sum = sum.wrapping_add(weighed(outcome, place));
+        kinds.count(&outcome);
+        sum = sum.wrapping_add(weighed(full(&outcome), place));
     }
     let [unknown, no_csi, not_armed, emergency, criteria, triggers] = kinds.counts;
     println!(rt; "{sum:016x}")?;
     println!(rt; "kinds {unknown} {no_csi} {not_armed} {emergency} {criteria} {triggers}")?;
     Ok(())
-}
-
-fn kind_and_sum(decision: &Decision) -> (Kind, u64) {
-    (Kind::of(decision), full(decision))
 }
 
 // The first event comes again after the last one.

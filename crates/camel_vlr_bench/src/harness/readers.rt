@@ -69,8 +69,8 @@ fn sum_of_chunk(session: &mut Session, first: u64, chunk: &[CallEvent]) -> Resul
     let mut sum: u64 = 0;
     let mut place = first;
     for event in chunk {
-        let outcome = decide(session, event, stable)?;
-        sum = sum.wrapping_add(weighed(outcome, place));
+        let outcome = decide(session, event)?;
+        sum = sum.wrapping_add(weighed(stable(&outcome), place));
         place = place.wrapping_add(1);
     }
     Ok(sum)
@@ -81,10 +81,10 @@ pub(super) fn last_sum(alloc: Global, session: &mut Session, known: u64) -> Resu
     let mut sum: u64 = 0;
     let mut place: u64 = 0;
     for subscriber in probed(alloc, known)? {
-        let outcome = decide(session, &probe(subscriber)?, full)
+        let outcome = decide(session, &probe(subscriber)?)
             .ok()
             .context("no look at the data in the end")?;
-        sum = sum.wrapping_add(weighed(outcome, place));
+        sum = sum.wrapping_add(weighed(full(&outcome), place));
         place = place.wrapping_add(1);
     }
     Ok(sum)

@@ -1,7 +1,7 @@
 use crate::workload::records::insert_of;
 use crate::workload::subscribers::imsi_of;
 use anyhow::{Result, ensure};
-use camel_rows::{CallEvent, Decision, Update};
+use camel_rows::{CallEvent, Outcome, Update};
 use camel_table::Seed;
 use camel_tbcd::Profile;
 use camel_vlr::{MAX_PLACES, MAX_UPDATES, NoLook, Session, Vlr};
@@ -65,14 +65,10 @@ pub(super) fn publish<R: Wait>(rt: &R, store: &mut Vlr, batch: &mut Vec<Update>)
     Ok(())
 }
 
-/// What is made of the decision of an event, by one look of the session, which is left then.
-pub(super) fn decide<T>(
-    session: &mut Session,
-    event: &CallEvent,
-    make: impl FnOnce(&Decision) -> T,
-) -> Result<T, NoLook> {
+/// What one look of the session decides of an event. What is needed of the decision is kept, and the look left.
+pub(super) fn decide(session: &mut Session, event: &CallEvent) -> Result<Outcome, NoLook> {
     let look = session.look()?;
-    let made = make(&look.decide(&event.lend()));
+    let outcome = Outcome::of(&look.decide(&event.lend()));
     look.leave();
-    Ok(made)
+    Ok(outcome)
 }

@@ -3,29 +3,43 @@
 ghost use Rattle.std.specs.Prelude.{◌≤◌};
 
 use camel_criteria::Handling;
-use camel_rows::{Decision, Reason, TdpRow};
-use camel_tbcd::Address;
+use camel_rows::{Outcome, Reason};
+use camel_tbcd::IsdnAddress;
 
-/// All that the outcome of a decision has.
-pub(crate) fn full(decision: &Decision) -> u64 {
-    match decision {
-        Decision::NoTrigger(reason) => of_reason(*reason),
-        Decision::Trigger { row, .. } => {
-            let scf = ScfOctets::of(&row.scf());
-            shredded(marks(row, row.key(), &scf), scf.first_eight, scf.ninth)
+/// All that an outcome has.
+pub(crate) fn full(outcome: &Outcome) -> u64 {
+    match outcome {
+        Outcome::NoTrigger(reason) => of_reason(*reason),
+        Outcome::Trigger {
+            dp,
+            key,
+            scf,
+            handling,
+        } => {
+            let scf = ScfOctets::of(scf);
+            shredded(
+                marks(*dp, *key, &scf, *handling),
+                scf.first_eight,
+                scf.ninth,
+            )
         }
     }
 }
 
-/// What no update changes of the outcome of a decision, and whether its service key and its gsmSCF address are of one version. So the
+/// What no update changes of an outcome, and whether its service key and its gsmSCF address are of one version. So the
 /// sum of a run does not depend on how decisions and publications mingle.
-pub(crate) fn stable(decision: &Decision) -> u64 {
-    match decision {
-        Decision::NoTrigger(reason) => of_reason(*reason),
-        Decision::Trigger { row, .. } => {
-            let (scf, version) = ScfOctets::of(&row.scf()).split_last();
-            let difference = u64::from(row.key() >> 20 & 0x7F) ^ version;
-            let marks = marks(row, row.key() & 0xF_FFFF, &scf);
+pub(crate) fn stable(outcome: &Outcome) -> u64 {
+    match outcome {
+        Outcome::NoTrigger(reason) => of_reason(*reason),
+        Outcome::Trigger {
+            dp,
+            key,
+            scf,
+            handling,
+        } => {
+            let (scf, version) = ScfOctets::of(scf).split_last();
+            let difference = u64::from(key >> 20 & 0x7F) ^ version;
+            let marks = marks(*dp, key & 0xF_FFFF, &scf, *handling);
             shredded(marks, scf.first_eight, scf.ninth | difference << 8)
         }
     }
@@ -59,12 +73,12 @@ fn kind_of(reason: Reason) -> usize
     }
 }
 
-fn marks(row: &TdpRow, key: u32, scf: &ScfOctets) -> u64 {
-    let handling: u64 = match row.handling() {
+fn marks(dp: u8, key: u32, scf: &ScfOctets, handling: Handling) -> u64 {
+    let handling: u64 = match handling {
         Handling::Continue => 0,
         Handling::Release => 1,
     };
-    u64::from(row.dp()) | handling << 8 | (scf.length as u64) << 16 | u64::from(key) << 32
+    u64::from(dp) | handling << 8 | (scf.length as u64) << 16 | u64::from(key) << 32
 }
 
 /// The octets of a gsmSCF address, zeros behind the last one.
@@ -77,8 +91,8 @@ struct ScfOctets {
 }
 
 impl ScfOctets {
-    fn of(scf: &Address) -> ScfOctets {
-        let bytes = scf.bytes();
+    fn of(scf: &IsdnAddress) -> ScfOctets {
+        let bytes = scf.lend().bytes();
         let mut octets = [0; 9];
         octets[..bytes.len()].copy_from_slice(bytes);
         let [a, b, c, d, e, f, g, h, ninth] = octets;
@@ -114,25 +128,7 @@ impl ScfOctets {
     }
 }
 
-/// The place of an outcome among the kinds: that of its reason, in the order in which reasons are looked at, or the last
-/// one for a row.
-#[derive(Clone, Copy)]
-pub(crate) struct Kind {
-    place: usize,
-    ghost few: { place ≤ 5 },
-}
-
-impl Kind {
-    pub(crate) fn of(decision: &Decision) -> Kind {
-        let place = match decision {
-            Decision::NoTrigger(reason) => kind_of(*reason),
-            Decision::Trigger { .. } => 5,
-        };
-        Kind { place }
-    }
-}
-
-/// How many outcomes there were of each kind.
+/// How many outcomes there were of each reason, in the order in which reasons are looked at, and then of rows.
 #[derive(Clone, Copy)]
 pub(crate) struct Kinds {
     pub(crate) counts: [u64; 6],
@@ -143,7 +139,11 @@ impl Kinds {
         Kinds { counts: [0; 6] }
     }
 
-    pub(crate) fn count(&mut self, kind: Kind) {
-        self.counts[kind.place] = self.counts[kind.place].wrapping_add(1);
+    pub(crate) fn count(&mut self, outcome: &Outcome) {
+        let kind = match outcome {
+            Outcome::NoTrigger(reason) => kind_of(*reason),
+            Outcome::Trigger { .. } => 5,
+        };
+        self.counts[kind] = self.counts[kind].wrapping_add(1);
     }
 }
