@@ -1,6 +1,7 @@
 //! A table from IMSIs to values that finds a value in few places of memory, and grows a line at a time.
 #![tactic(auto)]
 
+mod entry;
 mod line;
 mod places;
 mod seed;

@@ -4,67 +4,13 @@ ghost use Rattle.std.specs.Option.{option_copied, option_map};
 ghost use Rattle.camel_table.specs.ByImsi.{ListsEachOnceMore, is_same};
 ghost use Rattle.camel_table.specs.Places.{place_of};
 
+use crate::entry::Entry;
 use crate::places::Places;
 use camel_tbcd::{Imsi, PackedImsi};
 use std::alloc::{AllocError, Global};
 use std::hash::BuildHasher;
 use std::marker::Model;
 use std::mem;
-
-/// A key with its value.
-#[derive(Debug, Drop)]
-struct Entry<V> {
-    key: PackedImsi,
-    value: V,
-}
-
-impl<V> Model for Entry<V> {
-    ghost use Rattle.std.specs.Prelude.{ℕ, List};
-
-    ghost Value = { List ℕ × V };
-
-    ghost view = { λ a. (a.key, a.value) };
-}
-
-impl<V> Entry<V> {
-    fn is(&self, imsi: &Imsi) -> bool
-        ensures { result ≡ is_same imsi.now self.now.0 }
-    {
-        self.key.is(imsi)
-    }
-
-    fn imsi(&self) -> Imsi
-        ensures { result ≡ self.now.0 }
-    {
-        self.key.imsi()
-    }
-
-    fn value(&self) -> &V
-        ensures { result.now ≡ self.now.1 }
-    {
-        &self.value
-    }
-
-    fn is_at<S: BuildHasher>(&self, places: &Places<S>, at: usize) -> bool
-        requires { places.now.level ≤ 32 }
-        ensures { result ≡ (place_of S.Hasher.finish S.Hasher.write (S.build_hasher places.now.hashes) places.now.level places.now.count self.now.0 == at) }
-    {
-        places.place(self.key.number()) == at
-    }
-}
-
-impl<V: Clone> Clone for Entry<V> {
-    ghost use Rattle.std.specs.Prelude.{◌≡◌};
-
-    ghost is_clone = { λ old new. (new.0 ≡ old.0) × V.is_clone old.1 new.1 };
-
-    fn clone(&self) -> Result<Entry<V>, AllocError> {
-        Ok(Entry {
-            key: self.key,
-            value: self.value.clone()?,
-        })
-    }
-}
 
 /// The entries of the keys that have the same place in a table.
 ///

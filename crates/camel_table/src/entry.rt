@@ -1,0 +1,64 @@
+ghost use Rattle.std.specs.Prelude.{◌≡◌, ◌≤◌, ◌==◌};
+ghost use Rattle.camel_table.specs.ByImsi.{is_same};
+ghost use Rattle.camel_table.specs.Places.{place_of};
+
+use crate::places::Places;
+use camel_tbcd::{Imsi, PackedImsi};
+use std::alloc::AllocError;
+use std::hash::BuildHasher;
+use std::marker::Model;
+
+/// A key with its value.
+#[derive(Debug, Drop)]
+pub(crate) struct Entry<V> {
+    pub(crate) key: PackedImsi,
+    pub(crate) value: V,
+}
+
+impl<V> Model for Entry<V> {
+    ghost use Rattle.std.specs.Prelude.{ℕ, List};
+
+    ghost Value = { List ℕ × V };
+
+    ghost view = { λ a. (a.key, a.value) };
+}
+
+impl<V> Entry<V> {
+    pub(crate) fn is(&self, imsi: &Imsi) -> bool
+        ensures { result ≡ is_same imsi.now self.now.0 }
+    {
+        self.key.is(imsi)
+    }
+
+    pub(crate) fn imsi(&self) -> Imsi
+        ensures { result ≡ self.now.0 }
+    {
+        self.key.imsi()
+    }
+
+    pub(crate) fn value(&self) -> &V
+        ensures { result.now ≡ self.now.1 }
+    {
+        &self.value
+    }
+
+    pub(crate) fn is_at<S: BuildHasher>(&self, places: &Places<S>, at: usize) -> bool
+        requires { places.now.level ≤ 32 }
+        ensures { result ≡ (place_of S.Hasher.finish S.Hasher.write (S.build_hasher places.now.hashes) places.now.level places.now.count self.now.0 == at) }
+    {
+        places.place(self.key.number()) == at
+    }
+}
+
+impl<V: Clone> Clone for Entry<V> {
+    ghost use Rattle.std.specs.Prelude.{◌≡◌};
+
+    ghost is_clone = { λ old new. (new.0 ≡ old.0) × V.is_clone old.1 new.1 };
+
+    fn clone(&self) -> Result<Entry<V>, AllocError> {
+        Ok(Entry {
+            key: self.key,
+            value: self.value.clone()?,
+        })
+    }
+}
