@@ -18,7 +18,7 @@ same_list R exact [] (y ∷ ys) all = absurd all
 same_list R exact (x ∷ xs) [] all = absurd all
 same_list R exact (x ∷ xs) (y ∷ ys) all = ap (λ v. v ∷ ys) (exact x y all.0) ∙ ap (λ vs. x ∷ vs) (same_list R exact xs ys all.1)
 
-both_lists : {A : Type 0} (R : A → A → Type 0) (xs ys more others : List A) → AllZip R xs ys → AllZip R more others → AllZip R (xs ++ more) (ys ++ others)
+pub both_lists : {A : Type 0} (R : A → A → Type 0) (xs ys more others : List A) → AllZip R xs ys → AllZip R more others → AllZip R (xs ++ more) (ys ++ others)
 both_lists R [] [] more others all rest = rest
 both_lists R [] (y ∷ ys) more others all rest = absurd all
 both_lists R (x ∷ xs) [] more others all rest = absurd all

@@ -1,4 +1,5 @@
 pub mod CloneLemmas
+pub mod FewLemmas
 pub mod LineLemmas
 pub mod LinesLemmas
 pub mod ListedLemmas

@@ -1,12 +1,12 @@
 -- The finite map of the entries of a line, after each change of them.
-use Rattle.std.proofs.Common.{◌≡◌, ◌∙◌, ℕ, zero, suc, ◌+◌, ◌<◌, ◌≤◌, Bool, true, false, not, cond, T, List, [], ◌∷◌, ◌++◌, Option, Some, None, length, filter, position, nat_lt, slice_index_or, slice_set, refl, sym, ap, subst, arith}
+use Rattle.std.proofs.Common.{◌≡◌, ◌∙◌, ℕ, zero, suc, ◌+◌, ◌<◌, ◌≤◌, Bool, true, false, not, cond, T, List, [], ◌∷◌, ◌++◌, Option, Some, None, length, filter, position, nat_lt, slice_index_or, slice_set, refl, sym, ap, ap₂, subst, arith}
 use Rattle.std.specs.Prelude.{find}
 use Rattle.std.specs.Cmp.{eq_by_cmp_equiv, tied_itself}
 use Rattle.std.specs.Cmp.Lexicographic.{slice_cmp, nat_list_cmp_total}
 use Rattle.std.specs.FinMap as map
 use Rattle.std.specs.FinMap.Entries as entries
 use Rattle.std.specs.List.{position_or_len}
-use Rattle.std.specs.Option.{option_map, is_some, unwrap_or}
+use Rattle.std.specs.Option.{option_map, option_or, is_some, unwrap_or}
 use Rattle.std.specs.Ordering.{is_eq, nat_cmp}
 use Rattle.std.specs.declared.cmp.Ordering.{Ordering}
 use Rattle.std.specs.declared.cmp.Ordering.TheVariants.{Less, Equal, Greater}
@@ -163,3 +163,63 @@ module _ {V : Type 0} where
       ∙ ap (λ b. cond b None (found q es)) ((eq_by_cmp_equiv nat_list_cmp_total).symm key q)
       ∙ ap (λ o. cond (is_same q key) None o) (sym (get-is es q))
       ∙ sym (map.get-remove nat_list_cmp_total (map_of es) key q))
+
+  -- entries in two lists, of which one is searched after the other
+  found-append : (q : List ℕ) (xs ys : Entries V) → found q (xs ++ ys) ≡ option_or (found q xs) (found q ys)
+  found-append q [] ys = refl
+  found-append q (e ∷ es) ys =
+      elim (is_same q e.0) as (λ b. cond b (Some e.1) (found q (es ++ ys)) ≡ option_or (cond b (Some e.1) (found q es)) (found q ys)) [
+        | true ↦ refl
+        | false ↦ found-append q es ys
+      ]
+
+  pub get-append : (q : List ℕ) (xs ys : Entries V) → map.get (map_of (xs ++ ys)) q ≡ option_or (map.get (map_of xs) q) (map.get (map_of ys) q)
+  get-append q xs ys = get-is (xs ++ ys) q ∙ found-append q xs ys ∙ ap₂ option_or (sym (get-is xs q)) (sym (get-is ys q))
+
+  pub get-one : (q key : List ℕ) (value : V) → map.get (map_of ((key, value) ∷ [])) q ≡ cond (is_same q key) (Some value) None
+  get-one q key value = get-is ((key, value) ∷ []) q
+
+  pub get-none : (q : List ℕ) → map.get (map_of {V = V} []) q ≡ None
+  get-none q = get-is [] q
+
+  found-inserted : (q key : List ℕ) (value : V) (before after : Entries V) → map_of after ≡ map.insert (map_of before) key value
+      → found q after ≡ cond (is_same q key) (Some value) (found q before)
+  found-inserted q key value before after is =
+      sym (get-is after q) ∙ ap (λ m. map.get m q) is ∙ map.get-insert nat_list_cmp_total (map_of before) key value q
+      ∙ ap (cond (is_same q key) (Some value)) (get-is before q)
+
+  inserted : (key : List ℕ) (value : V) (before after : Entries V) → ((q : List ℕ) → found q after ≡ cond (is_same q key) (Some value) (found q before))
+      → map_of after ≡ map.insert (map_of before) key value
+  inserted key value before after finds = same_when _ _ (λ q.
+      finds q ∙ sym (map.get-insert nat_list_cmp_total (map_of before) key value q ∙ ap (cond (is_same q key) (Some value)) (get-is before q)))
+
+  earlier : (b : Bool) (value : V) (x y : Option V) → option_or (cond b (Some value) x) y ≡ cond b (Some value) (option_or x y)
+  earlier true value x y = refl
+  earlier false value x y = refl
+
+  later : (b : Bool) (value : V) (x y : Option V) → (b ≡ true → x ≡ None) → option_or x (cond b (Some value) y) ≡ cond b (Some value) (option_or x y)
+  later true value x y none = ap (λ o. option_or o (Some value)) (none refl)
+  later false value x y none = refl
+
+  -- a value that is put into the first list of two
+  pub inserted_first : (key : List ℕ) (value : V) (xs others ys : Entries V) → map_of others ≡ map.insert (map_of xs) key value
+      → map_of (others ++ ys) ≡ map.insert (map_of (xs ++ ys)) key value
+  inserted_first key value xs others ys is = inserted key value (xs ++ ys) (others ++ ys) (λ q.
+      found-append q others ys ∙ ap (λ o. option_or o (found q ys)) (found-inserted q key value xs others is)
+      ∙ earlier (is_same q key) value (found q xs) (found q ys)
+      ∙ ap (cond (is_same q key) (Some value)) (sym (found-append q xs ys)))
+
+  -- a value that is put into the second list of two, of which the first has none
+  pub inserted_second : (key : List ℕ) (value : V) (xs ys others : Entries V) → map.get (map_of xs) key ≡ None → map_of others ≡ map.insert (map_of ys) key value
+      → map_of (xs ++ others) ≡ map.insert (map_of (xs ++ ys)) key value
+  inserted_second key value xs ys others none is = inserted key value (xs ++ ys) (xs ++ others) (λ q.
+      found-append q xs others ∙ ap (option_or (found q xs)) (found-inserted q key value ys others is)
+      ∙ later (is_same q key) value (found q xs) (found q ys) (λ same. ap (λ k. found k xs) (same_are_equal q key same) ∙ sym (get-is xs key) ∙ none)
+      ∙ ap (cond (is_same q key) (Some value)) (sym (found-append q xs ys)))
+
+  none_of_either : (x y : Option V) → option_or x y ≡ None → (x ≡ None) × (y ≡ None)
+  none_of_either None y none = (refl, none)
+  none_of_either (Some value) y none = absurd (subst (λ o. T (is_some o)) none tt)
+
+  pub none_in_first : (key : List ℕ) (xs ys : Entries V) → map.get (map_of (xs ++ ys)) key ≡ None → map.get (map_of xs) key ≡ None
+  none_in_first key xs ys none = (none_of_either (map.get (map_of xs) key) (map.get (map_of ys) key) (sym (get-append key xs ys) ∙ none)).0

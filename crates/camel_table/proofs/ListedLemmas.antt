@@ -1,8 +1,8 @@
 -- How often a list has an IMSI, after the entries of a line, or the lines of a table, that are gone through.
-use Rattle.std.proofs.Common.{◌≡◌, ◌∙◌, ℕ, zero, suc, ◌+◌, ◌<◌, ◌≤◌, Bool, true, false, cond, T, List, [], ◌∷◌, ◌++◌, Some, None, IsSome, length, nat_lt, take, inl, inr, refl, sym, ap, subst, arith}
+use Rattle.std.proofs.Common.{◌≡◌, ◌∙◌, ℕ, zero, suc, ◌+◌, ◌<◌, ◌≤◌, Bool, true, false, cond, T, List, [], ◌∷◌, ◌++◌, Option, Some, None, Bor, IsSome, length, nat_lt, take, inl, inr, refl, sym, ap, subst, arith}
 use Rattle.std.specs.Cmp.Lexicographic.{slice_cmp, nat_list_cmp_total}
 use Rattle.std.specs.FinMap.{empty, find, get, get-empty, get-from_entries}
-use Rattle.std.specs.Option.{is_some}
+use Rattle.std.specs.Option.{is_some, option_copied}
 use Rattle.std.specs.Ordering.{nat_cmp}
 use Rattle.std.proofs.Math.Nat.{add-zero, add_assoc, zero-add}
 use Rattle.std.proofs.lemmas.Bool.{ltb-false, ltb-true}
@@ -16,6 +16,10 @@ use Rattle.camel_table.proofs.LinesLemmas.{get-table, line_at}
 
 abbrev once_if : Bool → ℕ
 once_if b = cond b 1 0
+
+pub copied_some : {A : Type 0} (o : Option (Bor A)) → is_some (option_copied o) ≡ is_some o
+copied_some None = refl
+copied_some (Some value) = refl
 
 -- an IMSI more in the list
 listed_more : (q imsi : List ℕ) (imsis : List (List ℕ)) → times_listed q (imsis ++ imsi ∷ []) ≡ times_listed q imsis + once_if (is_same q imsi)

@@ -2,6 +2,7 @@
 #![tactic(auto)]
 
 mod entry;
+mod few;
 mod line;
 mod places;
 mod seed;

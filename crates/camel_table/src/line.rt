@@ -1,10 +1,11 @@
-ghost use Rattle.std.specs.Prelude.{◌≡◌, ◌≤◌, ◌==◌, [], not, filter, find, vec_capacity, vec_len, IfOk, position, OnErr, OnOk, IfSome, IfNone, None};
+ghost use Rattle.std.specs.Prelude.{◌≡◌, ◌≤◌, ◌==◌, ◌++◌, [], not, filter, find, vec_capacity, vec_len, IfOk, position, OnErr, OnOk, IfSome, IfNone, None};
 ghost use Rattle.std.specs.FinMap as map;
 ghost use Rattle.std.specs.Option.{option_copied, option_map};
-ghost use Rattle.camel_table.specs.ByImsi.{ListsEachOnceMore, is_same};
+ghost use Rattle.camel_table.specs.ByImsi.{ListsEachOnceMore, is_same, map_of};
 ghost use Rattle.camel_table.specs.Places.{place_of};
 
 use crate::entry::Entry;
+use crate::few::Few;
 use crate::places::Places;
 use camel_tbcd::{Imsi, PackedImsi};
 use std::alloc::{AllocError, Global};
@@ -17,10 +18,14 @@ use std::mem;
 /// Contracts see it as a finite map from the lists of their digits.
 #[derive(Debug, Drop)]
 pub(crate) struct Line<V> {
-    entries: Vec<Entry<V>>,
+    // The first entries. They lie in the line itself, so that most look-ups do not wait for a further block of memory.
+    few: Few<V>,
+    // The others. There may be some while there is room for more of the first ones.
+    more: Vec<Entry<V>>,
 }
 
 impl<V> Model for Line<V> {
+    ghost use Rattle.std.specs.Prelude.{◌++◌};
     ghost use Rattle.std.specs.FinMap as map;
     ghost use Rattle.std.specs.Coded.{coded_ℕ, coded_list};
     ghost use Rattle.camel_table.specs.ByImsi.{ByImsi, map_of};
@@ -29,7 +34,7 @@ impl<V> Model for Line<V> {
 
     ghost coded = { map.code (coded_list coded_ℕ) V.code };
 
-    ghost view = { λ a. map_of a.entries.items };
+    ghost view = { λ a. map_of (a.few ++ a.more.items) };
 }
 
 impl<V> Line<V> {
@@ -38,30 +43,37 @@ impl<V> Line<V> {
         ensures { result ≡ map.empty }
     {
         Line {
-            entries: Vec::new(alloc),
+            few: Few::new(),
+            more: Vec::new(alloc),
         }
     }
 
     /// How many entries there are.
     pub(crate) fn len(&self) -> usize {
-        self.entries.len()
+        self.few.len() + self.more.len()
     }
 
     /// The value of an IMSI, where there is one.
     pub(crate) fn get(&self, imsi: &Imsi) -> Option<&V>
         ensures { option_copied result ≡ map.get self.now imsi.now }
     {
-        find_value(&self.entries, imsi)
+        let value = self.few.get(imsi);
+        if value.is_some() {
+            return value;
+        }
+        find_value(&self.more, imsi)
     }
 
     /// Lists each IMSI that has a value, after those that are listed. Fails with `AllocError` where memory is refused.
     pub(crate) fn push_imsis(&self, imsis: &mut Vec<Imsi>) -> Result<(), AllocError>
         ensures { OnOk result (ListsEachOnceMore imsis.old.items imsis.new.items self.now) }
     {
-        for at in 0..self.entries.len() {
-            let imsi = self.entries[at].imsi();
+        self.few.push_imsis(imsis)?;
+        for at in 0..self.more.len() {
+            let imsi = self.more[at].imsi();
+            let before = self.few.get(&imsi).or(find_value(&self.more[..at], &imsi));
             // Only the first entry of an IMSI counts, and no invariant says that there is no other one.
-            if find_value(&self.entries[..at], &imsi).is_none() {
+            if before.is_none() {
                 imsis.push(imsi)?;
             }
         }
@@ -76,8 +88,12 @@ impl<V> Line<V> {
         ensures replaced { IfSome result (λ _. self.new ≡ map.insert self.old imsi.now value) }
         ensures unchanged { IfNone result (self.new ≡ self.old) }
     {
-        let at = position(&self.entries, imsi)?;
-        Some(mem::replace(&mut self.entries[at].value, value))
+        let value = match self.few.replace(imsi, value) {
+            Ok(before) => return Some(before),
+            Err(value) => value,
+        };
+        let at = position(&self.more, imsi)?;
+        Some(mem::replace(&mut self.more[at].value, value))
     }
 }
 
@@ -101,18 +117,34 @@ impl<V: Drop> Line<V> {
         ensures added { OnOk result (self.new ≡ map.insert self.old imsi.now value) }
         ensures unchanged { OnErr result (self.new ≡ self.old) }
     {
-        // Most lines have few entries, so that room for one more and no other saves a third of their memory.
-        self.entries.reserve_exact(1)?;
         let key = PackedImsi::of(imsi);
-        self.entries.push(Entry { key, value })?;
+        if self.few.has_room() {
+            self.few.push(Entry { key, value });
+            return Ok(());
+        }
+        // Most lines have few entries, so that room for one more and no other saves memory.
+        self.more.reserve_exact(1)?;
+        self.more.push(Entry { key, value })?;
         Ok(())
+    }
+
+    /// A line of these entries in their order, as many as possible of which become its first ones.
+    fn of(mut few: Few<V>, mut more: Vec<Entry<V>>) -> Line<V>
+        ensures { result ≡ map_of (few ++ more.items) }
+    {
+        while few.has_room() && !more.is_empty() {
+            few.push(more.remove(0));
+        }
+        more.shrink_to_fit();
+        Line { few, more }
     }
 
     /// Takes the entry of an IMSI out, if there is one.
     pub(crate) fn take_out(&mut self, imsi: &Imsi)
         ensures { self.new ≡ map.remove self.old imsi.now }
     {
-        self.entries.retain(|entry| !entry.is(imsi));
+        self.few.take_out(imsi);
+        self.more.retain(|entry| !entry.is(imsi));
     }
 
     /// Divides the entries: those with this place stay, and the others are returned. Fails with `AllocError` where memory
@@ -130,14 +162,14 @@ impl<V: Drop> Line<V> {
             not (place_of S.Hasher.finish S.Hasher.write (S.build_hasher places.now.hashes) places.now.level places.now.count key == at))) }
         ensures unchanged { OnErr result (self.new ≡ self.old) }
     {
-        let mut stay = Vec::with_capacity(alloc, self.entries.len())?;
-        let mut leave = Vec::with_capacity(alloc, self.entries.len())?;
-        let entries = mem::replace(&mut self.entries, Vec::new(alloc));
-        divide(entries, places, at, &mut stay, &mut leave);
-        stay.shrink_to_fit();
-        leave.shrink_to_fit();
-        self.entries = stay;
-        Ok(Line { entries: leave })
+        let mut stay = Vec::with_capacity(alloc, self.more.len())?;
+        let mut leave = Vec::with_capacity(alloc, self.more.len())?;
+        let mut few = mem::replace(&mut self.few, Few::new());
+        let more = mem::replace(&mut self.more, Vec::new(alloc));
+        let others = few.divide(places, at);
+        divide(more, places, at, &mut stay, &mut leave);
+        *self = Line::of(few, stay);
+        Ok(Line::of(others, leave))
     }
 }
 
@@ -150,7 +182,8 @@ impl<V: Clone> Clone for Line<V> {
 
     fn clone(&self) -> Result<Line<V>, AllocError> {
         Ok(Line {
-            entries: self.entries.clone()?,
+            few: self.few.clone()?,
+            more: self.more.clone()?,
         })
     }
 }

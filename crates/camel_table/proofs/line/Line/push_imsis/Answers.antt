@@ -1,49 +1,53 @@
-use Rattle.std.proofs.Common.{◌≡◌, ◌∙◌, ◌+◌, ◌<◌, ◌++◌, ◌∷◌, [], not, Option, Some, None, Bor, take, length, sym, ap, subst, refl, arith}
-use Rattle.std.specs.FinMap.{empty, get}
-use Rattle.std.specs.Option.{is_some, option_copied}
-use Rattle.std.proofs.lemmas.List.{take_all, take_more}
+use Rattle.std.proofs.Common.{◌≡◌, ◌∙◌, ◌+◌, ◌<◌, ◌++◌, ◌∷◌, [], not, append_assoc, take, length, sym, ap, ap₂, subst, arith}
+use Rattle.std.specs.FinMap.{get}
+use Rattle.std.specs.Option.{is_some, option_copied, option_or}
+use Rattle.std.proofs.lemmas.List.{append-nil, take_all, take_more}
 use Rattle.camel_table.specs.ByImsi.{ByImsi, ListsEachOnceMore, map_of}
-use Rattle.camel_table.proofs.LineLemmas.{get-find}
-use Rattle.camel_table.proofs.ListedLemmas.{first_listed, further_passed, none_more}
+use Rattle.camel_table.proofs.FewLemmas.{copied_or}
+use Rattle.camel_table.proofs.LineLemmas.{get-append, get-find}
+use Rattle.camel_table.proofs.ListedLemmas.{copied_some, first_listed, further_passed}
 use Rattle.camel_table.proofs.line.Line.push_imsis.Goals.{then-is_none+in_ok-push, else-is_none}
 use Rattle.camel_table.proofs.line.Line.push_imsis.Goals as goal
 
-copied_some : {A : Type 0} (o : Option (Bor A)) → is_some (option_copied o) ≡ is_some o
-copied_some None = refl
-copied_some (Some value) = refl
-
 pub loop-at-init : goal.loop-at-init
-loop-at-init g c = none_more c.args.imsis.now.items (empty {X = g.row.V.Denot}) refl
+loop-at-init g c =
+    let few = c.self.inside.few in
+    subst (λ es. ListsEachOnceMore c.args.imsis.now.items c.push_imsis.new.imsis.items (map_of es)) (sym (append-nil few)) c.in_ok-push_imsis.ensures
 
 pub loop-at-preserved : goal.loop-at-preserved
 loop-at-preserved g c =
-    let items = c.self.inside.entries.items in
+    let few = c.self.inside.few in
+    let items = c.self.inside.more.items in
     let at = c.loop-at.at in
     let entry = c.index.result.now in
-    let inside : at < length items = subst (λ n. at < n) (c.len-at-end.ensures ∙ c.self.inside.entries.ok.0) c.loop-at-test.true in
-    let value : option_copied c.find_value.result ≡ get (map_of (take at items)) entry.0 =
-    c.find_value.ensures ∙ get-find c.imsi-imsi.result (take at c.deref.result.now) ∙ ap (λ es. get (map_of (take at es)) c.imsi-imsi.result) c.deref.ensures.value
-    ∙ ap (get (map_of (take at items))) c.imsi-imsi.ensures in
-    let stored : is_some (get (map_of (take at items)) entry.0) ≡ not c.is_none.result =
-    sym (ap is_some value) ∙ copied_some c.find_value.result ∙ c.is_none.ensures in
-    let more : take at items ++ entry ∷ [] ≡ take (at + 1) items =
-    ap (λ e. take at items ++ e ∷ []) c.index.ensures ∙ sym (take_more items at entry inside) in
+    let key = c.imsi-imsi.result in
+    let es = few ++ take at items in
+    let inside : at < length items = subst (λ n. at < n) (c.len-at-end.ensures ∙ c.self.inside.more.ok.0) c.loop-at-test.true in
+    let value : option_copied c.or-before.result ≡ get (map_of es) entry.0 =
+    ap option_copied c.or-before.ensures ∙ copied_or c.get.result c.find_value.result
+    ∙ ap₂ option_or c.get.ensures (c.find_value.ensures ∙ get-find key (take at c.deref.result.now) ∙ ap (λ xs. get (map_of (take at xs)) key) c.deref.ensures.value)
+    ∙ sym (get-append key few (take at items)) ∙ ap (get (map_of es)) c.imsi-imsi.ensures in
+    let stored : is_some (get (map_of es) entry.0) ≡ not c.is_none.result =
+    sym (ap is_some value) ∙ copied_some c.or-before.result ∙ c.is_none.ensures in
+    let more : es ++ entry ∷ [] ≡ few ++ take (at + 1) items =
+    append_assoc few (take at items) (entry ∷ []) ∙ ap (λ e. few ++ (take at items ++ e ∷ [])) c.index.ensures ∙ ap (λ xs. few ++ xs) (sym (take_more items at entry inside)) in
     let before = c.args.imsis.now.items in
     elim c.if-is_none.branch [
       | then-is_none+in_ok-push w ↦
-          let listed = first_listed before c.loop-at.imsis.items (take at items) entry (stored ∙ ap not w.if-is_none.true) c.loop-at.invariant in
-          subst (λ imsis. ListsEachOnceMore before imsis (map_of (take (at + 1) items)))
+          let listed = first_listed before c.loop-at.imsis.items es entry (stored ∙ ap not w.if-is_none.true) c.loop-at.invariant in
+          subst (λ imsis. ListsEachOnceMore before imsis (map_of (few ++ take (at + 1) items)))
           (sym (ap (λ v. v.items) w.imsis-is ∙ w.in_ok-push.ensures.items ∙ ap (λ imsi. c.loop-at.imsis.items ++ imsi ∷ []) c.imsi-imsi.ensures))
-          (subst (λ es. ListsEachOnceMore before (c.loop-at.imsis.items ++ entry.0 ∷ []) (map_of es)) more listed)
+          (subst (λ xs. ListsEachOnceMore before (c.loop-at.imsis.items ++ entry.0 ∷ []) (map_of xs)) more listed)
       | else-is_none w ↦
-          let passed = further_passed before c.loop-at.imsis.items (take at items) entry (stored ∙ ap not w.if-is_none.false) c.loop-at.invariant in
-          subst (λ imsis. ListsEachOnceMore before imsis (map_of (take (at + 1) items))) (sym (ap (λ v. v.items) w.imsis-is))
-          (subst (λ es. ListsEachOnceMore before c.loop-at.imsis.items (map_of es)) more passed)
+          let passed = further_passed before c.loop-at.imsis.items es entry (stored ∙ ap not w.if-is_none.false) c.loop-at.invariant in
+          subst (λ imsis. ListsEachOnceMore before imsis (map_of (few ++ take (at + 1) items))) (sym (ap (λ v. v.items) w.imsis-is))
+          (subst (λ xs. ListsEachOnceMore before c.loop-at.imsis.items (map_of xs)) more passed)
     ]
 
 pub returns : goal.returns
 returns g c =
-    let items = c.self.inside.entries.items in
-    let ended : length items ≡ c.len-at-end.result = sym (c.len-at-end.ensures ∙ c.self.inside.entries.ok.0) in
+    let few = c.self.inside.few in
+    let items = c.self.inside.more.items in
+    let ended : length items ≡ c.len-at-end.result = sym (c.len-at-end.ensures ∙ c.self.inside.more.ok.0) in
     subst (λ (m : ByImsi g.row.V.Denot). ListsEachOnceMore c.args.imsis.now.items c.loop-at.imsis.items m)
-    (ap map_of (take_all c.loop-at.at items (omega (arith, ended, c.loop-at-test.false))) ∙ c.self.view_is) c.loop-at.invariant
+    (ap (λ xs. map_of (few ++ xs)) (take_all c.loop-at.at items (omega (arith, ended, c.loop-at-test.false))) ∙ c.self.view_is) c.loop-at.invariant

@@ -1,6 +1,7 @@
-use Rattle.std.proofs.Common.{rules, ◌∙◌, ap, not}
+use Rattle.std.proofs.Common.{rules, ◌∙◌, ◌++◌, ap, ap₂, not, sym}
 use Rattle.std.specs.FinMap as map
 use Rattle.std.proofs.lemmas.Fn.{filter_same}
+use Rattle.std.proofs.lemmas.List.Elements.{filter-append}
 use Rattle.camel_table.specs.ByImsi.{is_same, map_of}
 use Rattle.camel_table.proofs.LineLemmas.{removed}
 use Rattle.camel_table.proofs.line.Line.take_out.Goals as goal
@@ -8,6 +9,9 @@ use Rattle.camel_table.proofs.line.Line.take_out.Goals as goal
 pub returns : goal.returns
 returns g c =
     let key = c.args.imsi.now in
-    ap map_of (filter_same _ (λ e. not (is_same key e.0)) _ (λ x b f k. search rules) _ _ c.retain.ensures.filtered)
-    ∙ removed key c.self.inside.entries.items
+    let few = c.self.inside.few in
+    let more = c.self.inside.more.items in
+    ap map_of (ap₂ ◌++◌ c.take_out.ensures (filter_same _ (λ e. not (is_same key e.0)) _ (λ x b f k. search rules) _ _ c.retain.ensures.filtered)
+    ∙ sym (filter-append (λ e. not (is_same key e.0)) few more))
+    ∙ removed key (few ++ more)
     ∙ ap (λ m. map.remove m key) c.self.view_is

@@ -1,15 +1,17 @@
-use Rattle.std.proofs.Common.{◌∙◌, ap, ap₂}
+use Rattle.std.proofs.Common.{◌∙◌, ◌++◌, ap, ap₂}
 use Rattle.std.specs.FinMap as map
 use Rattle.std.specs.Option.{is_some}
 use Rattle.camel_table.specs.ByImsi.{map_of}
-use Rattle.camel_table.proofs.CloneLemmas.{same_keys, same_list}
+use Rattle.camel_table.proofs.CloneLemmas.{both_lists, same_keys, same_list}
 use Rattle.camel_table.proofs.line.LineClone.clone.Goals as goal
 
 pub returns : goal.returns
 returns g c =
-    let old = c.self.inside.entries.items in
-    let new = c.in_ok-clone.field-0.items in
-    let all = c.in_ok-clone.ensures.cases.0 in
+    let few = c.self.inside.few in
+    let more = c.self.inside.more.items in
+    let old = few ++ more in
+    let new = c.in_ok-clone.field-0 ++ c.in_ok-clone-2.field-0.items in
+    let all = both_lists _ few c.in_ok-clone.field-0 more c.in_ok-clone-2.field-0.items c.in_ok-clone.ensures.cases c.in_ok-clone-2.ensures.cases.0 in
     record {
       cases = (
         λ imsi. same_keys _ (λ x y both. both.0) old new all imsi ∙ ap (λ m. is_some (map.get m imsi)) c.self.view_is,

@@ -61,9 +61,9 @@ invariant_of-self-2 g c =
     λ test. ap (λ hashes. retain_keys c.replace-line.result (λ key. test (place hashes next.level next.count key == at))) c.with_line-places.ensures.hashes
     ∙ ap (λ n. retain_keys c.replace-line.result (λ key. test (place places.hashes next.level n key == at))) c.with_line-places.ensures.count in
     let all = grown hash places.level places.count next.level lines spared.0 c.with_line-places.ensures.began c.if-new-eq0.false at is c.in_ok-add_spare.ensures.spare c.replace-line.result c.replace-line.ensures.before c.new.result c.replace-line.new.self c.replace-line.ensures.after c.divide-divided.new.self c.replace.new.self c.replace.ensures.after c.with_line-places.ensures.low (subst (λ n. n ≤ 2 ^ (1 + next.level)) c.with_line-places.ensures.count c.with_line-places.ensures.within) c.with_line-places.ensures.level
-    (c.in_ok-divided.ensures.stay ∙ by_next (λ b. b)) c.in_ok-divided.field-0 (c.in_ok-divided.ensures.leave ∙ by_next not) c.replace-2.new.self c.replace-2.ensures.after in
-    subst (λ hashes. IsTable (place hashes) next.level next.count c.replace-2.new.self) (sym c.with_line-places.ensures.hashes)
-    (subst (λ n. IsTable (place places.hashes) next.level n c.replace-2.new.self) (sym c.with_line-places.ensures.count) all.0)
+    (c.in_ok-divided.ensures.stay ∙ by_next (λ b. b)) c.in_ok-divided.field-0 (c.in_ok-divided.ensures.leave ∙ by_next not) c.replace-4.new.self c.replace-4.ensures.after in
+    subst (λ hashes. IsTable (place hashes) next.level next.count c.replace-4.new.self) (sym c.with_line-places.ensures.hashes)
+    (subst (λ n. IsTable (place places.hashes) next.level n c.replace-4.new.self) (sym c.with_line-places.ensures.count) all.0)
 
 pub returns : goal.returns
 returns g c =
@@ -79,5 +79,5 @@ returns g c =
     λ test. ap (λ hashes. retain_keys c.replace-line.result (λ key. test (place hashes next.level next.count key == at))) c.with_line-places.ensures.hashes
     ∙ ap (λ n. retain_keys c.replace-line.result (λ key. test (place places.hashes next.level n key == at))) c.with_line-places.ensures.count in
     let all = grown hash places.level places.count next.level lines spared.0 c.with_line-places.ensures.began c.if-new-eq0.false at is c.in_ok-add_spare.ensures.spare c.replace-line.result c.replace-line.ensures.before c.new.result c.replace-line.new.self c.replace-line.ensures.after c.divide-divided.new.self c.replace.new.self c.replace.ensures.after c.with_line-places.ensures.low (subst (λ n. n ≤ 2 ^ (1 + next.level)) c.with_line-places.ensures.count c.with_line-places.ensures.within) c.with_line-places.ensures.level
-    (c.in_ok-divided.ensures.stay ∙ by_next (λ b. b)) c.in_ok-divided.field-0 (c.in_ok-divided.ensures.leave ∙ by_next not) c.replace-2.new.self c.replace-2.ensures.after in
+    (c.in_ok-divided.ensures.stay ∙ by_next (λ b. b)) c.in_ok-divided.field-0 (c.in_ok-divided.ensures.leave ∙ by_next not) c.replace-4.new.self c.replace-4.ensures.after in
     all.1 ∙ spared.1 ∙ c.self.view_is
