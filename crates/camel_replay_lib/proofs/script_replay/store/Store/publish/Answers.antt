@@ -39,3 +39,8 @@ pub updates-preserved-in_ok-apply-3 : goal.updates-preserved-in_ok-apply-3
 updates-preserved-in_ok-apply-3 c =
     let next = turn (goal.at.updates-preserved-in_ok-apply-3 c).After-pop_front in
     record { sound = next.0; profile = c.updates.invariant.profile; limit = c.updates.invariant.limit; accepted = next.1 ∙ c.updates.invariant.accepted }
+
+pub updates-preserved-in_ok-apply-4 : goal.updates-preserved-in_ok-apply-4
+updates-preserved-in_ok-apply-4 c =
+    let next = turn (goal.at.updates-preserved-in_ok-apply-4 c).After-pop_front in
+    record { sound = next.0; profile = c.updates.invariant.profile; limit = c.updates.invariant.limit; accepted = next.1 ∙ c.updates.invariant.accepted }
