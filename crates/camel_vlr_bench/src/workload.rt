@@ -1,9 +1,9 @@
 //! The workload of the protocol in `bench/peers`: subscribers, events and updates that are made by integer arithmetic
 //! alone. So each program makes the same ones, and their answers can be compared.
 
+pub(crate) mod calls;
 pub(crate) mod changes;
 pub(crate) mod digits;
-pub(crate) mod events;
 pub(crate) mod numbers;
 pub(crate) mod records;
 pub(crate) mod subscribers;

@@ -1,10 +1,9 @@
 use crate::harness::store::{decide, open, publish};
 use crate::protocol::Check;
+use crate::workload::calls::{Call, calls_of};
 use crate::workload::changes::Changes;
-use crate::workload::events::events_of;
 use crate::workload::sums::{Kinds, full, weighed};
 use anyhow::{Context, Result, anyhow};
-use camel_rows::CallEvent;
 use camel_vlr::{Session, Vlr};
 use std::sync::Wait;
 
@@ -25,7 +24,7 @@ fn check_session<R: AllocGlobal + Print + Wait>(
     store: &mut Vlr,
     session: &mut Session,
 ) -> Result<()> {
-    let events = events_of(rt.alloc(), 0, asked.known)?;
+    let calls = calls_of(rt.alloc(), 0, asked.known)?;
     let mut changes = Changes::new(rt.alloc(), asked.known)?;
     let mut batch = Vec::new(rt.alloc());
     let mut sum: u64 = 0;
@@ -36,11 +35,14 @@ fn check_session<R: AllocGlobal + Print + Wait>(
             changes.add_to(&mut batch, asked.batch)?;
             publish(rt, store, &mut batch)?;
         }
-        let outcome = decide(session, event_at(&events, place)?)
-            .ok()
-            .context("the reader got no look")?;
-        kinds.count(&outcome);
-        sum = sum.wrapping_add(weighed(full(&outcome), place));
+        let call = call_at(&calls, place)?;
+        let decision = decide(session, call, |decision| -> u64 {
+            kinds.count(decision);
+            full(decision)
+        })
+        .ok()
+        .context("the reader got no look")?;
+        sum = sum.wrapping_add(weighed(decision, place));
     }
     let [unknown, no_csi, not_armed, emergency, criteria, triggers] = kinds.counts;
     println!(rt; "{sum:016x}")?;
@@ -48,10 +50,10 @@ fn check_session<R: AllocGlobal + Print + Wait>(
     Ok(())
 }
 
-// The first event comes again after the last one.
-fn event_at(events: &[CallEvent], place: u64) -> Result<&CallEvent> {
-    let count = events.len().max(1) as u64;
-    events
+// The first call comes again after the last one.
+fn call_at(calls: &[Call], place: u64) -> Result<&Call> {
+    let count = calls.len().max(1) as u64;
+    calls
         .get((place % count) as usize)
-        .context("there are no events")
+        .context("there are no calls")
 }

@@ -1,19 +1,18 @@
 use crate::harness::signals::Signals;
 use crate::harness::store::decide;
 use crate::workload::CHUNK;
-use crate::workload::events::{probe, probed};
+use crate::workload::calls::{Call, probe, probed};
 use crate::workload::sums::{full, stable, weighed};
 use anyhow::{Context, Result};
-use camel_rows::CallEvent;
 use camel_vlr::{NoLook, Session};
 use std::alloc::Global;
 use std::sync::Wait;
 
-/// A call-control thread: its session, and its events.
+/// A call-control thread: its session, and its calls.
 #[derive(Drop)]
 pub(super) struct Reader {
     pub(super) session: Session,
-    pub(super) events: Vec<CallEvent>,
+    pub(super) calls: Vec<Call>,
 }
 
 /// The decisions of one reader in one run, and the sum of their outcomes.
@@ -23,7 +22,7 @@ pub(super) struct Tally {
     pub(super) checksum: u64,
 }
 
-/// Decides the events of a reader, again from the first after the last, until the run is over. Hands the reader back.
+/// Decides the calls of a reader, again from the first after the last, until the run is over. Hands the reader back.
 pub(super) fn decide_until<R: Wait>(
     rt: &R,
     signals: &Signals,
@@ -52,7 +51,7 @@ impl Reader {
     // Whether the run is over.
     fn decide_all(&mut self, signals: &Signals, tally: &mut Tally) -> Result<bool, NoLook> {
         let mut first: u64 = 0;
-        for chunk in self.events.chunks_exact(CHUNK) {
+        for chunk in self.calls.chunks_exact(CHUNK) {
             if signals.is_over() {
                 return Ok(true);
             }
@@ -65,12 +64,12 @@ impl Reader {
     }
 }
 
-fn sum_of_chunk(session: &mut Session, first: u64, chunk: &[CallEvent]) -> Result<u64, NoLook> {
+fn sum_of_chunk(session: &mut Session, first: u64, chunk: &[Call]) -> Result<u64, NoLook> {
     let mut sum: u64 = 0;
     let mut place = first;
-    for event in chunk {
-        let outcome = decide(session, event)?;
-        sum = sum.wrapping_add(weighed(stable(&outcome), place));
+    for call in chunk {
+        let decision = decide(session, call, stable)?;
+        sum = sum.wrapping_add(weighed(decision, place));
         place = place.wrapping_add(1);
     }
     Ok(sum)
@@ -81,10 +80,10 @@ pub(super) fn last_sum(alloc: Global, session: &mut Session, known: u64) -> Resu
     let mut sum: u64 = 0;
     let mut place: u64 = 0;
     for subscriber in probed(alloc, known)? {
-        let outcome = decide(session, &probe(subscriber)?)
+        let decision = decide(session, &probe(subscriber)?, full)
             .ok()
             .context("no look at the data in the end")?;
-        sum = sum.wrapping_add(weighed(full(&outcome), place));
+        sum = sum.wrapping_add(weighed(decision, place));
         place = place.wrapping_add(1);
     }
     Ok(sum)

@@ -3,10 +3,9 @@ use crate::harness::signals::Signals;
 use crate::harness::store::open;
 use crate::harness::writer::{Published, publish_until};
 use crate::protocol::Measurement;
+use crate::workload::calls::{Call, calls_of};
 use crate::workload::changes::Changes;
-use crate::workload::events::events_of;
 use anyhow::{Context, Result};
-use camel_rows::CallEvent;
 use camel_vlr::{NoLook, Session, Vlr};
 use std::alloc::Global;
 use std::rt::{Clock, Files};
@@ -22,7 +21,7 @@ pub(super) fn measure<R: AllocGlobal + Clock + Files + Print + Threads + Wait + 
     rt: &R,
     asked: &Measurement,
 ) -> Result<()> {
-    let events = events_of_readers(rt, rt.alloc(), asked)?;
+    let calls = calls_of_readers(rt, rt.alloc(), asked)?;
     let before = resident(rt)?;
     // One session more looks at the data in the end.
     let sessions = asked.readers.saturating_add(1);
@@ -30,7 +29,7 @@ pub(super) fn measure<R: AllocGlobal + Clock + Files + Print + Threads + Wait + 
     let measured = match resident(rt) {
         Ok(after) => {
             let taken = after.saturating_sub(before);
-            measure_store(rt, asked, &mut store, sessions, events, taken)
+            measure_store(rt, asked, &mut store, sessions, calls, taken)
         }
         Err(error) => Err(error),
     };
@@ -38,22 +37,22 @@ pub(super) fn measure<R: AllocGlobal + Clock + Files + Print + Threads + Wait + 
     measured
 }
 
-/// The events of each reader.
-fn events_of_readers<R: Threads + Sync>(
+/// The calls of each reader.
+fn calls_of_readers<R: Threads + Sync>(
     rt: &R,
     alloc: Global,
     asked: &Measurement,
-) -> Result<Vec<Vec<CallEvent>>> {
+) -> Result<Vec<Vec<Call>>> {
     let known = asked.known;
     let made = map_indices(
         rt,
         alloc,
         asked.readers,
-        &|reader: usize| { events_of(alloc, reader as u64, known) },
+        &|reader: usize| { calls_of(alloc, reader as u64, known) },
     )?;
     let mut all = Vec::new(alloc);
-    for events in made {
-        all.push(events?)?;
+    for calls in made {
+        all.push(calls?)?;
     }
     Ok(all)
 }
@@ -74,14 +73,14 @@ fn measure_store<R: AllocGlobal + Clock + Print + Threads + Wait + Sync>(
     asked: &Measurement,
     store: &mut Vlr,
     sessions: Vec<Session>,
-    events: Vec<Vec<CallEvent>>,
+    calls: Vec<Vec<Call>>,
     taken: u64,
 ) -> Result<()> {
     let mut sessions = sessions;
     let mut last = sessions.pop().context("no session is left")?;
     let mut readers = Vec::new(rt.alloc());
-    for (session, events) in sessions.into_iter().zip(events) {
-        readers.push(Reader { session, events })?;
+    for (session, calls) in sessions.into_iter().zip(calls) {
+        readers.push(Reader { session, calls })?;
     }
     let changes = Changes::new(rt.alloc(), asked.known)?;
     let mut stage = Stage {

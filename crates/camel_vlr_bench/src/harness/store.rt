@@ -1,16 +1,17 @@
+use crate::workload::calls::Call;
 use crate::workload::records::insert_of;
 use crate::workload::subscribers::imsi_of;
 use anyhow::{Result, ensure};
-use camel_rows::{CallEvent, Outcome, Update};
+use camel_rows::{Decision, Update};
 use camel_table::Seed;
 use camel_tbcd::Profile;
 use camel_vlr::{MAX_PLACES, MAX_UPDATES, NoLook, Session, Vlr};
 use std::alloc::Global;
 use std::sync::Wait;
 
-/// A store is filled in publications of so many subscribers: what a publication takes in memory stays, and is to be
-/// little.
-const FILLED_AT_ONCE: u64 = 10;
+/// A store is filled in publications of so many subscribers, as by a switch that is restored. The memory for the list of
+/// the pending updates stays, and is to be little.
+const FILLED_AT_ONCE: u64 = 1000;
 
 /// A store with so many known subscribers, and its sessions.
 pub(super) fn open<R: Wait>(
@@ -65,10 +66,16 @@ pub(super) fn publish<R: Wait>(rt: &R, store: &mut Vlr, batch: &mut Vec<Update>)
     Ok(())
 }
 
-/// What one look of the session decides of an event. What is needed of the decision is kept, and the look left.
-pub(super) fn decide(session: &mut Session, event: &CallEvent) -> Result<Outcome, NoLook> {
+/// What `sum` makes of the decision of a call by one look of the session. The look is left afterwards.
+pub(super) fn decide<T, F: FnOnce(&Decision) -> T>(
+    session: &mut Session,
+    call: &Call,
+    sum: F,
+) -> Result<T, NoLook>
+    requires { F.IsAlwaysCallable sum }
+{
     let look = session.look()?;
-    let outcome = Outcome::of(&look.decide(&event.lend()));
+    let summed = sum(&look.decide(&call.event()));
     look.leave();
-    Ok(outcome)
+    Ok(summed)
 }

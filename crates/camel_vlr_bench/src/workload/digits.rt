@@ -2,7 +2,7 @@
 
 ghost use Rattle.std.specs.Prelude.{◌≤◌};
 
-use camel_tbcd::{AddressFault, CallAddress, IsdnAddress};
+use camel_tbcd::{AddressFault, IsdnAddress};
 
 /// The octet of an international number in the numbering plan E.164.
 pub(crate) const INTERNATIONAL: u8 = 0x91;
@@ -58,10 +58,6 @@ impl Number {
             digits,
             count: self.count,
         }
-    }
-
-    pub(crate) fn to_called(&self) -> Result<CallAddress, AddressFault> {
-        CallAddress::from_bytes(&self.octets()[..self.length()])
     }
 
     pub(crate) fn to_isdn(&self) -> Result<IsdnAddress, AddressFault> {

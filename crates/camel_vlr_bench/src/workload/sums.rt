@@ -1,53 +1,38 @@
 //! The sums by which answers are compared.
 
-ghost use Rattle.std.specs.Prelude.{◌≤◌};
+ghost use Rattle.std.specs.Prelude.{◌≤◌, length};
 
 use camel_criteria::Handling;
-use camel_rows::{Outcome, Reason};
-use camel_tbcd::IsdnAddress;
+use camel_rows::{Decision, Reason, TdpRow};
 
-/// All that an outcome has.
-pub(crate) fn full(outcome: &Outcome) -> u64 {
-    match outcome {
-        Outcome::NoTrigger(reason) => of_reason(*reason),
-        Outcome::Trigger {
-            dp,
-            key,
-            scf,
-            handling,
-        } => {
-            let scf = ScfOctets::of(scf);
-            shredded(
-                marks(*dp, *key, &scf, *handling),
-                scf.first_eight,
-                scf.ninth,
-            )
+/// All that a decision says.
+pub(crate) fn full(decision: &Decision) -> u64 {
+    match decision {
+        Decision::NoTrigger(reason) => of_reason(*reason),
+        Decision::Trigger { row, .. } => {
+            let scf = ScfOctets::of(row);
+            shredded(marks(row, row.key(), &scf), scf.first_eight(), scf.ninth())
         }
     }
 }
 
-/// What no update changes of an outcome, and whether its service key and its gsmSCF address are of one version. So the
+/// What no update changes of a decision, and whether its service key and its gsmSCF address are of one version. So the
 /// sum of a run does not depend on how decisions and publications mingle.
-pub(crate) fn stable(outcome: &Outcome) -> u64 {
-    match outcome {
-        Outcome::NoTrigger(reason) => of_reason(*reason),
-        Outcome::Trigger {
-            dp,
-            key,
-            scf,
-            handling,
-        } => {
-            let (scf, version) = ScfOctets::of(scf).split_last();
-            let difference = u64::from(key >> 20 & 0x7F) ^ version;
-            let marks = marks(*dp, key & 0xF_FFFF, &scf, *handling);
-            shredded(marks, scf.first_eight, scf.ninth | difference << 8)
+pub(crate) fn stable(decision: &Decision) -> u64 {
+    match decision {
+        Decision::NoTrigger(reason) => of_reason(*reason),
+        Decision::Trigger { row, .. } => {
+            let (scf, version) = ScfOctets::of(row).split_last();
+            let difference = u64::from(row.key() >> 20 & 0x7F) ^ version;
+            let marks = marks(row, row.key() & 0xF_FFFF, &scf);
+            shredded(marks, scf.first_eight(), scf.ninth() | difference << 8)
         }
     }
 }
 
-/// What the outcome at a place of a list adds to the sum of the list.
-pub(crate) fn weighed(outcome: u64, place: u64) -> u64 {
-    outcome.wrapping_mul(place.wrapping_mul(2).wrapping_add(1))
+/// What the decision at a place of a list adds to the sum of the list.
+pub(crate) fn weighed(decision: u64, place: u64) -> u64 {
+    decision.wrapping_mul(place.wrapping_mul(2).wrapping_add(1))
 }
 
 fn shredded(first: u64, second: u64, third: u64) -> u64 {
@@ -73,62 +58,67 @@ fn kind_of(reason: Reason) -> usize
     }
 }
 
-fn marks(dp: u8, key: u32, scf: &ScfOctets, handling: Handling) -> u64 {
-    let handling: u64 = match handling {
+fn marks(row: &TdpRow, key: u32, scf: &ScfOctets) -> u64 {
+    let handling: u64 = match row.handling() {
         Handling::Continue => 0,
         Handling::Release => 1,
     };
-    u64::from(dp) | handling << 8 | (scf.length as u64) << 16 | u64::from(key) << 32
+    u64::from(row.dp()) | handling << 8 | (scf.length as u64) << 16 | u64::from(key) << 32
 }
 
-/// The octets of a gsmSCF address, zeros behind the last one.
+/// The octets of a gsmSCF address as one number, the first octet lowest.
 #[derive(Clone, Copy)]
 struct ScfOctets {
     length: usize,
-    /// The first octet lowest.
-    first_eight: u64,
-    ninth: u64,
+    number: u128,
+    ghost lengths: { (1 ≤ length) × (length ≤ 9) },
 }
 
 impl ScfOctets {
-    fn of(scf: &IsdnAddress) -> ScfOctets {
-        let bytes = scf.lend().bytes();
-        let mut octets = [0; 9];
-        octets[..bytes.len()].copy_from_slice(bytes);
-        let [a, b, c, d, e, f, g, h, ninth] = octets;
+    fn of(row: &TdpRow) -> ScfOctets {
+        let octets = row.scf().bytes();
         ScfOctets {
-            length: bytes.len(),
-            first_eight: u64::from_le_bytes([a, b, c, d, e, f, g, h]),
-            ninth: u64::from(ninth),
+            length: octets.len(),
+            number: number_in(octets),
         }
+    }
+
+    fn first_eight(&self) -> u64 {
+        (self.number % (1 << 64)) as u64
+    }
+
+    fn ninth(&self) -> u64 {
+        (self.number >> 64) as u64
     }
 
     /// With a zero in the place of the last octet, and that octet.
     fn split_last(self) -> (ScfOctets, u64) {
-        let ScfOctets {
-            length,
-            first_eight,
-            ninth,
-        } = self;
-        if length > 8 {
-            let rest = ScfOctets {
-                length,
-                first_eight,
-                ninth: 0,
-            };
-            return (rest, ninth);
-        }
-        let place = (length.max(1) - 1) * 8;
+        let ScfOctets { length, number } = self;
+        let last = 0xFF << (8 * (length - 1));
         let rest = ScfOctets {
             length,
-            first_eight: first_eight & !(0xFF << place),
-            ninth,
+            number: number & !last,
         };
-        (rest, first_eight >> place & 0xFF)
+        (rest, ((number & last) >> (8 * (length - 1))) as u64)
     }
 }
 
-/// How many outcomes there were of each reason, in the order in which reasons are looked at, and then of rows.
+// Two reads make the number of five to nine octets, so that no branch depends on how many there are.
+fn number_in(octets: &[u8]) -> u128
+    requires { length octets.now ≤ 9 }
+{
+    let (Some(first), Some(last)) = (octets.first_chunk::<5>(), octets.last_chunk::<4>()) else {
+        return octets.iter().rev().fold(0, |number: u128, octet| -> u128 {
+            number << 8 | u128::from(*octet)
+        });
+    };
+    let [a, b, c, d, e] = *first;
+    let first = u64::from_le_bytes([a, b, c, d, e, 0, 0, 0]);
+    let last = u128::from(u32::from_le_bytes(*last));
+    u128::from(first) | last << (8 * (octets.len() - 4))
+}
+
+/// How many decisions there were of each reason, in the order in which reasons are looked at, and then of rows.
 #[derive(Clone, Copy)]
 pub(crate) struct Kinds {
     pub(crate) counts: [u64; 6],
@@ -139,10 +129,10 @@ impl Kinds {
         Kinds { counts: [0; 6] }
     }
 
-    pub(crate) fn count(&mut self, outcome: &Outcome) {
-        let kind = match outcome {
-            Outcome::NoTrigger(reason) => kind_of(*reason),
-            Outcome::Trigger { .. } => 5,
+    pub(crate) fn count(&mut self, decision: &Decision) {
+        let kind = match decision {
+            Decision::NoTrigger(reason) => kind_of(*reason),
+            Decision::Trigger { .. } => 5,
         };
         self.counts[kind] = self.counts[kind].wrapping_add(1);
     }

@@ -1,34 +1,57 @@
-//! The events that a reader decides, again and again in their order.
+//! The calls whose events a reader decides, again and again in their order.
 
 use crate::workload::digits::{INTERNATIONAL, Number};
 use crate::workload::numbers::{Generator, mix};
 use crate::workload::subscribers::{comers, imsi_of, known_one, listed_by, never_there};
 use anyhow::Result;
 use camel_criteria::{BasicService, EMERGENCY_CALLS};
-use camel_rows::CallEvent;
+use camel_rows::Event;
+use camel_tbcd::{Imsi, IsdnAddress};
 use std::alloc::{AllocError, Global};
 
-const FEWEST_EVENTS: u64 = 1 << 14;
+const FEWEST_CALLS: u64 = 1 << 14;
 
-const MOST_EVENTS: u64 = 1 << 20;
+const MOST_CALLS: u64 = 1 << 20;
 
-/// The events of a reader: nine of ten of known subscribers.
-pub(crate) fn events_of(alloc: Global, reader: u64, known: u64) -> Result<Vec<CallEvent>> {
-    let count = known.clamp(FEWEST_EVENTS, MOST_EVENTS).next_power_of_two();
-    let mut generator = Generator::new(reader.wrapping_add(0x5EED_0000));
-    let mut events = Vec::new(alloc);
-    for _ in 0..count {
-        events.push(drawn_event(&mut generator, known)?)?;
-    }
-    Ok(events)
+/// What is known of a call at detection point 2. Its destination has at most nine octets, so that it takes little room in
+/// a list of calls.
+#[derive(Clone, Copy)]
+pub(crate) struct Call {
+    imsi: Imsi,
+    destination: IsdnAddress,
+    basic: BasicService,
+    forwarded: bool,
 }
 
-fn drawn_event(generator: &mut Generator, known: u64) -> Result<CallEvent> {
+impl Call {
+    /// Its event, with the destination borrowed.
+    pub(crate) fn event(&self) -> Event<'_> {
+        Event::CollectedInfo {
+            imsi: self.imsi,
+            destination: self.destination.lend(),
+            basic: self.basic,
+            forwarded: self.forwarded,
+        }
+    }
+}
+
+/// The calls of a reader: nine of ten of known subscribers.
+pub(crate) fn calls_of(alloc: Global, reader: u64, known: u64) -> Result<Vec<Call>> {
+    let count = known.clamp(FEWEST_CALLS, MOST_CALLS).next_power_of_two();
+    let mut generator = Generator::new(reader.wrapping_add(0x5EED_0000));
+    let mut calls = Vec::new(alloc);
+    for _ in 0..count {
+        calls.push(drawn_call(&mut generator, known)?)?;
+    }
+    Ok(calls)
+}
+
+fn drawn_call(generator: &mut Generator, known: u64) -> Result<Call> {
     let (whose, choice, digits) = (generator.draw(), generator.draw(), generator.draw());
     if whose % 10 == 0 {
-        event(never_there(whose, known), choice, digits, false)
+        call_of(never_there(whose, known), choice, digits, false)
     } else {
-        event(
+        call_of(
             known_one(whose, known),
             choice,
             digits,
@@ -37,9 +60,9 @@ fn drawn_event(generator: &mut Generator, known: u64) -> Result<CallEvent> {
     }
 }
 
-/// The event by which the data of a subscriber are looked at in the end.
-pub(crate) fn probe(subscriber: u64) -> Result<CallEvent> {
-    event(subscriber, 0x7F, mix(subscriber), true)
+/// The call by which the data of a subscriber are looked at in the end.
+pub(crate) fn probe(subscriber: u64) -> Result<Call> {
+    call_of(subscriber, 0x7F, mix(subscriber), true)
 }
 
 /// The subscribers whose data are looked at in the end: up to 100,000 known ones, and all that come and go.
@@ -52,17 +75,17 @@ pub(crate) fn probed(alloc: Global, known: u64) -> Result<Vec<u64>, AllocError> 
     Ok(subscribers)
 }
 
-/// An event of a subscriber. Its destination begins with a listed number where it is to and where there is one.
-fn event(subscriber: u64, choice: u64, digits: u64, begins_with_listed: bool) -> Result<CallEvent> {
+/// A call of a subscriber. Its destination begins with a listed number where it is to and where there is one.
+fn call_of(subscriber: u64, choice: u64, digits: u64, begins_with_listed: bool) -> Result<Call> {
     let count = if choice >> 8 & 3 == 0 { 11 } else { 12 };
     let any = Number::of(INTERNATIONAL, digits, count);
     let destination = match listed_by(subscriber) {
         Some(numbers) if begins_with_listed => any.beginning_with(&chosen(&numbers, choice)),
         _ => any,
     };
-    Ok(CallEvent::CollectedInfo {
+    Ok(Call {
         imsi: imsi_of(subscriber)?,
-        destination: destination.to_called()?,
+        destination: destination.to_isdn()?,
         basic: match choice & 63 {
             0 => BasicService::Tele(EMERGENCY_CALLS),
             1..=15 => BasicService::Bearer(0x11),
