@@ -2,7 +2,7 @@ pub mod Admission
 pub mod AdmissionCode
 pub mod Answer
 pub mod ByImsi
-pub mod CsiBlocks
+pub mod StoredCsis
 pub mod CsiChange
 pub mod CsisPresent
 pub mod Decision

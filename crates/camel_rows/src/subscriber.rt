@@ -8,7 +8,6 @@ ghost use Rattle.camel_rows.specs.Subscriber.{empty_record, entry_at, entry_data
 ghost use Rattle.camel_rows.specs.Update.{csi_after, record_after, update_imsi};
 
 pub(crate) mod admission;
-pub(crate) mod csi_blocks;
 pub(crate) mod csi_change;
 pub(crate) mod csis_present;
 pub(crate) mod directory;
@@ -17,17 +16,18 @@ pub(crate) mod lent;
 pub(crate) mod one_block;
 pub(crate) mod records;
 pub(crate) mod stored_csi;
+pub(crate) mod stored_csis;
 pub(crate) mod update;
 
 use crate::csi::criteria_set::{OCriteriaSet, TCriteriaSet};
 use crate::csi::tdp_row::TdpRow;
 use crate::csi::{OCsi, VtCsi};
-use crate::subscriber::csi_blocks::CsiBlocks;
 use crate::subscriber::csi_change::CsiChange;
 use crate::subscriber::csis_present::CsisPresent;
 use crate::subscriber::lent::Lent;
 use crate::subscriber::one_block::OneBlock;
 use crate::subscriber::stored_csi::StoredCsi;
+use crate::subscriber::stored_csis::StoredCsis;
 use crate::subscriber::update::Update;
 use camel_criteria::{OCriteria, Refusal, TCriteria, is_o_detection_point, is_vt_detection_point};
 use camel_tbcd::Imsi;
@@ -46,11 +46,11 @@ pub(crate) type StoredVtCsi = StoredCsi<3, TCriteria>;
 /// Contracts see the two, each none or the list of its rows with the list of its criteria entries.
 #[derive(Drop)]
 pub struct Subscriber {
-    csis: CsiBlocks,
+    csis: StoredCsis,
 }
 
 impl Model for Subscriber {
-    ghost use Rattle.camel_rows.specs.CsiBlocks.{o_in, vt_in};
+    ghost use Rattle.camel_rows.specs.StoredCsis.{o_in, vt_in};
     ghost use Rattle.camel_rows.specs.Subscriber.{SubscriberData};
 
     ghost Value = { SubscriberData };
@@ -64,7 +64,7 @@ impl Subscriber {
         ensures { result ≡ empty_record }
     {
         Subscriber {
-            csis: CsiBlocks::Neither,
+            csis: StoredCsis::Neither,
         }
     }
 
@@ -156,10 +156,10 @@ impl Subscriber {
         alloc: Global,
         csi: Option<OCsi>,
         criteria: &Option<OCriteriaSet>,
-    ) -> Result<CsiChange<OneBlock<StoredOCsi>>, AllocError>
+    ) -> Result<CsiChange<StoredOCsi>, AllocError>
         ensures { IfOk result (λ change. changed_by change self.now.o ≡ csi_after self.now.o csi criteria.now) }
     {
-        StoredCsi::after_insert(alloc, self.stored_o(), csi, criteria)?.in_one_block(alloc)
+        StoredCsi::after_insert(alloc, self.stored_o(), csi, criteria)
     }
 
     /// What an Insert makes of the VT-CSI.
@@ -175,18 +175,14 @@ impl Subscriber {
     }
 
     /// Changes both CSIs.
-    pub(crate) fn change(
-        &mut self,
-        o: CsiChange<OneBlock<StoredOCsi>>,
-        vt: CsiChange<OneBlock<StoredVtCsi>>,
-    )
+    pub(crate) fn change(&mut self, o: CsiChange<StoredOCsi>, vt: CsiChange<OneBlock<StoredVtCsi>>)
         ensures { self.new ≡ with_changes o vt self.old }
     {
-        let csis = mem::replace(&mut self.csis, CsiBlocks::Neither);
+        let csis = mem::replace(&mut self.csis, StoredCsis::Neither);
         let (mut stored_o, mut stored_vt) = csis.into_parts();
         o.apply(&mut stored_o);
         vt.apply(&mut stored_vt);
-        self.csis = CsiBlocks::of(stored_o, stored_vt);
+        self.csis = StoredCsis::of(stored_o, stored_vt);
     }
 }
 

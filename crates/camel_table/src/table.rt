@@ -11,8 +11,9 @@ use std::alloc::{AllocError, Global};
 use std::hash::BuildHasher;
 use std::marker::Model;
 
-/// A line that gets more entries than this asks for a line more. So many lie in the line itself.
-const MOST_IN_LINE: usize = 2;
+/// A line that gets more entries than this asks for a line more. Two lie in the line itself. A line more for each third
+/// entry would leave fewer to be sought in a list, but more room unused.
+const MOST_IN_LINE: usize = 3;
 
 /// There are never more lines than this. Further entries make the lines longer.
 const MOST_LINES: usize = 1 << 32;

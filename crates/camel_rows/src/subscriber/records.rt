@@ -169,7 +169,7 @@ impl Records {
     fn change(
         &mut self,
         imsi: &Imsi,
-        o: CsiChange<OneBlock<StoredOCsi>>,
+        o: CsiChange<StoredOCsi>,
         vt: CsiChange<OneBlock<StoredVtCsi>>,
     )
         requires { IsSome (map.get self.old imsi.now) }
