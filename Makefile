@@ -1,13 +1,16 @@
 # `make replay SCRIPT=examples/first-call.csv` replays a script, and `make test` passes all tests: the gate, then the
-# programs that must not compile, and each script of examples/ and tests/scripts/ with all that it leaves.
+# programs that must not compile, each script of examples/ and tests/scripts/ with all that it leaves, the program over
+# streams and with signals as a user meets them, and the switch in C that has it as a child.
 
 SCRIPT ?= examples/first-call.csv
 LIMIT ?= 1000000
 PROGRAM := crates/camel_replay/out/camel_replay
 LOG := crates/camel_replay/out/build.log
+COPROCESS := crates/camel_replay/out/coprocess
+CALLS ?= 100000
 BENCH_LOG := crates/camel_vlr_bench/out/build.log
 
-.PHONY: program replay examples scripts bench bench-program bench-vlr bench-peers count-vlr test
+.PHONY: program replay examples scripts streams coprocess bench bench-program bench-vlr bench-peers count-vlr test
 
 # Proves and builds the program where a source has changed, about 15 minutes the first time.
 program:
@@ -23,6 +26,15 @@ examples: program
 
 scripts: program
 	@.ci/scripts tests/scripts
+
+streams: program
+	@.ci/streams
+
+# Needs a C compiler. The round trip is that of so many CALLS.
+coprocess: program
+	@command -v $(CC) > /dev/null || { echo "coprocess: needs a C compiler, and $(CC) is none" >&2; exit 2; }
+	@$(CC) -std=c11 -O2 -Wall -Wextra -o $(COPROCESS) examples/coprocess.c
+	@$(COPROCESS) $(PROGRAM) $(CALLS)
 
 bench: program
 	@bench/run
@@ -46,3 +58,4 @@ test:
 	rt ci
 	@.ci/must-not-compile
 	@$(MAKE) --no-print-directory examples scripts
+	@$(MAKE) --no-print-directory streams coprocess CALLS=1000
