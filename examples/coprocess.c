@@ -4,7 +4,7 @@
  * The program runs as a child between two pipes. A record goes out, and its line comes back before the next record goes
  * out. So at most one record and one line lie in the pipes, and no write waits for room; a wait for the child has a
  * limit. Each line, and each end that the child comes to, is compared with the expected one. The last line tells the
- * round trip of CALLS calls. The status is 0; or 1 where the child did anything else; or 2 where the system did.
+ * round trip of CALLS calls. The status is 1 where the child did anything else, 2 where a call of the system failed.
  */
 #define _POSIX_C_SOURCE 200809L
 #include <errno.h>
