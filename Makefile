@@ -1,6 +1,6 @@
 # `make replay SCRIPT=examples/first-call.csv` replays a script, and `make test` passes all tests: the gate, then the
 # programs that must not compile, each script of examples/ and tests/scripts/ with all that it leaves, the program over
-# streams and with signals as a user meets them, and the switch in C that has it as a child.
+# streams and with signals as a user meets them, the switch in C that has it as a child, and a short soak.
 
 SCRIPT ?= examples/first-call.csv
 LIMIT ?= 1000000
@@ -9,8 +9,13 @@ LOG := crates/camel_replay/out/build.log
 COPROCESS := crates/camel_replay/out/coprocess
 CALLS ?= 100000
 BENCH_LOG := crates/camel_vlr_bench/out/build.log
+SOAK_LOG := crates/camel_soak/out/build.log
+SECONDS ?= 60
+SUBSCRIBERS ?= 100000
+SEED ?= 1
 
-.PHONY: program replay examples scripts streams coprocess bench bench-program bench-vlr bench-peers count-vlr test
+.PHONY: program replay examples scripts streams coprocess bench bench-program bench-vlr bench-peers count-vlr \
+	soak-program soak test
 
 # Proves and builds the program where a source has changed, about 15 minutes the first time.
 program:
@@ -54,8 +59,17 @@ bench-peers: bench-program
 count-vlr: bench-program
 	@bench/count-vlr
 
+soak-program:
+	@mkdir -p crates/camel_soak/out
+	@(cd crates/camel_soak && rt run -- 0 1000 < /dev/null) > $(SOAK_LOG) 2>&1 || { cat $(SOAK_LOG) >&2; exit 1; }
+
+# One store for so many seconds, with as many sessions as there are cores. Another seed gives other calls and updates.
+soak: soak-program
+	@crates/camel_soak/out/camel_soak $(SECONDS) $(SUBSCRIBERS) $(SEED)
+
 test:
 	rt ci
 	@.ci/must-not-compile
 	@$(MAKE) --no-print-directory examples scripts
 	@$(MAKE) --no-print-directory streams coprocess CALLS=1000
+	@$(MAKE) --no-print-directory soak SECONDS=10 SUBSCRIBERS=5000
