@@ -4,7 +4,7 @@
 use crate::caller::Answered;
 use crate::failure::{Difference, Result};
 use crate::writer::{Batch, Submitted};
-use camel_audit::{Transcript, audit};
+use camel_audit::{AuditFault, Transcript, audit};
 use camel_criteria::Refusal;
 use camel_rows::{Records, Update};
 use camel_tbcd::Profile;
@@ -49,10 +49,20 @@ pub(crate) fn audit_round<R: Threads + Sync>(
     )?;
     for (session, audited) in audits.into_iter().enumerate() {
         if let Err(fault) = audited {
-            return Err(Difference::Audit { session, fault }.into());
+            return Err(Difference::Audit(named(fault, session as u64)).into());
         }
     }
     Ok(())
+}
+
+// The fault in the one transcript of an audit, with the number that its session has among all.
+fn named(fault: AuditFault, session: u64) -> AuditFault {
+    match fault {
+        AuditFault::FrontTooLong { entry, .. } => AuditFault::FrontTooLong { session, entry },
+        AuditFault::FrontWentBack { entry, .. } => AuditFault::FrontWentBack { session, entry },
+        AuditFault::AnswerDiffers { entry, .. } => AuditFault::AnswerDiffers { session, entry },
+        AuditFault::OutOfMemory | AuditFault::BadHistory { .. } => fault,
+    }
 }
 
 // The first updates, and those that the store has accepted.

@@ -5,6 +5,7 @@ use crate::failure::{Difference, Result};
 use crate::of_store::{Of, StoreName};
 use crate::workload::events::draw_event;
 use camel_audit::{Entry, Transcript};
+use camel_criteria::Refusal;
 use camel_rows::{Answer, CallEvent};
 use camel_vlr::{Receipt, Session};
 use crossbeam_channel::Receiver;
@@ -75,13 +76,13 @@ impl<S: StoreName> Caller<S> {
     fn answer_in_one_look(&mut self, alloc: Global, entries: &mut Vec<Entry>) -> Result<()> {
         let events = self.draw_events(alloc)?;
         let mut answers = Vec::with_capacity(alloc, events.len())?;
-        let session = self.number;
-        if self
-            .session
-            .answer_in_one_look(&events, &mut answers)
-            .is_err()
-        {
-            return Err(Difference::NoLook { session }.into());
+        match self.session.answer_in_one_look(&events, &mut answers) {
+            Ok(()) => check_look(self.number, &answers)?,
+            Err(Refusal::NoGuard) => {
+                let session = self.number;
+                return Err(Difference::NoLook { session }.into());
+            }
+            Err(why) => return Err(why.into()),
         }
         for (event, answer) in events.into_iter().zip(answers) {
             let call = entries.len() as u64;
@@ -107,4 +108,21 @@ impl<S: StoreName> Caller<S> {
         }
         Ok(events)
     }
+}
+
+// All answers of a look are of one front.
+fn check_look(session: usize, answers: &[Answer]) -> Result<()> {
+    let (Some(first), Some(last)) = (answers.first(), answers.last()) else {
+        return Ok(());
+    };
+    let (first, last) = (first.front, last.front);
+    if first != last {
+        return Err(Difference::LookMoved {
+            session,
+            first,
+            last,
+        }
+        .into());
+    }
+    Ok(())
 }

@@ -40,4 +40,18 @@ impl Draws {
             .get(self.below(choices.len() as u64) as usize)
             .copied()
     }
+
+    /// The first of these, which may be none or all.
+    pub(crate) fn some_of<'a, T>(&mut self, choices: &'a [T]) -> &'a [T] {
+        let count = self.below((choices.len() as u64).saturating_add(1)) as usize;
+        &choices[..count.min(choices.len())]
+    }
+
+    pub(crate) fn octet(&mut self) -> u8 {
+        (self.generator.next_u32() & 0xFF) as u8
+    }
+
+    pub(crate) fn word(&mut self) -> u32 {
+        self.generator.next_u32()
+    }
 }

@@ -35,6 +35,12 @@ pub(crate) enum Difference {
     NoLook {
         session: usize,
     },
+    #[error("session {session}: one look had a front of {first} updates and then one of {last}")]
+    LookMoved {
+        session: usize,
+        first: u64,
+        last: u64,
+    },
     #[error("session {session}: {entry:?}, wanted {wanted:?}")]
     Answer {
         session: usize,
@@ -64,11 +70,8 @@ pub(crate) enum Difference {
         front: u64,
         wanted: u64,
     },
-    #[error("the audit of session {session}: {fault}")]
-    Audit {
-        session: usize,
-        fault: AuditFault,
-    },
+    #[error("the audit: {0}")]
+    Audit(AuditFault),
     #[error("the closed store has {records} records, wanted {wanted}")]
     RecordCount {
         records: usize,

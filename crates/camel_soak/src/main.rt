@@ -1,27 +1,28 @@
-//! Soaks the store of `camel_vlr`: one store lives for as long as is asked for, used as a switch uses it, and all that it
-//! answers is compared with what the accepted updates give. `make soak` starts it.
+//! Soaks the store of `camel_vlr`: one store lives for as long as is asked for, used as a switch uses it, and all that
+//! it answers is compared with what the accepted updates give. `make soak` starts it.
 //!
-//! `camel_soak SECONDS [SUBSCRIBERS [SEED [SESSIONS]]]` runs rounds until the time is over. In a round each session answers
-//! events of all five detection points in a thread of its own, one or several over one look, and the writer submits
-//! updates of all kinds, publishes them in batches of any size, and hands the receipts to the sessions' threads over
-//! channels. A session learns each receipt that comes, so that its later looks have to extend it. At the end of a round
-//! all threads are joined, and what they gave is checked:
+//! `camel_soak SECONDS [SUBSCRIBERS [SEED [SESSIONS]]]` runs rounds until the time is over. In a round each session
+//! answers events of all five detection points in a thread of its own, one or several over one look, and the writer
+//! submits updates of all kinds, publishes them in batches of any size, and hands the receipts to the sessions'
+//! threads over channels. A session learns each receipt that comes, so that its later looks have to extend it. At the
+//! end of a round all threads are joined, and what they gave is checked:
 //!
 //! - The writer: each update has the number, or is refused with the number, that plain records (`Records::apply`) give
 //!   after all updates before it, and each receipt has as many updates as are accepted.
-//! - Each session: no front is shorter than the one before it, than that of a receipt that was learnt, or than the one that
-//!   was published when the round began. Each front is that of a publication, so each publication is seen whole. Each
-//!   answer is the outcome (`Outcome::decide`) over a copy of the plain records to which the updates of its front are
-//!   applied.
-//! - The same once more by `camel_audit::audit`, over updates that make the records with which the round began, and the
-//!   accepted updates of the round behind them.
+//! - Each session: no front is shorter than the one before it, than that of a receipt that was learnt, or than the one
+//!   that was published when the round began. Each front is that of a publication, so each publication is seen whole,
+//!   and all answers of a look have one front.
+//!   Each answer is the outcome (`Outcome::decide`) over a copy of the plain records to which the updates of its front
+//!   are applied.
+//! - The same once more by `camel_audit::audit`, over updates that make the records with which the round began, and
+//!   the accepted updates of the round behind them.
 //!
-//! Nothing of a round is kept but the plain records and counts. In the end the store is closed: its records are those plain
-//! records. Memory in use after the last round is at most twice that after the first five.
+//! Nothing of a round is kept but the plain records and counts. In the end the store is closed: its records are those
+//! plain records. Memory in use after the last round is at most twice that after the first five.
 //!
-//! `0 differences` and status 0 say that all this was so; else the first difference is printed, with status 1. A line of
-//! progress comes on standard error every ten seconds and in the end. The events and the updates are those of the seed; how
-//! they meet is up to the machine. An even seed soaks a store of profile 2, an odd one of profile 1.
+//! `0 differences` and status 0 say that all this was so; else the first difference is printed, with status 1. A line
+//! of progress comes on standard error every ten seconds and in the end. The events and the updates are those of the
+//! seed; how they meet is up to the machine. An even seed soaks a store of profile 2, an odd one of profile 1.
 #![tactic(auto)]
 
 mod auditing;

@@ -1,6 +1,6 @@
 //! What the answers of a round are compared with: plain records, to which the accepted updates are applied one by one.
 
-use crate::caller::Answered;
+use crate::caller::{Answered, Learnt};
 use crate::failure::{Difference, Result};
 use crate::tally::Tally;
 use crate::writer::Batch;
@@ -35,8 +35,8 @@ impl Model {
         })
     }
 
-    /// Applies the updates of a publication. Each has the number, or is refused with the number, that the store answered,
-    /// and the receipt has them all.
+    /// Applies the updates of a publication. Each has the number, or is refused with the number, that the store
+    /// answered, and the receipt has them all.
     pub(crate) fn apply(&mut self, batch: &Batch) -> Result<()> {
         for submitted in &batch.submitted {
             let wanted = self.apply_update(&submitted.update);
@@ -65,8 +65,8 @@ impl Model {
         Ok(self.front)
     }
 
-    /// Checks what a session answered in a round that begins with these records: each front is that of a publication, and
-    /// each answer the decision over it. What is left of the model is that of the last front.
+    /// Checks what a session answered in a round that begins with these records: each front is that of a publication,
+    /// and each answer the decision over it. What is left of the model is that of the last front.
     pub(crate) fn check_session(
         &mut self,
         session: usize,
@@ -125,11 +125,11 @@ impl Model {
 // was published when the round began.
 fn check_fronts(session: usize, answered: &Answered, published: u64) -> Result<()> {
     let mut least = published;
-    let mut learnt = answered.learnt.iter().peekable();
+    let mut learnt = answered.learnt.as_slice();
     for (place, entry) in answered.transcript.entries.iter().enumerate() {
-        while let Some(next) = learnt.next_if(|next| next.place <= place) {
-            least = least.max(next.front);
-        }
+        let (longest, later) = learnt_before(learnt, place);
+        least = least.max(longest);
+        learnt = later;
         if entry.answer.front < least {
             let entry = *entry;
             return Err(Difference::FrontWentBack {
@@ -142,4 +142,16 @@ fn check_fronts(session: usize, answered: &Answered, published: u64) -> Result<(
         least = entry.answer.front;
     }
     Ok(())
+}
+
+// The longest front that was learnt before the entry at this place was answered, and what was learnt later.
+fn learnt_before(learnt: &[Learnt], place: usize) -> (u64, &[Learnt]) {
+    let mut longest = 0;
+    for (at, next) in learnt.iter().enumerate() {
+        if next.place > place {
+            return (longest, &learnt[at..]);
+        }
+        longest = longest.max(next.front);
+    }
+    (longest, &[])
 }

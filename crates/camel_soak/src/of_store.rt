@@ -4,7 +4,7 @@ ghost use Rattle.std.specs.Prelude.{◌≡◌, Some};
 
 use camel_criteria::Refusal;
 use camel_rows::{Answer, CallEvent, Outcome, Records, Update};
-use camel_vlr::{CloseRefused, NoLook, Receipt, Session, Vlr};
+use camel_vlr::{CloseRefused, Receipt, Session, Vlr};
 use std::marker::{Brand, PhantomData};
 use std::sync::Wait;
 
@@ -106,12 +106,12 @@ impl<S: StoreName> Of<S, Session> {
         self.value.learn(receipt.value);
     }
 
-    /// The answers to these events over one look, appended to the list, which has room for them.
+    /// Appends the answers to these events, all over one look. Fails with `NoGuard` (104) where the look fails.
     pub(crate) fn answer_in_one_look(
         &mut self,
         events: &[CallEvent],
         answers: &mut Vec<Answer>,
-    ) -> Result<(), NoLook> {
+    ) -> Result<(), Refusal> {
         answer_in_one_look(&mut self.value, events, answers)
     }
 }
@@ -120,18 +120,17 @@ fn answer_in_one_look(
     session: &mut Session,
     events: &[CallEvent],
     answers: &mut Vec<Answer>,
-) -> Result<(), NoLook>
+) -> Result<(), Refusal>
     ensures { session.new.store ≡ session.old.store }
 {
-    let look = session.look()?;
+    let Ok(look) = session.look() else {
+        return Err(Refusal::NoGuard);
+    };
     for event in events {
-        let answer = Answer {
+        answers.push(Answer {
             front: look.front(),
             outcome: Outcome::of(&look.decide(&event.lend())),
-        };
-        if answers.push(answer).is_err() {
-            break;
-        }
+        })?;
     }
     look.leave();
     Ok(())

@@ -17,10 +17,13 @@ pub(crate) const BASIC_SERVICES: [BasicService; 4] = [
     BasicService::Bearer(0x11),
 ];
 
-/// The causes of events, and those that criteria list.
+/// The causes of events.
 pub(crate) const CAUSES: [u8; 4] = [16, 17, 19, 31];
 
-/// What criteria list of basic services: groups, and single ones.
+/// What criteria list of causes; none is no criterion.
+const LISTED_CAUSES: [u8; 3] = [16, 17, 31];
+
+/// What criteria list of basic services: groups, and single ones. None is no criterion.
 const LISTED_SERVICES: [BasicService; 4] = [
     BasicService::Tele(0x10),
     BasicService::Tele(0x62),
@@ -62,9 +65,8 @@ pub(crate) fn draw_vt_csi(draws: &mut Draws) -> Result<VtCsi, Refusal> {
 
 // Two rows are seldom the same: an answer over other updates is seldom the right one.
 fn draw_row(draws: &mut Draws, dp: u8) -> Result<TdpRow, Refusal> {
-    let key = draws.below(u64::from(MAX_SERVICE_KEY) + 1) as u32;
-    let end = draws.below(256) as u8;
-    let scf = number_of(&[0x91, 0x94, 0x71, end])?;
+    let key = draws.word() & MAX_SERVICE_KEY;
+    let scf = number_of(&[0x91, 0x94, 0x71, draws.octet()])?;
     TdpRow::new(dp, key, scf, draw_handling(draws))
 }
 
@@ -84,7 +86,7 @@ pub(crate) fn draw_o_criteria(alloc: Global, draws: &mut Draws) -> Result<OCrite
         entries.push(draw_o_entry(alloc, draws, COLLECTED_INFO, &[])?)?;
     }
     if choice != 1 {
-        let causes = draw_causes(draws);
+        let causes = draws.some_of(&LISTED_CAUSES);
         entries.push(draw_o_entry(alloc, draws, ROUTE_SELECT_FAILURE, causes)?)?;
     }
     OCriteriaSet::new(entries)
@@ -106,18 +108,24 @@ fn draw_o_entry(
         1 => Some(CallType::NotForwarded),
         _ => None,
     };
-    OCriteria::new(dp, number, draw_services(draws), call_type, causes)
+    OCriteria::new(
+        dp,
+        number,
+        draws.some_of(&LISTED_SERVICES),
+        call_type,
+        causes,
+    )
 }
 
 fn draw_number_criterion(alloc: Global, draws: &mut Draws) -> Result<NumberCriterion, Refusal> {
-    let count = draws.below(LISTED_NUMBERS.len() as u64 + 1) as usize;
-    let numbers = numbers_of(alloc, &LISTED_NUMBERS[..count])?;
+    let listed = draws.some_of(&LISTED_NUMBERS);
+    let numbers = numbers_of(alloc, listed)?;
     let match_type = if draws.one_in(2) {
         MatchType::Enabling
     } else {
         MatchType::Inhibiting
     };
-    let lengths: &[u8] = if count == 0 || draws.one_in(4) {
+    let lengths: &[u8] = if listed.is_empty() || draws.one_in(4) {
         &[4, 6]
     } else {
         &[]
@@ -130,25 +138,17 @@ pub(crate) fn draw_t_criteria(alloc: Global, draws: &mut Draws) -> Result<TCrite
     let mut entries = Vec::new(alloc);
     let choice = draws.below(3);
     if choice != 0 {
-        let basic = draw_services(draws);
+        let basic = draws.some_of(&LISTED_SERVICES);
         entries.push(TCriteria::new(TERMINATING_ATTEMPT, basic, &[])?)?;
     }
     if choice != 1 {
         for dp in [BUSY, NO_ANSWER] {
-            let (basic, causes) = (draw_services(draws), draw_causes(draws));
+            let (basic, causes) = (
+                draws.some_of(&LISTED_SERVICES),
+                draws.some_of(&LISTED_CAUSES),
+            );
             entries.push(TCriteria::new(dp, basic, causes)?)?;
         }
     }
     TCriteriaSet::new(entries)
-}
-
-// The first so many; none is no criterion.
-fn draw_services(draws: &mut Draws) -> &'static [BasicService] {
-    let count = draws.below(LISTED_SERVICES.len() as u64 + 1) as usize;
-    &LISTED_SERVICES[..count]
-}
-
-fn draw_causes(draws: &mut Draws) -> &'static [u8] {
-    let count = draws.below(CAUSES.len() as u64) as usize;
-    &CAUSES[..count]
 }
