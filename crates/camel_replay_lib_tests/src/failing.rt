@@ -88,10 +88,14 @@ impl Read for FailingReader<'_> {
     }
 }
 
+// How many octets the records of the script and those before them take.
+const ENDS: [usize; 4] = [25, 71, 79, 117];
+
 #[test]
 fn a_failed_read_ends_the_run(rt: HostRuntime) {
-    // The first call reads the first octet. The first record ends with octet 25, the script with 117.
-    for (calls, number, lines) in [(0, 1, 0), (24, 1, 0), (25, 2, 1), (70, 2, 1), (117, 5, 4)] {
+    // The first call reads the first octet, and one call more than there are octets finds the end.
+    for (calls, octets) in (0..).zip(0..=FIRST_CALL.len()) {
+        let lines = ENDS.iter().filter(|end| **end <= octets).count() as u64;
         let reader = FailingReader {
             left: FIRST_CALL.as_bytes(),
             calls,
@@ -99,11 +103,11 @@ fn a_failed_read_ends_the_run(rt: HostRuntime) {
         let mut out = Vec::new(rt.alloc());
         let ended = replay(rt.alloc(), reader, &mut out, 10, Profile::One);
         let fault = ReplayFault {
-            number: Some(number),
+            number: Some(lines + 1),
             code: 206,
         };
         assert_eq!(rt; ended.err(), Some(fault), "at call {calls}");
-        let written = out.iter().filter(|octet| **octet == b'\n').count();
+        let written = out.iter().filter(|octet| **octet == b'\n').count() as u64;
         assert_eq!(rt; written, lines, "at call {calls}");
         assert!(rt; FIRST_CALL_OUTPUT.as_bytes().starts_with(out.as_slice()));
     }
@@ -189,6 +193,32 @@ fn a_failed_write_ends_the_run(rt: HostRuntime) {
                 .starts_with(out.taken.as_slice())
         );
     }
+}
+
+// How a writer that takes one octet a call fails, wherever it does.
+#[test]
+fn a_write_that_fails_at_any_octet_ends_the_run(rt: HostRuntime) -> Result<(), Fail> {
+    let words = words(rt.alloc(), &[])?;
+    let whole = FIRST_CALL_OUTPUT.as_bytes();
+    for most in 0..whole.len() {
+        let written = &whole[..most];
+        let lines = written.iter().filter(|octet| **octet == b'\n').count();
+        let number = lines + 1;
+        let line = format!(in rt.alloc(); "camel_replay: record {number}: fault 208\n")?;
+        for then in [Then::Fails, Then::TakesNone] {
+            let mut out = SlowWriter {
+                taken: Vec::new(rt.alloc()),
+                most,
+                then,
+            };
+            let mut err = Vec::new(rt.alloc());
+            let script = FIRST_CALL.as_bytes();
+            assert_eq!(rt; run(&rt, rt.alloc(), &words, script, &mut out, &mut err), 1);
+            assert_eq!(rt; out.taken.as_slice(), written);
+            assert_eq!(rt; err.as_slice(), line.as_bytes());
+        }
+    }
+    Ok(())
 }
 
 // A read that fails at this call, a writer, and the line of the fault that the run ends with.
