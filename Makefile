@@ -4,18 +4,20 @@
 
 SCRIPT ?= examples/first-call.csv
 LIMIT ?= 1000000
+SEED ?= 1
+COUNT ?= 100000
 PROGRAM := crates/camel_replay/out/camel_replay
 LOG := crates/camel_replay/out/build.log
 COPROCESS := crates/camel_replay/out/coprocess
 CALLS ?= 100000
 BENCH_LOG := crates/camel_vlr_bench/out/build.log
 SOAK_LOG := crates/camel_soak/out/build.log
+FUZZ_LOG := crates/camel_fuzz/out/build.log
 SECONDS ?= 60
 SUBSCRIBERS ?= 100000
-SEED ?= 1
 
 .PHONY: program replay examples scripts streams coprocess bench bench-program bench-vlr bench-peers count-vlr \
-	soak-program soak test
+	soak-program soak fuzz-program fuzz test
 
 # Proves and builds the program where a source has changed, about 15 minutes the first time.
 program:
@@ -67,9 +69,18 @@ soak-program:
 soak: soak-program
 	@crates/camel_soak/out/camel_soak $(SECONDS) $(SUBSCRIBERS) $(SEED)
 
+fuzz-program:
+	@mkdir -p crates/camel_fuzz/out
+	@(cd crates/camel_fuzz && rt run < /dev/null) > $(FUZZ_LOG) 2>&1 || { cat $(FUZZ_LOG) >&2; exit 1; }
+
+# COUNT scripts of bad octets that SEED makes, and scripts that are far too long.
+fuzz: program fuzz-program
+	@.ci/fuzz $(SEED) $(COUNT)
+
 test:
 	rt ci
 	@.ci/must-not-compile
 	@$(MAKE) --no-print-directory examples scripts
 	@$(MAKE) --no-print-directory streams coprocess CALLS=1000
 	@$(MAKE) --no-print-directory soak SECONDS=10 SUBSCRIBERS=5000
+	@$(MAKE) --no-print-directory fuzz COUNT=2000
