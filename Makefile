@@ -1,6 +1,7 @@
 # `make replay SCRIPT=examples/first-call.csv` replays a script, and `make test` passes all tests: the gate, then the
 # programs that must not compile, each script of examples/ and tests/scripts/ with all that it leaves, the program over
-# streams and with signals as a user meets them, the switch in C that has it as a child, and a short soak.
+# streams and with signals as a user meets them, the switch in C that has it as a child, a short
+# soak, and scripts of bad octets.
 
 SCRIPT ?= examples/first-call.csv
 LIMIT ?= 1000000
@@ -83,4 +84,4 @@ test:
 	@$(MAKE) --no-print-directory examples scripts
 	@$(MAKE) --no-print-directory streams coprocess CALLS=1000
 	@$(MAKE) --no-print-directory soak SECONDS=10 SUBSCRIBERS=5000
-	@$(MAKE) --no-print-directory fuzz COUNT=2000
+	@$(MAKE) --no-print-directory fuzz COUNT=1000
