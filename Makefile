@@ -1,7 +1,7 @@
 # `make replay SCRIPT=examples/first-call.csv` replays a script, and `make test` passes all tests: the gate, then the
-# programs that must not compile, each script of examples/ and tests/scripts/ with all that it leaves, the program over
-# streams and with signals as a user meets them, the switch in C that has it as a child, a short
-# soak, and scripts of bad octets.
+# programs that must not compile, each script of examples/ and tests/scripts/ with all that it leaves, each request for
+# memory that is refused in turn, the program over streams and with signals as a user meets them, the switch in C that has
+# it as a child, a short soak, and scripts of bad octets.
 
 SCRIPT ?= examples/first-call.csv
 LIMIT ?= 1000000
@@ -12,13 +12,14 @@ LOG := crates/camel_replay/out/build.log
 COPROCESS := crates/camel_replay/out/coprocess
 CALLS ?= 100000
 BENCH_LOG := crates/camel_vlr_bench/out/build.log
+REFUSALS_LOG := crates/camel_refusals/out/build.log
 SOAK_LOG := crates/camel_soak/out/build.log
 FUZZ_LOG := crates/camel_fuzz/out/build.log
 SECONDS ?= 60
 SUBSCRIBERS ?= 100000
 
-.PHONY: program replay examples scripts streams coprocess bench bench-program bench-vlr bench-peers count-vlr \
-	soak-program soak fuzz-program fuzz test
+.PHONY: program replay examples scripts streams coprocess refusals-program refusals soak-program soak fuzz-program fuzz \
+	bench bench-program bench-vlr bench-peers count-vlr test
 
 # Proves and builds the program where a source has changed, about 15 minutes the first time.
 program:
@@ -43,6 +44,14 @@ coprocess: program
 	@command -v $(CC) > /dev/null || { echo "coprocess: needs a C compiler, and $(CC) is none" >&2; exit 2; }
 	@$(CC) -std=c11 -O2 -Wall -Wextra -o $(COPROCESS) examples/coprocess.c
 	@$(COPROCESS) $(PROGRAM) $(CALLS)
+
+refusals-program:
+	@mkdir -p crates/camel_refusals/out
+	@(cd crates/camel_refusals && rt run < /dev/null) > $(REFUSALS_LOG) 2>&1 || { cat $(REFUSALS_LOG) >&2; exit 1; }
+
+# Refuses each request for memory in turn.
+refusals: refusals-program
+	@.ci/refusals
 
 bench: program
 	@bench/run
@@ -81,7 +90,7 @@ fuzz: program fuzz-program
 test:
 	rt ci
 	@.ci/must-not-compile
-	@$(MAKE) --no-print-directory examples scripts
+	@$(MAKE) --no-print-directory examples scripts refusals
 	@$(MAKE) --no-print-directory streams coprocess CALLS=1000
 	@$(MAKE) --no-print-directory soak SECONDS=10 SUBSCRIBERS=5000
 	@$(MAKE) --no-print-directory fuzz COUNT=1000

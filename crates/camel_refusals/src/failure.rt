@@ -1,0 +1,160 @@
+use camel_audit::AuditFault;
+use camel_criteria::Refusal;
+use camel_replay_lib::ReplayFault;
+use camel_script::ScriptFault;
+use camel_tbcd::{AddressFault, ImsiFault};
+use camel_vlr::NoLook;
+use std::alloc::{AllocError, AllocFailed};
+use std::io;
+use thiserror::Error;
+
+/// The number of an answer that memory was refused.
+pub(crate) const OUT_OF_MEMORY: u16 = 102;
+
+/// Why a step of a run failed.
+#[derive(Clone, Copy, Debug, PartialEq, Eq, Error)]
+pub(crate) enum Failure {
+    /// Memory was refused, and the call answered with this number.
+    #[error("memory was refused too often, at last with {0}")]
+    Memory(u16),
+    /// The call answered with this number, and not for want of memory.
+    #[error("answered {0}")]
+    Answer(u16),
+    /// What has to stand does not.
+    #[error("{0}")]
+    Lost(Lost),
+}
+
+/// What a run does not find as it has to be.
+#[derive(Clone, Copy, Debug, PartialEq, Eq, Error)]
+pub(crate) enum Lost {
+    #[error("there is no such call")]
+    Name,
+    #[error("the words or the output of the program failed")]
+    Streams,
+    #[error("a value was not made")]
+    Value,
+    #[error("equal values differ")]
+    Equality,
+    #[error("what the call is made of is used up")]
+    Argument,
+    #[error("a refused call changed the records")]
+    Records,
+    #[error("a record is missing")]
+    Record,
+    #[error("a subscriber without a record is not unknown")]
+    Unknown,
+    #[error("a store does not open empty")]
+    Empty,
+    #[error("a store has no session")]
+    Session,
+    #[error("a session got no look")]
+    Look,
+    #[error("a refused call changed what the store shows")]
+    Shown,
+    #[error("a refused Insert brought a CSI")]
+    Csi,
+    #[error("an update has another number")]
+    Number,
+    #[error("the store does not take as many updates as its limit, or takes more")]
+    Limit,
+    #[error("a publication lacks updates")]
+    Publication,
+    #[error("a refused call left an answer")]
+    Answer,
+    #[error("a refused call looked, or an answered one did not")]
+    Seen,
+    #[error("a worker ended early")]
+    Worker,
+    #[error("a refused call left octets, or others than the first of the output")]
+    Octets,
+    #[error("the output is another")]
+    Output,
+    #[error("a fault names another record")]
+    RecordNumber,
+    #[error("a failed script reads on")]
+    ReadsOn,
+}
+
+impl Failure {
+    /// What a call means that answers with a number.
+    pub(crate) fn of_code(code: u16) -> Failure {
+        if code == OUT_OF_MEMORY {
+            Failure::Memory(code)
+        } else {
+            Failure::Answer(code)
+        }
+    }
+}
+
+/// Fails with what is lost unless it holds.
+pub(crate) fn check(holds: bool, lost: Lost) -> Result<(), Failure> {
+    if holds {
+        Ok(())
+    } else {
+        Err(Failure::Lost(lost))
+    }
+}
+
+impl From<Refusal> for Failure {
+    fn from(refusal: Refusal) -> Failure {
+        Failure::of_code(refusal.code())
+    }
+}
+
+impl From<ScriptFault> for Failure {
+    fn from(fault: ScriptFault) -> Failure {
+        Failure::of_code(fault.code())
+    }
+}
+
+impl From<AuditFault> for Failure {
+    fn from(fault: AuditFault) -> Failure {
+        Failure::of_code(fault.code())
+    }
+}
+
+impl From<ReplayFault> for Failure {
+    fn from(fault: ReplayFault) -> Failure {
+        Failure::of_code(fault.code)
+    }
+}
+
+impl From<AllocError> for Failure {
+    fn from(_error: AllocError) -> Failure {
+        Failure::Memory(OUT_OF_MEMORY)
+    }
+}
+
+impl<T: Drop> From<AllocFailed<T>> for Failure {
+    fn from(_error: AllocFailed<T>) -> Failure {
+        Failure::Memory(OUT_OF_MEMORY)
+    }
+}
+
+impl From<AddressFault> for Failure {
+    fn from(_fault: AddressFault) -> Failure {
+        Failure::Lost(Lost::Value)
+    }
+}
+
+impl From<ImsiFault> for Failure {
+    fn from(_fault: ImsiFault) -> Failure {
+        Failure::Lost(Lost::Value)
+    }
+}
+
+impl From<NoLook> for Failure {
+    fn from(_no_look: NoLook) -> Failure {
+        Failure::Lost(Lost::Look)
+    }
+}
+
+impl From<io::Error> for Failure {
+    fn from(error: io::Error) -> Failure {
+        match error.kind() {
+            io::ErrorKind::OutOfMemory => Failure::Memory(OUT_OF_MEMORY),
+            _ => Failure::Lost(Lost::Streams),
+        }
+    }
+}

@@ -1,0 +1,192 @@
+//! A store with one session, on which the calls of a switch are made.
+
+ghost use Rattle.std.specs.Prelude.{◌≡◌};
+
+use crate::attempts::{Refusals, again};
+use crate::failure::{Failure, Lost, check};
+use crate::values::{KNOWN, SUBSCRIBERS};
+use camel_criteria::Refusal;
+use camel_fixtures::{
+    EntrySummary, RowSummary, call_of, entry_summary, imsi_of, row_summary, row_update,
+};
+use camel_rows::{Answer, CallEvent, Records, Update};
+use camel_table::Seed;
+use camel_tbcd::{Imsi, Profile};
+use camel_vlr::{CloseRefused, Session, Vlr};
+use std::alloc::Global;
+use std::sync::Wait;
+
+/// How many updates a stage takes.
+pub(crate) const LIMIT: u64 = 16;
+
+/// A store and a session of it.
+pub(crate) struct Stage {
+    store: Vlr,
+    session: Session,
+    ghost same_store: { session.store ≡ store.store },
+}
+
+/// The row and the entry of a detection point.
+type PointShown = (Option<RowSummary>, Option<EntrySummary>);
+
+/// What looks show of a subscriber: the answer to a call, and all detection points.
+#[derive(Clone, Copy, Debug, PartialEq, Eq)]
+pub(crate) struct SubscriberShown {
+    answer: Answer,
+    points: [PointShown; 5],
+}
+
+/// What a store and its session show.
+#[derive(Clone, Copy, Debug, PartialEq, Eq)]
+pub(crate) struct Shown {
+    pub(crate) published: u64,
+    pub(crate) pending: u64,
+    subscribers: [SubscriberShown; 3],
+}
+
+impl Stage {
+    /// An empty store.
+    pub(crate) fn open<R: Wait>(rt: &R, alloc: Global) -> Result<Stage, Failure> {
+        let seed = Seed::fixed();
+        let (store, mut sessions) = Vlr::open_seeded(rt, alloc, 1, LIMIT, Profile::One, seed)?;
+        let Some(session) = sessions.pop() else {
+            store.end(rt);
+            return Err(Failure::Lost(Lost::Session));
+        };
+        Ok(Stage { store, session })
+    }
+
+    pub(crate) fn submit(&mut self, update: Update) -> Result<u64, Failure> {
+        Ok(self.store.submit(update)?)
+    }
+
+    /// Publishes, and lets the session learn it. Gives the front.
+    pub(crate) fn publish<R: Wait>(&mut self, rt: &R) -> Result<u64, Failure> {
+        let receipt = self.store.publish(rt)?;
+        let front = receipt.front();
+        self.session.learn(receipt);
+        Ok(front)
+    }
+
+    /// Lets the session learn all that is published.
+    pub(crate) fn learn(&mut self) {
+        self.session.learn(self.store.receipt());
+    }
+
+    /// Whether the session has seen all that is published.
+    pub(crate) fn has_seen_all(&self) -> bool {
+        self.session.has_seen(&self.store.receipt())
+    }
+
+    pub(crate) fn answer(&mut self, call: &CallEvent) -> Result<Answer, Failure> {
+        Ok(self.session.answer(call)?)
+    }
+
+    pub(crate) fn answer_all(
+        &mut self,
+        calls: &[CallEvent],
+        answers: &mut Vec<Answer>,
+    ) -> Result<(), Failure> {
+        Ok(self.session.answer_all(calls, answers)?)
+    }
+
+    /// How many updates are accepted.
+    pub(crate) fn accepted(&self) -> u64 {
+        self.store.published().saturating_add(self.store.pending())
+    }
+
+    pub(crate) fn shown(&mut self) -> Result<Shown, Failure> {
+        let [known, second, stranger] = SUBSCRIBERS;
+        Ok(Shown {
+            published: self.store.published(),
+            pending: self.store.pending(),
+            subscribers: [
+                self.subscriber_shown(known)?,
+                self.subscriber_shown(second)?,
+                self.subscriber_shown(stranger)?,
+            ],
+        })
+    }
+
+    fn subscriber_shown(&mut self, number: u64) -> Result<SubscriberShown, Failure> {
+        let imsi = imsi_of(number)?;
+        Ok(SubscriberShown {
+            answer: self.answer(&call_of(imsi)?)?,
+            points: [
+                self.point_shown(&imsi, 2)?,
+                self.point_shown(&imsi, 4)?,
+                self.point_shown(&imsi, 12)?,
+                self.point_shown(&imsi, 13)?,
+                self.point_shown(&imsi, 14)?,
+            ],
+        })
+    }
+
+    fn point_shown(&mut self, imsi: &Imsi, dp: u8) -> Result<PointShown, Failure> {
+        let Ok(look) = self.session.look() else {
+            return Err(Failure::Lost(Lost::Look));
+        };
+        let row = row_summary(look.row(imsi, dp));
+        let entry = entry_summary(look.criteria(imsi, dp));
+        look.leave();
+        Ok((row, entry))
+    }
+
+    /// Fails unless the store and its session show what they showed.
+    pub(crate) fn check_shown(&mut self, before: &Shown) -> Result<(), Failure> {
+        let after = self.shown();
+        check(after == Ok(*before), Lost::Shown)
+    }
+
+    /// Fails unless a row of a subscriber who has no record is rejected with 5.
+    pub(crate) fn check_unknown(&mut self, number: u64) -> Result<(), Failure> {
+        let rejected = self.submit(row_update(imsi_of(number)?)?);
+        let unknown = Failure::from(Refusal::UnidentifiedSubscriber);
+        check(rejected == Err(unknown), Lost::Unknown)
+    }
+
+    /// Prints what the store and its session show.
+    pub(crate) fn print(&mut self, rt: &impl Print) -> Result<(), Failure> {
+        let shown = self.shown()?;
+        println!(rt; "{shown:?}")?;
+        Ok(())
+    }
+
+    /// Closes the store. Where it is not closed, it comes back.
+    pub(crate) fn close<R: Wait>(self, rt: &R) -> Result<Records, (Refusal, Stage)> {
+        let Stage { store, mut session } = self;
+        match store.close(rt, &mut session) {
+            Ok(records) => Ok(records),
+            Err(CloseRefused { why, store }) => Err((why, Stage { store, session })),
+        }
+    }
+
+    /// The store and its session.
+    pub(crate) fn into_parts(self) -> (Vlr, Session)
+        ensures { result.1.store ≡ result.0.store }
+    {
+        let Stage { store, session } = self;
+        (store, session)
+    }
+
+    pub(crate) fn end<R: Wait>(self, rt: &R) {
+        let (store, _session) = self.into_parts();
+        store.end(rt);
+    }
+}
+
+/// Registers the known subscriber, and publishes a row of it.
+pub(crate) fn set<R: AllocGlobal + Wait>(
+    rt: &R,
+    refusals: &mut Refusals,
+    stage: &mut Stage,
+) -> Result<(), Failure> {
+    let imsi = imsi_of(KNOWN)?;
+    again(
+        &mut refusals.stage,
+        || stage.submit(Update::Register { imsi }),
+    )?;
+    again(&mut refusals.stage, || stage.submit(row_update(imsi)?))?;
+    again(&mut refusals.stage, || stage.publish(rt))?;
+    Ok(())
+}
