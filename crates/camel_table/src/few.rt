@@ -61,7 +61,13 @@ impl<V> Few<V> {
     pub(crate) fn get(&self, imsi: &Imsi) -> Option<&V>
         ensures { option_copied result ≡ map.get (map_of self.now) imsi.now }
     {
-        value_of(&self.first, imsi).or(value_of(&self.second, imsi))
+        // The second entry is not asked before the first one has answered: a processor goes on with the value of the one
+        // that it expects, and else waits for the memory of both.
+        let value = value_of(&self.first, imsi);
+        if value.is_some() {
+            return value;
+        }
+        value_of(&self.second, imsi)
     }
 
     /// Lists each IMSI that has a value, after those that are listed. Fails with `AllocError` where memory is refused.
