@@ -7,84 +7,78 @@ SCRIPT ?= examples/first-call.csv
 LIMIT ?= 1000000
 SEED ?= 1
 COUNT ?= 100000
-PROGRAM := crates/camel_replay/out/camel_replay
-LOG := crates/camel_replay/out/build.log
-COPROCESS := crates/camel_replay/out/coprocess
 CALLS ?= 100000
-BENCH_LOG := crates/camel_vlr_bench/out/build.log
-REFUSALS_LOG := crates/camel_refusals/out/build.log
-SOAK_LOG := crates/camel_soak/out/build.log
-FUZZ_LOG := crates/camel_fuzz/out/build.log
 SECONDS ?= 60
 SUBSCRIBERS ?= 100000
 
-.PHONY: program replay examples scripts streams coprocess refusals-program refusals soak-program soak fuzz-program fuzz \
-	bench bench-program bench-vlr bench-peers count-vlr test
+PROGRAM := crates/camel_replay/out/camel_replay
+BENCH := crates/camel_vlr_bench/out/camel_vlr_bench
+REFUSALS := crates/camel_refusals/out/camel_refusals
+SOAK := crates/camel_soak/out/camel_soak
+FUZZ := crates/camel_fuzz/out/camel_fuzz
+COPROCESS := crates/camel_replay/out/coprocess
 
-# Proves and builds the program where a source has changed, about 15 minutes the first time.
-program:
-	@mkdir -p crates/camel_replay/out
-	@(cd crates/camel_replay && rt run < /dev/null) > $(LOG) 2>&1 || { cat $(LOG) >&2; exit 1; }
+SOURCES := $(shell find crates -name out -prune -o -name '*.rt' -print -o -name '*.antt' -print) crates.txt HANDLES
+
+.PHONY: program replay examples scripts streams coprocess refusals soak fuzz bench bench-program bench-vlr bench-peers \
+	count-vlr test
+
+# Proves and builds a program where a source is newer, and runs it once. What `rt ci` has built is newer than its sources.
+$(PROGRAM) $(BENCH) $(REFUSALS) $(SOAK) $(FUZZ): $(SOURCES)
+	@mkdir -p $(@D)
+	@(cd $(@D)/.. && rt run $(ARGUMENTS) < /dev/null) > $(@D)/build.log 2>&1 || { cat $(@D)/build.log >&2; exit 1; }
+	@touch $@
+
+$(SOAK): ARGUMENTS := -- 0 1000
+
+# About 15 minutes the first time.
+program: $(PROGRAM)
 
 # The output of the script alone comes on standard output.
-replay: program
+replay: $(PROGRAM)
 	@$(PROGRAM) --limit $(LIMIT) $(if $(THREADS),--threads $(THREADS)) $(if $(PROFILE),--profile $(PROFILE)) < $(SCRIPT)
 
-examples: program
+examples: $(PROGRAM)
 	@.ci/scripts examples
 
-scripts: program
+scripts: $(PROGRAM)
 	@.ci/scripts tests/scripts
 
-streams: program
+streams: $(PROGRAM)
 	@.ci/streams
 
 # Needs a C compiler. The round trip is that of so many CALLS.
-coprocess: program
+coprocess: $(PROGRAM)
 	@command -v $(CC) > /dev/null || { echo "coprocess: needs a C compiler, and $(CC) is none" >&2; exit 2; }
 	@$(CC) -std=c11 -O2 -Wall -Wextra -o $(COPROCESS) examples/coprocess.c
 	@$(COPROCESS) $(PROGRAM) $(CALLS)
 
-refusals-program:
-	@mkdir -p crates/camel_refusals/out
-	@(cd crates/camel_refusals && rt run < /dev/null) > $(REFUSALS_LOG) 2>&1 || { cat $(REFUSALS_LOG) >&2; exit 1; }
-
 # Refuses each request for memory in turn.
-refusals: refusals-program
+refusals: $(REFUSALS)
 	@.ci/refusals
 
-bench: program
+bench: $(PROGRAM)
 	@bench/run
 
-bench-program:
-	@mkdir -p crates/camel_vlr_bench/out
-	@(cd crates/camel_vlr_bench && rt run < /dev/null) > $(BENCH_LOG) 2>&1 || { cat $(BENCH_LOG) >&2; exit 1; }
+bench-program: $(BENCH)
 
-bench-vlr: bench-program
+bench-vlr: $(BENCH)
 	@bench/run-vlr
 
 # Says which Debian packages it needs, where one is missing.
-bench-peers: bench-program
+bench-peers: $(BENCH)
 	@bench/run-peers
 
 # Needs valgrind.
-count-vlr: bench-program
+count-vlr: $(BENCH)
 	@bench/count-vlr
 
-soak-program:
-	@mkdir -p crates/camel_soak/out
-	@(cd crates/camel_soak && rt run -- 0 1000 < /dev/null) > $(SOAK_LOG) 2>&1 || { cat $(SOAK_LOG) >&2; exit 1; }
-
 # One store for so many seconds, with as many sessions as there are cores. Another seed gives other calls and updates.
-soak: soak-program
-	@crates/camel_soak/out/camel_soak $(SECONDS) $(SUBSCRIBERS) $(SEED)
-
-fuzz-program:
-	@mkdir -p crates/camel_fuzz/out
-	@(cd crates/camel_fuzz && rt run < /dev/null) > $(FUZZ_LOG) 2>&1 || { cat $(FUZZ_LOG) >&2; exit 1; }
+soak: $(SOAK)
+	@$(SOAK) $(SECONDS) $(SUBSCRIBERS) $(SEED)
 
 # COUNT scripts of bad octets that SEED makes, and scripts that are far too long.
-fuzz: program fuzz-program
+fuzz: $(PROGRAM) $(FUZZ)
 	@.ci/fuzz $(SEED) $(COUNT)
 
 test:
