@@ -41,7 +41,7 @@ pub(crate) enum Call {
 }
 
 /// Each call, whether it takes memory, and its name.
-pub(crate) const CALLS: [(Call, bool, &str); 34] = [
+pub(crate) const CALLS: [(Call, bool, &str); 35] = [
     (Call::Addresses, false, "all calls of `camel_tbcd`"),
     (
         Call::FewNumbers,
@@ -98,6 +98,7 @@ pub(crate) const CALLS: [(Call, bool, &str); 34] = [
     (Call::Publish(1), true, "`Vlr::publish`, the first"),
     (Call::Publish(2), true, "`Vlr::publish`, the second"),
     (Call::Publish(3), true, "`Vlr::publish`, the third"),
+    (Call::Publish(4), true, "`Vlr::publish`, the fourth"),
     (
         Call::Look,
         false,

@@ -41,7 +41,7 @@ pub(crate) struct SubscriberShown {
 pub(crate) struct Shown {
     pub(crate) published: u64,
     pub(crate) pending: u64,
-    subscribers: [SubscriberShown; 3],
+    subscribers: [SubscriberShown; 5],
 }
 
 impl Stage {
@@ -96,7 +96,7 @@ impl Stage {
     }
 
     pub(crate) fn shown(&mut self) -> Result<Shown, Failure> {
-        let [known, second, stranger] = SUBSCRIBERS;
+        let [known, second, stranger, fourth, fifth] = SUBSCRIBERS;
         Ok(Shown {
             published: self.store.published(),
             pending: self.store.pending(),
@@ -104,6 +104,8 @@ impl Stage {
                 self.subscriber_shown(known)?,
                 self.subscriber_shown(second)?,
                 self.subscriber_shown(stranger)?,
+                self.subscriber_shown(fourth)?,
+                self.subscriber_shown(fifth)?,
             ],
         })
     }

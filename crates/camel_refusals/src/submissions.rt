@@ -3,14 +3,14 @@
 use crate::attempts::{Refusals, again};
 use crate::failure::{Failure, Lost, check};
 use crate::stage::{LIMIT, Stage, set};
-use crate::values::{KNOWN, Kind, SECOND, STRANGER, t_criteria_update, update_of};
+use crate::values::{FIFTH, FOURTH, KNOWN, Kind, SECOND, STRANGER, t_criteria_update, update_of};
 use camel_criteria::Refusal;
 use camel_fixtures::{entry_update, imsi_of, row_update};
 use camel_rows::Update;
 use std::alloc::Global;
 use std::sync::Wait;
 
-/// Submits an update behind a published row of the known subscriber and a pending one.
+/// Submits an update behind a published row of the known subscriber, and pending rows of it and of two others.
 pub(crate) fn submit<R: AllocGlobal + Print + Wait>(
     rt: &R,
     refusals: &mut Refusals,
@@ -29,8 +29,7 @@ fn submit_at<R: AllocGlobal + Print + Wait>(
     kind: Kind,
 ) -> Result<(), Failure> {
     set(rt, refusals, stage)?;
-    let known = imsi_of(KNOWN)?;
-    again(&mut refusals.stage, || stage.submit(row_update(known)?))?;
+    submit_rows(refusals, stage)?;
     let mut updates = again(&mut refusals.stage, || two_updates(rt.alloc(), kind))?;
     let before = stage.shown()?;
     again(&mut refusals.call, || {
@@ -47,6 +46,21 @@ fn submit_at<R: AllocGlobal + Print + Wait>(
     fill(refusals, stage)?;
     again(&mut refusals.end, || stage.publish(rt))?;
     stage.print(rt)
+}
+
+// So many that neither the list of what is pending nor the line of a table has room for one more.
+fn submit_rows(refusals: &mut Refusals, stage: &mut Stage) -> Result<(), Failure> {
+    for number in [FOURTH, FIFTH] {
+        let imsi = imsi_of(number)?;
+        again(
+            &mut refusals.stage,
+            || stage.submit(Update::Register { imsi }),
+        )?;
+        again(&mut refusals.stage, || stage.submit(row_update(imsi)?))?;
+    }
+    let known = imsi_of(KNOWN)?;
+    again(&mut refusals.stage, || stage.submit(row_update(known)?))?;
+    Ok(())
 }
 
 // One for each time that the call is made.

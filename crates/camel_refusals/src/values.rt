@@ -7,14 +7,19 @@ use camel_rows::{OCriteriaSet, OCsi, TCriteriaSet, Update, VtCsi};
 use camel_tbcd::{Imsi, IsdnAddress};
 use std::alloc::Global;
 
-/// The subscribers of a stage: the first has data, the second registers, and the third is never known.
-pub(crate) const SUBSCRIBERS: [u64; 3] = [KNOWN, SECOND, STRANGER];
+/// The subscribers of a stage: the first has data, and the second registers. Where updates are submitted, the third is
+/// never known, and the others come before the second, so that a table asks for a line more when that one registers.
+pub(crate) const SUBSCRIBERS: [u64; 5] = [KNOWN, SECOND, STRANGER, FOURTH, FIFTH];
 
 pub(crate) const KNOWN: u64 = 1;
 
 pub(crate) const SECOND: u64 = 2;
 
 pub(crate) const STRANGER: u64 = 3;
+
+pub(crate) const FOURTH: u64 = 4;
+
+pub(crate) const FIFTH: u64 = 5;
 
 /// The kinds of update.
 #[derive(Clone, Copy)]
