@@ -74,8 +74,9 @@ count-vlr: $(BENCH)
 	@bench/count-vlr
 
 # One store for so many seconds, with as many sessions as there are cores. Another seed gives other calls and updates.
+# The C library gives each piece of 128 KiB and more back to the system when it is freed, so memory is what is in use.
 soak: $(SOAK)
-	@$(SOAK) $(SECONDS) $(SUBSCRIBERS) $(SEED)
+	@MALLOC_MMAP_THRESHOLD_=131072 $(SOAK) $(SECONDS) $(SUBSCRIBERS) $(SEED)
 
 # COUNT scripts of bad octets that SEED makes, and scripts that are far too long.
 fuzz: $(PROGRAM) $(FUZZ)
