@@ -74,7 +74,8 @@ count-vlr: $(BENCH)
 	@bench/count-vlr
 
 # One store for so many seconds, with as many sessions as there are cores. Another seed gives other calls and updates.
-# The C library gives each piece of 128 KiB and more back to the system when it is freed, so memory is what is in use.
+# The C library is set to give large pieces of memory back when they are freed. By itself it comes to keep larger and
+# larger ones, and they would count as memory that the store takes.
 soak: $(SOAK)
 	@MALLOC_MMAP_THRESHOLD_=131072 $(SOAK) $(SECONDS) $(SUBSCRIBERS) $(SEED)
 
