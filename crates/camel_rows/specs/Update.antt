@@ -2,7 +2,7 @@
 -- DeleteSubscriberData and CancelLocation of TS 29.002; Register and ClearAll are profile 1's own, and so is what an
 -- update leaves of a CSI that it does not name whole, that criteria without their CSI are refused where it is not
 -- stored, and that an update which changes nothing is taken.
-use Rattle.std.specs.Prelude.{◌≡◌, ℕ, Bool, List, [], ◌∷◌, Option, Some, None, is_some, unwrap_or, if◌then◌else◌}
+use Rattle.std.specs.Prelude.{◌≡◌, ℕ, Bool, true, false, List, [], ◌∷◌, Option, Some, None, is_some, unwrap_or, if◌then◌else◌}
 use Rattle.std.specs.Option.{option_map}
 use Rattle.camel_criteria.specs.Criteria.{OCriteriaData, TCriteriaData}
 use Rattle.camel_criteria.specs.declared.refusal.Refusal.{Refusal}
@@ -22,6 +22,11 @@ update_imsi (Insert imsi o o_criteria vt t_criteria) = Some imsi
 update_imsi (Delete imsi what) = Some imsi
 update_imsi (Cancel imsi) = Some imsi
 update_imsi ClearAll = None
+
+-- an update is an Insert
+abbrev pub is_insert : Update → Bool
+is_insert (Insert imsi o o_criteria vt t_criteria) = true
+is_insert other = false
 
 -- an update is one of this subscriber: it concerns this one, or all
 abbrev pub is_of : List ℕ → Update → Bool

@@ -1,11 +1,11 @@
 //! What is stored: the record of a subscriber, the records of all, and the updates that change them.
 
-ghost use Rattle.std.specs.Prelude.{◌≡◌, IfErr, IfOk, None, Some};
+ghost use Rattle.std.specs.Prelude.{◌≡◌, IfErr, IfOk, IsTrue, None, Some};
 ghost use Rattle.std.specs.Option.{option_copied, option_map};
 ghost use Rattle.camel_rows.specs.CsiChange.{changed_by, with_changes};
 ghost use Rattle.camel_rows.specs.CsisPresent.{csis_of, csis_refusal};
 ghost use Rattle.camel_rows.specs.Subscriber.{empty_record, entry_at, entry_data, row_at, rows_of};
-ghost use Rattle.camel_rows.specs.Update.{csi_after, record_after, update_imsi};
+ghost use Rattle.camel_rows.specs.Update.{csi_after, is_insert, record_after, update_imsi};
 
 pub(crate) mod admission;
 pub(crate) mod csi_change;
@@ -115,6 +115,7 @@ impl Subscriber {
         ensures equal { IfOk result (λ update. record_after (Some empty_record) update ≡ Some self.now) }
         ensures accepted { IfOk result (λ update. csis_refusal (Some (csis_of empty_record)) update ≡ None) }
         ensures imsi { IfOk result (λ update. update_imsi update ≡ Some imsi) }
+        ensures insert { IfOk result (λ update. IsTrue (is_insert update)) }
         ensures only { IfErr result (λ why. why ≡ Refusal.OutOfMemory) }
     {
         Ok(Update::Insert {
@@ -124,6 +125,15 @@ impl Subscriber {
             vt: self.vt().copied(),
             t_criteria: self.stored_vt().map(StoredCsi::criteria).cloned()?,
         })
+    }
+
+    /// An equal record, which later updates do not change: a call keeps the CSIs of its set-up by it (TS 23.078). Fails
+    /// with `OutOfMemory` (102) where memory is refused.
+    pub fn copy(&self) -> Result<Subscriber, Refusal>
+        ensures equal { IfOk result (λ copied. copied ≡ self.now) }
+        ensures only { IfErr result (λ why. why ≡ Refusal.OutOfMemory) }
+    {
+        Ok(self.clone()?)
     }
 
     /// The O-CSI with its criteria, where it is stored.

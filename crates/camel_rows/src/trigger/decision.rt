@@ -1,13 +1,16 @@
-ghost use Rattle.std.specs.Prelude.{◌≡◌, Bool};
+ghost use Rattle.std.specs.Prelude.{◌≡◌, Bool, Some};
+ghost use Rattle.std.specs.FinMap as map;
 ghost use Rattle.std.specs.Option.{option_copied};
 ghost use Rattle.camel_tbcd.specs.declared.profile.Profile.{Profile};
 ghost use Rattle.camel_criteria.specs.Event.{o_event_data};
 ghost use Rattle.camel_criteria.specs.Met.{o_met, t_met};
-ghost use Rattle.camel_rows.specs.Decision.{by_csi, decision, decision_data};
-ghost use Rattle.camel_rows.specs.Event.{event_data};
+ghost use Rattle.camel_rows.specs.Decision.{by_csi, by_record, decision, decision_data};
+ghost use Rattle.camel_rows.specs.Event.{event_data, event_imsi};
+ghost use Rattle.camel_rows.specs.Records.{RecordsData};
 ghost use Rattle.camel_rows.specs.Subscriber.{EntryData, O, T, entry_data};
 
 use crate::csi::tdp_row::TdpRow;
+use crate::subscriber::Subscriber;
 use crate::subscriber::lent::Lent;
 use crate::subscriber::records::Records;
 use crate::subscriber::stored_csi::StoredCsi;
@@ -47,12 +50,27 @@ pub enum Decision<'r> {
 pub fn decide_in<'r>(records: &'r Records, event: &Event, profile: Profile) -> Decision<'r>
     ensures { decision_data result ≡ decision profile records.now (event_data event.now) }
 {
-    let Some(subscriber) = records.get(&event.imsi()) else {
-        return Decision::NoTrigger(Reason::Unknown);
-    };
-    match event.show() {
-        Shown::O(shown) => decide_by(subscriber.stored_o(), event, &shown, profile),
-        Shown::T(shown) => decide_by(subscriber.stored_vt(), event, &shown, profile),
+    match records.get(&event.imsi()) {
+        Some(subscriber) => subscriber.decide(event, profile),
+        None => Decision::NoTrigger(Reason::Unknown),
+    }
+}
+
+impl Subscriber {
+    /// Decides an event by this record, under a profile: what [`decide_in`] gives over any records that hold this one
+    /// under the IMSI of the event. It never gives [`Reason::Unknown`], and takes no memory.
+    ///
+    /// A call is decided at each detection point by the CSI of its set-up (TS 23.078), whatever updates come while it
+    /// lasts: a switch keeps an equal record of the calling or called subscriber ([`Subscriber::copy`]) and asks that.
+    pub fn decide<'r>(&'r self, event: &Event, profile: Profile) -> Decision<'r>
+        ensures decision { decision_data result ≡ by_record profile (event_data event.now) (Some self.now) }
+        ensures held { (m : RecordsData) → map.get m (event_imsi (event_data event.now)) ≡ Some self.now
+            → decision_data result ≡ decision profile m (event_data event.now) }
+    {
+        match event.show() {
+            Shown::O(shown) => decide_by(self.stored_o(), event, &shown, profile),
+            Shown::T(shown) => decide_by(self.stored_vt(), event, &shown, profile),
+        }
     }
 }
 

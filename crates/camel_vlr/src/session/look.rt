@@ -1,4 +1,4 @@
-ghost use Rattle.std.specs.Prelude.{◌≡◌, true, length, IfErr, IfOk};
+ghost use Rattle.std.specs.Prelude.{◌≡◌, true, length};
 ghost use Rattle.std.specs.FinMap as map;
 ghost use Rattle.std.specs.Option.{option_and_then, option_copied, option_map};
 ghost use Rattle.camel_rows.specs.Decision.{decision, decision_data};
@@ -8,7 +8,6 @@ ghost use Rattle.camel_rows.specs.Update.{records_of};
 ghost use Rattle.camel_vlr.specs.OwnUpdates.{DecidedByOwn};
 
 use crate::session::Session;
-use camel_criteria::Refusal;
 use camel_rows::{Decision, Event, Lent, Records, TdpRow, decide_in};
 use camel_tbcd::Imsi;
 
@@ -65,13 +64,14 @@ impl Look<'_> {
         self.session.published().records.get(imsi)?.criteria(dp)
     }
 
-    /// Equal records.
-    pub(crate) fn records(&self) -> Result<Records, Refusal>
+    /// The records of the front, so that a running store can be listed ([`Records::imsis`]) and read whole. They are
+    /// borrowed from the look: it copies nothing. A look that is held over a long list holds up the writer; where that
+    /// matters, list an equal copy of them ([`Records::copy`]) once the look is left.
+    pub fn records(&self) -> &Records
         requires { self.now.session.now.looks ≡ true }
-        ensures equal { IfOk result (λ records. records ≡ records_of self.now.session.now.seen) }
-        ensures only { IfErr result (λ why. why ≡ Refusal.OutOfMemory) }
+        ensures { result.now ≡ records_of self.now.session.now.seen }
     {
-        self.session.published().records.copy()
+        &self.session.published().records
     }
 
     /// Ends the look, as dropping it does.

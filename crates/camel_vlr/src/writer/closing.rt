@@ -62,5 +62,5 @@ fn records_at(session: &mut Session, front: u64) -> Result<Records, Refusal>
     if look.front() != front {
         return Err(Refusal::NoGuard);
     }
-    look.records()
+    look.records().copy()
 }
