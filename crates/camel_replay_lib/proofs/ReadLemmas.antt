@@ -1,16 +1,20 @@
 -- How far a script is read.
-use Rattle.std.proofs.Common.{◌≡◌, ◌∙◌, ℕ, ◌+◌, List, [], ◌∷◌, ◌++◌, length, Option, Some, None, IfSome, IsTrue, refl, sym, ap, inl, inr, append_assoc, append-nil}
+use Rattle.std.proofs.Common.{◌≡◌, ◌∙◌, ℕ, ◌+◌, ◌≤◌, true, false, arith, length-append, List, [], ◌∷◌, ◌++◌, length, Option, Some, None, IfSome, IsTrue, refl, sym, ap, inl, inr, append_assoc, append-nil}
+use Rattle.std.specs.Io.KnownBytes.{Keeps}
 use Rattle.camel_tbcd.specs.declared.profile.Profile.{Profile}
-use Rattle.camel_script.specs.Script.{FaultsAs, Gives, ScriptData}
+use Rattle.camel_audit.specs.declared.audit_fault.AuditFault.TheVariants as audit
+use Rattle.camel_script.specs.Script.{FaultsAs, Gives, IsMemoryOrReadFault, ScriptData}
 use Rattle.camel_script.specs.ScriptFault.{script_fault_code}
 use Rattle.camel_script.specs.declared.record.Record.{Record}
 use Rattle.camel_script.specs.declared.script_fault.ScriptFault.{ScriptFault}
 use Rattle.camel_replay_lib.proofs.Progress.{not_of_kind}
-use Rattle.camel_replay_lib.specs.ReplayFault.{is_text_code, is_write_code}
+use Rattle.camel_replay_lib.specs.ReplayFault.{is_later_code, is_text_code, is_write_code, threads_fault_code}
 use Rattle.camel_replay_lib.specs.ThreadsOutput.{IsThreadsOutput}
 use Rattle.camel_replay_lib.specs.ThreadsWritten.{IsAllOf, StopsReading, ThreadsStop}
 use Rattle.camel_replay_lib.specs.Written.{AppendsPart}
 use Rattle.camel_replay_lib.specs.declared.script_replay.ReplayFault.{ReplayFault}
+use Rattle.camel_replay_lib.specs.declared.threaded_replay.threads_fault.ThreadsFault.{ThreadsFault}
+use Rattle.camel_replay_lib.specs.declared.threaded_replay.threads_fault.ThreadsFault.TheVariants as run
 
 -- These records were read, and the script still gives the rest, where its octets are known.
 abbrev pub HasRead : Option ScriptData → List Record → Option ScriptData → Type 0
@@ -41,25 +45,77 @@ read_whole (Some all) (Some rest) next records so_far gives =
     let last : rest.fault ≡ None = ap (λ (given : ScriptData). given.fault) gives in
     record { fault = so_far.1 ∙ last; records_read = so_far.0 ∙ rw none (append-nil records) }
 
--- out of memory for a record that was read
-pub stopped_by_memory : (known : Option ScriptData) (stop : ReplayFault) → stop.code ≡ 102 → IfSome known (λ given. StopsReading given stop)
-stopped_by_memory None stop is = tt
-stopped_by_memory (Some all) stop is = record { text = not_of_kind _ is_text_code stop.code 102 is refl }
+-- the records that were read are the first of the script
+within_all : (all rest : ScriptData) (records : List Record) → all.records ≡ records ++ rest.records → length records ≤ length all.records
+within_all all rest records so_far = rw so_far (rw (length-append records rest.records) (omega arith))
+
+-- out of memory for a record that was read, or before the first one
+pub stopped_by_memory : (known left : Option ScriptData) (records : List Record) (stop : ReplayFault) → HasRead known records left
+    → stop ≡ record { number = Some (length records + 1); code = 102 } → IfSome known (λ given. StopsReading given stop)
+stopped_by_memory None left records stop so_far is = tt
+stopped_by_memory (Some all) None records stop so_far is = absurd so_far
+stopped_by_memory (Some all) (Some rest) records stop so_far is = record {
+  count = length records;
+  within = within_all all rest records so_far.0;
+  place = ap (λ (x : ReplayFault). x.number) is;
+  text = not_of_kind _ is_text_code stop.code 102 (ap (λ (x : ReplayFault). x.code) is) refl;
+}
+
+-- the code of a fault that the script answered, which is none of its text
+not_text : (e : ScriptFault) → IsMemoryOrReadFault e → is_text_code (script_fault_code e) ≡ false
+not_text e (inl memory) = rw memory refl
+not_text e (inr read) = rw read refl
 
 -- the script answered a fault
 pub stopped_reading : (known left : Option ScriptData) (records : List Record) (e : ScriptFault) (stop : ReplayFault) → HasRead known records left → FaultsAs e left
     → stop ≡ record { number = Some (length records + 1); code = script_fault_code e } → IfSome known (λ given. StopsReading given stop)
 stopped_reading None left records e stop so_far faults is = tt
 stopped_reading (Some all) None records e stop so_far faults is = absurd so_far
-stopped_reading (Some all) (Some rest) records e stop so_far (inl (inl memory)) is =
-    record { text = not_of_kind _ is_text_code stop.code 102 (ap (λ (x : ReplayFault). x.code) is ∙ ap script_fault_code memory) refl }
-stopped_reading (Some all) (Some rest) records e stop so_far (inl (inr read)) is =
-    record { text = not_of_kind _ is_text_code stop.code 206 (ap (λ (x : ReplayFault). x.code) is ∙ ap script_fault_code read) refl }
+stopped_reading (Some all) (Some rest) records e stop so_far (inl outside) is = record {
+  count = length records;
+  within = within_all all rest records so_far.0;
+  place = ap (λ (x : ReplayFault). x.number) is;
+  text = not_of_kind _ is_text_code stop.code (script_fault_code e) (ap (λ (x : ReplayFault). x.code) is) (not_text e outside);
+}
 stopped_reading (Some all) (Some rest) records e stop so_far (inr only) is =
     let none : rest.records ≡ [] = ap (λ (given : ScriptData). given.records) only in
     let last : rest.fault ≡ Some e = ap (λ (given : ScriptData). given.fault) only in
     let all_read : all.records ≡ records = so_far.0 ∙ rw none (append-nil records) in
-    record { text = λ _. record { fault = rw (so_far.1 ∙ last, is) refl; place = rw (all_read, is) refl } }
+    record {
+      count = length records;
+      within = within_all all rest records so_far.0;
+      place = ap (λ (x : ReplayFault). x.number) is;
+      text = λ _. record { fault = rw (so_far.1 ∙ last, is) refl; place = rw (all_read, is) refl };
+    }
+
+-- what the code of a fault is that comes after the reading and before the output
+code_of_run : (fault : ThreadsFault) → let code = threads_fault_code fault in
+    (is_later_code code ≡ true) × (is_write_code code ≡ false) × (is_text_code code ≡ false)
+code_of_run run.OutOfMemory = (refl, refl, refl)
+code_of_run run.NoPlace = (refl, refl, refl)
+code_of_run run.NoGuard = (refl, refl, refl)
+code_of_run run.Stopped = (refl, refl, refl)
+code_of_run run.NoWorker = (refl, refl, refl)
+code_of_run (run.Audit audit.OutOfMemory) = (refl, refl, refl)
+code_of_run (run.Audit (audit.FrontTooLong session entry)) = (refl, refl, refl)
+code_of_run (run.Audit (audit.FrontWentBack session entry)) = (refl, refl, refl)
+code_of_run (run.Audit (audit.AnswerDiffers session entry)) = (refl, refl, refl)
+code_of_run (run.Audit (audit.BadHistory at)) = (refl, refl, refl)
+
+-- the script was read whole, and no line was written
+pub stopped_later : {X : Type 0} (given : X → ScriptData) (known : Option X) (old new : Option (List ℕ)) (threads : ℕ) (profile : Profile) (limit : ℕ) (records : List Record) (fault : ThreadsFault) (stop : ReplayFault)
+    → IfSome known (λ x. IsAllOf (given x) records) → Keeps old new → stop ≡ record { number = None; code = threads_fault_code fault }
+    → IfSome known (λ x. ThreadsStop old new threads profile limit (given x) stop)
+stopped_later given None old new threads profile limit records fault stop all keeps is = tt
+stopped_later given (Some x) old new threads profile limit records fault stop all keeps is =
+    let code : stop.code ≡ threads_fault_code fault = ap (λ (f : ReplayFault). f.code) is in
+    let kind = code_of_run fault in
+    record {
+      unwritten = λ _. keeps;
+      write = not_of_kind _ is_write_code stop.code (threads_fault_code fault) code kind.1;
+      text = not_of_kind _ is_text_code stop.code (threads_fault_code fault) code kind.2;
+      place = inr (record { later = rw code kind.0; fault = all.fault; place = ap (λ (f : ReplayFault). f.number) is });
+    }
 
 -- the output could not be written
 pub stopped_by_write : {X : Type 0} (given : X → ScriptData) (known : Option X) (old new : Option (List ℕ)) (threads : ℕ) (profile : Profile) (limit : ℕ) (records : List Record) (octets : List ℕ) (stop : ReplayFault)
@@ -73,5 +129,5 @@ stopped_by_write given (Some x) old new threads profile limit records octets sto
       unwritten = λ other. absurd (other write);
       write = λ _. record { fault = all.fault; octets = octets; output = rw all.records_read output; written = part };
       text = not_of_kind _ is_text_code stop.code 208 code refl;
-      place = inr (ap (λ (f : ReplayFault). f.number) is);
+      place = inr (record { later = rw code refl; fault = all.fault; place = ap (λ (f : ReplayFault). f.number) is });
     }

@@ -54,6 +54,10 @@ fault_of_end ended.OutOfMemory = Some OutOfMemory
 abbrev pub is_threads_code : ℕ → Bool
 is_threads_code code = (nat_le 102 code && nat_le code 106) || (nat_le 301 code && nat_le code 304)
 
+-- Such a fault, or one of the output: it comes after the script was read whole.
+abbrev pub is_later_code : ℕ → Bool
+is_later_code code = is_threads_code code || is_write_code code
+
 -- A replay with threads ends with no other fault than these.
 abbrev pub is_threaded_replay_code : ℕ → Bool
 is_threaded_replay_code code = is_replay_code code || is_threads_code code

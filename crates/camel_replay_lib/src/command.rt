@@ -54,7 +54,7 @@ pub const REJECTED_STATUS: u8 = 2;
 /// A failed write to `err`, or of the help text to `out`, is ignored. What is said of the output holds over a reader and
 /// a writer whose bytes a contract knows.
 ///
-/// With `--threads` it takes `Wait`: what is said holds if it returns, and that it returns is not proved.
+/// It takes `Wait`, with and without `--threads`: what is said holds if it returns, and that it returns is not proved.
 pub fn run<R: Threads + Wait, I: Read + Drop, W: Write, E: Write>(
     rt: &R,
     alloc: Global,

@@ -21,7 +21,6 @@ use camel_script::{Record, Script, push_line};
 use camel_tbcd::Profile;
 use std::alloc::Global;
 use std::io::{Read, Write};
-use std::mem;
 
 /// The greatest number of records of a script that are read.
 pub const MAX_RECORDS: u64 = 1_000_000;
@@ -56,8 +55,6 @@ pub struct ReplayFault {
 ///
 /// The clauses say so over a reader and a writer whose bytes a contract knows. Of others, as of the streams of the
 /// process, they say which codes a fault may have.
-///
-/// The memory of the updates is not given back: it is for a process that replays one script, and ends.
 pub fn replay<R: Read + Drop, W: Write>(
     alloc: Global,
     reader: R,
@@ -76,10 +73,7 @@ pub fn replay<R: Read + Drop, W: Write>(
         Err(refusal) => return Err(fault_at(1, refusal.code())),
     };
     let mut store = Store::new(alloc, limit, profile);
-    let ended = answer_all(alloc, &mut script, &mut store, writer);
-    // The process ends next, and this memory goes with it at once.
-    mem::forget(store);
-    ended
+    answer_all(alloc, &mut script, &mut store, writer)
 }
 
 /// Answers each record that the script still gives by the line of a store that is empty at first, and flushes.

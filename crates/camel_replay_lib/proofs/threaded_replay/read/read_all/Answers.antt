@@ -1,6 +1,6 @@
 use Rattle.std.proofs.Common.{arith, [], ◌∷◌, length-append}
 use Rattle.camel_script.specs.Script.{still_gives}
-use Rattle.camel_replay_lib.proofs.ReadLemmas.{HasRead-push}
+use Rattle.camel_replay_lib.proofs.ReadLemmas.{HasRead-push, stopped_by_memory, stopped_reading}
 use Rattle.camel_replay_lib.proofs.threaded_replay.read.read_all.Goals as goal
 
 pub records-preserved : goal.records-preserved
@@ -16,3 +16,15 @@ records-preserved g c =
       room = omega (arith, so_far.room, counts);
       so_far = HasRead-push (still_gives c.args.script.now) (still_gives c.records.script) (still_gives c.read_record.new.self) c.records.records.items next so_far.so_far gives;
     }
+
+pub returns-in_default-clause-stopped : goal.returns-in_default-clause-stopped
+returns-in_default-clause-stopped g c =
+    let so_far = c.records.invariant in
+    stopped_by_memory (still_gives c.args.script.now) (still_gives c.records.script) c.records.records.items c.fault_at.result
+    so_far.so_far (rw so_far.place at c.fault_at.ensures)
+
+pub returns-in-Err-clause-stopped : goal.returns-in-Err-clause-stopped
+returns-in-Err-clause-stopped g c =
+    let so_far = c.records.invariant in
+    stopped_reading (still_gives c.args.script.now) (still_gives c.records.script) c.records.records.items c.in-Err.fault c.fault_at-in-Err.result
+    so_far.so_far c.in-Err.ensures.faults (rw (so_far.place, c.code.ensures) at c.fault_at-in-Err.ensures)
