@@ -1,5 +1,5 @@
 //! The triggering criteria of CAMEL phase 3 (3GPP TS 23.078), whether an event meets them, and the numbers of
-//! the product's refusals. Only a criterion of more than two numbers, and its copies, take memory.
+//! the product's refusals. Only a criterion of more than three numbers, and its copies, take memory.
 #![tactic(auto)]
 
 mod basic_service;

@@ -1,6 +1,6 @@
--- What a received list of TDP rows or of criteria entries leaves (TS 23.078 and TS 29.002). That an item of
--- another detection point is ignored but counts, that a list of which all items are ignored is taken, the limit of
--- entries, and that two entries or two rows of a VT-CSI may not have one detection point, is profile 1's own.
+-- What a received list of TDP rows or of criteria entries leaves (TS 23.078 and TS 29.002). That two entries may not
+-- have one detection point, that an ignored item counts, and that a list of which all items are ignored is taken, is
+-- profile 1's own.
 use Rattle.std.specs.Prelude.{ℕ, ◌==◌, Bool, ◌&&◌, nat_le, List, length, filter, count_by, Option, Some, None, Result, Ok, Err, if◌then◌else◌}
 use Rattle.std.specs.List.{list_all}
 use Rattle.camel_criteria.specs.Criteria.{OCriteriaData, TCriteriaData}
