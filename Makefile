@@ -1,7 +1,7 @@
 # `make replay SCRIPT=examples/first-call.csv` replays a script, and `make test` passes all tests: the gate, then the
 # programs that must not compile, each script of examples/ and tests/scripts/ with all that it leaves, each request for
-# memory that is refused in turn, the program over streams and with signals as a user meets them, the switch in C that has
-# it as a child, a short soak, and scripts of bad octets.
+# memory that is refused in turn, the program over streams and with signals as a user meets them, the switch in C that
+# has it as a child, a short soak, and scripts of bad octets.
 
 SCRIPT ?= examples/first-call.csv
 LIMIT ?= 1000000
@@ -18,25 +18,24 @@ SOAK := crates/camel_soak/out/camel_soak
 FUZZ := crates/camel_fuzz/out/camel_fuzz
 COPROCESS := crates/camel_replay/out/coprocess
 
-SOURCES := $(shell find crates -name out -prune -o -name '*.rt' -print -o -name '*.antt' -print) crates.txt HANDLES
+.PHONY: replay program examples scripts streams coprocess refusals soak fuzz bench \
+	bench-program bench-vlr bench-peers count-vlr test
+.SECONDEXPANSION:
 
-.PHONY: program replay examples scripts streams coprocess refusals soak fuzz bench bench-program bench-vlr bench-peers \
-	count-vlr test
-
-# Proves and builds a program where a source is newer, and runs it once. What `rt ci` has built is newer than its sources.
-$(PROGRAM) $(BENCH) $(REFUSALS) $(SOAK) $(FUZZ): $(SOURCES)
+# Proves and builds a program where a source below it is newer, and runs it once. What `rt ci` has built is newer than
+# its sources.
+$(PROGRAM) $(BENCH) $(REFUSALS) $(SOAK) $(FUZZ): $$(shell .ci/sources $$(@F))
 	@mkdir -p $(@D)
 	@(cd $(@D)/.. && rt run $(ARGUMENTS) < /dev/null) > $(@D)/build.log 2>&1 || { cat $(@D)/build.log >&2; exit 1; }
 	@touch $@
 
 $(SOAK): ARGUMENTS := -- 0 1000
 
-# About 15 minutes the first time.
-program: $(PROGRAM)
-
 # The output of the script alone comes on standard output.
 replay: $(PROGRAM)
 	@$(PROGRAM) --limit $(LIMIT) $(if $(THREADS),--threads $(THREADS)) $(if $(PROFILE),--profile $(PROFILE)) < $(SCRIPT)
+
+program: $(PROGRAM)
 
 examples: $(PROGRAM)
 	@.ci/scripts examples
@@ -47,13 +46,12 @@ scripts: $(PROGRAM)
 streams: $(PROGRAM)
 	@.ci/streams
 
-# Needs a C compiler. The round trip is that of so many CALLS.
+# The round trip is that of so many CALLS.
 coprocess: $(PROGRAM)
 	@command -v $(CC) > /dev/null || { echo "coprocess: needs a C compiler, and $(CC) is none" >&2; exit 2; }
 	@$(CC) -std=c11 -O2 -Wall -Wextra -o $(COPROCESS) examples/coprocess.c
 	@$(COPROCESS) $(PROGRAM) $(CALLS)
 
-# Refuses each request for memory in turn.
 refusals: $(REFUSALS)
 	@.ci/refusals
 
@@ -69,7 +67,6 @@ bench-vlr: $(BENCH)
 bench-peers: $(BENCH)
 	@bench/run-peers
 
-# Needs valgrind.
 count-vlr: $(BENCH)
 	@bench/count-vlr
 
