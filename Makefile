@@ -18,6 +18,9 @@ SOAK := crates/camel_soak/out/camel_soak
 FUZZ := crates/camel_fuzz/out/camel_fuzz
 COPROCESS := crates/camel_replay/out/coprocess
 
+# How long it takes to prove and build a program.
+FIRST := 15 to 20 minutes the first time, on four cores
+
 .PHONY: replay program examples scripts streams coprocess refusals soak fuzz bench \
 	bench-program bench-vlr bench-peers count-vlr test
 .SECONDEXPANSION:
@@ -25,17 +28,18 @@ COPROCESS := crates/camel_replay/out/coprocess
 # Proves and builds a program where a source below it is newer, and runs it once. What `rt ci` has built is newer than
 # its sources.
 $(PROGRAM) $(BENCH) $(REFUSALS) $(SOAK) $(FUZZ): $$(shell .ci/sources $$(@F))
-	@mkdir -p $(@D)
-	@(cd $(@D)/.. && rt run $(ARGUMENTS) < /dev/null) > $(@D)/build.log 2>&1 || { cat $(@D)/build.log >&2; exit 1; }
+	@echo "$(@F): proved and built with all that it stands on, $(FIRST); log: $(@D)/build.log" >&2
+	@.ci/build $(@F) $(ARGUMENTS)
 	@touch $@
 
-$(SOAK): ARGUMENTS := -- 0 1000
+$(SOAK): ARGUMENTS := 0 1000
 
 # The output of the script alone comes on standard output.
 replay: $(PROGRAM)
 	@$(PROGRAM) --limit $(LIMIT) $(if $(THREADS),--threads $(THREADS)) $(if $(PROFILE),--profile $(PROFILE)) < $(SCRIPT)
 
 program: $(PROGRAM)
+	@echo "$(PROGRAM) is built, and no source is newer" >&2
 
 examples: $(PROGRAM)
 	@.ci/scripts examples
