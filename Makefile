@@ -21,13 +21,29 @@ COPROCESS := crates/camel_replay/out/coprocess
 # How long it takes to prove and build a program.
 FIRST := 15 to 20 minutes the first time, on four cores
 
-.PHONY: replay program examples scripts streams coprocess refusals soak fuzz bench \
+# The shell reads these, and not make, so that a name may have spaces.
+export SCRIPT LIMIT THREADS PROFILE
+OPTIONS = --limit "$$LIMIT" $(if $(THREADS),--threads "$$THREADS") $(if $(PROFILE),--profile "$$PROFILE")
+
+.PHONY: replay program script examples scripts streams coprocess refusals soak fuzz bench \
 	bench-program bench-vlr bench-peers count-vlr test
+# In order, so that what is missing is said before anything is built.
+.NOTPARALLEL:
 .SECONDEXPANSION:
+
+need-%:
+	@.ci/need $*
+
+need-cc:
+	@.ci/need $(firstword $(CC))
+
+script:
+	@[ -r "$$SCRIPT" ] && [ ! -d "$$SCRIPT" ] || { echo "SCRIPT=$$SCRIPT is no file that can be read" >&2; exit 2; }
 
 # Proves and builds a program where a source below it is newer, and runs it once. What `rt ci` has built is newer than
 # its sources.
 $(PROGRAM) $(BENCH) $(REFUSALS) $(SOAK) $(FUZZ): $$(shell .ci/sources $$(@F))
+	@.ci/need rt python3
 	@echo "$(@F): proved and built with all that it stands on, $(FIRST); log: $(@D)/build.log" >&2
 	@.ci/build $(@F) $(ARGUMENTS)
 	@touch $@
@@ -35,8 +51,8 @@ $(PROGRAM) $(BENCH) $(REFUSALS) $(SOAK) $(FUZZ): $$(shell .ci/sources $$(@F))
 $(SOAK): ARGUMENTS := 0 1000
 
 # The output of the script alone comes on standard output.
-replay: $(PROGRAM)
-	@$(PROGRAM) --limit $(LIMIT) $(if $(THREADS),--threads $(THREADS)) $(if $(PROFILE),--profile $(PROFILE)) < $(SCRIPT)
+replay: script $(PROGRAM)
+	@$(PROGRAM) $(OPTIONS) < "$$SCRIPT"
 
 program: $(PROGRAM)
 	@echo "$(PROGRAM) is built, and no source is newer" >&2
@@ -47,31 +63,30 @@ examples: $(PROGRAM)
 scripts: $(PROGRAM)
 	@.ci/scripts tests/scripts
 
-streams: $(PROGRAM)
+streams: need-python3 $(PROGRAM)
 	@.ci/streams
 
 # The round trip is that of so many CALLS.
-coprocess: $(PROGRAM)
-	@command -v $(CC) > /dev/null || { echo "coprocess: needs a C compiler, and $(CC) is none" >&2; exit 2; }
+coprocess: need-cc $(PROGRAM)
 	@$(CC) -std=c11 -O2 -Wall -Wextra -o $(COPROCESS) examples/coprocess.c
 	@$(COPROCESS) $(PROGRAM) $(CALLS)
 
 refusals: $(REFUSALS)
 	@.ci/refusals
 
-bench: $(PROGRAM)
+bench: need-rustc $(PROGRAM)
 	@bench/run
 
 bench-program: $(BENCH)
 
-bench-vlr: $(BENCH)
+bench-vlr: need-python3 $(BENCH)
 	@bench/run-vlr
 
 # Says which Debian packages it needs, where one is missing.
-bench-peers: $(BENCH)
+bench-peers: need-cargo need-gcc $(BENCH)
 	@bench/run-peers
 
-count-vlr: $(BENCH)
+count-vlr: need-valgrind $(BENCH)
 	@bench/count-vlr
 
 # One store for so many seconds, with as many sessions as there are cores. Another seed gives other calls and updates.
@@ -84,7 +99,7 @@ soak: $(SOAK)
 fuzz: $(PROGRAM) $(FUZZ)
 	@.ci/fuzz $(SEED) $(COUNT)
 
-test:
+test: need-rt need-python3 need-cc
 	rt ci
 	@.ci/must-not-compile
 	@$(MAKE) --no-print-directory examples scripts refusals
