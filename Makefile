@@ -22,10 +22,10 @@ COPROCESS := crates/camel_replay/out/coprocess
 FIRST := 15 to 20 minutes the first time, on four cores
 
 # The shell reads these, and not make, so that a name may have spaces.
-export SCRIPT LIMIT THREADS PROFILE
+export SCRIPT LIMIT THREADS PROFILE CRATE
 OPTIONS = --limit "$$LIMIT" $(if $(THREADS),--threads "$$THREADS") $(if $(PROFILE),--profile "$$PROFILE")
 
-.PHONY: replay program script examples scripts streams coprocess refusals soak fuzz bench \
+.PHONY: try replay program check script crate examples scripts streams coprocess refusals soak fuzz bench \
 	bench-program bench-vlr bench-peers count-vlr test
 # In order, so that what is missing is said before anything is built.
 .NOTPARALLEL:
@@ -40,6 +40,10 @@ need-cc:
 script:
 	@[ -r "$$SCRIPT" ] && [ ! -d "$$SCRIPT" ] || { echo "SCRIPT=$$SCRIPT is no file that can be read" >&2; exit 2; }
 
+crate:
+	@[ -n "$$CRATE" ] && [ -d "crates/$$CRATE/src" ] || \
+		{ echo "CRATE=$$CRATE is no crate: name one of \`ls crates\`, as CRATE=camel_rows" >&2; exit 2; }
+
 # Proves and builds a program where a source below it is newer, and runs it once. What `rt ci` has built is newer than
 # its sources.
 $(PROGRAM) $(BENCH) $(REFUSALS) $(SOAK) $(FUZZ): $$(shell .ci/sources $$(@F))
@@ -50,12 +54,20 @@ $(PROGRAM) $(BENCH) $(REFUSALS) $(SOAK) $(FUZZ): $$(shell .ci/sources $$(@F))
 
 $(SOAK): ARGUMENTS := 0 1000
 
+# The output comes at the end, and is at most 1 MiB; the program has 60 seconds. `make` itself ends with status 2 where
+# the program ends with another than 0, and names that one.
+try: script need-rt need-python3
+	@.ci/try $(OPTIONS) < "$$SCRIPT"
+
 # The output of the script alone comes on standard output.
 replay: script $(PROGRAM)
 	@$(PROGRAM) $(OPTIONS) < "$$SCRIPT"
 
 program: $(PROGRAM)
 	@echo "$(PROGRAM) is built, and no source is newer" >&2
+
+check: crate need-rt need-python3
+	@cd "crates/$$CRATE" && rt check
 
 examples: $(PROGRAM)
 	@.ci/scripts examples
