@@ -1,7 +1,7 @@
-# `make replay SCRIPT=examples/first-call.csv` replays a script, and `make test` passes all tests: the gate, then the
-# programs that must not compile, each script of examples/ and tests/scripts/ with all that it leaves, each request for
-# memory that is refused in turn, the program over streams and with signals as a user meets them, the switch in C that
-# has it as a child, a short soak, and scripts of bad octets.
+# `make` lists the targets: a line `## ` says what the target below it does, and how long that takes. `make test` passes
+# all tests: the gate, then the programs that must not compile, each script of examples/ and tests/scripts/ with all
+# that it leaves, each request for memory that is refused in turn, the program over streams and with signals as a user
+# meets them, the switch in C that has it as a child, a short soak, and scripts of bad octets.
 
 SCRIPT ?= examples/first-call.csv
 LIMIT ?= 1000000
@@ -25,11 +25,28 @@ FIRST := 15 to 20 minutes the first time, on four cores
 export SCRIPT LIMIT THREADS PROFILE CRATE
 OPTIONS = --limit "$$LIMIT" $(if $(THREADS),--threads "$$THREADS") $(if $(PROFILE),--profile "$$PROFILE")
 
-.PHONY: try replay program check script crate examples scripts streams coprocess refusals soak fuzz bench \
+# Prints what its line says of a target, or of each. FIRST in a line stands for its value.
+define targets
+@awk -v wanted='$(1)' -v first='$(FIRST)' '\
+	/^## / { use = substr($$0, 4); sub(/FIRST/, first, use); next } \
+	use && match($$0, /^[a-z-]+:/) { \
+		name = substr($$0, 1, RLENGTH - 1); \
+		if (!wanted) printf "make %-14s %s\n", name, use; \
+		if (wanted == name) print name ": " use } \
+	{ use = "" }' Makefile
+endef
+say = $(call targets,$@) >&2
+
+.PHONY: help try replay program check script crate examples scripts streams coprocess refusals soak fuzz bench \
 	bench-program bench-vlr bench-peers count-vlr test
 # In order, so that what is missing is said before anything is built.
 .NOTPARALLEL:
 .SECONDEXPANSION:
+
+## Lists the targets.
+help:
+	$(call targets)
+	@echo 'Variables are given as in: make try SCRIPT=examples/threads.csv THREADS=2 PROFILE=2 LIMIT=3'
 
 need-%:
 	@.ci/need $*
@@ -56,62 +73,90 @@ $(SOAK): ARGUMENTS := 0 1000
 
 # The output comes at the end, and is at most 1 MiB; the program has 60 seconds. `make` itself ends with status 2 where
 # the program ends with another than 0, and names that one.
+## Runs SCRIPT by the program, with nothing proved and nothing built: about a minute, each time.
 try: script need-rt need-python3
 	@.ci/try $(OPTIONS) < "$$SCRIPT"
 
 # The output of the script alone comes on standard output.
+## Runs SCRIPT by the proved program, which is built first where a source is newer.
 replay: script $(PROGRAM)
 	@$(PROGRAM) $(OPTIONS) < "$$SCRIPT"
 
+## Proves and builds the program: FIRST.
 program: $(PROGRAM)
 	@echo "$(PROGRAM) is built, and no source is newer" >&2
 
+## Proves the crate CRATE with what it stands on: 1 to 15 minutes the first time.
 check: crate need-rt need-python3
+	$(say)
 	@cd "crates/$$CRATE" && rt check
 
+## Compares what each script of examples/ leaves: seconds, once the program is built.
 examples: $(PROGRAM)
+	$(say)
 	@.ci/scripts examples
 
+## Compares what each script of tests/scripts/ leaves: seconds, once the program is built.
 scripts: $(PROGRAM)
+	$(say)
 	@.ci/scripts tests/scripts
 
+## Runs the program over streams, at a terminal and with signals: seconds, once it is built.
 streams: need-python3 $(PROGRAM)
+	$(say)
 	@.ci/streams
 
 # The round trip is that of so many CALLS.
+## Runs the program as the child of a switch in C: seconds, once it is built.
 coprocess: need-cc $(PROGRAM)
+	$(say)
 	@$(CC) -std=c11 -O2 -Wall -Wextra -o $(COPROCESS) examples/coprocess.c
 	@$(COPROCESS) $(PROGRAM) $(CALLS)
 
+## Refuses each request for memory in turn: some minutes, once its program is built.
 refusals: $(REFUSALS)
+	$(say)
 	@.ci/refusals
 
+## Measures the program beside a plain one in Rust: some minutes, once it is built.
 bench: need-rustc $(PROGRAM)
+	$(say)
 	@bench/run
 
+## Proves and builds the program that measures the store: FIRST.
 bench-program: $(BENCH)
 
+## Measures the store: about an hour, once its program is built.
 bench-vlr: need-python3 $(BENCH)
+	$(say)
 	@bench/run-vlr
 
 # Says which Debian packages it needs, where one is missing.
+## Measures the store beside others in Rust and C: some hours, once its program is built.
 bench-peers: need-cargo need-gcc $(BENCH)
+	$(say)
 	@bench/run-peers
 
+## Counts what an update costs, by a simulator: some minutes, once its program is built.
 count-vlr: need-valgrind $(BENCH)
+	$(say)
 	@bench/count-vlr
 
 # One store for so many seconds, with as many sessions as there are cores. Another seed gives other calls and updates.
 # The C library is set to give large pieces of memory back when they are freed. By itself it comes to keep larger and
 # larger ones, and they would count as memory that the store takes.
+## Uses one store as a switch does: SECONDS, once its program is built.
 soak: $(SOAK)
+	$(say)
 	@MALLOC_MMAP_THRESHOLD_=131072 $(SOAK) $(SECONDS) $(SUBSCRIBERS) $(SEED)
 
 # COUNT scripts of bad octets that SEED makes, and scripts that are far too long.
 fuzz: $(PROGRAM) $(FUZZ)
 	@.ci/fuzz $(SEED) $(COUNT)
 
+## Passes every proof and every test: more than two hours the first time, on four cores.
 test: need-rt need-python3 need-cc
+	$(say)
 	rt ci
 	@.ci/must-not-compile
 	@$(MAKE) --no-print-directory examples scripts refusals
