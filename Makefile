@@ -71,8 +71,8 @@ $(PROGRAM) $(BENCH) $(REFUSALS) $(SOAK) $(FUZZ): $$(shell .ci/sources $$(@F))
 
 $(SOAK): ARGUMENTS := 0 1000
 
-# The output comes at the end, and is at most 1 MiB; the program has 60 seconds. `make` itself ends with status 2 where
-# the program ends with another than 0, and names that one.
+# The output comes at the end, and is at most 1 MiB; the program has 60 seconds. `.ci/try` ends with the program's
+# status, or with 125 if it gave none. `make` ends with status 2 if that is not 0, and names it.
 ## Runs SCRIPT by the program, with nothing proved and nothing built: about a minute, each time.
 try: script need-rt need-python3
 	@.ci/try $(OPTIONS) < "$$SCRIPT"
