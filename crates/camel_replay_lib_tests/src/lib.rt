@@ -9,8 +9,6 @@ mod failing;
 #[cfg(test)]
 mod fixtures;
 #[cfg(test)]
-mod prefixes;
-#[cfg(test)]
 mod records;
 #[cfg(test)]
 mod steps;
