@@ -62,7 +62,7 @@ crate:
 
 # Proves and builds a program where a source below it is newer, and runs it once. What `rt ci` has built is newer than
 # its sources.
-$(PROGRAM) $(BENCH) $(REFUSALS) $(SOAK) $(FUZZ): $$(shell .ci/sources $$(@F))
+$(PROGRAM) $(BENCH) $(REFUSALS) $(SOAK): $$(shell .ci/sources $$(@F))
 	@.ci/need rt python3
 	@echo "$(@F): proved and built with all that it stands on, $(FIRST); log: $(@D)/build.log" >&2
 	@.ci/build $(@F) $(ARGUMENTS)
@@ -149,9 +149,10 @@ soak: $(SOAK)
 	$(say)
 	@MALLOC_MMAP_THRESHOLD_=131072 $(SOAK) $(SECONDS) $(SUBSCRIBERS) $(SEED)
 
-# COUNT scripts of bad octets that SEED makes, scripts that are far too long, and each beginning of each script. 100,000
-# take 2 to 5 minutes on four cores.
-fuzz: $(PROGRAM)
+# COUNT scripts of bad octets that SEED makes, scripts that are far too long, and each beginning of each script.
+## Replays COUNT scripts of bad octets: 2 to 5 minutes for 100,000, once the program is built.
+fuzz: need-python3 $(PROGRAM)
+	$(say)
 	@.ci/fuzz $(SEED) $(COUNT)
 
 ## Passes every proof and every test: more than two hours the first time, on four cores.
