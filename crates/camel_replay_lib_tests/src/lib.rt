@@ -12,3 +12,5 @@ mod fixtures;
 mod records;
 #[cfg(test)]
 mod steps;
+#[cfg(test)]
+mod threads;

@@ -1,5 +1,6 @@
-use crate::gates::{NoCall, NoPublication};
-use crate::runs::{BUSY, REPEATS, ROW_ONE, Ran, is_repeated, run};
+use crate::fixtures::FIRST_CALL;
+use crate::threads::gates::{NoCall, NoPublication};
+use crate::threads::runs::{BUSY, REPEATS, Ran, is_repeated, run};
 use camel_replay_lib::{MAX_LIMIT, ReplayFault, replay_threads};
 use camel_tbcd::Profile;
 use camel_workers::OpenGate;
@@ -17,17 +18,17 @@ fn check_fault(rt: &impl Abort, ran: &Ran, number: Option<u64>, code: u16) {
 
 #[test]
 fn ends_where_the_gate_stops_a_call(rt: HostRuntime) {
-    let ran = run::<NoCall, _>(&rt, rt.alloc(), ROW_ONE.as_bytes(), 2, MAX_LIMIT, &BUSY);
+    let ran = run::<NoCall, _>(&rt, rt.alloc(), FIRST_CALL.as_bytes(), 2, MAX_LIMIT, &BUSY);
     check_fault(&rt, &ran, None, 105);
 }
 
 #[test]
 fn ends_where_the_gate_stops_a_publication(rt: HostRuntime) {
-    let ran = run::<NoPublication, _>(&rt, rt.alloc(), ROW_ONE.as_bytes(), 2, MAX_LIMIT, &BUSY);
+    let ran = run::<NoPublication, _>(&rt, rt.alloc(), FIRST_CALL.as_bytes(), 2, MAX_LIMIT, &BUSY);
     check_fault(&rt, &ran, None, 105);
 }
 
-// The first 49 octets of the script of one row.
+// The first 49 octets of the script of one call.
 const CUT_OFF: &str = "register,262010000000001\ninsert,262010000000001,o";
 
 #[test]
@@ -99,7 +100,7 @@ fn failed_write<R: Threads + Wait>(rt: &R, alloc: Global) -> Option<ReplayFault>
 }
 
 fn failed_write_once<R: Threads + Wait>(rt: &R, alloc: Global) -> Option<ReplayFault> {
-    let script = ROW_ONE.as_bytes();
+    let script = FIRST_CALL.as_bytes();
     let ended = replay_threads(
         rt,
         alloc,

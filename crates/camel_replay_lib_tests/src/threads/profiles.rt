@@ -1,4 +1,4 @@
-use crate::runs::{BUSY, run_under};
+use crate::threads::runs::{BUSY, run_under};
 use camel_replay_lib::{MAX_LIMIT, replay};
 use camel_tbcd::Profile;
 use camel_workers::OpenGate;

@@ -1,9 +1,10 @@
-use crate::gates::{BothCalls, CallInPublication};
-use crate::runs::{BUSY, BUSY_OR_LATE, ROW_ONE, run};
+use crate::fixtures::FIRST_CALL;
+use crate::threads::gates::{BothCalls, CallInPublication};
+use crate::threads::runs::{BUSY, BUSY_OR_LATE, run};
 use camel_replay_lib::MAX_LIMIT;
 use camel_workers::OpenGate;
 
-const ROW_ONE_OUTPUT: &str = "accepted 1
+const ANSWERED_BY_A_SESSION: &str = "accepted 1
 accepted 2
 published 2
 session 0 call 0 front 2 trigger 2 100 919471160000 continue
@@ -12,12 +13,12 @@ audit ok
 
 #[test]
 fn answers_a_call(rt: HostRuntime) {
-    let ran = run::<OpenGate, _>(&rt, rt.alloc(), ROW_ONE.as_bytes(), 2, MAX_LIMIT, &BUSY);
+    let ran = run::<OpenGate, _>(&rt, rt.alloc(), FIRST_CALL.as_bytes(), 2, MAX_LIMIT, &BUSY);
     assert_eq!(rt; ran.fault, None);
-    assert_eq!(rt; ran.output.as_slice(), ROW_ONE_OUTPUT.as_bytes());
+    assert_eq!(rt; ran.output.as_slice(), ANSWERED_BY_A_SESSION.as_bytes());
 }
 
-// The script of one row, with its call twice.
+// The script of one call, with that call twice.
 const TWO_CALLS: &str = "register,262010000000001
 insert,262010000000001,o:2:100:919471160000:0
 publish
@@ -98,7 +99,7 @@ audit ok
 
 #[test]
 fn refuses_an_update_beyond_the_limit(rt: HostRuntime) {
-    let ran = run::<OpenGate, _>(&rt, rt.alloc(), ROW_ONE.as_bytes(), 1, 1, &BUSY);
+    let ran = run::<OpenGate, _>(&rt, rt.alloc(), FIRST_CALL.as_bytes(), 1, 1, &BUSY);
     assert_eq!(rt; ran.fault, None);
     assert_eq!(rt; ran.output.as_slice(), LIMIT_OF_ONE_OUTPUT.as_bytes());
 }

@@ -1,6 +1,6 @@
 ghost use Rattle.std.specs.Prelude.{◌≤◌};
 
-use crate::runs::{BUSY, run};
+use crate::threads::runs::{BUSY, run};
 use camel_replay_lib::{MAX_LIMIT, MAX_THREADS, replay};
 use camel_tbcd::Profile;
 use camel_workers::OpenGate;

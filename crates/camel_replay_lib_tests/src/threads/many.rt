@@ -1,4 +1,4 @@
-use crate::runs::{BUSY, run};
+use crate::threads::runs::{BUSY, run};
 use camel_replay_lib::MAX_LIMIT;
 use camel_workers::OpenGate;
 use std::alloc::Global;

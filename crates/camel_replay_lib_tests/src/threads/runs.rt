@@ -2,16 +2,12 @@
 
 ghost use Rattle.std.specs.Prelude.{◌≤◌};
 
-use crate::gates::Fresh;
+use crate::threads::gates::Fresh;
 use camel_replay_lib::{MAX_LIMIT, MAX_THREADS, ReplayFault, replay_threads};
 use camel_tbcd::Profile;
 use std::alloc::Global;
 use std::sync::Wait;
 use std::thread::Threads;
-
-/// A script of one row and one call, of 117 octets.
-pub(crate) const ROW_ONE: &str =
-    "register,262010000000001\ninsert,262010000000001,o:2:100:919471160000:0\npublish\ncall,2,262010000000001,t11,91214365,n\n";
 
 /// The faults with which a run may end on a machine that has much else to do. A run that ends with one is repeated.
 pub(crate) const BUSY: [u16; 3] = [103, 104, 106];
