@@ -30,6 +30,14 @@ pub(crate) enum Kind {
     ClearAll,
 }
 
+/// The subscriber registers, and is sent the row.
+pub(crate) fn row_updates(alloc: Global, imsi: Imsi) -> Result<Vec<Update>, Fail> {
+    let mut updates = Vec::new(alloc);
+    updates.push(Update::Register { imsi })?;
+    updates.push(row_update(imsi)?)?;
+    Ok(updates)
+}
+
 pub(crate) fn update_of(alloc: Global, imsi: Imsi, kind: Kind) -> Result<Update, Refusal> {
     match kind {
         Kind::Register => Ok(Update::Register { imsi }),
@@ -180,7 +188,7 @@ pub(crate) fn filled<R: Wait + Abort>(
 }
 
 /// Registers a subscriber and inserts the row, as the first two updates.
-fn row_sent(rt: &impl Abort, store: &mut Vlr, imsi: Imsi)
+pub(crate) fn row_sent(rt: &impl Abort, store: &mut Vlr, imsi: Imsi)
     ensures { store.new.store ≡ store.old.store }
 {
     check_submit(rt, store, Update::Register { imsi }, Ok(1));

@@ -1,10 +1,12 @@
-//! The tests of `camel_vlr`, which call it from outside, as its users do.
+//! The tests of `camel_vlr`, `camel_workers` and `camel_audit`, which call them from outside, as their users do.
 #![tactic(auto)]
 
 #[cfg(test)]
 mod answering;
 #[cfg(test)]
 mod answers;
+#[cfg(test)]
+mod audit_faults;
 #[cfg(test)]
 mod clearing;
 #[cfg(test)]
@@ -24,4 +26,10 @@ mod profiles;
 #[cfg(test)]
 mod seeds;
 #[cfg(test)]
+mod served;
+#[cfg(test)]
+mod serving;
+#[cfg(test)]
 mod threads;
+#[cfg(test)]
+mod transcripts;

@@ -1,6 +1,7 @@
-use crate::given::{served, updates};
+use crate::given::row_updates;
+use crate::served::served;
 use camel_audit::{Transcript, audit};
-use camel_fixtures::triggered;
+use camel_fixtures::{imsi_of, triggered};
 use camel_rows::{Answer, Outcome, Reason};
 use camel_tbcd::Profile;
 use camel_workers::{Ended, Gate, OpenGate, Served};
@@ -55,7 +56,7 @@ fn all_calls_are_answered_in_their_order(rt: HostRuntime) -> Result<(), Fail> {
     } = served(&rt, rt.alloc(), 1000, &OpenGate)?;
     assert_eq!(rt; ended, Ended::All);
     check_entries(&rt, &transcript, 1000)?;
-    let updates = updates(rt.alloc())?;
+    let updates = row_updates(rt.alloc(), imsi_of(1)?)?;
     let audited = audit(rt.alloc(), &updates, &[transcript], Profile::One);
     assert_eq!(rt; audited, Ok(()));
     Ok(())

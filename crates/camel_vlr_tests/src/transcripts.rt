@@ -1,20 +1,12 @@
+use crate::given::row_updates;
 use camel_audit::{AuditFault, Entry, Transcript, audit};
 use camel_criteria::Refusal;
 use camel_fixtures::{call_of, imsi_of, row_update, triggered};
-use camel_rows::{Answer, CallEvent, Outcome, Reason, Update};
+use camel_rows::{Answer, CallEvent, Outcome, Reason};
 use camel_tbcd::Profile;
 use std::alloc::Global;
 use std::process::Abort;
 use std::test::Fail;
-
-/// A subscriber registers and is sent a row of detection point 2 with service key 100.
-fn updates(alloc: Global) -> Result<Vec<Update>, Fail> {
-    let imsi = imsi_of(1)?;
-    let mut updates = Vec::new(alloc);
-    updates.push(Update::Register { imsi })?;
-    updates.push(row_update(imsi)?)?;
-    Ok(updates)
-}
 
 /// An answer by how many updates its front has, and whether the service is invoked; if not, no CSI is stored.
 type PlainAnswer = (u64, bool);
@@ -88,12 +80,13 @@ fn check_audit(
     answers: &[&[PlainAnswer]],
     wanted: Result<(), AuditFault>,
 ) -> Result<(), Fail> {
+    let updates = row_updates(alloc, imsi_of(1)?)?;
     let mut transcripts = Vec::new(alloc);
     for of_session in answers {
         transcripts.push(transcript_of(alloc, of_session)?)?;
     }
     assert_eq!(rt;
-        audit(alloc, &updates(alloc)?, &transcripts, Profile::One),
+        audit(alloc, &updates, &transcripts, Profile::One),
         wanted,
         "{answers:?}"
     );
