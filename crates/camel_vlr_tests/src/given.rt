@@ -5,7 +5,7 @@ ghost use Rattle.camel_vlr.specs.Store.{fresh_session};
 
 use crate::answers::{TURNS, check_asked, check_row, check_submit};
 use camel_criteria::Refusal;
-use camel_fixtures::{O_ALONE, call_of, criteria_update, entry_update, row_update};
+use camel_fixtures::{call_of, row_update};
 use camel_rows::{Records, Update};
 use camel_table::Seed;
 use camel_tbcd::{Imsi, Profile};
@@ -15,42 +15,12 @@ use std::process::Abort;
 use std::sync::Wait;
 use std::test::Fail;
 
-/// An update, and its answer.
-pub(crate) type Sent = (Kind, Result<u64, Refusal>);
-
-/// The updates that tests send.
-#[derive(Clone, Copy, Debug)]
-pub(crate) enum Kind {
-    Register,
-    Row,
-    Criteria,
-    Entry,
-    DeleteO,
-    Cancel,
-    ClearAll,
-}
-
 /// The subscriber registers, and is sent the row.
 pub(crate) fn row_updates(alloc: Global, imsi: Imsi) -> Result<Vec<Update>, Fail> {
     let mut updates = Vec::new(alloc);
     updates.push(Update::Register { imsi })?;
     updates.push(row_update(imsi)?)?;
     Ok(updates)
-}
-
-pub(crate) fn update_of(alloc: Global, imsi: Imsi, kind: Kind) -> Result<Update, Refusal> {
-    match kind {
-        Kind::Register => Ok(Update::Register { imsi }),
-        Kind::Row => row_update(imsi),
-        Kind::Criteria => criteria_update(alloc, imsi),
-        Kind::Entry => entry_update(alloc, imsi),
-        Kind::DeleteO => Ok(Update::Delete {
-            imsi,
-            what: O_ALONE,
-        }),
-        Kind::Cancel => Ok(Update::Cancel { imsi }),
-        Kind::ClearAll => Ok(Update::ClearAll),
-    }
 }
 
 /// A store with so many sessions.

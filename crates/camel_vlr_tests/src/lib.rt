@@ -20,8 +20,6 @@ mod limits;
 #[cfg(test)]
 mod looking;
 #[cfg(test)]
-mod memory;
-#[cfg(test)]
 mod profiles;
 #[cfg(test)]
 mod seeds;

@@ -1,7 +1,7 @@
 use crate::answers::{TURNS, Told, asked, asked_once, told};
-use crate::given::{Kind, opened_with_two, update_of};
+use crate::given::opened_with_two;
 use camel_criteria::Refusal;
-use camel_fixtures::{call_of, imsi_of};
+use camel_fixtures::{O_ALONE, call_of, criteria_update, imsi_of, row_update};
 use camel_rows::{CallEvent, Records, Update, decide_in};
 use camel_tbcd::{Imsi, Profile};
 use camel_vlr::{Session, Vlr};
@@ -154,14 +154,16 @@ fn update_by(alloc: Global, imsis: &Three<Imsi>, number: u64) -> Result<Update, 
         1 => imsis[1],
         _ => imsis[2],
     };
-    let kind = match (number >> 40) % 5 {
-        0 => Kind::Register,
-        1 => Kind::Row,
-        2 => Kind::Criteria,
-        3 => Kind::DeleteO,
-        _ => Kind::Cancel,
-    };
-    update_of(alloc, imsi, kind)
+    match (number >> 40) % 5 {
+        0 => Ok(Update::Register { imsi }),
+        1 => row_update(imsi),
+        2 => criteria_update(alloc, imsi),
+        3 => Ok(Update::Delete {
+            imsi,
+            what: O_ALONE,
+        }),
+        _ => Ok(Update::Cancel { imsi }),
+    }
 }
 
 fn told_in(records: &Records, call: &CallEvent) -> Told {
