@@ -2,6 +2,7 @@
 
 use crate::attempts::Refusals;
 use crate::failure::Failure;
+use crate::publications::Next;
 use crate::values::Kind;
 use crate::{
     criteria, openings, publications, records, replays, scripts, sessions, submissions, workers,
@@ -26,8 +27,8 @@ pub(crate) enum Call {
     Decide,
     Open,
     Submit(Kind),
-    /// The publication of this number, from 1.
-    Publish(u8),
+    /// The publication of this number, from 1, and what comes next.
+    Publish(u8, Next),
     Look,
     AnswerAll,
     Close,
@@ -41,7 +42,7 @@ pub(crate) enum Call {
 }
 
 /// Each call, whether it takes memory, and its name.
-pub(crate) const CALLS: [(Call, bool, &str); 35] = [
+pub(crate) const CALLS: [(Call, bool, &str); 39] = [
     (Call::Addresses, false, "all calls of `camel_tbcd`"),
     (
         Call::FewNumbers,
@@ -95,10 +96,46 @@ pub(crate) const CALLS: [(Call, bool, &str); 35] = [
         true,
         "`Vlr::submit`, ClearAll",
     ),
-    (Call::Publish(1), true, "`Vlr::publish`, the first"),
-    (Call::Publish(2), true, "`Vlr::publish`, the second"),
-    (Call::Publish(3), true, "`Vlr::publish`, the third"),
-    (Call::Publish(4), true, "`Vlr::publish`, the fourth"),
+    (
+        Call::Publish(1, Next::Publish),
+        true,
+        "`Vlr::publish`, the first",
+    ),
+    (
+        Call::Publish(2, Next::Publish),
+        true,
+        "`Vlr::publish`, the second",
+    ),
+    (
+        Call::Publish(3, Next::Publish),
+        true,
+        "`Vlr::publish`, the third",
+    ),
+    (
+        Call::Publish(4, Next::Publish),
+        true,
+        "`Vlr::publish`, the fourth",
+    ),
+    (
+        Call::Publish(1, Next::Submit),
+        true,
+        "`Vlr::publish`, the first, with a submit before the next",
+    ),
+    (
+        Call::Publish(2, Next::Submit),
+        true,
+        "`Vlr::publish`, the second, with a submit before the next",
+    ),
+    (
+        Call::Publish(3, Next::Submit),
+        true,
+        "`Vlr::publish`, the third, with a submit before the next",
+    ),
+    (
+        Call::Publish(4, Next::Submit),
+        true,
+        "`Vlr::publish`, the fourth, with a submit before the next",
+    ),
     (
         Call::Look,
         false,
@@ -147,7 +184,7 @@ pub(crate) fn make<R: AllocGlobal + Print + RandomSource + Threads + Wait + Sync
         Call::Decide => records::decide(rt, refusals),
         Call::Open => openings::open(rt, refusals),
         Call::Submit(kind) => submissions::submit(rt, refusals, kind),
-        Call::Publish(number) => publications::publish(rt, refusals, number),
+        Call::Publish(number, next) => publications::publish(rt, refusals, number, next),
         Call::Look => sessions::look(rt, refusals),
         Call::AnswerAll => sessions::answer_all(rt, refusals),
         Call::Close => sessions::close(rt, refusals),

@@ -2,20 +2,30 @@
 
 use crate::attempts::{Refusals, again};
 use crate::failure::{Failure, Lost, check};
-use crate::stage::Stage;
+use crate::stage::{Shown, Stage};
 use crate::values::full_insert;
 use camel_fixtures::imsi_of;
 use camel_rows::Update;
 use std::sync::Wait;
+
+/// What a writer does after a publication that was refused memory.
+#[derive(Clone, Copy)]
+pub(crate) enum Next {
+    /// It publishes again.
+    Publish,
+    /// It submits an update, and publishes then.
+    Submit,
+}
 
 /// Makes the publication of this number, of a subscriber who registers and is sent all data.
 pub(crate) fn publish<R: AllocGlobal + Print + Wait>(
     rt: &R,
     refusals: &mut Refusals,
     number: u8,
+    next: Next,
 ) -> Result<(), Failure> {
     let mut stage = again(&mut refusals.stage, || Stage::open(rt, rt.alloc()))?;
-    let done = publish_at(rt, refusals, &mut stage, number);
+    let done = publish_at(rt, refusals, &mut stage, u64::from(number), next);
     stage.end(rt);
     done
 }
@@ -24,23 +34,18 @@ fn publish_at<R: AllocGlobal + Print + Wait>(
     rt: &R,
     refusals: &mut Refusals,
     stage: &mut Stage,
-    number: u8,
+    number: u64,
+    next: Next,
 ) -> Result<(), Failure> {
     for subscriber in 1..number {
-        submit_both(rt, refusals, stage, u64::from(subscriber))?;
+        submit_both(rt, refusals, stage, subscriber)?;
         again(&mut refusals.stage, || stage.publish(rt))?;
     }
-    submit_both(rt, refusals, stage, u64::from(number))?;
-    let before = stage.shown()?;
-    let front = again(&mut refusals.call, || match stage.publish(rt) {
-        Err(failure) => {
-            stage.check_shown(&before)?;
-            stage.check_unknown(u64::from(number).saturating_add(1))?;
-            Err(failure)
-        }
-        published => published,
-    })?;
-    check(front == stage.accepted(), Lost::Publication)?;
+    submit_both(rt, refusals, stage, number)?;
+    match next {
+        Next::Publish => publish_again(rt, refusals, stage, number)?,
+        Next::Submit => submit_and_publish(rt, refusals, stage, number)?,
+    }
     stage.print(rt)
 }
 
@@ -60,4 +65,62 @@ fn submit_both<R: AllocGlobal>(
         || stage.submit(full_insert(rt.alloc(), imsi)?),
     )?;
     Ok(())
+}
+
+// Publishes, and again where memory was refused.
+fn publish_again<R: Wait>(
+    rt: &R,
+    refusals: &mut Refusals,
+    stage: &mut Stage,
+    number: u64,
+) -> Result<(), Failure> {
+    let before = stage.shown()?;
+    let front = again(&mut refusals.call, || match stage.publish(rt) {
+        Err(failure) => {
+            check_not_published(stage, &before, number)?;
+            Err(failure)
+        }
+        published => published,
+    })?;
+    check_published(stage, front)
+}
+
+// Publishes, submits an update, and publishes again. Where the first publication was refused memory, the update comes
+// behind what is pending, and the second one publishes all of it.
+fn submit_and_publish<R: Wait>(
+    rt: &R,
+    refusals: &mut Refusals,
+    stage: &mut Stage,
+    number: u64,
+) -> Result<(), Failure> {
+    let before = stage.shown()?;
+    match stage.publish(rt) {
+        Ok(front) => check_published(stage, front)?,
+        Err(Failure::Memory(code)) => {
+            refusals.call.add(code);
+            check_not_published(stage, &before, number)?;
+        }
+        Err(failure) => return Err(failure),
+    }
+    let wanted = stage.accepted().saturating_add(1);
+    let imsi = imsi_of(number.saturating_add(1))?;
+    let submitted = again(
+        &mut refusals.end,
+        || stage.submit(Update::Register { imsi }),
+    )?;
+    check(submitted == wanted, Lost::Number)?;
+    let front = again(&mut refusals.end, || stage.publish(rt))?;
+    check(front == wanted, Lost::Publication)?;
+    check_published(stage, front)
+}
+
+// The store shows what it showed, and the next subscriber has no record.
+fn check_not_published(stage: &mut Stage, before: &Shown, number: u64) -> Result<(), Failure> {
+    stage.check_shown(before)?;
+    stage.check_unknown(number.saturating_add(1))
+}
+
+// A publication of this front has left nothing pending.
+fn check_published(stage: &Stage, front: u64) -> Result<(), Failure> {
+    check(stage.counts() == (front, 0), Lost::Publication)
 }

@@ -90,9 +90,15 @@ impl Stage {
         Ok(self.session.answer_all(calls, answers)?)
     }
 
+    /// How many updates are published, and how many are pending.
+    pub(crate) fn counts(&self) -> (u64, u64) {
+        (self.store.published(), self.store.pending())
+    }
+
     /// How many updates are accepted.
     pub(crate) fn accepted(&self) -> u64 {
-        self.store.published().saturating_add(self.store.pending())
+        let (published, pending) = self.counts();
+        published.saturating_add(pending)
     }
 
     pub(crate) fn shown(&mut self) -> Result<Shown, Failure> {
