@@ -48,15 +48,22 @@ pub(crate) fn answer_round<S: StoreName, R: Wait>(
     caller: Caller<S>,
     looks: u64,
     answering: &AtomicU64,
+    published: &AtomicU64,
 ) -> (Caller<S>, Result<Answered>) {
     let mut caller = caller;
-    let answered = caller.answer_looks(rt, alloc, looks);
+    let answered = caller.answer_looks(rt, alloc, looks, published);
     answering.fetch_sub(1, Ordering::SeqCst);
     (caller, answered)
 }
 
 impl<S: StoreName> Caller<S> {
-    fn answer_looks<R: Wait>(&mut self, rt: &R, alloc: Global, looks: u64) -> Result<Answered> {
+    fn answer_looks<R: Wait>(
+        &mut self,
+        rt: &R,
+        alloc: Global,
+        looks: u64,
+        published: &AtomicU64,
+    ) -> Result<Answered> {
         let mut entries = Vec::new(alloc);
         let mut learnt = Vec::new(alloc);
         for _ in 0..looks {
@@ -65,7 +72,7 @@ impl<S: StoreName> Caller<S> {
                 learnt.push(Learnt { place, front })?;
                 self.session.learn(receipt);
             }
-            self.answer_in_one_look(alloc, &mut entries)?;
+            self.answer_in_one_look(alloc, &mut entries, published)?;
         }
         Ok(Answered {
             transcript: Transcript { entries },
@@ -73,11 +80,17 @@ impl<S: StoreName> Caller<S> {
         })
     }
 
-    fn answer_in_one_look(&mut self, alloc: Global, entries: &mut Vec<Entry>) -> Result<()> {
+    fn answer_in_one_look(
+        &mut self,
+        alloc: Global,
+        entries: &mut Vec<Entry>,
+        published: &AtomicU64,
+    ) -> Result<()> {
         let events = self.draw_events(alloc)?;
         let mut answers = Vec::with_capacity(alloc, events.len())?;
+        let returned = published.load(Ordering::SeqCst);
         match self.session.answer_in_one_look(&events, &mut answers) {
-            Ok(()) => check_look(self.number, &answers)?,
+            Ok(()) => check_look(self.number, &answers, returned)?,
             Err(Refusal::NoGuard) => {
                 let session = self.number;
                 return Err(Difference::NoLook { session }.into());
@@ -110,8 +123,8 @@ impl<S: StoreName> Caller<S> {
     }
 }
 
-// All answers of a look are of one front.
-fn check_look(session: usize, answers: &[Answer]) -> Result<()> {
+// All answers of a look are of one front, which is not older than the publication that had returned before the look.
+fn check_look(session: usize, answers: &[Answer], published: u64) -> Result<()> {
     let (Some(first), Some(last)) = (answers.first(), answers.last()) else {
         return Ok(());
     };
@@ -121,6 +134,14 @@ fn check_look(session: usize, answers: &[Answer]) -> Result<()> {
             session,
             first,
             last,
+        }
+        .into());
+    }
+    if first < published {
+        return Err(Difference::Older {
+            session,
+            front: first,
+            published,
         }
         .into());
     }

@@ -41,6 +41,12 @@ pub(crate) enum Difference {
         first: u64,
         last: u64,
     },
+    #[error("session {session}: a look had a front of {front} updates after a publication of {published} had returned")]
+    Older {
+        session: usize,
+        front: u64,
+        published: u64,
+    },
     #[error("session {session}: {entry:?}, wanted {wanted:?}")]
     Answer {
         session: usize,

@@ -1,19 +1,18 @@
 //! Soaks the store of `camel_vlr`: one store lives for as long as is asked for, used as a switch uses it, and all that
 //! it answers is compared with what the accepted updates give. `make soak` starts it.
 //!
-//! `camel_soak SECONDS [SUBSCRIBERS [SEED [SESSIONS]]]` runs rounds until the time is over. In a round each session
-//! answers events of all five detection points in a thread of its own, one or several over one look, and the writer
-//! submits updates of all kinds, publishes them in batches of any size, and hands the receipts to the sessions'
-//! threads over channels. A session learns each receipt that comes, so that its later looks have to extend it. At the
-//! end of a round all threads are joined, and what they gave is checked:
+//! `camel_soak SECONDS [SUBSCRIBERS [SEED [SESSIONS]]]` runs rounds until the time is over. In a
+//! round each session answers events of all five detection points in a thread of its own, one or several over one look,
+//! and the writer submits updates of all kinds, publishes them in batches of any size, and hands the receipts to the
+//! sessions' threads over channels. A session learns each receipt that comes, so that its later looks have to extend it.
+//! At the end of a round all threads are joined, and what they gave is checked:
 //!
 //! - The writer: each update has the number, or is refused with the number, that plain records (`Records::apply`) give
 //!   after all updates before it, and each receipt has as many updates as are accepted.
-//! - Each session: no front is shorter than the one before it, than that of a receipt that was learnt, or than the one
-//!   that was published when the round began. Each front is that of a publication, so each publication is seen whole,
-//!   and all answers of a look have one front.
-//!   Each answer is the outcome (`Outcome::decide`) over a copy of the plain records to which the updates of its front
-//!   are applied.
+//! - Each session: no front is shorter than the one before it, than that of a receipt that was learnt, or than that of
+//!   the last publication that had returned when the look began. Each front is that of a publication, so each
+//!   publication is seen whole, and all answers of a look have one front. Each answer is the outcome
+//!   (`Outcome::decide`) over a copy of the plain records to which the updates of its front are applied.
 //! - The same once more by `camel_audit::audit`, over updates that make the records with which the round began, and
 //!   the accepted updates of the round behind them.
 //!

@@ -155,6 +155,8 @@ struct Stage<'a, S: StoreName> {
     callers: Vec<Caller<S>>,
     /// The records that the published updates leave.
     model: Model,
+    /// The front of the last publication that has returned.
+    published: AtomicU64,
 }
 
 impl<'a, S: StoreName> Stage<'a, S> {
@@ -192,6 +194,7 @@ impl<'a, S: StoreName> Stage<'a, S> {
             },
             callers,
             model: Model::new(alloc, profile),
+            published: AtomicU64::new(0),
         })
     }
 
@@ -202,7 +205,9 @@ impl<'a, S: StoreName> Stage<'a, S> {
                 break;
             }
             let updates = self.writer.updates.draw_missing(self.alloc, COME_AT_ONCE)?;
-            let batch = self.writer.publish(rt, self.alloc, updates)?;
+            let batch = self
+                .writer
+                .publish(rt, self.alloc, updates, &self.published)?;
             self.model.apply(&batch)?;
         }
         Ok(())
@@ -242,13 +247,14 @@ impl<'a, S: StoreName> Stage<'a, S> {
         let answering = AtomicU64::new(self.callers.len() as u64);
         let callers = mem::replace(&mut self.callers, Vec::new(alloc));
         let writer = &mut self.writer;
+        let published = &self.published;
         let answer = |caller: Caller<S>| -> (Caller<S>, Result<Answered>) {
-            answer_round(rt, alloc, caller, looks, &answering)
+            answer_round(rt, alloc, caller, looks, &answering, published)
         };
         let (done, batches) = join(
             rt,
             || map_vec(rt, callers, &answer),
-            || writer.write_round(rt, alloc, &answering, UPDATES),
+            || writer.write_round(rt, alloc, &answering, published, UPDATES),
         );
         let mut all = Vec::new(alloc);
         for (caller, answered) in done? {

@@ -48,6 +48,7 @@ impl<S: StoreName> Writer<'_, S> {
         rt: &R,
         alloc: Global,
         answering: &AtomicU64,
+        published: &AtomicU64,
         most: usize,
     ) -> Result<Vec<Batch>> {
         let mut batches = Vec::new(alloc);
@@ -58,30 +59,30 @@ impl<S: StoreName> Writer<'_, S> {
             }
             let updates = self.updates.draw_batch(alloc)?;
             sent = sent.saturating_add(updates.len());
-            batches.push(self.publish(rt, alloc, updates)?)?;
+            batches.push(self.publish(rt, alloc, updates, published)?)?;
             self.pause(rt);
         }
         Ok(batches)
     }
 
-    /// Submits these updates, publishes them, and hands the receipt to some of the threads.
+    /// Submits these updates, publishes them, and hands the receipt to some of the threads. `published` is the front of
+    /// the last publication that has returned.
     pub(crate) fn publish<R: Wait>(
         &mut self,
         rt: &R,
         alloc: Global,
         updates: Vec<Update>,
+        published: &AtomicU64,
     ) -> Result<Batch> {
         let mut submitted = Vec::with_capacity(alloc, updates.len())?;
         for update in updates {
             let answer = self.store.submit(update.copy()?);
             submitted.push(Submitted { update, answer })?;
         }
-        let receipt = self.store.publish(rt)?;
+        let front = self.store.publish(rt)?.front();
+        published.store(front, Ordering::SeqCst);
         self.hand_receipts(rt)?;
-        Ok(Batch {
-            submitted,
-            front: receipt.front(),
-        })
+        Ok(Batch { submitted, front })
     }
 
     fn hand_receipts<R: Wait>(&mut self, rt: &R) -> Result<()> {
