@@ -1,7 +1,7 @@
 //! Soaks the store of `camel_vlr`: one store lives for as long as is asked for, used as a switch uses it, and all that
 //! it answers is compared with what the accepted updates give. `make soak` starts it.
 //!
-//! `camel_soak SECONDS [SUBSCRIBERS [SEED [SESSIONS]]]` runs rounds until the time is over. In a
+//! `camel_soak SECONDS [SUBSCRIBERS [SEED [SESSIONS]]]` runs rounds until the time is over, and twenty at least. In a
 //! round each session answers events of all five detection points in a thread of its own, one or several over one look,
 //! and the writer submits updates of all kinds, publishes them in batches of any size, and hands the receipts to the
 //! sessions' threads over channels. A session learns each receipt that comes, so that its later looks have to extend it.

@@ -8,7 +8,7 @@ use std::time::Duration;
 /// What is asked for.
 #[derive(Clone, Copy)]
 pub(crate) struct Options {
-    /// No round begins after this time.
+    /// No round begins after this time, but for the fewest that there are.
     pub(crate) time: Duration,
     pub(crate) subscribers: u64,
     pub(crate) sessions: usize,

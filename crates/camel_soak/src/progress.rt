@@ -13,6 +13,9 @@ const SECONDS_OF_A_LINE: u64 = 10;
 /// The rounds after which memory is as large as it is to stay.
 const FIRST_ROUNDS: u64 = 5;
 
+/// The fewest rounds, so that what is kept of each by mistake is more than the first ones took.
+const FEWEST_ROUNDS: u64 = 4 * FIRST_ROUNDS;
+
 /// The most memory after the last round, in parts of that after the first ones.
 const MOST_GROWTH: u64 = 2;
 
@@ -46,8 +49,13 @@ impl Progress {
         })
     }
 
-    pub(crate) fn time<R: Clock>(&self, rt: &R) -> Result<Duration> {
+    fn time<R: Clock>(&self, rt: &R) -> Result<Duration> {
         Ok(self.start.elapsed(rt)?)
+    }
+
+    /// Whether this time is over, and there were as many rounds as there have to be.
+    pub(crate) fn is_over<R: Clock>(&self, rt: &R, time: Duration) -> Result<bool> {
+        Ok(self.rounds >= FEWEST_ROUNDS && self.time(rt)? >= time)
     }
 
     /// Adds a round, and prints a line where one is due.

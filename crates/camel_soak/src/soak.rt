@@ -129,7 +129,7 @@ fn soak_rounds<S: StoreName, R: AllocGlobal + Clock + Eprint + Files + Threads +
     for _ in rt.forever() {
         let round = stage.run_round(rt)?;
         progress.add(rt, &round)?;
-        if progress.time(rt)? >= options.time {
+        if progress.is_over(rt, options.time)? {
             break;
         }
     }
