@@ -3,8 +3,6 @@
 #![tactic(auto)]
 
 #[cfg(test)]
-mod command_line;
-#[cfg(test)]
 mod failing;
 #[cfg(test)]
 mod fixtures;
