@@ -1,9 +1,8 @@
 //! The tests of `replay_threads`.
 
 mod failing;
+mod gated;
 mod gates;
 mod many;
-mod once;
-mod profiles;
 mod rounds;
 mod runs;

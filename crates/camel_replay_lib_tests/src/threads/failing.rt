@@ -18,24 +18,14 @@ fn check_fault(rt: &impl Abort, ran: &Ran, number: Option<u64>, code: u16) {
 
 #[test]
 fn ends_where_the_gate_stops_a_call(rt: HostRuntime) {
-    let ran = run::<NoCall, _>(&rt, rt.alloc(), FIRST_CALL.as_bytes(), 2, MAX_LIMIT, &BUSY);
+    let ran = run::<NoCall, _>(&rt, rt.alloc(), FIRST_CALL.as_bytes(), 2, &BUSY);
     check_fault(&rt, &ran, None, 105);
 }
 
 #[test]
 fn ends_where_the_gate_stops_a_publication(rt: HostRuntime) {
-    let ran = run::<NoPublication, _>(&rt, rt.alloc(), FIRST_CALL.as_bytes(), 2, MAX_LIMIT, &BUSY);
+    let ran = run::<NoPublication, _>(&rt, rt.alloc(), FIRST_CALL.as_bytes(), 2, &BUSY);
     check_fault(&rt, &ran, None, 105);
-}
-
-// The first 49 octets of the script of one call.
-const CUT_OFF: &str = "register,262010000000001\ninsert,262010000000001,o";
-
-#[test]
-fn ends_with_the_fault_of_a_record(rt: HostRuntime) {
-    let script = CUT_OFF.as_bytes();
-    let ran = run::<OpenGate, _>(&rt, rt.alloc(), script, 2, MAX_LIMIT, &BUSY);
-    check_fault(&rt, &ran, Some(2), 203);
 }
 
 // A reader and a writer that fail at their first call.

@@ -1,5 +1,4 @@
 use crate::threads::runs::{BUSY, run};
-use camel_replay_lib::MAX_LIMIT;
 use camel_workers::OpenGate;
 use std::alloc::Global;
 use std::test::Fail;
@@ -39,14 +38,7 @@ fn output(alloc: Global) -> Result<String, Fail> {
 #[test]
 fn answers_a_hundred_thousand_calls(rt: HostRuntime) -> Result<(), Fail> {
     let script = script(rt.alloc())?;
-    let ran = run::<OpenGate, _>(
-        &rt,
-        rt.alloc(),
-        script.as_bytes(),
-        THREADS,
-        MAX_LIMIT,
-        &BUSY,
-    );
+    let ran = run::<OpenGate, _>(&rt, rt.alloc(), script.as_bytes(), THREADS, &BUSY);
     assert_eq!(rt; ran.fault, None);
     assert!(rt; ran.output.as_slice() == output(rt.alloc())?.as_bytes());
     Ok(())

@@ -212,7 +212,7 @@ fn check_threads<R: Threads + Wait + Abort>(
     let early = with_sessions(alloc, outputs.0, threads)?;
     let late = with_sessions(alloc, outputs.1, threads)?;
     for _ in 0..RUNS {
-        let ran = run::<OpenGate, R>(rt, alloc, script.as_bytes(), threads, MAX_LIMIT, &BUSY);
+        let ran = run::<OpenGate, R>(rt, alloc, script.as_bytes(), threads, &BUSY);
         assert_eq!(rt; ran.fault, None, "with {threads} threads");
         let output = str::from_utf8(&ran.output)?;
         assert!(rt;

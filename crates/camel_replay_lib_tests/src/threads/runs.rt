@@ -25,40 +25,22 @@ pub(crate) struct Ran {
     pub(crate) output: Vec<u8>,
 }
 
-/// Runs a script under profile 1. A run that ends with one of the faults is repeated with a new gate and a new writer.
+/// Runs a script under profile 1 with the greatest limit. A run that ends with one of the faults is repeated with a new gate and a new writer.
 pub(crate) fn run<G: Fresh, R: Threads + Wait>(
     rt: &R,
     alloc: Global,
     script: &[u8],
     threads: usize,
-    limit: u64,
     repeated: &[u16],
 ) -> Ran
-    requires threads { (1 ≤ threads) × (threads ≤ MAX_THREADS) }
-    requires limit { (1 ≤ limit) × (limit ≤ MAX_LIMIT) }
+    requires { (1 ≤ threads) × (threads ≤ MAX_THREADS) }
 {
-    run_under::<G, R>(rt, alloc, script, threads, limit, Profile::One, repeated)
-}
-
-/// The same under a profile.
-pub(crate) fn run_under<G: Fresh, R: Threads + Wait>(
-    rt: &R,
-    alloc: Global,
-    script: &[u8],
-    threads: usize,
-    limit: u64,
-    profile: Profile,
-    repeated: &[u16],
-) -> Ran
-    requires threads { (1 ≤ threads) × (threads ≤ MAX_THREADS) }
-    requires limit { (1 ≤ limit) × (limit ≤ MAX_LIMIT) }
-{
-    let mut ran = run_once::<G, R>(rt, alloc, script, threads, limit, profile);
+    let mut ran = run_once::<G, R>(rt, alloc, script, threads);
     for _ in 0..REPEATS {
         if !is_repeated(ran.fault, repeated) {
             break;
         }
-        ran = run_once::<G, R>(rt, alloc, script, threads, limit, profile);
+        ran = run_once::<G, R>(rt, alloc, script, threads);
     }
     ran
 }
@@ -68,11 +50,8 @@ fn run_once<G: Fresh, R: Threads + Wait>(
     alloc: Global,
     script: &[u8],
     threads: usize,
-    limit: u64,
-    profile: Profile,
 ) -> Ran
-    requires threads { (1 ≤ threads) × (threads ≤ MAX_THREADS) }
-    requires limit { (1 ≤ limit) × (limit ≤ MAX_LIMIT) }
+    requires { (1 ≤ threads) × (threads ≤ MAX_THREADS) }
 {
     let gate = G::fresh();
     let mut output = Vec::new(alloc);
@@ -82,8 +61,8 @@ fn run_once<G: Fresh, R: Threads + Wait>(
         script,
         &mut output,
         threads,
-        limit,
-        profile,
+        MAX_LIMIT,
+        Profile::One,
         &gate,
     );
     Ran {
