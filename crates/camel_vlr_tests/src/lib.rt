@@ -28,6 +28,8 @@ mod served;
 #[cfg(test)]
 mod serving;
 #[cfg(test)]
+mod set_up;
+#[cfg(test)]
 mod threads;
 #[cfg(test)]
 mod transcripts;
