@@ -45,10 +45,11 @@ fn copies_hold_the_same(rt: HostRuntime) -> Result<(), Fail> {
     let insert = copied_again(&insert_again(rt.alloc(), imsi)?)?;
     let mut records = Records::new(rt.alloc());
     let unknown = Err(Refusal::UnidentifiedSubscriber);
-    assert_eq!(rt; records.apply(&insert), unknown);
+    assert!(rt; records.check(&insert) == unknown);
+    assert!(rt; records.apply(&insert) == unknown);
     apply_again(&rt, &mut records, imsi, &Update::Register { imsi })?;
     apply_again(&rt, &mut records, imsi, &insert)?;
-    let copied = match records.copy() {
+    let mut copied = match records.copy() {
         Err(Refusal::OutOfMemory) => records.copy()?,
         copied => copied?,
     };
@@ -56,6 +57,8 @@ fn copies_hold_the_same(rt: HostRuntime) -> Result<(), Fail> {
     assert_eq!(rt; stored_summary(&records, &imsi, 2), None);
     let stored = Some((Some(ARMED), Some(LISTED)));
     assert_eq!(rt; stored_summary(&copied, &imsi, 2), stored);
+    copied.apply(&Update::ClearAll.copy()?)?;
+    assert!(rt; copied.get(&imsi).is_none());
     Ok(())
 }
 

@@ -1,10 +1,11 @@
-use crate::given::FACSIMILE;
 use camel_criteria::{BasicService, Cause};
 use camel_fixtures::{DESTINATION, TELEPHONY, imsi_of};
 use camel_rows::{CallEvent, Event};
 use camel_tbcd::{CallAddress, Imsi};
 use std::process::Abort;
 use std::test::Fail;
+
+const FACSIMILE: BasicService = BasicService::Tele(0x62);
 
 /// The destination of a call and whether it is forwarded, where the event has them.
 fn destination_of<'a>(event: &Event<'a>) -> Option<(&'a [u8], bool)> {

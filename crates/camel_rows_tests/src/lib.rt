@@ -4,15 +4,11 @@
 #[cfg(test)]
 mod copies;
 #[cfg(test)]
-mod criteria;
-#[cfg(test)]
 mod csis;
 #[cfg(test)]
 mod decisions;
 #[cfg(test)]
 mod events;
-#[cfg(test)]
-mod given;
 #[cfg(test)]
 mod marked;
 #[cfg(test)]

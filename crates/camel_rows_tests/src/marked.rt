@@ -1,9 +1,10 @@
 //! Inserts whose items are told apart by a number each, and what is stored of them.
 
-use crate::given::{BARE, Items, PlainO, PlainRow, PlainT, insert};
-use camel_criteria::{BasicService, Refusal};
-use camel_fixtures::first_octet;
-use camel_rows::{Lent, Records, Subscriber, Update};
+use camel_criteria::{BasicService, OCriteria, Refusal, TCriteria};
+use camel_fixtures::{first_octet, row_of};
+use camel_rows::{
+    Lent, OCriteriaSet, OCsi, Records, Subscriber, TCriteriaSet, TdpRow, Update, VtCsi,
+};
 use camel_tbcd::Imsi;
 use std::alloc::Global;
 
@@ -39,34 +40,51 @@ pub(crate) fn marked_insert(
     brought: [Option<u8>; 4],
 ) -> Result<Update, Refusal> {
     let [key, mark, vt_key, t_mark] = brought;
-    let (row, entry) = (marked_row(key, 2), marked_o(mark));
-    let (vt_row, t_entry) = (marked_row(vt_key, 12), marked_t(t_mark));
-    let items = Items {
-        o: row.as_slice(),
-        o_criteria: entry.as_slice(),
-        vt: vt_row.as_slice(),
-        t_criteria: t_entry.as_slice(),
-    };
-    insert(alloc, imsi, &items)
-}
-
-fn marked_row(key: Option<u8>, dp: u8) -> Option<PlainRow> {
-    let key = key?;
-    Some(PlainRow(point_of(key, dp), u32::from(key), 0))
-}
-
-fn marked_o(mark: Option<u8>) -> Option<PlainO> {
-    let mark = mark?;
-    Some(PlainO {
-        dp: point_of(mark, 2),
-        basic: Some(BasicService::Tele(mark)),
-        ..BARE
+    Ok(Update::Insert {
+        imsi,
+        o: marked_o_csi(key)?,
+        o_criteria: marked_o_criteria(alloc, mark)?,
+        vt: marked_vt_csi(vt_key)?,
+        t_criteria: marked_t_criteria(alloc, t_mark)?,
     })
 }
 
-fn marked_t(mark: Option<u8>) -> Option<PlainT> {
-    let mark = mark?;
-    Some(PlainT(point_of(mark, 12), Some(BasicService::Tele(mark)), None))
+fn marked_o_csi(key: Option<u8>) -> Result<Option<OCsi>, Refusal> {
+    Ok(match key {
+        Some(key) => Some(OCsi::new(&[marked_row(key, 2)?])?),
+        None => None,
+    })
+}
+
+fn marked_vt_csi(key: Option<u8>) -> Result<Option<VtCsi>, Refusal> {
+    Ok(match key {
+        Some(key) => Some(VtCsi::new(&[marked_row(key, 12)?])?),
+        None => None,
+    })
+}
+
+fn marked_row(key: u8, dp: u8) -> Result<TdpRow, Refusal> {
+    row_of(point_of(key, dp), u32::from(key), 0)
+}
+
+fn marked_o_criteria(alloc: Global, mark: Option<u8>) -> Result<Option<OCriteriaSet>, Refusal> {
+    let Some(mark) = mark else {
+        return Ok(None);
+    };
+    let basic = [BasicService::Tele(mark)];
+    let mut entries = Vec::new(alloc);
+    entries.push(OCriteria::new(point_of(mark, 2), None, &basic, None, &[])?)?;
+    Ok(Some(OCriteriaSet::new(entries)?))
+}
+
+fn marked_t_criteria(alloc: Global, mark: Option<u8>) -> Result<Option<TCriteriaSet>, Refusal> {
+    let Some(mark) = mark else {
+        return Ok(None);
+    };
+    let basic = [BasicService::Tele(mark)];
+    let mut entries = Vec::new(alloc);
+    entries.push(TCriteria::new(point_of(mark, 12), &basic, &[])?)?;
+    Ok(Some(TCriteriaSet::new(entries)?))
 }
 
 fn point_of(number: u8, dp: u8) -> u8 {
