@@ -1,6 +1,6 @@
 //! What a read of a script returns, without the data of the record.
 
-use camel_rows::{CallEvent, Update};
+use camel_rows::Update;
 use camel_script::{Record, Script};
 use std::alloc::Global;
 use std::io::Read;
@@ -46,21 +46,8 @@ fn kind_of(record: &Record) -> Given {
 /// Checks the next reads of a script.
 pub(crate) fn check_next<R: Read>(rt: &impl Abort, script: &mut Script<R>, wanted: &[Given]) {
     for given in wanted {
-        assert_eq!(rt; next(script), *given);
+        assert!(rt; next(script) == *given, "{given:?}");
     }
-}
-
-/// Checks what a script of each of these records gives first.
-pub(crate) fn check_records(
-    rt: &impl Abort,
-    alloc: Global,
-    records: &[(&str, Given)],
-) -> Result<(), Fail> {
-    for (text, wanted) in records {
-        let mut script = Script::new(alloc, text.as_bytes(), 1)?;
-        assert_eq!(rt; next(&mut script), *wanted, "{text}");
-    }
-    Ok(())
 }
 
 /// The update that a script begins with.
@@ -69,14 +56,5 @@ pub(crate) fn update_of(alloc: Global, text: &str) -> Result<Update, Fail> {
     match script.read_record()? {
         Some(Record::Update(update)) => Ok(update),
         _ => Err(Fail::new("no update")),
-    }
-}
-
-/// The call that a script begins with.
-pub(crate) fn call_of(alloc: Global, text: &str) -> Result<CallEvent, Fail> {
-    let mut script = Script::new(alloc, text.as_bytes(), 1)?;
-    match &script.read_record()? {
-        Some(Record::Call(call)) => Ok(*call),
-        _ => Err(Fail::new("no call")),
     }
 }

@@ -2,14 +2,10 @@
 #![tactic(auto)]
 
 #[cfg(test)]
-mod calls;
-#[cfg(test)]
 mod given;
 #[cfg(test)]
 mod lines;
 #[cfg(test)]
 mod reads;
-#[cfg(test)]
-mod records;
 #[cfg(test)]
 mod updates;

@@ -1,4 +1,4 @@
-//! Reads of whole scripts: their layout, their end, and readers that fail.
+//! Reads of whole scripts: their end, and readers that fail.
 
 use super::given::{Given, check_next, next};
 use camel_script::Script;
@@ -8,45 +8,23 @@ use std::io::{ErrorKind, Read};
 use std::process::Abort;
 use std::test::Fail;
 
-/// Line ends, quotes, empty lines and a byte order mark are those of CSV.
+/// After exactly so many records the end is still read as the end, and one record too many is a fault before any other
+/// fault of it. A refused record is a record like the others, and a fault ends the script.
 #[test]
-fn reads_every_layout_of_two_records(rt: HostRuntime) -> Result<(), Fail> {
-    for text in [
-        "register,262010000000001\npublish\n",
-        "register,262010000000001\r\npublish\r\n",
-        "\"register\",\"262010000000001\"\npublish",
-        "\n\r\nregister,262010000000001\n\n\npublish\n\n",
-        "\u{feff}register,262010000000001\npublish\n",
+fn reads_to_the_end_or_a_fault(rt: HostRuntime) -> Result<(), Fail> {
+    let (publish, end, refused) = (Given::Publish, Given::End, Given::Refused(36));
+    let (word, too_many, failed) = (Given::Fault(202), Given::Fault(207), Given::Fault(209));
+    for (text, most, wanted) in [
+        ("publish\n", 1, [publish, end, end, end]),
+        ("publish\npublish\n", 1, [publish, too_many, failed, failed]),
+        ("publish\nmove\n", 1, [publish, too_many, failed, failed]),
+        (
+            "call,13,26201,t11,128\nmove\n",
+            9,
+            [refused, word, failed, failed],
+        ),
     ] {
-        let mut script = Script::new(rt.alloc(), text.as_bytes(), 2)?;
-        let wanted = [Given::Register, Given::Publish, Given::End, Given::End];
-        check_next(&rt, &mut script, &wanted);
-    }
-    Ok(())
-}
-
-/// A record that is refused is a record like the others, and a fault ends the script.
-#[test]
-fn reads_on_after_a_refused_record_alone(rt: HostRuntime) -> Result<(), Fail> {
-    let text = "call,13,26201,t11,128\ninsert,26201,oc:4:e//:::\nmove\npublish\n";
-    let mut script = Script::new(rt.alloc(), text.as_bytes(), 9)?;
-    let wanted = [
-        Given::Refused(36),
-        Given::Refused(35),
-        Given::Fault(202),
-        Given::Fault(209),
-        Given::Fault(209),
-    ];
-    check_next(&rt, &mut script, &wanted);
-    Ok(())
-}
-
-/// One record too many is a fault before any other fault of it.
-#[test]
-fn reads_at_most_so_many_records(rt: HostRuntime) -> Result<(), Fail> {
-    for text in ["publish\npublish\n", "publish\nmove\n"] {
-        let mut script = Script::new(rt.alloc(), text.as_bytes(), 1)?;
-        let wanted = [Given::Publish, Given::Fault(207), Given::Fault(209)];
+        let mut script = Script::new(rt.alloc(), text.as_bytes(), most)?;
         check_next(&rt, &mut script, &wanted);
     }
     Ok(())

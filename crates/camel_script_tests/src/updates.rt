@@ -1,8 +1,8 @@
-//! The updates that records stand for.
+//! The update that an insert stands for.
 
 use super::given::update_of;
 use camel_criteria::{BasicService, CallType, Handling, MatchType, NumberCriterion, OCriteria};
-use camel_rows::{TdpRow, Update, Withdrawal};
+use camel_rows::{TdpRow, Update};
 use std::process::Abort;
 use std::test::Fail;
 
@@ -27,9 +27,11 @@ fn check_row(
 }
 
 #[test]
-fn reads_the_rows_of_each_csi_in_their_order(rt: HostRuntime) -> Result<(), Fail> {
+fn reads_the_items_of_an_insert_in_their_order(rt: HostRuntime) -> Result<(), Fail> {
     let update = update_of(rt.alloc(), MIXED)?;
-    check_rows(&rt, &update)
+    check_rows(&rt, &update)?;
+    check_o_criteria(&rt, &update)?;
+    check_t_criteria(&rt, &update)
 }
 
 fn check_rows(rt: &impl Abort, update: &Update) -> Result<(), Fail> {
@@ -45,12 +47,6 @@ fn check_rows(rt: &impl Abort, update: &Update) -> Result<(), Fail> {
     let csi = vt.ok_or("no VT-CSI")?;
     check_row(rt, csi.get(0), 13, 7, &[0x91, 0x21], Handling::Continue)?;
     check_row(rt, csi.get(1), 12, 8, &[0x81], Handling::Continue)
-}
-
-#[test]
-fn reads_the_criteria_of_an_o_csi(rt: HostRuntime) -> Result<(), Fail> {
-    let update = update_of(rt.alloc(), MIXED)?;
-    check_o_criteria(&rt, &update)
 }
 
 fn check_o_criteria(rt: &impl Abort, update: &Update) -> Result<(), Fail> {
@@ -97,12 +93,6 @@ fn check_number_criterion(rt: &impl Abort, criterion: &NumberCriterion) -> Resul
     Ok(())
 }
 
-#[test]
-fn reads_the_criteria_of_a_vt_csi(rt: HostRuntime) -> Result<(), Fail> {
-    let update = update_of(rt.alloc(), MIXED)?;
-    check_t_criteria(&rt, &update)
-}
-
 fn check_t_criteria(rt: &impl Abort, update: &Update) -> Result<(), Fail> {
     let Update::Insert {
         t_criteria: Some(set),
@@ -119,20 +109,5 @@ fn check_t_criteria(rt: &impl Abort, update: &Update) -> Result<(), Fail> {
     assert_eq!(rt; entry.dp(), 12);
     let services = [BasicService::Tele(0x60), BasicService::Tele(0x80)];
     assert_eq!(rt; entry.basic(), services.as_slice());
-    Ok(())
-}
-
-#[test]
-fn reads_what_a_delete_names(rt: HostRuntime) -> Result<(), Fail> {
-    for (text, o, vt, everything) in [
-        ("delete,26201,o", true, false, false),
-        ("delete,26201,vt,o", true, true, false),
-        ("delete,26201,all", false, false, true),
-    ] {
-        let Update::Delete { what, .. } = update_of(rt.alloc(), text)? else {
-            return Err(Fail::new("no delete"));
-        };
-        assert_eq!(rt; what, Withdrawal { o, vt, everything }, "{text}");
-    }
     Ok(())
 }
