@@ -9,3 +9,5 @@ mod growth;
 mod one_line;
 #[cfg(test)]
 mod registers;
+#[cfg(test)]
+mod seeds;
