@@ -27,11 +27,7 @@ fn a_decision_lends_the_row_and_the_entry(rt: HostRuntime) -> Result<(), Fail> {
     assert!(rt; entry_summary(criteria) == Some(LISTED));
     assert!(rt; Outcome::of(&decision) == triggered()?);
     assert!(rt; Outcome::decide(&records, &call, Profile::One) == triggered()?);
-    Ok(())
-}
-
-#[test]
-fn the_default_call_handling_is_the_action_of_its_name(rt: HostRuntime) {
-    assert!(rt; on_failure(Handling::Continue) == CallAction::Continue);
+    assert!(rt; on_failure(row.handling()) == CallAction::Continue);
     assert!(rt; on_failure(Handling::Release) == CallAction::Release);
+    Ok(())
 }

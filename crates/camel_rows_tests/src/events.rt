@@ -56,21 +56,20 @@ fn originating(destination: CallAddress, forwarded: bool) -> Result<(CallEvent, 
 #[test]
 fn an_originating_call_shows_what_it_was_made_of(rt: HostRuntime) -> Result<(), Fail> {
     check_originating(&rt, &DESTINATION, false)?;
-    check_originating(&rt, &DESTINATION, true)?;
-    check_originating(&rt, &[0x91; 20], false)?;
-    check_originating(&rt, &[0x11], true)
+    check_originating(&rt, &[0x91; 20], true)?;
+    check_originating(&rt, &[0x11], false)
 }
 
 fn check_originating(rt: &impl Abort, octets: &[u8], forwarded: bool) -> Result<(), Fail> {
     let (before, after) = originating(CallAddress::from_bytes(octets)?, forwarded)?;
     let (before, after) = (before.lend(), after.lend());
-    assert_eq!(rt; shown_by(&before), (2, TELEPHONY, None));
-    assert_eq!(rt; shown_by(&after), (4, FACSIMILE, Some(3)));
+    assert!(rt; shown_by(&before) == (2, TELEPHONY, None));
+    assert!(rt; shown_by(&after) == (4, FACSIMILE, Some(3)));
     let imsi = imsi_of(1)?;
-    assert_eq!(rt; (before.imsi(), after.imsi()), (imsi, imsi));
+    assert!(rt; before.imsi() == imsi && after.imsi() == imsi);
     let destination = Some((octets, forwarded));
-    assert_eq!(rt; destination_of(&before), destination, "{before:?}");
-    assert_eq!(rt; destination_of(&after), destination, "{after:?}");
+    assert!(rt; destination_of(&before) == destination, "{before:?}");
+    assert!(rt; destination_of(&after) == destination, "{after:?}");
     Ok(())
 }
 
@@ -105,8 +104,8 @@ fn a_call_to_a_subscriber_shows_what_it_was_made_of(rt: HostRuntime) -> Result<(
     let imsi = imsi_of(2)?;
     for (call, wanted) in terminating(imsi)?.iter().zip(wanted.iter()) {
         let event = call.lend();
-        assert_eq!(rt; shown_by(&event), *wanted);
-        assert_eq!(rt; event.imsi(), imsi, "{event:?}");
+        assert!(rt; shown_by(&event) == *wanted, "{event:?}");
+        assert!(rt; event.imsi() == imsi, "{event:?}");
         assert!(rt; destination_of(&event).is_none(), "{event:?}");
     }
     Ok(())
