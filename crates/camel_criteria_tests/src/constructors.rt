@@ -1,5 +1,4 @@
-//! Criteria and their copies. A call that fails for want of memory is made again, so that these tests pass where any
-//! one request for memory is refused.
+//! Criteria and their copies.
 
 use camel_criteria::{
     BasicService, CallType, MatchType, NumberCriterion, OCriteria, Refusal, TCriteria,
@@ -25,13 +24,6 @@ fn number_criterion(alloc: Global, count: usize) -> Result<NumberCriterion, Refu
     }
 }
 
-fn number_criterion_again(alloc: Global, count: usize) -> Result<NumberCriterion, Refusal> {
-    match number_criterion(alloc, count) {
-        Err(Refusal::OutOfMemory) => number_criterion(alloc, count),
-        made => made,
-    }
-}
-
 fn check_number_criterion(
     rt: &impl Abort,
     criterion: &NumberCriterion,
@@ -52,11 +44,8 @@ fn check_number_criterion(
 #[test]
 fn reads_and_copies_a_number_criterion(rt: HostRuntime) -> Result<(), Fail> {
     for count in 1..=3 {
-        let criterion = number_criterion_again(rt.alloc(), count)?;
-        let copied = match criterion.clone() {
-            Ok(copied) => copied,
-            Err(_) => criterion.clone()?,
-        };
+        let criterion = number_criterion(rt.alloc(), count)?;
+        let copied = criterion.clone()?;
         check_number_criterion(&rt, &criterion, count)?;
         check_number_criterion(&rt, &copied, count)?;
     }
@@ -76,13 +65,6 @@ fn o_entry(alloc: Global) -> Result<OCriteria, Refusal> {
     )
 }
 
-fn o_entry_again(alloc: Global) -> Result<OCriteria, Refusal> {
-    match o_entry(alloc) {
-        Err(Refusal::OutOfMemory) => o_entry(alloc),
-        made => made,
-    }
-}
-
 fn check_o_entry(rt: &impl Abort, entry: &OCriteria) -> Result<(), Fail> {
     assert_eq!(rt; entry.dp(), 4);
     let number = entry.number().ok_or("no number criterion")?;
@@ -95,13 +77,9 @@ fn check_o_entry(rt: &impl Abort, entry: &OCriteria) -> Result<(), Fail> {
 
 #[test]
 fn reads_and_copies_an_entry_of_the_o_csi(rt: HostRuntime) -> Result<(), Fail> {
-    let entry = o_entry_again(rt.alloc())?;
-    let copied = match entry.clone() {
-        Ok(copied) => copied,
-        Err(_) => entry.clone()?,
-    };
+    let entry = o_entry(rt.alloc())?;
     check_o_entry(&rt, &entry)?;
-    check_o_entry(&rt, &copied)
+    check_o_entry(&rt, &entry.clone()?)
 }
 
 fn check_t_entry(rt: &impl Abort, entry: &TCriteria) {

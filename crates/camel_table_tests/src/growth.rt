@@ -1,4 +1,3 @@
-use crate::given::put_again;
 use camel_fixtures::imsi_of;
 use camel_table::Table;
 use camel_tbcd::Imsi;
@@ -105,7 +104,7 @@ fn no_line_of_random_hashes_is_long(rt: HostRuntime) -> Result<(), Fail> {
         assert!(rt; hashes <= 1 + MOST_IN_A_LINE, "{number}");
     }
     let last = imsi_of(RANDOM)?;
-    put_again(&rt, &mut table, &last, 0)?;
+    table.put(&last, 0)?;
     made.set(0);
     assert!(rt; table.get(&last) == Some(&0) && made.get() == 1);
     Ok(())

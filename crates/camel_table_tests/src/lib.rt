@@ -2,8 +2,6 @@
 #![tactic(auto)]
 
 #[cfg(test)]
-mod given;
-#[cfg(test)]
 mod growth;
 #[cfg(test)]
 mod one_line;

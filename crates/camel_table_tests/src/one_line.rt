@@ -1,4 +1,3 @@
-use crate::given::{imsis_again, put_again};
 use camel_fixtures::imsi_of;
 use camel_table::Table;
 use std::hash::{BuildHasher, Hasher};
@@ -36,10 +35,10 @@ const SUBSCRIBERS: u64 = 1_000;
 fn finds_and_lists_each_where_all_are_in_one_line(rt: HostRuntime) -> Result<(), Fail> {
     let mut table = Table::new(rt.alloc(), Poor);
     for number in 0..SUBSCRIBERS {
-        put_again(&rt, &mut table, &imsi_of(number)?, number)?;
+        table.put(&imsi_of(number)?, number)?;
     }
     table.take_out(&imsi_of(0)?);
-    let mut imsis = imsis_again(&table)?;
+    let mut imsis = table.imsis()?;
     imsis.sort_unstable();
     assert!(rt; imsis.len() as u64 == SUBSCRIBERS - 1);
     for number in 1..SUBSCRIBERS {

@@ -1,4 +1,3 @@
-use crate::given::{imsis_again, put_again};
 use camel_fixtures::imsi_of;
 use camel_table::{Seed, Table};
 use std::test::Fail;
@@ -11,7 +10,7 @@ const LISTED: u64 = 10_000;
 fn finds_each_of_a_million_that_is_there(rt: HostRuntime) -> Result<(), Fail> {
     let mut table = Table::new(rt.alloc(), Seed::new(17));
     for number in 0..SUBSCRIBERS {
-        put_again(&rt, &mut table, &imsi_of(number)?, number)?;
+        table.put(&imsi_of(number)?, number)?;
     }
     for number in 0..SUBSCRIBERS {
         if number % 2 == 0 {
@@ -30,14 +29,14 @@ fn lists_each_that_is_there(rt: HostRuntime) -> Result<(), Fail> {
     let mut table = Table::new(rt.alloc(), Seed::fixed());
     assert!(rt; table.imsis()?.is_empty());
     for number in 0..LISTED {
-        put_again(&rt, &mut table, &imsi_of(number)?, number)?;
+        table.put(&imsi_of(number)?, number)?;
     }
     for number in 0..LISTED {
         if number % 2 == 0 {
             table.take_out(&imsi_of(number)?);
         }
     }
-    let mut imsis = imsis_again(&table)?;
+    let mut imsis = table.imsis()?;
     imsis.sort_unstable();
     assert_eq!(rt; imsis.len() as u64, LISTED / 2);
     for number in 0..LISTED / 2 {
@@ -53,15 +52,12 @@ fn a_value_is_replaced_put_anew_and_cleared(rt: HostRuntime) -> Result<(), Fail>
     let mut table = Table::new(rt.alloc(), Seed::random(&rt)?);
     assert_eq!(rt; table.replace(&imsi, 1), None);
     assert_eq!(rt; table.get(&imsi), None);
-    put_again(&rt, &mut table, &imsi, 2)?;
+    table.put(&imsi, 2)?;
     assert_eq!(rt; table.replace(&imsi, 3), Some(2));
-    let copied = match table.clone() {
-        Ok(copied) => copied,
-        Err(_) => table.clone()?,
-    };
+    let copied = table.clone()?;
     table.clear();
     assert_eq!(rt; (table.get(&imsi), copied.get(&imsi)), (None, Some(&3)));
-    put_again(&rt, &mut table, &imsi, 4)?;
+    table.put(&imsi, 4)?;
     assert_eq!(rt; table.get(&imsi), Some(&4));
     Ok(())
 }

@@ -1,9 +1,8 @@
 use crate::fixtures::FIRST_CALL;
 use crate::threads::gates::{NoCall, NoPublication};
 use crate::threads::runs::{BUSY, REPEATS, Ran, is_repeated, run};
-use camel_replay_lib::{MAX_LIMIT, ReplayFault, replay_threads};
+use camel_replay_lib::{MAX_LIMIT, OpenGate, ReplayFault, replay_threads};
 use camel_tbcd::Profile;
-use camel_workers::OpenGate;
 use std::alloc::Global;
 use std::io;
 use std::io::{ErrorKind, Read, Write};

@@ -1,6 +1,6 @@
 //! Gates that hold the writer and the sessions, or stop them.
 
-use camel_workers::{Gate, OpenGate};
+use camel_replay_lib::{Gate, OpenGate};
 use std::sync::atomic::{AtomicU64, Ordering};
 use std::thread;
 

@@ -1,5 +1,5 @@
 use crate::threads::runs::{BUSY, run};
-use camel_workers::OpenGate;
+use camel_replay_lib::OpenGate;
 use std::alloc::Global;
 use std::test::Fail;
 

@@ -1,9 +1,8 @@
 ghost use Rattle.std.specs.Prelude.{◌≤◌};
 
 use crate::threads::runs::{BUSY, run};
-use camel_replay_lib::{MAX_LIMIT, MAX_THREADS, replay};
+use camel_replay_lib::{MAX_LIMIT, MAX_THREADS, OpenGate, replay};
 use camel_tbcd::Profile;
-use camel_workers::OpenGate;
 use std::alloc::Global;
 use std::process::Abort;
 use std::str;
