@@ -22,6 +22,7 @@ pub(crate) enum Call {
     CopyUpdate,
     Apply(Kind),
     CopyRecords,
+    CopyRecord,
     ListImsis,
     ToInsert,
     Decide,
@@ -42,7 +43,7 @@ pub(crate) enum Call {
 }
 
 /// Each call, whether it takes memory, and its name.
-pub(crate) const CALLS: [(Call, bool, &str); 39] = [
+pub(crate) const CALLS: [(Call, bool, &str); 40] = [
     (Call::Addresses, false, "all calls of `camel_tbcd`"),
     (
         Call::FewNumbers,
@@ -75,12 +76,13 @@ pub(crate) const CALLS: [(Call, bool, &str); 39] = [
         "`Records::apply`, ClearAll",
     ),
     (Call::CopyRecords, true, "`Records::copy`"),
+    (Call::CopyRecord, true, "`Subscriber::copy`"),
     (Call::ListImsis, true, "`Records::imsis`"),
     (Call::ToInsert, true, "`Subscriber::to_insert`"),
     (
         Call::Decide,
         false,
-        "`Records::new`, `check`, `get`; `decide_in`, `Outcome::decide`",
+        "`Records::new`, `check`, `get`; `decide_in`, `Subscriber::decide`, `Outcome::decide`",
     ),
     (Call::Open, true, "`Vlr::open`"),
     (
@@ -139,7 +141,7 @@ pub(crate) const CALLS: [(Call, bool, &str); 39] = [
     (
         Call::Look,
         false,
-        "`Vlr::receipt`; `Session::learn`, `look`, `answer`; `Look::decide`, `row`, `criteria`, `leave`",
+        "`Vlr::receipt`; `Session::learn`, `look`, `answer`; `Look::decide`, `row`, `criteria`, `records`, `leave`",
     ),
     (Call::AnswerAll, true, "`Session::answer_all`"),
     (Call::Close, true, "`Vlr::close`"),
@@ -179,6 +181,7 @@ pub(crate) fn make<R: AllocGlobal + Print + RandomSource + Threads + Wait + Sync
         Call::CopyUpdate => records::copy_update(rt, refusals),
         Call::Apply(kind) => records::apply(rt, refusals, kind),
         Call::CopyRecords => records::copy(rt, refusals),
+        Call::CopyRecord => records::copy_record(rt, refusals),
         Call::ListImsis => records::list_imsis(rt, refusals),
         Call::ToInsert => records::to_insert(rt, refusals),
         Call::Decide => records::decide(rt, refusals),

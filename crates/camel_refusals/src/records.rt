@@ -5,7 +5,7 @@ use crate::failure::{Failure, Lost, check};
 use crate::values::{FOURTH, KNOWN, Kind, SECOND, STRANGER, SUBSCRIBERS, full_insert, update_of};
 use camel_criteria::Refusal;
 use camel_fixtures::{call_of, imsi_of, row_update};
-use camel_rows::{Outcome, Records, Update, decide_in};
+use camel_rows::{CallEvent, Outcome, Records, Subscriber, Update, decide_in};
 use camel_tbcd::{Imsi, Profile};
 use std::alloc::Global;
 
@@ -97,6 +97,23 @@ pub(crate) fn copy<R: AllocGlobal + Print>(rt: &R, refusals: &mut Refusals) -> R
     print(rt, &copied)
 }
 
+/// Copies a record.
+pub(crate) fn copy_record<R: AllocGlobal + Print>(
+    rt: &R,
+    refusals: &mut Refusals,
+) -> Result<(), Failure> {
+    let records = set(rt, refusals)?;
+    let imsi = imsi_of(STRANGER)?;
+    let copied = again(&mut refusals.call, || copied_record(&records, imsi))?;
+    println!(rt; "{copied:?}")?;
+    print(rt, &records)
+}
+
+fn copied_record(records: &Records, imsi: Imsi) -> Result<Subscriber, Failure> {
+    let subscriber = records.get(&imsi).ok_or(Failure::Lost(Lost::Record))?;
+    Ok(subscriber.copy()?)
+}
+
 /// Lists the IMSIs of records.
 pub(crate) fn list_imsis<R: AllocGlobal + Print>(
     rt: &R,
@@ -126,6 +143,18 @@ fn insert_of(records: &Records, imsi: Imsi) -> Result<Update, Failure> {
     Ok(subscriber.to_insert(imsi)?)
 }
 
+/// Prints what a record decides of a call.
+fn print_decision(
+    rt: &impl Print,
+    subscriber: Option<&Subscriber>,
+    event: &CallEvent,
+) -> Result<(), Failure> {
+    if let Some(subscriber) = subscriber {
+        println!(rt; "{:?}", subscriber.decide(&event.lend(), Profile::One))?;
+    }
+    Ok(())
+}
+
 /// Looks at records, and decides a call of each subscriber.
 pub(crate) fn decide<R: AllocGlobal + Print>(
     rt: &R,
@@ -137,6 +166,7 @@ pub(crate) fn decide<R: AllocGlobal + Print>(
         let imsi = imsi_of(number)?;
         let event = call_of(imsi)?;
         println!(rt; "{:?}", decide_in(&records, &event.lend(), Profile::One))?;
+        print_decision(rt, records.get(&imsi), &event)?;
         println!(rt; "{:?}", Outcome::decide(&none, &event, Profile::Two))?;
     }
     let unknown = Err(Refusal::UnidentifiedSubscriber);

@@ -26,8 +26,8 @@ pub(crate) struct Stage {
     ghost same_store: { session.store ≡ store.store },
 }
 
-/// The row and the entry of a detection point.
-type PointShown = (Option<RowSummary>, Option<EntrySummary>);
+/// Whether the subscriber has a record, and the row and the entry of a detection point.
+type PointShown = (bool, Option<RowSummary>, Option<EntrySummary>);
 
 /// What looks show of a subscriber: the answer to a call, and all detection points.
 #[derive(Clone, Copy, Debug, PartialEq, Eq)]
@@ -134,10 +134,11 @@ impl Stage {
         let Ok(look) = self.session.look() else {
             return Err(Failure::Lost(Lost::Look));
         };
+        let is_known = look.records().get(imsi).is_some();
         let row = row_summary(look.row(imsi, dp));
         let entry = entry_summary(look.criteria(imsi, dp));
         look.leave();
-        Ok((row, entry))
+        Ok((is_known, row, entry))
     }
 
     /// Fails unless the store and its session show what they showed.
