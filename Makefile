@@ -90,10 +90,11 @@ check: crate need-rt need-python3
 	$(say)
 	@cd "crates/$$CRATE" && rt check
 
-## Compares what each script of examples/ leaves: seconds, once the program is built.
-examples: $(PROGRAM)
+## Compares what the scripts and the converter of examples/ leave: seconds, once the program is built.
+examples: need-python3 $(PROGRAM)
 	$(say)
 	@.ci/scripts examples
+	@.ci/addresses
 
 ## Compares what each script of tests/scripts/ leaves: seconds, once the program is built.
 scripts: $(PROGRAM)
