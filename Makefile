@@ -36,7 +36,7 @@ define targets
 endef
 say = $(call targets,$@) >&2
 
-.PHONY: help try replay program check script crate examples scripts streams coprocess refusals soak fuzz bench \
+.PHONY: help try replay program check script crate pages examples scripts streams coprocess refusals soak fuzz bench \
 	bench-program bench-vlr bench-peers count-vlr test
 # In order, so that what is missing is said before anything is built.
 .NOTPARALLEL:
@@ -89,6 +89,11 @@ program: $(PROGRAM)
 check: crate need-rt need-python3
 	$(say)
 	@cd "crates/$$CRATE" && rt check
+
+## Looks up each file, heading and target that the pages name: a second.
+pages: need-python3
+	$(say)
+	@.ci/pages
 
 ## Compares what the scripts and the converter of examples/ leave: seconds, once the program is built.
 examples: need-python3 $(PROGRAM)
@@ -159,6 +164,7 @@ fuzz: need-python3 $(PROGRAM)
 ## Passes every proof and every test: more than two hours the first time, on four cores.
 test: need-rt need-python3 need-cc
 	$(say)
+	@$(MAKE) --no-print-directory pages
 	rt ci
 	@.ci/must-not-compile
 	@$(MAKE) --no-print-directory examples scripts refusals
