@@ -90,10 +90,11 @@ check: crate need-rt need-python3
 	$(say)
 	@cd "crates/$$CRATE" && rt check
 
-## Looks up each file, heading and target that the pages name: a second.
+## Looks up what the pages name, and compares their picture of figures with its table: a second.
 pages: need-python3
 	$(say)
 	@.ci/pages
+	@bench/plot --check
 
 ## Compares what the scripts and the converter of examples/ leave: seconds, once the program is built.
 examples: need-python3 $(PROGRAM)
