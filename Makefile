@@ -18,7 +18,7 @@ SOAK := crates/camel_soak/out/camel_soak
 COPROCESS := crates/camel_replay/out/coprocess
 
 # How long it takes to prove and build a program.
-FIRST := 15 to 20 minutes the first time, on four cores
+FIRST := about 15 minutes the first time, on four cores
 
 # The shell reads these, and not make, so that a name may have spaces.
 export SCRIPT LIMIT THREADS PROFILE CRATE
@@ -162,7 +162,7 @@ fuzz: need-python3 $(PROGRAM)
 	$(say)
 	@.ci/fuzz $(SEED) $(COUNT)
 
-## Passes every proof and every test: more than two hours the first time, on four cores.
+## Passes every proof and every test: about 50 minutes the first time, on four cores.
 test: need-rt need-python3 need-cc
 	$(say)
 	@$(MAKE) --no-print-directory pages
