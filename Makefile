@@ -138,7 +138,7 @@ bench-vlr: need-python3 $(BENCH)
 	@bench/run-vlr
 
 # Says which Debian packages it needs, where one is missing.
-## Measures the store beside others in Rust and C: some hours, once its program is built.
+## Measures the store beside others in Rust and C: about ten minutes, once its program is built.
 bench-peers: need-cargo need-gcc $(BENCH)
 	$(say)
 	@bench/run-peers
