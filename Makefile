@@ -18,7 +18,7 @@ SOAK := crates/camel_soak/out/camel_soak
 COPROCESS := crates/camel_replay/out/coprocess
 
 # How long it takes to prove and build a program.
-FIRST := about 15 minutes the first time, on four cores
+FIRST := about 14 minutes the first time, on four cores
 
 # The shell reads these, and not make, so that a name may have spaces.
 export SCRIPT LIMIT THREADS PROFILE CRATE
