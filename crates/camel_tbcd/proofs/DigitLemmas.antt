@@ -80,7 +80,7 @@ pub low_filler : (octets : List ℕ) (at : ℕ) → at < length octets - 1 → g
 low_filler octets at within is none =
     length-digits octets (2 * at) (omega (arith, length-nibbles-drop octets)) none (λ _. eq-eqb _ _ (low_after_one octets at within ∙ is))
 
--- and so does a high one
+-- a high nibble that is the filler ends the digits
 pub high_filler : (octets : List ℕ) (at : ℕ) → at < length octets - 1 → (get_or octets (1 + at) 0 % 16 ≡ 15 → ⊥) → get_or octets (1 + at) 0 / 16 ≡ 15 → NoFiller octets (2 * at)
     → 2 * at + 1 ≡ length (digits octets)
 high_filler octets at within low is none =

@@ -104,10 +104,10 @@ next_number at number value digits total lt is so_far =
     let rest : 15 - (at + 1) ≡ 14 - at = omega arith in
     rw (rest, add-one, is) (sym (next_place (14 - at) at digits number) ∙ rw places at so_far)
 
--- two numbers are equal where neither is the greater one
+-- two numbers are equal if neither is the greater one
 by_order : (x y : ℕ) → nat_eq x y ≡ is_eq (nat_cmp x y)
 by_order x y = grind (arith, nat_tests)
 
--- two IMSIs are equal where their numbers are
+-- two IMSIs are equal if their numbers are
 pub same_number : (a b : List ℕ) → IsImsi a → IsImsi b → nat_eq (order_number a) (order_number b) ≡ eq_by_cmp (slice_cmp nat_cmp) a b
 same_number a b p q = by_order _ _ ∙ ap is_eq (same_order 15 a b 0 p.most q.most p.decimal q.decimal)

@@ -19,7 +19,7 @@ packed-append : (octets zeros : List ℕ) → packed (nibbles zeros) ≡ 0 → p
 packed-append [] zeros none = none
 packed-append (octet ∷ octets) zeros none = let rest = packed-append octets zeros none in omega arith
 
--- zeros alone have the number 0
+-- a list of only zeros has the number 0
 packed-replicate : (count : ℕ) → packed (nibbles (replicate count 0)) ≡ 0
 packed-replicate zero = refl
 packed-replicate (suc count) = let rest = packed-replicate count in omega arith
@@ -131,7 +131,7 @@ front_nibbles octets count within few =
     let room : length (take end all) ≡ min end (length all) = length-take end all in
     ap (take count) (nibbles-take 8 16 (drop 1 octets) refl) ∙ take-take count 16 all few ∙ sym (take-take count end all (omega arith))
 
--- what stands there are nibbles
+-- octets 2 to 9 hold nibbles
 front_all : (octets : List ℕ) → All IsOctet octets → All IsNibble (nibbles (take 8 (drop 1 octets)))
 front_all octets small = All-nibbles _ (All-take IsOctet 8 (drop 1 octets) (All-drop IsOctet 1 octets small))
 
@@ -162,7 +162,7 @@ pow-16 (suc count) =
     let more : 4 * suc count ≡ 4 + 4 * count = omega arith in
     rw (more, pow-succ') (pow-add 2 4 (4 * count) ∙ ap (λ n. 16 * n) (pow-16 count))
 
--- a shift leaves the lowest digits alone
+-- a shift leaves only the lowest digits
 shifted : (number count : ℕ) → count ≤ 16 → number * 2 ^ (64 - 4 * count) % 2 ^ 64 ≡ number % 16 ^ count * 2 ^ (64 - 4 * count)
 shifted number count few =
     let places : 64 ≡ 4 * count + (64 - 4 * count) = omega arith in
@@ -170,7 +170,7 @@ shifted number count few =
     ap (λ n. 2 ^ n) places ∙ pow-add 2 (4 * count) (64 - 4 * count) ∙ ap (λ n. n * 2 ^ (64 - 4 * count)) (pow-16 count) in
     ap (λ n. number * 2 ^ (64 - 4 * count) % n) whole ∙ product-mod number (16 ^ count) (2 ^ (64 - 4 * count)) (one-le-pow count 16 (omega arith)) (one-le-pow (64 - 4 * count) 2 (omega arith))
 
--- the numbers, shifted so that so many digits are left, are the same where these digits are
+-- the numbers, shifted so that so many digits are left, are the same if these digits are
 pub same_shifted : (all others : List ℕ) (count : ℕ) → All IsOctet all → All IsOctet others → count ≤ 16 → count ≤ length (digits all) → count ≤ length (digits others)
     → (packed_digits all * 2 ^ (64 - 4 * count) % 2 ^ 64 ≡ packed_digits others * 2 ^ (64 - 4 * count) % 2 ^ 64) ↔ (take count (digits all) ≡ take count (digits others))
 same_shifted all others count small smaller few within inside =

@@ -12,6 +12,6 @@ abbrev pub nibbles : List ℕ → List ℕ
 nibbles [] = []
 nibbles (octet ∷ octets) = octet % 16 ∷ octet / 16 ∷ nibbles octets
 
--- the digits of an address: the nibbles after octet 1, before the first filler, or all where there is none
+-- the digits of an address: the nibbles after octet 1, before the first filler, or all if there is none
 abbrev pub digits : List ℕ → List ℕ
 digits octets = before_first (λ nibble. nibble == filler) (nibbles (drop 1 octets))

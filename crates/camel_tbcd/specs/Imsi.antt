@@ -23,7 +23,7 @@ imsi_of values =
     then unless_over_nine (position (λ value. nat_lt 9 value) values) (Ok values)
     else Err Length
 
--- nibbles without the filler, where it stands last
+-- nibbles without the filler, if it is the last one
 abbrev pub without_filler : List ℕ → List ℕ
 without_filler values = if slice_index values (length values - 1) == filler then take (length values - 1) values else values
 
@@ -32,7 +32,7 @@ abbrev pub imsi_of_nibbles : List ℕ → Result (List ℕ) ImsiFault
 imsi_of_nibbles values =
     unless_over_nine (position (λ value. nat_lt 9 value) values) (if nat_le (length values) 15 then Ok values else Err Length)
 
--- the IMSI that 3 to 8 TBCD octets make, where a filler stands only as the last high nibble
+-- the IMSI that 3 to 8 TBCD octets make; a filler is allowed only as the last high nibble
 abbrev pub imsi_of_tbcd : List ℕ → Result (List ℕ) ImsiFault
 imsi_of_tbcd octets =
     if nat_le 3 (length octets) && nat_le (length octets) 8 then imsi_of_nibbles (without_filler (nibbles octets))

@@ -1,7 +1,7 @@
 -- The order of IMSIs as that of one number, by which two are compared in one step.
 use Rattle.std.specs.Prelude.{ℕ, zero, suc, ◌+◌, ◌*◌, List, [], ◌∷◌, Option, Some, None, slice_get}
 
--- what stands for a digit in a place: the digit plus 1, or 0 where there is none
+-- what stands for a digit in a place: the digit plus 1, or 0 if there is none
 abbrev pub place_value : Option ℕ → ℕ
 place_value None = 0
 place_value (Some digit) = digit + 1

@@ -7,6 +7,6 @@ abbrev pub packed : List ℕ → ℕ
 packed [] = 0
 packed (nibble ∷ nibbles) = nibble + 16 * packed nibbles
 
--- the number of the nibbles of octets 2 to 9 of an address, where octets that there are not count as 0
+-- the number of the nibbles of octets 2 to 9 of an address; octets that there are not count as 0
 abbrev pub packed_digits : List ℕ → ℕ
 packed_digits octets = packed (nibbles (take 8 (drop 1 octets)))

@@ -1,7 +1,7 @@
 -- The digits of an IMSI back from its number.
 use Rattle.std.specs.Prelude.{ℕ, zero, suc, ◌/◌, ◌%◌, ◌^◌, List, [], ◌∷◌}
 
--- the digit of a place before the others, or no digit where nothing stands in the place
+-- the digit of a place before the others, or no digit if the place is empty
 abbrev pub digit_before : ℕ → List ℕ → List ℕ
 digit_before zero digits = []
 digit_before (suc digit) digits = digit ∷ digits

@@ -15,6 +15,6 @@ abbrev pub plans_agree : Profile → List ℕ → List ℕ → Bool
 plans_agree One first second = true
 plans_agree Two first second = plan_of first == plan_of second
 
--- the same as a test
+-- two addresses agree, as a test
 abbrev pub agrees : Profile → List ℕ → List ℕ → Bool
 agrees profile first second = nature_of first == nature_of second && plans_agree profile first second

@@ -62,7 +62,7 @@ impl<'a> Address<'a> {
 
     /// Borrows octets as an address.
     ///
-    /// `Empty` (1) is answered for no octets, and `TooLong` (2) for more than 20.
+    /// Fails with `Empty` (1) for no octets, and with `TooLong` (2) for more than 20.
     pub fn new(bytes: &'a [u8]) -> Result<Address<'a>, AddressFault>
         ensures address { IfOk result (λ address. octets address ≡ bytes.now) }
         ensures empty { IsErrOf result AddressFault.Empty ↔ (length bytes.now ≡ 0) }

@@ -8,7 +8,7 @@ use std::marker::Model;
 
 /// An owned AddressString of TS 29.002, as the destination of a call: 1 to 20 octets.
 ///
-/// Contracts see it as the list of its octets. Two are equal where their octets are.
+/// Contracts see it as the list of its octets. Two are equal if their octets are.
 #[derive(Clone, Copy, Debug, PartialEq, Eq)]
 pub struct CallAddress {
     octets: KeptOctets<MAX_ADDRESS_LENGTH>,
@@ -30,7 +30,7 @@ impl Model for CallAddress {
 impl CallAddress {
     /// Keeps octets as an address.
     ///
-    /// `Empty` (1) is answered for no octets, and `TooLong` (2) for more than 20.
+    /// Fails with `Empty` (1) for no octets, and with `TooLong` (2) for more than 20.
     pub fn from_bytes(bytes: &[u8]) -> Result<CallAddress, AddressFault>
         ensures address { IfOk result (λ address. address ≡ bytes.now) }
         ensures empty { IsErrOf result AddressFault.Empty ↔ (length bytes.now ≡ 0) }
@@ -42,7 +42,7 @@ impl CallAddress {
         })
     }
 
-    /// The same octets, borrowed.
+    /// Its octets, borrowed as an address.
     pub fn lend(&self) -> Address<'_>
         ensures same { octets result ≡ self.now }
         ensures address { IsAddress max_address_length self.now }

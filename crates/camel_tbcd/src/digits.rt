@@ -37,7 +37,7 @@ impl<'a> Digits<'a> {
         }
     }
 
-    // The digits of an address of these octets, where their count and their number are known.
+    // The digits of an address of these octets, by their count and their number, which are known.
     pub(crate) fn of_counted(bytes: &'a [u8], len: usize, number: u64) -> Digits<'a>
         requires counted { len ≡ length (digits bytes.now) }
         requires numbered { number ≡ packed_digits bytes.now }
@@ -46,7 +46,7 @@ impl<'a> Digits<'a> {
         Digits { bytes, len, number }
     }
 
-    // The octets of that address.
+    // The octets of the address that has these digits.
     pub(crate) fn bytes(&self) -> &'a [u8]
         ensures { result.now ≡ self.now.bytes.now }
     {

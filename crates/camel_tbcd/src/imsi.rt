@@ -90,8 +90,8 @@ impl Model for Imsi {
 impl Imsi {
     /// Keeps digits, each as its value, as an IMSI.
     ///
-    /// `Length` (1) is answered for fewer than 5 digits or more than 15, and else `NotDigit` (2) with the
-    /// place, from 0, of the first value over 9.
+    /// Fails with `Length` (1) for fewer than 5 digits or more than 15, and else with `NotDigit` (2) and the place,
+    /// from 0, of the first value over 9.
     pub fn from_digits(digits: &[u8]) -> Result<Imsi, ImsiFault>
         ensures answer { result ≡ imsi_of digits.now }
         ensures kept { IfOk result (λ imsi. imsi ≡ digits.now) }
@@ -109,8 +109,8 @@ impl Imsi {
     /// Keeps the digits that TBCD octets hold, two in each, as an IMSI. A filler stands only as the high nibble
     /// of the last octet.
     ///
-    /// `Length` (1) is answered for fewer than 3 octets or more than 8, then `NotDigit` (2) with the place, from
-    /// 0 and low nibble first, of the first nibble over 9 other than that filler, and then `Length` for 16
+    /// Fails with `Length` (1) for fewer than 3 octets or more than 8, then with `NotDigit` (2) and the place, from 0
+    /// and low nibble first, of the first nibble over 9 other than that filler, and then with `Length` (1) for 16
     /// digits.
     pub fn from_tbcd(octets: &[u8]) -> Result<Imsi, ImsiFault>
         ensures answer { result ≡ imsi_of_tbcd octets.now }

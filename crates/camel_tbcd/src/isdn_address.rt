@@ -14,7 +14,7 @@ pub const MAX_ISDN_ADDRESS_LENGTH: usize = 9;
 
 /// An ISDN-AddressString of TS 29.002, as a gsmSCF address or a number of a criterion: 1 to 9 octets.
 ///
-/// Contracts see it as the list of its octets. Two are equal where their octets are.
+/// Contracts see it as the list of its octets. Two are equal if their octets are.
 #[derive(Clone, Copy, Debug, PartialEq, Eq)]
 pub struct IsdnAddress {
     octets: KeptOctets<MAX_ISDN_ADDRESS_LENGTH>,
@@ -36,7 +36,7 @@ impl Model for IsdnAddress {
 impl IsdnAddress {
     /// Keeps octets as an address.
     ///
-    /// `Empty` (1) is answered for no octets, and `TooLong` (2) for more than 9.
+    /// Fails with `Empty` (1) for no octets, and with `TooLong` (2) for more than 9.
     pub fn from_bytes(bytes: &[u8]) -> Result<IsdnAddress, AddressFault>
         ensures address { IfOk result (λ address. address ≡ bytes.now) }
         ensures empty { IsErrOf result AddressFault.Empty ↔ (length bytes.now ≡ 0) }
@@ -48,7 +48,7 @@ impl IsdnAddress {
         })
     }
 
-    /// The same octets, borrowed.
+    /// Its octets, borrowed as an address.
     pub fn lend(&self) -> Address<'_>
         ensures same { octets result ≡ self.now }
         ensures address { IsAddress max_isdn_address_length self.now }

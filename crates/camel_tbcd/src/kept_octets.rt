@@ -13,7 +13,7 @@ use crate::short_list::ShortList;
 use std::marker::Model;
 
 // The octets of an address of at most `MOST` octets, with the count of its digits, so that no comparison counts them.
-// Contracts see the octets. Two are equal where their octets are.
+// Contracts see the octets. Two are equal if their octets are.
 #[derive(Clone, Copy, Debug)]
 pub(crate) struct KeptOctets<const MOST: usize> {
     octets: ShortList<MOST>,
@@ -59,7 +59,7 @@ impl<const MOST: usize> KeptOctets<MOST> {
         Address::of_digits(self.digits())
     }
 
-    // The digits of that address.
+    // The digits of the address of these octets.
     pub(crate) fn digits(&self) -> Digits<'_>
         requires { 9 ≤ MOST }
         ensures octets { result.bytes.now ≡ self.now }

@@ -6,7 +6,7 @@ ghost use Rattle.camel_tbcd.specs.ImsiOrder.{order_number};
 use crate::imsi::{Imsi, MAX_IMSI_DIGITS};
 use std::marker::Model;
 
-/// An IMSI in 8 octets: the number of its digits alone.
+/// An IMSI in 8 octets: the number of its digits only.
 ///
 /// Contracts see it as the list of its digits, as an [`Imsi`].
 #[derive(Clone, Copy, Debug)]
@@ -33,7 +33,7 @@ impl Model for PackedImsi {
 }
 
 impl PackedImsi {
-    /// The same IMSI.
+    /// Packs an IMSI into 8 octets.
     pub fn of(imsi: &Imsi) -> PackedImsi
         ensures { result ≡ imsi.now }
     {
@@ -49,7 +49,7 @@ impl PackedImsi {
         imsi.number() == self.number
     }
 
-    /// The same IMSI, with its digits apart.
+    /// The IMSI, with its digits apart.
     pub fn imsi(&self) -> Imsi
         ensures { result ≡ self.now }
     {

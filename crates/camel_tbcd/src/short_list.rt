@@ -5,7 +5,7 @@ ghost use Rattle.camel_tbcd.specs.ShortList.{room_with};
 
 use std::marker::Model;
 
-// At most `MOST` octets or digits, which contracts see as a list. Two are equal where their items are.
+// At most `MOST` octets or digits, which contracts see as a list. Two are equal if their items are.
 //
 // They are kept in place, so that a list of them is `Copy` and takes no memory. `MOST` is below 256, so that their
 // count takes one octet.

@@ -52,7 +52,7 @@ fn refuses_tbcd_octets_of_no_imsi(rt: HostRuntime) {
     }
 }
 
-/// Every comparison of two values, each through its own bound alone.
+/// Every comparison of two values, each through its own bound only.
 fn is_equal<T: Eq>(left: &T, right: &T) -> bool {
     left == right
 }
