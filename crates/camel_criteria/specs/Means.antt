@@ -19,8 +19,8 @@ use Rattle.camel_criteria.specs.declared.event.TEvent.{TEvent}
 abbrev pub NumberMatches : Profile → List ℕ → List ℕ → Type 0
 NumberMatches profile destination listed = Agree profile listed destination × IsPrefix (digits listed) (digits destination)
 
--- an enabling criterion is met where some listed number matches or the length is listed, and an inhibiting
--- one where none matches and it is not
+-- an enabling criterion is met if some listed number matches or the length is listed, and an inhibiting one if none
+-- matches and it is not
 abbrev pub NumberMetBy : Profile → MatchType → NumberCriterionData → List ℕ → Type 0
 NumberMetBy profile Enabling criterion destination =
     Any (NumberMatches profile destination) criterion.numbers ⊎ Contains criterion.lengths (length (digits destination))
@@ -44,14 +44,14 @@ TypeMet (Some NotForwarded) forwarded = ¬ (IsTrue forwarded)
 abbrev pub CauseMet : List ℕ → Option ℕ → Type 0
 CauseMet listed cause = (listed ≡ []) ⊎ ((value : ℕ) × (cause ≡ Some value) × Contains listed value)
 
--- an event meets an entry of the O-CSI where it meets each criterion
+-- an event meets an entry of the O-CSI if it meets each criterion
 pub record OMet (profile : Profile) (entry : OCriteriaData) (event : OEventData) : Type 0 where
   pub number : HeldNumberMet profile entry.number event.destination
   pub basic : BasicMet entry.basic event.basic
   pub call_type : TypeMet entry.call_type event.forwarded
   pub cause : CauseMet entry.causes event.cause
 
--- an event meets an entry of the VT-CSI where it meets each criterion
+-- an event meets an entry of the VT-CSI if it meets each criterion
 pub record TMet (entry : TCriteriaData) (event : TEvent) : Type 0 where
   pub basic : BasicMet entry.basic event.basic
   pub cause : CauseMet entry.causes event.cause

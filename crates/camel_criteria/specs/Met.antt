@@ -1,6 +1,6 @@
 -- When the triggering criteria of a detection point are met (TS 23.078). That all criteria of an entry are to be met at
--- whichever detection point it stands, and that an entry which holds none is met, is profile 1's own. `Means` says the
--- same in the words of the standard.
+-- whichever detection point it is, and that an entry which holds none is met, is profile 1's own. `Means` says the same
+-- in the words of the standard.
 use Rattle.std.specs.Prelude.{ℕ, Bool, true, false, not, ◌==◌, ◌&&◌, ◌||◌, List, [], ◌∷◌, Option, Some, None, length, nat_eq}
 use Rattle.std.specs.List.{list_any, starts_with}
 use Rattle.camel_tbcd.specs.Digits.{digits}
@@ -54,7 +54,7 @@ cause_met [] cause = true
 cause_met (first ∷ more) None = false
 cause_met (first ∷ more) (Some cause) = list_any (λ listed. listed == cause) (first ∷ more)
 
--- an event meets an entry where it meets each criterion that the entry holds
+-- an event meets an entry if it meets each criterion that the entry holds
 abbrev pub o_met : Profile → OCriteriaData → OEventData → Bool
 o_met profile entry event =
     held_number_met profile entry.number event.destination

@@ -12,7 +12,7 @@ refusal_code OutOfMemory = 102
 refusal_code NoPlace = 103
 refusal_code NoGuard = 104
 
--- a constructor that takes memory answers what the data make, or their refusal, or 102
+-- a constructor that takes memory returns what the data make, or their refusal, or `OutOfMemory` (102)
 abbrev pub MakesOf : {A : Type 0} → Result A Refusal → Result A Refusal → Type 0
 MakesOf (Ok made) wanted = wanted ≡ Ok made
 MakesOf (Err why) wanted = (why ≡ OutOfMemory) ⊎ (wanted ≡ Err why)

@@ -14,7 +14,7 @@ pub enum BasicService {
     Bearer(u8),
 }
 
-// What stands in the places of a list that hold no code.
+// What is in the places of a list that hold no code.
 pub(crate) const BLANK: BasicService = BasicService::Tele(0);
 
 impl BasicService {

@@ -2,9 +2,9 @@
 /// TS 29.002.
 #[derive(Clone, Copy, Debug, PartialEq, Eq)]
 pub enum MatchType {
-    /// The criterion is met where the destination is not listed.
+    /// The criterion is met if the destination is not listed.
     Inhibiting,
-    /// The criterion is met where the destination is listed.
+    /// The criterion is met if the destination is listed.
     Enabling,
 }
 

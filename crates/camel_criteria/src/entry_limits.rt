@@ -11,7 +11,7 @@ pub const MAX_BASIC_SERVICES: usize = 5;
 /// The greatest number of causes of a cause criterion (TS 29.002).
 pub const MAX_CAUSES: usize = 5;
 
-// Whether causes may stand at a detection point, where none may at the one before any release.
+// Whether a detection point may have causes; the one before any release may have none.
 pub(crate) fn are_causes_at(without_release: u8, dp: u8, causes: &[u8]) -> bool
     ensures { result ≡ are_causes_at without_release dp causes.now }
 {

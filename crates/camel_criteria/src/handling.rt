@@ -1,8 +1,7 @@
 ghost use Rattle.std.specs.Prelude.{◌≡◌, ◌<◌, ◌↔◌, ◌⊎◌};
 ghost use Rattle.camel_criteria.specs.Handling.{handling_of};
 
-/// What is done with a call where the dialogue between gsmSSF and gsmSCF fails: DefaultCallHandling of
-/// TS 29.002.
+/// What is done with a call if the dialogue between gsmSSF and gsmSCF fails: DefaultCallHandling of TS 29.002.
 #[derive(Clone, Copy, Debug, PartialEq, Eq)]
 pub enum Handling {
     /// The call goes on without the service.

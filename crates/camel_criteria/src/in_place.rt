@@ -45,7 +45,7 @@ impl<T: Copy, const MOST: usize> InPlace<T, MOST> {
         &self.room[..usize::from(self.len)]
     }
 
-    // The same items.
+    // A copy of these items.
     pub(crate) fn copy(&self) -> Self
         ensures { result ≡ self.now }
     {

@@ -68,7 +68,7 @@ fn is_listed(criterion: &NumberCriterion, destination: &Address, profile: Profil
         || has_length(criterion.lengths(), digits.len())
 }
 
-// The digits are those of the destination.
+// `destination_digits` are those of the destination.
 fn has_number(
     numbers: &[IsdnAddress],
     destination: &Address,
@@ -87,7 +87,7 @@ fn has_length(lengths: &[u8], count: usize) -> bool
     lengths.iter().any(|listed| usize::from(*listed) == count)
 }
 
-// The digits are those of the destination.
+// `destination_digits` are those of the destination.
 fn number_matches(
     listed: &IsdnAddress,
     destination: &Address,

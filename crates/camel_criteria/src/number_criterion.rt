@@ -40,9 +40,9 @@ impl Model for NumberCriterion {
 impl NumberCriterion {
     /// A criterion of these lists. An empty slice is an absent list.
     ///
-    /// `DataMissing` (35) is answered where both lists are absent, `UnexpectedDataValue` (36) for more than 10
-    /// numbers, more than 3 lengths or a length outside 1 to 15, and `OutOfMemory` (102) where memory was
-    /// refused. Nothing was made then.
+    /// Fails with `DataMissing` (35) if both lists are absent, with `UnexpectedDataValue` (36) for more than 10
+    /// numbers, more than 3 lengths or a length outside 1 to 15, and with `OutOfMemory` (102) if memory was refused.
+    /// Nothing was made then.
     pub fn new(
         alloc: Global,
         match_type: MatchType,

@@ -64,28 +64,28 @@ impl OCriteria {
         self.dp
     }
 
-    /// The destination number criterion, where there is one.
+    /// The destination number criterion, if there is one.
     pub fn number(&self) -> Option<&NumberCriterion>
         ensures { option_copied result ≡ self.now.number }
     {
         self.number.as_ref()
     }
 
-    /// The codes of the basic service criterion, in the order received; none where it is absent.
+    /// The codes of the basic service criterion, in the order received; none if it is absent.
     pub fn basic(&self) -> &[BasicService]
         ensures { result.now ≡ self.now.basic }
     {
         self.basic.as_slice()
     }
 
-    /// The call type criterion, where there is one.
+    /// The call type criterion, if there is one.
     pub fn call_type(&self) -> Option<CallType>
         ensures { result ≡ self.now.call_type }
     {
         self.call_type
     }
 
-    /// The causes of the cause criterion, in the order received; none where it is absent.
+    /// The causes of the cause criterion, in the order received; none if it is absent.
     pub fn causes(&self) -> &[u8]
         ensures { result.now ≡ self.now.causes }
     {

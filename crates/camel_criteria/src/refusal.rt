@@ -7,8 +7,8 @@ use std::fmt;
 
 /// Why data, an update or a call of the store is refused.
 ///
-/// The numbers 5, 35 and 36 are those of the user errors of TS 29.002; those from 101 on are this
-/// product's own. What stands afterwards is said at each call that answers a refusal.
+/// The numbers 5, 35 and 36 are those of the user errors of TS 29.002; those from 101 on are this product's own. What
+/// is stored afterwards is said at each call that returns a refusal.
 #[derive(Clone, Copy, Debug, PartialEq, Eq)]
 pub enum Refusal {
     /// 5: there is no record of the IMSI.

@@ -51,14 +51,14 @@ impl TCriteria {
         self.dp
     }
 
-    /// The codes of the basic service criterion, in the order received; none where it is absent.
+    /// The codes of the basic service criterion, in the order received; none if it is absent.
     pub fn basic(&self) -> &[BasicService]
         ensures { result.now ≡ self.now.basic }
     {
         self.basic.as_slice()
     }
 
-    /// The causes of the cause criterion, in the order received; none where it is absent.
+    /// The causes of the cause criterion, in the order received; none if it is absent.
     pub fn causes(&self) -> &[u8]
         ensures { result.now ≡ self.now.causes }
     {

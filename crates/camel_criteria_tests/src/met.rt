@@ -29,7 +29,7 @@ const ENABLING: [NumberCase; 11] = [
     (&[], &[4], &[0x98, 0x21, 0x43], true),
 ];
 
-/// An inhibiting criterion is met where the destination is not listed.
+/// An inhibiting criterion is met if the destination is not listed.
 const INHIBITING: [NumberCase; 4] = [
     (&[ONE_TWO_THREE], &[], &[0x98, 0x21, 0x43], false),
     (
@@ -47,7 +47,7 @@ const INHIBITING: [NumberCase; 4] = [
     (&[&[0x91, 0x55]], &[4], &[0x91, 0x99, 0x99], false),
 ];
 
-/// An entry that asks for a number alone.
+/// An entry that asks for a number only.
 fn number_entry(
     alloc: Global,
     match_type: MatchType,
@@ -171,7 +171,7 @@ fn check_o_entries(rt: &impl Abort, cases: &[OCase]) -> Result<(), Fail> {
     Ok(())
 }
 
-/// By TS 23.078 an event meets an entry where it meets each criterion of it.
+/// By TS 23.078 an event meets an entry if it meets each criterion of it.
 #[test]
 fn meets_an_entry_of_the_o_csi_by_each_criterion(rt: HostRuntime) -> Result<(), Fail> {
     check_o_entries(&rt, &O_CASES)

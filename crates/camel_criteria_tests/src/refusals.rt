@@ -52,7 +52,7 @@ fn each_refusal_has_its_number_and_text(rt: HostRuntime) -> Result<(), Fail> {
     check_refusals(&rt, rt.alloc(), &REFUSALS)
 }
 
-/// What `?` makes of an error, through the bound alone.
+/// What `?` makes of an error, through the bound only.
 fn refusal_from<E>(error: E) -> Result<(), Refusal>
 where
     Refusal: From<E>,

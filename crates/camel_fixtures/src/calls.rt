@@ -22,7 +22,7 @@ pub fn imsi_of(number: u64) -> Result<Imsi, ImsiFault> {
     Imsi::from_digits(&digits)
 }
 
-/// The number of these octets. Fails with `UnexpectedDataValue` (36) where they are not 1 to 9.
+/// The number of these octets. Fails with `UnexpectedDataValue` (36) if they are not 1 to 9.
 pub fn number_of(octets: &[u8]) -> Result<IsdnAddress, Refusal> {
     match IsdnAddress::from_bytes(octets) {
         Ok(number) => Ok(number),

@@ -58,7 +58,7 @@ pub fn first_octet(codes: &[BasicService]) -> Option<u8> {
     }
 }
 
-/// What is compared of the numbers of a criterion; None where it lists none.
+/// What is compared of the numbers of a criterion; None if it lists none.
 pub fn listed_numbers(criterion: Option<&NumberCriterion>) -> Option<ListedNumbers> {
     let criterion = criterion?;
     let number = criterion.number(0)?;
@@ -69,7 +69,7 @@ pub fn listed_numbers(criterion: Option<&NumberCriterion>) -> Option<ListedNumbe
     ))
 }
 
-/// The row and the entry of a subscriber at a detection point; None where there is no record.
+/// The row and the entry of a subscriber at a detection point; None if there is no record.
 pub fn stored_summary(records: &Records, imsi: &Imsi, dp: u8) -> Option<StoredSummary> {
     let subscriber = records.get(imsi)?;
     Some((

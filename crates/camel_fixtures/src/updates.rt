@@ -9,7 +9,7 @@ use std::alloc::Global;
 /// The gsmSCF address of each row: the international number 4917610000.
 pub const SCF: [u8; 6] = [0x91, 0x94, 0x71, 0x16, 0x00, 0x00];
 
-/// Withdraws the O-CSI alone.
+/// Withdraws the O-CSI only.
 pub const O_ALONE: Withdrawal = Withdrawal {
     o: true,
     vt: false,
@@ -26,7 +26,7 @@ pub fn one_row() -> Result<OCsi, Refusal> {
     OCsi::new(&[row_of(2, 100, 0)?])
 }
 
-/// The service of that row.
+/// The service of the row of `one_row`.
 pub fn triggered() -> Result<Outcome, Refusal> {
     Ok(Outcome::Trigger {
         dp: 2,
@@ -56,7 +56,7 @@ pub fn criteria_update(alloc: Global, imsi: Imsi) -> Result<Update, Refusal> {
     Ok(o_insert(imsi, Some(one_row()?), Some(one_entry(alloc)?)))
 }
 
-/// The Insert of `one_entry` alone.
+/// The Insert of `one_entry` only.
 pub fn entry_update(alloc: Global, imsi: Imsi) -> Result<Update, Refusal> {
     Ok(o_insert(imsi, None, Some(one_entry(alloc)?)))
 }
