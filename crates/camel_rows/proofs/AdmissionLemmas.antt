@@ -1,5 +1,5 @@
--- An admission refuses an update as the data do, or since the store is full, goes with them from update to update, and is as before
--- where an acceptance is taken back.
+-- An admission refuses an update as the data do, or since the store is full, goes with them from update to update, and
+-- is as before if an acceptance is taken back.
 use Rattle.std.proofs.Common.{◌≡◌, ◌+◌, ◌-◌, ◌==◌, ℕ, List, Some, None, refl, ap, arith}
 use Rattle.std.specs.FinMap as map
 use Rattle.camel_rows.proofs.DirectoryLemmas.{IsDirectoryOf-after, IsDirectoryOf-empty, put_back-same, same_refusal}

@@ -29,7 +29,7 @@ module _ {X : Type 0} where
   pub get-with_value_there : (m : ByImsi X) (key : List ℕ) (value : Option X) → get (with_value m key value) key ≡ value
   get-with_value_there m key value = get-with_value m key value key ∙ ap (λ b. cond b value (get m key)) ((eq_by_cmp_equiv nat_list_cmp_total).refl key)
 
-  -- what the map holds of a subscriber, where one of them, or all, got another value
+  -- what the map holds of a subscriber, if one of them, or all, got another value
   pub get-with_value_of : (m : ByImsi X) (whom : Option (List ℕ)) (value : Option X) (imsi : List ℕ) → (whom ≡ None → value ≡ None)
       → get (with_value_of m whom value) imsi ≡ cond (concerns whom imsi) value (get m imsi)
   get-with_value_of m None value imsi none = get-empty (slice_cmp nat_cmp) imsi ∙ sym (none refl)

@@ -1,4 +1,5 @@
--- A directory decides about refusals as the data do, goes with them from update to update, and is as before where an entry is put back.
+-- A directory decides about refusals as the data do, goes with them from update to update, and is as before if an entry
+-- is put back.
 use Rattle.std.proofs.Common.{◌≡◌, ◌∙◌, ℕ, Bool, true, false, List, Option, Some, None, cond, is_some, refl, sym, ap, ◌||◌}
 use Rattle.std.proofs.lemmas.Bool.{cond-false, cond_both}
 use Rattle.std.proofs.lemmas.Map.Lookups.{exact_bytes}
@@ -92,7 +93,7 @@ IsDirectoryOf-after stored m update shown accepted imsi =
 pub IsDirectoryOf-empty : IsDirectoryOf map.empty map.empty
 IsDirectoryOf-empty imsi = rw (map.get-empty {X = CsisPresent} (slice_cmp nat_cmp) imsi, map.get-empty {X = SubscriberData} (slice_cmp nat_cmp) imsi) refl
 
--- what stood at an IMSI, put back over what was put there since, leaves the directory as it was
+-- what was stored at an IMSI, put back over what was put there since, leaves the directory as it was
 pub put_back-same : (stored : DirectoryData) (key : List ℕ) (new : CsisPresent) → with_value (map.insert stored key new) key (map.get stored key) ≡ stored
 put_back-same stored key new = same_map nat_list_cmp_total exact_bytes _ _ (λ imsi.
     let is_there = eq_by_cmp (slice_cmp nat_cmp) imsi key in

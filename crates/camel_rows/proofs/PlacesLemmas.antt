@@ -62,7 +62,7 @@ module _ {Item : Type 0} where
   count-in_front most places in_front =
       ap (count_by (λ (place : Option Item). is_some place)) in_front ∙ count-places most (items_in places) (few-in_front most places in_front)
 
-  -- places that hold what stands at theirs among few items
+  -- places that hold what is at theirs among few items
   pub places-from_get : (most : ℕ) (items : List Item) (places : List (Option Item)) → length places ≡ most
       → ((at : ℕ) → at < most → get_or places at None ≡ slice_get items at) → places ≡ places_of most items
   places-from_get most items places long each =

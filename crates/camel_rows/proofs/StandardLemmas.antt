@@ -19,7 +19,7 @@ use Rattle.camel_rows.specs.declared.trigger.decision.Reason.TheVariants.{Unknow
 use Rattle.camel_rows.specs.declared.trigger.event.TdpEvent.TheVariants.{CollectedInfo, RouteSelectFailure, TerminatingAttempt, Busy, NoAnswer}
 
 module _ (profile : Profile) where
-  -- whether what is shown meets an entry, as a test; that of an entry of the other CSI fails
+  -- whether what is shown meets an entry, as a test; it fails for an entry of the other CSI
   abbrev meets : ShownData → EntryData → Bool
   meets (ToO shown) (O entry) = o_met profile entry shown
   meets (ToVt shown) (T entry) = t_met entry shown
@@ -79,7 +79,7 @@ module _ (profile : Profile) where
   same_parts (NoAnswer imsi basic cause) subscriber =
       same_csi (λ entry. entry.dp) T (meets (shown_of (NoAnswer imsi basic cause))) (NoAnswer imsi basic cause) subscriber.vt
 
-  -- what the standard says where a decision is so
+  -- what the standard says if a decision is so
   abbrev Because : RecordsData → EventData → Reason → Type 0
   Because m event Unknown = IsUnknown m event
   Because m event NoCsi = LacksCsi m event

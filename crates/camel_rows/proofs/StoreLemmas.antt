@@ -19,7 +19,7 @@ not_refused (Some why) is_full e = absurd (cc)
 not_refused None true e = absurd (cc)
 not_refused None false e = (refl, refl)
 
--- an accepted update stands behind all that were accepted
+-- an accepted update comes after all that were accepted
 accepted-with_update : (updates : Updates) (update : Update) → accepted_updates (with_update updates update) ≡ accepted_updates updates ++ update ∷ []
 accepted-with_update updates update = sym (append_assoc updates.published updates.pending (update ∷ []))
 
@@ -48,7 +48,7 @@ IsFront-with_update limit updates update front e =
       few = rw longer (grind (arith, nat_tests));
     }
 
--- what is published alone is a front
+-- the published updates are a front, without the pending ones
 pub IsFront-published : (limit : ℕ) (updates : Updates) → IsFront limit (accepted_updates updates) → IsFront limit updates.published
 IsFront-published limit updates front =
     let count : length (accepted_updates updates) ≡ length updates.published + length updates.pending = length-append updates.published updates.pending in

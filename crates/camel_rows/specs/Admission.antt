@@ -38,7 +38,7 @@ with_admission admission imsi csis = record {
   directory = with_value_of admission.directory imsi csis;
 }
 
--- it is that of a store with this limit, which has accepted so many updates, and they leave these data
+-- the admission is that of a store with this limit, which has accepted so many updates, and they leave these data
 pub record IsAdmissionOf (admission : AdmissionData) (limit count : ℕ) (m : RecordsData) : Type 0 where
   pub same_limit : admission.limit ≡ limit
   pub same_count : admission.accepted ≡ count

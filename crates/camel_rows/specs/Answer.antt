@@ -1,4 +1,4 @@
--- What is answered to a call event.
+-- What is returned for a call event.
 use Rattle.std.specs.Prelude.{List, length}
 use Rattle.camel_tbcd.specs.declared.profile.Profile.{Profile}
 use Rattle.camel_rows.specs.Decision.{decision}

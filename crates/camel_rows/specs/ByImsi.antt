@@ -15,12 +15,12 @@ abbrev pub concerns : Option (List ℕ) → List ℕ → Bool
 concerns None imsi = true
 concerns (Some own) imsi = bytes_eq own imsi
 
--- what the map holds of the one whom something concerns; nothing, where it concerns all
+-- what the map holds of the one whom something concerns; nothing, if it concerns all
 abbrev pub value_of : {X : Type 0} → ByImsi X → Option (List ℕ) → Option X
 value_of m None = None
 value_of m (Some imsi) = map.get m imsi
 
--- the map with this value, or with none, for the one whom something concerns; with none at all, where it concerns all
+-- the map with this value, or with none, for the one whom something concerns; with none at all, if it concerns all
 abbrev pub with_value_of : {X : Type 0} → ByImsi X → Option (List ℕ) → Option X → ByImsi X
 with_value_of m None value = map.empty
 with_value_of m (Some imsi) value = with_value m imsi value

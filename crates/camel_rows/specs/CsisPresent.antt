@@ -20,24 +20,25 @@ abbrev pub lacks_csi : {Entry : Type 0} → Bool → Option (List TdpRowData) �
 lacks_csi false None (Some entries) = true
 lacks_csi is_stored rows entries = false
 
--- why an Insert is refused: 5 with no record, 35 with criteria that lack their CSI
+-- why an Insert is refused: `UnidentifiedSubscriber` (5) with no record, `DataMissing` (35) with criteria that lack
+-- their CSI
 abbrev pub insert_refusal : Option CsisPresent → Option (List TdpRowData) → Option (List OCriteriaData) → Option (List TdpRowData)
     → Option (List TCriteriaData) → Option Refusal
 insert_refusal None o o_criteria vt t_criteria = Some UnidentifiedSubscriber
 insert_refusal (Some csis) o o_criteria vt t_criteria =
     if lacks_csi csis.o o o_criteria || lacks_csi csis.vt vt t_criteria then Some DataMissing else None
 
--- why an update is refused, by the CSIs in the record of its IMSI, or where that has no record
+-- why an update is refused, by the CSIs in the record of its IMSI, or by none if that has no record
 abbrev pub csis_refusal : Option CsisPresent → Update → Option Refusal
 csis_refusal csis (Insert imsi o o_criteria vt t_criteria) = insert_refusal csis o o_criteria vt t_criteria
 csis_refusal csis (Delete imsi what) = if is_some csis then None else Some UnidentifiedSubscriber
 csis_refusal csis update = None
 
--- a Delete removes the O-CSI where it names it or everything
+-- a Delete removes the O-CSI if it names it or everything
 abbrev pub removes_o : Withdrawal → Bool
 removes_o what = what.o || what.everything
 
--- a Delete removes the VT-CSI where it names it or everything
+-- a Delete removes the VT-CSI if it names it or everything
 abbrev pub removes_vt : Withdrawal → Bool
 removes_vt what = what.vt || what.everything
 

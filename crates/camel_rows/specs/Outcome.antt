@@ -1,4 +1,4 @@
--- What is told of a decision, and what is done where the service can't be reached (TS 23.078).
+-- What is returned of a decision, and what is done if the service can't be reached (TS 23.078).
 use Rattle.camel_criteria.specs.declared.handling.Handling.{Handling}
 use Rattle.camel_criteria.specs.declared.handling.Handling.TheVariants as handling
 use Rattle.camel_rows.specs.Decision.{DecisionData, Triggers, TriggersNothing}

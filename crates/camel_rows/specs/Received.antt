@@ -13,7 +13,7 @@ use Rattle.camel_rows.specs.TdpRow.{TdpRowData}
 abbrev pub max_tdp_data : ℕ
 max_tdp_data = 10
 
--- at most one item is of a detection point, that of each item being told by `dp_of`
+-- at most one item is of a detection point, that of each item being given by `dp_of`
 abbrev pub is_single : {Item : Type 0} → (Item → ℕ) → ℕ → List Item → Bool
 is_single dp_of dp items = nat_le (count_by (λ item. dp_of item == dp) items) 1
 

@@ -10,7 +10,7 @@ use Rattle.camel_rows.specs.Event.{EventData, ShownData, ToO, ToVt, event_basic,
 use Rattle.camel_rows.specs.Records.{RecordsData}
 use Rattle.camel_rows.specs.Subscriber.{EntryData, O, T, StoredCsiData, SubscriberData, entry_at, row_at, rows_tested_at}
 
--- what is shown to the criteria of a CSI meets an entry of that CSI where it meets each criterion that the entry holds
+-- what is shown to the criteria of a CSI meets an entry of that CSI if it meets each criterion that the entry holds
 abbrev pub ShownMeets : Profile → ShownData → EntryData → Type 0
 ShownMeets profile (ToO shown) (O entry) = OMet profile entry shown
 ShownMeets profile (ToVt shown) (T entry) = TMet entry shown
@@ -19,9 +19,9 @@ ShownMeets profile shown entry = ⊥
 abbrev pub Meets : Profile → EventData → EntryData → Type 0
 Meets profile event entry = ShownMeets profile (shown_of event) entry
 
--- The service of a row is invoked where there is a record of the subscriber with the CSI that the detection point
--- is tested against, that CSI has this row of the detection point, the call is no emergency call, and the event
--- meets the entry of the detection point, if there is one.
+-- The service of a row is invoked if there is a record of the subscriber with the CSI that the detection point is
+-- tested against, that CSI has this row of the detection point, the call is no emergency call, and the event meets the
+-- entry of the detection point, if there is one.
 pub record Invokes (profile : Profile) (m : RecordsData) (event : EventData) (row : TdpRowData) (entry : Option EntryData) : Type 0 where
   pub subscriber : SubscriberData
   pub registered : map.get m (event_imsi event) ≡ Some subscriber

@@ -24,7 +24,7 @@ empty_record = record { o = None; vt = None }
 abbrev pub rows_of : {Entry : Type 0} → StoredCsiData Entry → List TdpRowData
 rows_of csi = csi.rows
 
--- the rows of the CSI that a detection point is tested against, where it is stored
+-- the rows of the CSI that a detection point is tested against, if it is stored
 abbrev pub rows_tested_at : ℕ → SubscriberData → Option (List TdpRowData)
 rows_tested_at dp subscriber =
     if is_o_detection_point dp then option_map rows_of subscriber.o
@@ -35,7 +35,7 @@ rows_tested_at dp subscriber =
 abbrev pub item_among : {Item : Type 0} → (Item → ℕ) → ℕ → List Item → Option Item
 item_among dp_of dp items = find (λ item. dp_of item == dp) items
 
--- the row of a detection point, where it is armed
+-- the row of a detection point, if it is armed
 abbrev pub row_at : ℕ → SubscriberData → Option TdpRowData
 row_at dp subscriber = option_and_then (item_among (λ row. row.dp) dp) (rows_tested_at dp subscriber)
 
@@ -49,11 +49,11 @@ abbrev pub entry_data : Lent → EntryData
 entry_data (lent.O entry) = O entry.now
 entry_data (lent.T entry) = T entry.now
 
--- the entry of a detection point, where a stored CSI has one
+-- the entry of a detection point, if a stored CSI has one
 abbrev pub entry_of : {Entry : Type 0} → (Entry → ℕ) → ℕ → StoredCsiData Entry → Option Entry
 entry_of dp_of dp csi = item_among dp_of dp csi.entries
 
--- the entry of a detection point, where the CSI that it is tested against has one
+-- the entry of a detection point, if the CSI that it is tested against has one
 abbrev pub entry_at : ℕ → SubscriberData → Option EntryData
 entry_at dp subscriber =
     if is_o_detection_point dp then option_map O (option_and_then (entry_of (λ entry. entry.dp) dp) subscriber.o)

@@ -1,7 +1,7 @@
--- What updates make of the subscriber data. Insert, Delete and Cancel are InsertSubscriberData,
--- DeleteSubscriberData and CancelLocation of TS 29.002; Register and ClearAll are profile 1's own, and so is what an
--- update leaves of a CSI that it does not name whole, that criteria without their CSI are refused where it is not
--- stored, and that an update which changes nothing is taken.
+-- What updates make of the subscriber data. Insert, Delete and Cancel are InsertSubscriberData, DeleteSubscriberData
+-- and CancelLocation of TS 29.002; Register and ClearAll are profile 1's own, and so is what an update leaves of a CSI
+-- that it does not name whole, that criteria without their CSI are refused if it is not stored, and that an update
+-- which changes nothing is taken.
 use Rattle.std.specs.Prelude.{◌≡◌, ℕ, Bool, true, false, List, [], ◌∷◌, Option, Some, None, is_some, unwrap_or, if◌then◌else◌}
 use Rattle.std.specs.Option.{option_map}
 use Rattle.camel_criteria.specs.Criteria.{OCriteriaData, TCriteriaData}
@@ -15,7 +15,7 @@ use Rattle.camel_rows.specs.declared.subscriber.update.Update.{Update}
 use Rattle.camel_rows.specs.declared.subscriber.update.Update.TheVariants.{Register, Insert, Delete, Cancel, ClearAll}
 use Rattle.camel_rows.specs.declared.subscriber.update.Withdrawal.{Withdrawal}
 
--- the subscriber whom an update concerns; none, where it concerns all of them
+-- the subscriber whom an update concerns; none, if it concerns all of them
 abbrev pub update_imsi : Update → Option (List ℕ)
 update_imsi (Register imsi) = Some imsi
 update_imsi (Insert imsi o o_criteria vt t_criteria) = Some imsi
@@ -36,8 +36,8 @@ is_of imsi update = concerns (update_imsi update) imsi
 abbrev pub refusal : RecordsData → Update → Option Refusal
 refusal m update = csis_refusal (option_map csis_of (value_of m (update_imsi update))) update
 
--- What an Insert leaves of a CSI. A CSI replaces rows and entries, by no entries where none come with it; entries
--- alone replace the entries; where neither comes, the CSI stays.
+-- What an Insert leaves of a CSI. A CSI replaces rows and entries, by no entries if none come with it; entries without
+-- a CSI replace the entries; if neither comes, the CSI stays.
 abbrev pub csi_after : {Entry : Type 0} → Option (StoredCsiData Entry) → Option (List TdpRowData) → Option (List Entry)
     → Option (StoredCsiData Entry)
 csi_after csi (Some rows) entries = Some (record { rows = rows; entries = unwrap_or entries [] })
@@ -50,11 +50,11 @@ abbrev pub record_with_insert : Option (List TdpRowData) → Option (List OCrite
 record_with_insert o o_criteria vt t_criteria subscriber =
     record { o = csi_after subscriber.o o o_criteria; vt = csi_after subscriber.vt vt t_criteria }
 
--- what a Delete leaves of a CSI: none, where it names it
+-- what a Delete leaves of a CSI: none, if it names it
 abbrev pub csi_unless : {Entry : Type 0} → Bool → Option (StoredCsiData Entry) → Option (StoredCsiData Entry)
 csi_unless is_named csi = if is_named then None else csi
 
--- what a Delete leaves of a record: each CSI that it names is removed, and both where it names everything
+-- what a Delete leaves of a record: each CSI that it names is removed, and both if it names everything
 abbrev pub record_without : Withdrawal → SubscriberData → SubscriberData
 record_without what subscriber = record { o = csi_unless (removes_o what) subscriber.o; vt = csi_unless (removes_vt what) subscriber.vt }
 
@@ -66,7 +66,7 @@ record_after old (Delete imsi what) = option_map (record_without what) old
 record_after old (Cancel imsi) = None
 record_after old ClearAll = None
 
--- the data after an update: those before it, where it is refused; else only the record of its IMSI changes, and after
+-- the data after an update: those before it, if it is refused; else only the record of its IMSI changes, and after
 -- ClearAll there is none
 abbrev pub records_after : RecordsData → Update → RecordsData
 records_after m update =

@@ -1,4 +1,4 @@
-//! What the home location register sends: TDP rows, CSIs and the entries of their criteria.
+//! What the HLR sends: TDP rows, CSIs and the entries of their criteria.
 
 ghost use Rattle.std.specs.Prelude.{◌≡◌, ◌≤◌, ◌↔◌, [], IsTrue, length, slice_get};
 ghost use Rattle.std.specs.Option.{option_copied};
@@ -109,7 +109,7 @@ impl<const MOST: usize> Csi<MOST> {
         self.places.get(at)?.as_ref()
     }
 
-    /// The row of a detection point, where it is armed.
+    /// The row of a detection point, if it is armed.
     pub fn row(&self, dp: u8) -> Option<&TdpRow>
         ensures { option_copied result ≡ item_among (λ row. row.dp) dp self.now }
     {

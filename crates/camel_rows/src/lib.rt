@@ -1,5 +1,5 @@
-//! The subscriber data of CAMEL phase 3 and the trigger rules over them (3GPP TS 23.078 and TS 29.002): what the home
-//! location register sends, what is stored of it, and what is decided of a call.
+//! The subscriber data of CAMEL phase 3 and the trigger rules over them (3GPP TS 23.078 and TS 29.002): what the HLR
+//! sends, what is stored of it, and what is decided of a call.
 #![tactic(auto)]
 
 mod csi;

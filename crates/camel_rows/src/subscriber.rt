@@ -41,7 +41,7 @@ pub(crate) type StoredOCsi = StoredCsi<2, OCriteria>;
 /// A stored VT-CSI with its criteria.
 pub(crate) type StoredVtCsi = StoredCsi<3, TCriteria>;
 
-/// The record of one subscriber: the O-CSI and the VT-CSI, where they are stored, each with its criteria.
+/// The record of one subscriber: the O-CSI and the VT-CSI, if they are stored, each with its criteria.
 ///
 /// Contracts see the two, each none or the list of its rows with the list of its criteria entries.
 #[derive(Drop)]
@@ -68,21 +68,21 @@ impl Subscriber {
         }
     }
 
-    /// The O-CSI, where it is stored.
+    /// The O-CSI, if it is stored.
     pub fn o(&self) -> Option<&OCsi>
         ensures { option_copied result ≡ option_map rows_of self.now.o }
     {
         Some(self.stored_o()?.csi())
     }
 
-    /// The VT-CSI, where it is stored.
+    /// The VT-CSI, if it is stored.
     pub fn vt(&self) -> Option<&VtCsi>
         ensures { option_copied result ≡ option_map rows_of self.now.vt }
     {
         Some(self.stored_vt()?.csi())
     }
 
-    /// The TDP row of a detection point, where it is armed.
+    /// The TDP row of a detection point, if it is armed.
     pub fn row(&self, dp: u8) -> Option<&TdpRow>
         ensures { option_copied result ≡ row_at dp self.now }
     {
@@ -95,8 +95,8 @@ impl Subscriber {
         }
     }
 
-    /// The criteria entry of a detection point, where there is one. It may be there where the detection point is
-    /// not armed; it has no effect then.
+    /// The criteria entry of a detection point, if there is one. It may be there even if the detection point is not
+    /// armed; it has no effect then.
     pub fn criteria(&self, dp: u8) -> Option<Lent<'_>>
         ensures { option_map entry_data result ≡ entry_at dp self.now }
     {
@@ -109,8 +109,8 @@ impl Subscriber {
         }
     }
 
-    /// An Insert that is not refused where the IMSI has the empty record, and makes it equal to this one. Fails with
-    /// `OutOfMemory` (102) where memory is refused.
+    /// An Insert that is not refused if the IMSI has the empty record, and makes it equal to this one. Fails with
+    /// `OutOfMemory` (102) if memory is refused.
     pub fn to_insert(&self, imsi: Imsi) -> Result<Update, Refusal>
         ensures equal { IfOk result (λ update. record_after (Some empty_record) update ≡ Some self.now) }
         ensures accepted { IfOk result (λ update. csis_refusal (Some (csis_of empty_record)) update ≡ None) }
@@ -128,7 +128,7 @@ impl Subscriber {
     }
 
     /// An equal record, which later updates do not change: a call keeps the CSIs of its set-up by it (TS 23.078). Fails
-    /// with `OutOfMemory` (102) where memory is refused.
+    /// with `OutOfMemory` (102) if memory is refused.
     pub fn copy(&self) -> Result<Subscriber, Refusal>
         ensures equal { IfOk result (λ copied. copied ≡ self.now) }
         ensures only { IfErr result (λ why. why ≡ Refusal.OutOfMemory) }
@@ -136,14 +136,14 @@ impl Subscriber {
         Ok(self.clone()?)
     }
 
-    /// The O-CSI with its criteria, where it is stored.
+    /// The O-CSI with its criteria, if it is stored.
     pub(crate) fn stored_o(&self) -> Option<&StoredOCsi>
         ensures { option_copied result ≡ self.now.o }
     {
         self.csis.o()
     }
 
-    /// The VT-CSI with its criteria, where it is stored.
+    /// The VT-CSI with its criteria, if it is stored.
     pub(crate) fn stored_vt(&self) -> Option<&StoredVtCsi>
         ensures { option_copied result ≡ self.now.vt }
     {

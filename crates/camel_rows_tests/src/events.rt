@@ -7,7 +7,7 @@ use std::test::Fail;
 
 const FACSIMILE: BasicService = BasicService::Tele(0x62);
 
-/// The destination of a call and whether it is forwarded, where the event has them.
+/// The destination of a call and whether it is forwarded, if the event has them.
 fn destination_of<'a>(event: &Event<'a>) -> Option<(&'a [u8], bool)> {
     match event {
         Event::CollectedInfo {

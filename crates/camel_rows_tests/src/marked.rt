@@ -8,7 +8,7 @@ use camel_rows::{
 use camel_tbcd::Imsi;
 use std::alloc::Global;
 
-/// A CSI where it is stored: the service key and the mark of the entry of one of its detection points.
+/// A CSI, if it is stored: the service key and the mark of the entry of one of its detection points.
 pub(crate) type Stored = Option<(Option<u32>, Option<u8>)>;
 
 /// Both CSIs of a record, the O-CSI by its detection point 2 and the VT-CSI by 12.
@@ -32,8 +32,8 @@ fn csi_at(subscriber: &Subscriber, is_stored: bool, dp: u8) -> Stored {
     Some((subscriber.row(dp).map(|row| row.key()), mark))
 }
 
-/// The Insert of an O-CSI, its criteria, a VT-CSI and its criteria, where they are told. Each has one item: a row
-/// at detection point 2 or 12 with this service key, or an entry there with this mark. 0 is an ignored item.
+/// The Insert of an O-CSI, its criteria, a VT-CSI and its criteria, if they are given. Each has one item: a row at
+/// detection point 2 or 12 with this service key, or an entry there with this mark. 0 is an ignored item.
 pub(crate) fn marked_insert(
     alloc: Global,
     imsi: Imsi,

@@ -78,7 +78,7 @@ impl<E: CriteriaEntry> CriteriaSet<E> {
         self.entries.as_slice().get(at)
     }
 
-    /// The entry of a detection point, where it has one.
+    /// The entry of a detection point, if it has one.
     pub fn entry(&self, dp: u8) -> Option<&E>
         ensures { option_copied result ≡ item_among E.dp_of dp self.now }
     {

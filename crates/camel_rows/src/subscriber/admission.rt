@@ -40,7 +40,7 @@ impl Model for Admission {
 }
 
 impl Admission {
-    /// No update is accepted yet, and at most `limit` ever are. It takes no memory yet. Its seed is fixed: where others
+    /// No update is accepted yet, and at most `limit` ever are. It takes no memory yet. Its seed is fixed: if others
     /// choose the IMSIs, [`Admission::seeded`] is meant.
     pub fn new(alloc: Global, limit: u64) -> Admission
         ensures { result ≡ no_admissions limit }
@@ -48,7 +48,7 @@ impl Admission {
         Admission::seeded(alloc, limit, Seed::fixed())
     }
 
-    /// The same, in a table with this seed.
+    /// No update is accepted yet, and at most `limit` ever are, in a table with this seed. It takes no memory yet.
     pub fn seeded(alloc: Global, limit: u64, seed: Seed) -> Admission
         ensures { result ≡ no_admissions limit }
     {
@@ -66,11 +66,11 @@ impl Admission {
         self.accepted
     }
 
-    /// The CSIs that an update leaves in the record of its IMSI, where it may be accepted; None where it leaves no
-    /// record, of its IMSI or of any. Nothing changes.
+    /// The CSIs that an update leaves in the record of its IMSI, if it may be accepted; None if it leaves no record, of
+    /// its IMSI or of any. Nothing changes.
     ///
-    /// Fails as `Records::check` with `UnidentifiedSubscriber` (5) and `DataMissing` (35) over the data that all accepted
-    /// updates leave, and then with `HistoryFull` (101) where as many are accepted as the limit.
+    /// Fails as `Records::check` with `UnidentifiedSubscriber` (5) and `DataMissing` (35) over the data that all
+    /// accepted updates leave, and then with `HistoryFull` (101) if as many are accepted as the limit.
     pub fn check(&self, update: &Update) -> Result<Option<CsisPresent>, Refusal>
         ensures refused { IfErr result (λ why. admission_refusal self.now update.now ≡ Some why) }
         ensures taken { OnOk result (admission_refusal self.now update.now ≡ None) }
@@ -85,23 +85,23 @@ impl Admission {
         Ok(csis_after(csis, update))
     }
 
-    /// The CSIs in the record of the subscriber whom an update concerns; None where there is no record, or where it
-    /// concerns all of them.
+    /// The CSIs in the record of the subscriber whom an update concerns; None if there is no record, or if it concerns
+    /// all of them.
     fn csis_before(&self, update: &Update) -> Option<CsisPresent>
         ensures { result ≡ value_of self.now.directory (update_imsi update.now) }
     {
         self.csis(&update.imsi()?)
     }
 
-    /// The CSIs that are stored in the record of an IMSI; None where there is no record.
+    /// The CSIs that are stored in the record of an IMSI; None if there is no record.
     pub fn csis(&self, imsi: &Imsi) -> Option<CsisPresent>
         ensures { result ≡ map.get self.now.directory imsi.now }
     {
         self.directory.get(imsi)
     }
 
-    /// Accepts an update of this subscriber that leaves a record with these CSIs, or no record; where it concerns all
-    /// of them, it leaves none. Fails with `AllocError` where memory is refused; then it is not accepted.
+    /// Accepts an update of this subscriber that leaves a record with these CSIs, or no record; if it concerns all of
+    /// them, it leaves none. Fails with `AllocError` if memory is refused; then it is not accepted.
     pub fn accept(
         &mut self,
         imsi: Option<Imsi>,

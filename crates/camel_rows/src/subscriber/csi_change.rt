@@ -27,7 +27,7 @@ impl<C: Drop> CsiChange<C> {
         }
     }
 
-    /// The same change, with the CSI in a block of its own.
+    /// This change, with the CSI in a block of its own.
     pub(crate) fn in_one_block(self, alloc: Global) -> Result<CsiChange<OneBlock<C>>, AllocError>
         ensures { IfOk result (λ change. change ≡ self) }
     {

@@ -15,10 +15,10 @@ pub struct CsisPresent {
     pub vt: bool,
 }
 
-/// Whether an update may be applied to a record with these CSIs, or where there is no record.
+/// Whether an update may be applied to a record with these CSIs, or to none.
 ///
-/// Fails with `UnidentifiedSubscriber` (5) for an Insert or a Delete where there is no record, and with `DataMissing`
-/// (35) for an Insert of criteria without their CSI where that CSI is not stored.
+/// Fails with `UnidentifiedSubscriber` (5) for an Insert or a Delete if there is no record, and with `DataMissing` (35)
+/// for an Insert of criteria without their CSI if that CSI is not stored.
 pub(crate) fn check_update(csis: Option<CsisPresent>, update: &Update) -> Result<(), Refusal>
     ensures refused { IfErr result (λ why. csis_refusal csis update.now ≡ Some why) }
     ensures accepted { OnOk result (csis_refusal csis update.now ≡ None) }
@@ -56,8 +56,8 @@ fn lacks_csi<const MOST: usize, E: CriteriaEntry>(
     !is_stored && csi.is_none() && criteria.is_some()
 }
 
-/// The CSIs that an update which is not refused leaves in a record with these, or where there is no record; None where
-/// it leaves no record.
+/// The CSIs that an update which is not refused leaves, over a record with these or over none; None if it leaves no
+/// record.
 pub(crate) fn csis_after(csis: Option<CsisPresent>, update: &Update) -> Option<CsisPresent>
     ensures { result ≡ csis_after csis update.now }
 {

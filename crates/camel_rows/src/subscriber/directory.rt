@@ -41,15 +41,15 @@ impl Directory {
         }
     }
 
-    /// The CSIs that are stored in the record of an IMSI; None where there is no record.
+    /// The CSIs that are stored in the record of an IMSI; None if there is no record.
     pub(crate) fn get(&self, imsi: &Imsi) -> Option<CsisPresent>
         ensures { result ≡ map.get self.now imsi.now }
     {
         self.table.get(imsi).copied()
     }
 
-    /// Puts the CSIs of a subscriber in the place of those that are there. `AllocError` where memory is refused; then
-    /// the directory is as before.
+    /// Puts the CSIs of a subscriber in the place of those that are there. Fails with `AllocError` if memory is
+    /// refused; then the directory is as before.
     pub(crate) fn insert(&mut self, imsi: Imsi, csis: CsisPresent) -> Result<(), AllocError>
         ensures put { OnOk result (self.new ≡ map.insert self.old imsi csis) }
         ensures unchanged { OnErr result (self.new ≡ self.old) }
@@ -57,7 +57,7 @@ impl Directory {
         self.table.put(&imsi, csis)
     }
 
-    /// Puts back what stood before an insertion, where a subscriber has an entry since. It takes no memory.
+    /// Puts back what was stored before an insertion, for a subscriber who has an entry since. It takes no memory.
     pub(crate) fn put_back(&mut self, imsi: &Imsi, before: Option<CsisPresent>)
         requires { IsSome (map.get self.old imsi.now) }
         ensures { self.new ≡ with_value self.old imsi.now before }

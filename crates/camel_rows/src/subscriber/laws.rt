@@ -7,7 +7,7 @@ ghost use Rattle.camel_rows.specs.Records.{RecordsData, no_records};
 ghost use Rattle.camel_rows.specs.Update.{is_of, records_after, refusal};
 ghost use Rattle.camel_rows.specs.declared.subscriber.update.Update.{Update};
 
-/// A law of the definitions: an update changes the record of its own IMSI alone, but for `ClearAll`, which concerns all
+/// A law of the definitions: an update changes the record of its own IMSI only, but for `ClearAll`, which concerns all
 /// and leaves none. It does nothing when it is called.
 pub fn updates_change_own_records()
     ensures others { (m : RecordsData) (update : Update) (imsi : List ℕ)
@@ -15,8 +15,8 @@ pub fn updates_change_own_records()
     ensures all { (m : RecordsData) → records_after m Update.ClearAll ≡ no_records }
 {}
 
-/// A law of the definitions: where a subscriber registers, and an Insert then brings a CSI and is not refused, that
-/// CSI stands with the criteria that came with it, whatever stood before. It does nothing when it is called.
+/// A law of the definitions: if a subscriber registers, and an Insert then brings a CSI and is not refused, that CSI is
+/// stored with the criteria that came with it, whatever was stored before. It does nothing when it is called.
 pub fn inserted_csi_stands()
     ensures o { (m : RecordsData) (imsi : List ℕ) (rows : List TdpRowData) (o_criteria : Option (List OCriteriaData))
         (vt : Option (List TdpRowData)) (t_criteria : Option (List TCriteriaData))

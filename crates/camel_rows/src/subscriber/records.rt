@@ -44,7 +44,7 @@ impl Model for Records {
 }
 
 impl Records {
-    /// No records. It takes no memory yet. Its seed is fixed: where others choose the IMSIs, [`Records::seeded`] is meant.
+    /// No records. It takes no memory yet. Its seed is fixed: if others choose the IMSIs, [`Records::seeded`] is meant.
     pub fn new(alloc: Global) -> Records
         ensures { result ≡ no_records }
     {
@@ -61,7 +61,7 @@ impl Records {
         }
     }
 
-    /// The record of an IMSI, where there is one.
+    /// The record of an IMSI, if there is one.
     pub fn get(&self, imsi: &Imsi) -> Option<&Subscriber>
         ensures { option_copied result ≡ map.get self.now imsi.now }
     {
@@ -70,7 +70,7 @@ impl Records {
 
     /// Each subscriber's IMSI, once, in no order that is promised.
     ///
-    /// Fails with `OutOfMemory` (102) where memory is refused.
+    /// Fails with `OutOfMemory` (102) if memory is refused.
     pub fn imsis(&self) -> Result<Vec<Imsi>, Refusal>
         ensures each_once { IfOk result (λ imsis. ListsEachOnce imsis.items self.now) }
         ensures only { IfErr result (λ why. why ≡ Refusal.OutOfMemory) }
@@ -80,8 +80,8 @@ impl Records {
 
     /// Whether an update may be applied.
     ///
-    /// Fails with `UnidentifiedSubscriber` (5) for an Insert or a Delete where the IMSI has no record, and with
-    /// `DataMissing` (35) for an Insert of criteria without their CSI where that CSI is not stored.
+    /// Fails with `UnidentifiedSubscriber` (5) for an Insert or a Delete if the IMSI has no record, and with
+    /// `DataMissing` (35) for an Insert of criteria without their CSI if that CSI is not stored.
     pub fn check(&self, update: &Update) -> Result<(), Refusal>
         ensures refused { IfSome (refusal self.now update.now) (λ why. result ≡ Err why) }
         ensures accepted { IfNone (refusal self.now update.now) (IsOk result) }
@@ -89,8 +89,8 @@ impl Records {
         check_update(self.csis_before(update), update)
     }
 
-    /// The CSIs in the record of the subscriber whom an update concerns; None where there is no record, or where it
-    /// concerns all of them.
+    /// The CSIs in the record of the subscriber whom an update concerns; None if there is no record, or if it concerns
+    /// all of them.
     fn csis_before(&self, update: &Update) -> Option<CsisPresent>
         ensures { result ≡ option_map csis_of (value_of self.now (update_imsi update.now)) }
     {
@@ -99,7 +99,7 @@ impl Records {
 
     /// Applies an update.
     ///
-    /// Fails with the refusals of [`Records::check`], and with `OutOfMemory` (102) where memory is refused. After a
+    /// Fails with the refusals of [`Records::check`], and with `OutOfMemory` (102) if memory is refused. After a
     /// refusal the records are as before. `ClearAll` takes no memory, and does not fail.
     pub fn apply(&mut self, update: &Update) -> Result<(), Refusal>
         ensures refused { IfSome (refusal self.old update.now) (λ why. result ≡ Err why) }
@@ -126,7 +126,7 @@ impl Records {
         Ok(())
     }
 
-    /// Equal records. Fails with `OutOfMemory` (102) where memory is refused.
+    /// Equal records. Fails with `OutOfMemory` (102) if memory is refused.
     pub fn copy(&self) -> Result<Records, Refusal>
         ensures equal { IfOk result (λ copied. copied ≡ self.now) }
         ensures only { IfErr result (λ why. why ≡ Refusal.OutOfMemory) }

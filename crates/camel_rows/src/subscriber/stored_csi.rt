@@ -32,7 +32,7 @@ impl<const MOST: usize, E> Model for StoredCsi<MOST, E> {
 }
 
 impl<const MOST: usize, E: CriteriaEntry> StoredCsi<MOST, E> {
-    /// What an Insert makes of a stored CSI, where it brings this CSI and these criteria, if any.
+    /// What an Insert of this CSI and these criteria, if any, makes of a stored CSI.
     pub(crate) fn after_insert(
         alloc: Global,
         stored: Option<&StoredCsi<MOST, E>>,
@@ -67,14 +67,14 @@ impl<const MOST: usize, E: CriteriaEntry> StoredCsi<MOST, E> {
         &self.criteria
     }
 
-    /// The row of a detection point, where it is armed.
+    /// The row of a detection point, if it is armed.
     pub(crate) fn row(&self, dp: u8) -> Option<&TdpRow>
         ensures { option_copied result ≡ item_among (λ row. row.dp) dp self.now.rows }
     {
         self.csi.row(dp)
     }
 
-    /// The entry of a detection point, where there is one.
+    /// The entry of a detection point, if there is one.
     pub(crate) fn entry(&self, dp: u8) -> Option<&E>
         ensures { option_copied result ≡ item_among E.dp_of dp self.now.entries }
     {

@@ -6,9 +6,9 @@ use crate::subscriber::one_block::OneBlock;
 use crate::subscriber::{StoredOCsi, StoredVtCsi};
 use std::alloc::AllocError;
 
-/// The CSIs that are stored, each with its criteria. The O-CSI lies in place, so that a look-up reads it where it finds its
-/// subscriber. The VT-CSI has a block of its own, so that it takes little room where it is not stored. One tag tells of
-/// both.
+/// The CSIs that are stored, each with its criteria. The O-CSI lies in place, so that a look-up reads it where it finds
+/// its subscriber. The VT-CSI has a block of its own, so that it takes little room if it is not stored. One tag says
+/// which of the two are stored.
 #[derive(Drop)]
 pub(crate) enum StoredCsis {
     Neither,

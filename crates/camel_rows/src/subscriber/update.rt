@@ -15,7 +15,7 @@ pub struct Withdrawal {
     pub o: bool,
     /// The VT-CSI with its criteria.
     pub vt: bool,
-    /// Both.
+    /// Both CSIs with their criteria.
     pub everything: bool,
 }
 
@@ -38,17 +38,17 @@ impl Withdrawal {
 /// A change of the subscriber data of one IMSI, or of all.
 #[derive(Debug, Drop)]
 pub enum Update {
-    /// The subscriber registers: an empty record stands, whatever stood before. It is never refused. It is
-    /// this product's own, in the place of the location update after which data are sent.
+    /// The subscriber registers: an empty record is stored, whatever was stored before. It is never refused. It is this
+    /// product's own, in the place of the location update after which data are sent.
     Register {
         imsi: Imsi,
     },
-    /// InsertSubscriberData of TS 29.002, from the home location register. A CSI that is present replaces the
-    /// stored CSI and its criteria, by those that come with it or by none. Criteria without their CSI replace
-    /// those of the stored CSI. What is omitted stays.
+    /// InsertSubscriberData of TS 29.002, from the HLR. A CSI that is present replaces the stored CSI and its criteria,
+    /// by those that come with it or by none. Criteria without their CSI replace those of the stored CSI. What is
+    /// omitted stays.
     ///
-    /// It is refused with 5 where the IMSI has no record, and with 35 where criteria come without their CSI and
-    /// that CSI is not stored.
+    /// It is refused with `UnidentifiedSubscriber` (5) if the IMSI has no record, and with `DataMissing` (35) if
+    /// criteria come without their CSI and that CSI is not stored.
     Insert {
         imsi: Imsi,
         o: Option<OCsi>,
@@ -56,24 +56,23 @@ pub enum Update {
         vt: Option<VtCsi>,
         t_criteria: Option<TCriteriaSet>,
     },
-    /// DeleteSubscriberData of TS 29.002. What is named and not there is no fault. It is refused with 5 where the
-    /// IMSI has no record.
+    /// DeleteSubscriberData of TS 29.002. What is named and not there is no fault. It is refused with
+    /// `UnidentifiedSubscriber` (5) if the IMSI has no record.
     Delete {
         imsi: Imsi,
         what: Withdrawal,
     },
-    /// CancelLocation of TS 29.002: no record stands. It is never refused, and changes nothing where there is no
-    /// record.
+    /// CancelLocation of TS 29.002: no record is left. It is never refused, and changes nothing if there is no record.
     Cancel {
         imsi: Imsi,
     },
-    /// No record stands, of any subscriber. It is never refused. It is this product's own, for a switch that no longer
+    /// No record of any subscriber is left. It is never refused. It is this product's own, for a switch that no longer
     /// relies on the data that it has stored.
     ClearAll,
 }
 
 impl Update {
-    /// The subscriber whom it concerns; None where it concerns all of them.
+    /// The subscriber whom it concerns; None if it concerns all of them.
     pub fn imsi(&self) -> Option<Imsi>
         ensures { result ≡ update_imsi self.now }
     {
@@ -86,7 +85,7 @@ impl Update {
         }
     }
 
-    /// An equal update. Fails with `OutOfMemory` (102) where memory is refused.
+    /// An equal update. Fails with `OutOfMemory` (102) if memory is refused.
     pub fn copy(&self) -> Result<Update, Refusal>
         ensures equal { IfOk result (λ copied. copied ≡ self.now) }
         ensures only { IfErr result (λ why. why ≡ Refusal.OutOfMemory) }

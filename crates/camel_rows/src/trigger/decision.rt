@@ -37,7 +37,7 @@ pub enum Reason {
 #[derive(Clone, Copy, Debug)]
 pub enum Decision<'r> {
     /// The service of this row is invoked at its gsmSCF. `criteria` is the entry of the detection point, which the
-    /// event meets; None where there is none.
+    /// event meets; None if there is none.
     Trigger {
         row: &'r TdpRow,
         criteria: Option<Lent<'r>>,

@@ -93,7 +93,7 @@ impl<A> TdpEvent<A> {
         }
     }
 
-    /// The cause of the release, where the detection point comes after one.
+    /// The cause of the release, if the detection point comes after one.
     pub fn cause(&self) -> Option<Cause>
         ensures { result ≡ event_cause self.now }
     {
@@ -108,9 +108,9 @@ impl<A> TdpEvent<A> {
 
 /// What an event shows to the criteria that it is tested against.
 pub(crate) enum Shown<'a> {
-    /// To those of the O-CSI.
+    /// What an event shows to the criteria of the O-CSI.
     O(OEvent<'a>),
-    /// To those of the VT-CSI.
+    /// What an event shows to the criteria of the VT-CSI.
     T(TEvent),
 }
 
@@ -148,7 +148,7 @@ impl<'a> TdpEvent<Address<'a>> {
 }
 
 impl TdpEvent<CallAddress> {
-    /// The same event, with its destination borrowed.
+    /// This event, with its destination borrowed.
     pub fn lend(&self) -> Event<'_>
         ensures { event_data result ≡ self.now }
     {

@@ -8,7 +8,7 @@ ghost use Rattle.camel_rows.specs.Records.{RecordsData};
 ghost use Rattle.camel_rows.specs.Subscriber.{EntryData};
 ghost use Rattle.camel_rows.specs.declared.trigger.decision.Reason.{Reason};
 
-/// A law of the definitions: a service is invoked, and each reason is given why none is, exactly where the words of
+/// A law of the definitions: a service is invoked, and each reason is given why none is, exactly if the words of
 /// TS 23.078 say so. It does nothing when it is called.
 pub fn decisions_mean()
     ensures triggers { (profile : Profile) (m : RecordsData) (event : EventData) (row : TdpRowData) (entry : Option EntryData)

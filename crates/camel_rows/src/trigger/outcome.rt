@@ -47,8 +47,8 @@ impl Outcome {
     }
 }
 
-/// The outcome of an event, with the front over whose data it was decided: a list of accepted updates, told
-/// by its length.
+/// The outcome of an event, with the front over whose data it was decided: a list of accepted updates, given by its
+/// length.
 #[derive(Clone, Copy, Debug, PartialEq, Eq)]
 pub struct Answer {
     /// How many updates the front has.
@@ -66,8 +66,7 @@ pub enum CallAction {
     Release,
 }
 
-/// What is done with a call of this default call handling, where the dialogue between gsmSSF and gsmSCF
-/// fails (TS 23.078).
+/// What is done with a call of this default call handling, if the dialogue between gsmSSF and gsmSCF fails (TS 23.078).
 pub fn on_failure(handling: Handling) -> CallAction
     ensures { result ≡ action_of handling }
 {

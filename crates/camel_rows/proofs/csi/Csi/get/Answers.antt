@@ -9,7 +9,7 @@ use Rattle.camel_rows.proofs.csi.Csi.get.Goals as goal
 abbrev joined : Option (Option TdpRowData) → Option TdpRowData
 joined found = option_and_then (λ place. place) found
 
--- what is lent is what stands at the place
+-- what is lent is what is at the place
 lent : {Item : Type 0} (found : Option (Bor Item)) (items : List Item) (at : ℕ)
     → is_some found ≡ ltb at (length items) → IfSome found (λ item. item.now ≡ get_or items at item.now) → option_copied found ≡ slice_get items at
 lent None items at there same = sym (slice_get_past items at (grind (arith, nat_tests)))
