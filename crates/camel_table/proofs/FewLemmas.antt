@@ -9,7 +9,7 @@ pub copied_or : {A : Type 0} (a b : Option (Bor A)) → option_copied (option_or
 copied_or None b = refl
 copied_or (Some value) b = refl
 
--- a value that is found first, and one that is found where there is no such
+-- a value that is found first, and one that is found if there is no such
 pub or_first : {A : Type 0} (o : Option (Bor A)) (other : Option A) → is_some o ≡ true → option_copied o ≡ option_or (option_copied o) other
 or_first None other some = absurd (subst T (sym some) tt)
 or_first (Some value) other some = refl

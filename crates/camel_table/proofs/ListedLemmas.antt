@@ -29,7 +29,7 @@ abbrev Entries : Type 0 → Type 0
 Entries V = List (List ℕ × V)
 
 module _ {V : Type 0} where
-  -- an entry more is found where none before it has its IMSI
+  -- an entry more is found if none before it has its IMSI
   found_more : (q : List ℕ) (es : Entries V) (e : List ℕ × V) → is_some (find (slice_cmp nat_cmp) q (es ++ e ∷ [])) ≡ cond (is_some (find (slice_cmp nat_cmp) q es)) true (is_same q e.0)
   found_more q [] e = elim (is_same q e.0) as (λ b. is_some (cond b (Some e.1) None) ≡ b) [ true ↦ refl | false ↦ refl ]
   found_more q (x ∷ es) e =
@@ -109,7 +109,7 @@ module _ {V : Type 0} where
       | false ↦ λ p. let le = ltb-false i at p in line_beyond at i lines le ∙ sym (line_beyond (at + 1) i lines (omega (arith, le, differ)))
     ] refl
 
-    -- an IMSI stands in the lines so far, or in the next line, or in neither
+    -- an IMSI is in the lines so far, or in the next line, or in neither
     next_stored : (at : ℕ) → at < length lines → (q : List ℕ)
         → times_stored q (table_map (take at lines)) + times_stored q (line_at lines at) ≡ times_stored q (table_map (take (at + 1) lines))
     next_stored at inside q =

@@ -84,7 +84,7 @@ place_next level count hash began = by_new (nat_lt wide count) refl
         inl (place_wide level (count + 1) hash (omega (arith, lt)) ∙ sym (place_wide level count hash lt))
     by_new false p = by_next (nat_lt count wide) refl (ltb-false wide count p)
 
--- where each line of the round is divided, the next round has the same places
+-- if each line of the round is divided, the next round has the same places
 pub place_round : (level count hash : ℕ) → count ≡ 2 ^ (1 + level) → place_in (1 + level) count hash ≡ place_in level count hash
 place_round level count hash whole =
     let old = place_wide level count hash (omega (arith, whole, narrow_below (1 + level) hash)) in

@@ -78,7 +78,7 @@ module _ {A : Type 0} where
       ∙ ap (λ n. first.items ++ slice_set (joined rest) n x) (omega arith)
       ∙ sym (set-append_right first.items (joined rest) 1024 (suc number * 1024 + place) x (before_others first rest number place full inside) (omega arith))
 
-  -- segments stay full where one has as many items as before
+  -- segments stay full if one has as many items as before
   pub full_after : (segments : List (Vec A)) (number : ℕ) (d new : Vec A) → AreFull segments → length new.items ≡ length (slice_index_or segments number d).items
       → AreFull (slice_set segments number new)
   full_after [] number d new full same = tt
@@ -132,7 +132,7 @@ module _ {A : Type 0} where
   room_more (first ∷ []) new none = subst (λ items. length items < 1024) (sym none) (omega arith)
   room_more (first ∷ next ∷ rest) new none = room_more (next ∷ rest) new none
 
-  -- the length of the last segment, or that of a full one where there is none
+  -- the length of the last segment, or that of a full one if there is none
   abbrev pub last_length : List (Vec A) → ℕ
   last_length [] = 1024
   last_length (last ∷ []) = length last.items

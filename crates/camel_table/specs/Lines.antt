@@ -13,12 +13,12 @@ module _ {V : Type 0} where
   abbrev pub table_map : List (ByImsi V) → ByImsi V
   table_map lines = map_of (all_entries lines)
 
-  -- each IMSI stands in the line of its place
+  -- each IMSI is in the line of its place
   abbrev pub ArePlaced : (List ℕ → ℕ) → List (ByImsi V) → Type 0
   ArePlaced place lines = (at : ℕ) (imsi : List ℕ) → IsSome (get (slice_index_or lines at empty) imsi) → place imsi ≡ at
 
 -- A table is whole: it has no lines yet, or as many as the round of divisions that began with 2 ^ level has made, and
--- perhaps spare ones; and each IMSI stands in the line of its place.
+-- perhaps spare ones; and each IMSI is in the line of its place.
 pub record IsTable {V : Type 0} (place : ℕ → ℕ → List ℕ → ℕ) (level count : ℕ) (lines : List (ByImsi V)) : Type 0 where
   pub low : level ≤ 32
   pub round : ((count ≡ 0) × (length lines ≡ 0)) ⊎ ((2 ^ level ≤ count) × ((count ≤ 2 ^ (1 + level)) × (count ≤ length lines)))

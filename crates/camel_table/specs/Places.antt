@@ -5,7 +5,7 @@ use Rattle.std.specs.Hash as input
 use Rattle.camel_tbcd.specs.ImsiOrder.{order_number}
 
 -- the line of a hash among so many, of which there were 2 ^ level when the present round of divisions began: that of
--- the next round, where there is such a line already, and else that of the round before
+-- the next round, if there is such a line already, and else that of the round before
 abbrev pub place_in : ℕ → ℕ → ℕ → ℕ
 place_in level count hash = if nat_lt (hash % 2 ^ (1 + level)) count then hash % 2 ^ (1 + level) else hash % 2 ^ level
 

@@ -13,7 +13,7 @@ use std::hash::BuildHasher;
 use std::marker::Model;
 use std::mem;
 
-/// Up to two entries, each in a slot that is read without following a pointer. The first slot may be free where the
+/// Up to two entries, each in a slot that is read without following a pointer. The first slot may be free while the
 /// second is not.
 ///
 /// Contracts see it as the list of the entries.
@@ -57,12 +57,12 @@ impl<V> Few<V> {
         self.len() < 2
     }
 
-    /// The value of an IMSI, where there is one.
+    /// The value of an IMSI, if there is one.
     pub(crate) fn get(&self, imsi: &Imsi) -> Option<&V>
         ensures { option_copied result ≡ map.get (map_of self.now) imsi.now }
     {
-        // The second entry is not asked before the first one has answered: a processor goes on with the value of the one
-        // that it expects, and else waits for the memory of both.
+        // The second entry is not read before it is known whether the first one has the IMSI: a processor goes on with
+        // the value of the one that it expects, and else waits for the memory of both.
         let value = value_of(&self.first, imsi);
         if value.is_some() {
             return value;
@@ -70,7 +70,7 @@ impl<V> Few<V> {
         value_of(&self.second, imsi)
     }
 
-    /// Lists each IMSI that has a value, after those that are listed. Fails with `AllocError` where memory is refused.
+    /// Lists each IMSI that has a value, after those that are listed. Fails with `AllocError` if memory is refused.
     pub(crate) fn push_imsis(&self, imsis: &mut Vec<Imsi>) -> Result<(), AllocError>
         ensures { OnOk result (ListsEachOnceMore imsis.old.items imsis.new.items (map_of self.now)) }
     {
@@ -79,7 +79,7 @@ impl<V> Few<V> {
         Ok(())
     }
 
-    /// Puts a value in the place of the one that an IMSI has, which it returns. Where it has none, nothing changes, and
+    /// Puts a value in the place of the one that an IMSI has, which it returns. If it has none, nothing changes, and
     /// the new value is given back.
     pub(crate) fn replace(&mut self, imsi: &Imsi, value: V) -> Result<V, V>
         ensures before { result_ok result ≡ map.get (map_of self.old) imsi.now }
@@ -146,7 +146,7 @@ impl<V: Clone> Clone for Few<V> {
     }
 }
 
-/// The value in a slot, where its entry has this IMSI.
+/// The value in a slot, if its entry has this IMSI.
 fn value_of<'a, V>(slot: &'a Option<Entry<V>>, imsi: &Imsi) -> Option<&'a V>
     ensures { option_copied result ≡ map.get (map_of (option_to_list slot.now)) imsi.now }
 {
@@ -176,7 +176,7 @@ fn push_imsi<V>(
     Ok(())
 }
 
-/// Puts a value in the place of the one in a slot, where its entry has this IMSI. Else the new value is given back.
+/// Puts a value in the place of the one in a slot, if its entry has this IMSI. Else the new value is given back.
 fn replace<V>(slot: &mut Option<Entry<V>>, imsi: &Imsi, value: V) -> Result<V, V>
     ensures before { result_ok result ≡ map.get (map_of (option_to_list slot.old)) imsi.now }
     ensures replaced { IfOk result (λ _. map_of (option_to_list slot.new) ≡ map.insert (map_of (option_to_list slot.old)) imsi.now value) }

@@ -53,7 +53,7 @@ impl<V> Line<V> {
         self.few.len() + self.more.len()
     }
 
-    /// The value of an IMSI, where there is one.
+    /// The value of an IMSI, if there is one.
     pub(crate) fn get(&self, imsi: &Imsi) -> Option<&V>
         ensures { option_copied result ≡ map.get self.now imsi.now }
     {
@@ -64,7 +64,7 @@ impl<V> Line<V> {
         find_value(&self.more, imsi)
     }
 
-    /// Lists each IMSI that has a value, after those that are listed. Fails with `AllocError` where memory is refused.
+    /// Lists each IMSI that has a value, after those that are listed. Fails with `AllocError` if memory is refused.
     pub(crate) fn push_imsis(&self, imsis: &mut Vec<Imsi>) -> Result<(), AllocError>
         ensures { OnOk result (ListsEachOnceMore imsis.old.items imsis.new.items self.now) }
     {
@@ -80,7 +80,7 @@ impl<V> Line<V> {
         Ok(())
     }
 
-    /// Puts a value in the place of the one that an IMSI has, which it returns. Where it has none, nothing changes.
+    /// Puts a value in the place of the one that an IMSI has, which it returns. If it has none, nothing changes.
     pub(crate) fn replace(&mut self, imsi: &Imsi, value: V) -> Option<V>
     where
         V: Drop,
@@ -98,8 +98,8 @@ impl<V> Line<V> {
 }
 
 impl<V: Drop> Line<V> {
-    /// Puts a value in the place of the one that an IMSI has, or of none. Fails with `AllocError` where memory is
-    /// refused; then nothing changes.
+    /// Puts a value in the place of the one that an IMSI has, or of none. Fails with `AllocError` if memory is refused;
+    /// then nothing changes.
     pub(crate) fn put(&mut self, imsi: &Imsi, value: V) -> Result<(), AllocError>
         ensures put { OnOk result (self.new ≡ map.insert self.old imsi.now value) }
         ensures unchanged { OnErr result (self.new ≡ self.old) }
@@ -111,7 +111,7 @@ impl<V: Drop> Line<V> {
         Ok(())
     }
 
-    /// Puts the value of an IMSI that has none. Fails with `AllocError` where memory is refused; then nothing changes.
+    /// Puts the value of an IMSI that has none. Fails with `AllocError` if memory is refused; then nothing changes.
     fn add(&mut self, imsi: &Imsi, value: V) -> Result<(), AllocError>
         requires { map.get self.old imsi.now ≡ None }
         ensures added { OnOk result (self.new ≡ map.insert self.old imsi.now value) }
@@ -147,7 +147,7 @@ impl<V: Drop> Line<V> {
         self.more.retain(|entry| !entry.is(imsi));
     }
 
-    /// Divides the entries: those with this place stay, and the others are returned. Fails with `AllocError` where memory
+    /// Divides the entries: those with this place stay, and the others are returned. Fails with `AllocError` if memory
     /// is refused; then nothing changes.
     pub(crate) fn divide<S: BuildHasher>(
         &mut self,
@@ -177,7 +177,7 @@ impl<V: Clone> Clone for Line<V> {
     ghost use Rattle.std.specs.Prelude.{◌≡◌, ℕ, List};
     ghost use Rattle.camel_table.specs.ByImsi.{HasSameKeys};
 
-    // The same keys, and the same values where a clone of a value is the same.
+    // A clone has the same keys, and the same values if a clone of a value is the same.
     ghost is_clone = { λ old new. HasSameKeys old new × (((x y : V) → V.is_clone x y → y ≡ x) → new ≡ old) };
 
     fn clone(&self) -> Result<Line<V>, AllocError> {

@@ -67,7 +67,7 @@ impl<T> Segments<T> {
 }
 
 impl<T: Drop> Segments<T> {
-    /// Puts an item after the last one. Fails with `AllocError` where memory is refused; then nothing changes.
+    /// Puts an item after the last one. Fails with `AllocError` if memory is refused; then nothing changes.
     pub(crate) fn push(&mut self, item: T) -> Result<(), AllocError>
         requires { length self.old < 2 ^ 34 }
         ensures pushed { OnOk result (self.new ≡ self.old ++ item ∷ []) }
@@ -102,7 +102,7 @@ impl<T: Clone> Clone for Segments<T> {
     }
 }
 
-// Adds a segment where the last one is full, with all the memory that it will need.
+// Adds a segment if the last one is full, with all the memory that it will need.
 fn make_room<T: Drop>(segments: &mut Vec<Vec<T>>, alloc: Global) -> Result<(), AllocError>
     requires { AreFull segments.old.items }
     ensures full { AreFull segments.new.items }

@@ -61,7 +61,7 @@ impl<V, S: BuildHasher + Copy> Table<V, S> {
         }
     }
 
-    /// The value of an IMSI, where there is one.
+    /// The value of an IMSI, if there is one.
     pub fn get(&self, imsi: &Imsi) -> Option<&V>
         ensures { option_copied result ≡ map.get self.now imsi.now }
     {
@@ -71,7 +71,7 @@ impl<V, S: BuildHasher + Copy> Table<V, S> {
         self.lines.get(self.places.place(imsi.number())).get(imsi)
     }
 
-    /// The IMSIs that have values, each once, in no order that is promised. Fails with `AllocError` where memory is
+    /// The IMSIs that have values, each once, in no order that is promised. Fails with `AllocError` if memory is
     /// refused.
     pub fn imsis(&self) -> Result<Vec<Imsi>, AllocError>
         ensures { IfOk result (λ imsis. ListsEachOnce imsis.items self.now) }
@@ -85,8 +85,8 @@ impl<V, S: BuildHasher + Copy> Table<V, S> {
 }
 
 impl<V: Drop, S: BuildHasher + Copy> Table<V, S> {
-    /// Puts a value in the place of the one that an IMSI has, or of none. Fails with `AllocError` where memory is
-    /// refused; then nothing changes.
+    /// Puts a value in the place of the one that an IMSI has, or of none. Fails with `AllocError` if memory is refused;
+    /// then nothing changes.
     pub fn put(&mut self, imsi: &Imsi, value: V) -> Result<(), AllocError>
         ensures put { OnOk result (self.new ≡ map.insert self.old imsi.now value) }
         ensures unchanged { OnErr result (self.new ≡ self.old) }
@@ -100,13 +100,13 @@ impl<V: Drop, S: BuildHasher + Copy> Table<V, S> {
         let is_long = line.len() > MOST_IN_LINE;
         self.lines.replace(at, line);
         if is_long {
-            // Where memory is refused, the line stays long.
+            // If memory is refused, the line stays long.
             let _ = self.grow();
         }
         done
     }
 
-    /// Puts a value in the place of the one that an IMSI has, which it returns. Where it has none, nothing changes. It
+    /// Puts a value in the place of the one that an IMSI has, which it returns. If it has none, nothing changes. It
     /// takes no memory.
     pub fn replace(&mut self, imsi: &Imsi, value: V) -> Option<V>
         ensures before { result ≡ map.get self.old imsi.now }
@@ -161,7 +161,7 @@ impl<V: Drop, S: BuildHasher + Copy> Table<V, S> {
         Ok(())
     }
 
-    /// Divides the next line of the round, if there may be a line more. Fails with `AllocError` where memory is refused;
+    /// Divides the next line of the round, if there may be a line more. Fails with `AllocError` if memory is refused;
     /// then all lines are as they were.
     fn grow(&mut self) -> Result<(), AllocError>
         ensures { self.new ≡ self.old }
@@ -196,7 +196,7 @@ impl<V: Clone, S: BuildHasher + Copy> Clone for Table<V, S> {
     }
 }
 
-/// Adds an empty line where there are no more than so many.
+/// Adds an empty line if there are no more than so many.
 fn add_spare<V: Drop>(
     lines: &mut Segments<Line<V>>,
     alloc: Global,
