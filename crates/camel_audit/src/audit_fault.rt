@@ -3,8 +3,8 @@ ghost use Rattle.camel_audit.specs.AuditFault.{audit_fault_code};
 
 use thiserror::Error;
 
-/// Why updates do not explain what sessions answered. Updates, sessions and entries are counted from 0. An audit changes
-/// nothing.
+/// Why updates do not explain what sessions answered. Updates, sessions and entries are counted from 0. An audit
+/// changes nothing.
 #[derive(Clone, Copy, Debug, PartialEq, Eq, Error)]
 pub enum AuditFault {
     /// 102: out of memory.

@@ -12,9 +12,9 @@ use std::alloc::Global;
 /// Checks that the updates explain each transcript under a profile: they are accepted one after the other, no session's
 /// front goes back, and each answer is the decision over as many updates as its front has.
 ///
-/// Fails with the first fault: of the updates, with `BadHistory` (304); then session by session and entry by entry, with
-/// `FrontTooLong` (301), `FrontWentBack` (302) or `AnswerDiffers` (303). Fails with `OutOfMemory` (102) where memory is
-/// refused.
+/// Fails with the first fault: of the updates, with `BadHistory` (304); then session by session and entry by entry,
+/// with `FrontTooLong` (301), `FrontWentBack` (302) or `AnswerDiffers` (303). Fails with `OutOfMemory` (102) where
+/// memory is refused.
 pub fn audit(
     alloc: Global,
     updates: &[Update],

@@ -14,8 +14,8 @@ use Rattle.camel_criteria.specs.declared.criteria.MatchType.{MatchType}
 use Rattle.camel_criteria.specs.declared.criteria.MatchType.TheVariants.{Inhibiting, Enabling}
 use Rattle.camel_criteria.specs.declared.event.TEvent.{TEvent}
 
--- a listed number agrees with the destination in what the profile compares of octet 1, and its digits are a prefix of the
--- destination's
+-- a listed number agrees with the destination in what the profile compares of octet 1, and its digits are a prefix of
+-- the destination's
 abbrev pub NumberMatches : Profile → List ℕ → List ℕ → Type 0
 NumberMatches profile destination listed = Agree profile listed destination × IsPrefix (digits listed) (digits destination)
 

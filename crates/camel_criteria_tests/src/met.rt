@@ -13,8 +13,8 @@ type NumberCase = (&'static [&'static [u8]], &'static [u8], &'static [u8], bool)
 
 const ONE_TWO_THREE: &[u8] = &[0x91, 0x21, 0xf3];
 
-/// By TS 23.078 a listed number matches a destination of its nature that begins with its digits. Bit 8 of octet 1 is not
-/// compared, and the numbering plan is not under profile 1.
+/// By TS 23.078 a listed number matches a destination of its nature that begins with its digits. Bit 8 of octet 1 is
+/// not compared, and the numbering plan is not under profile 1.
 const ENABLING: [NumberCase; 11] = [
     (&[ONE_TWO_THREE], &[], &[0x91, 0x21, 0x43], true),
     (&[&[0x91, 0x21, 0x43]], &[], &[0x91, 0x21, 0xf3], false),
@@ -179,7 +179,8 @@ fn meets_an_entry_of_the_o_csi_by_each_criterion(rt: HostRuntime) -> Result<(), 
 
 const FACSIMILE: &[BasicService] = &[BasicService::Tele(0x60)];
 
-/// The codes and the causes of an entry of the VT-CSI; the code and the cause of a call; and whether it meets the entry.
+/// The codes and the causes of an entry of the VT-CSI; the code and the cause of a call; and whether it meets the
+/// entry.
 type TCase = (&'static [BasicService], &'static [u8], u8, Option<u8>, bool);
 
 const T_CASES: [TCase; 5] = [

@@ -35,7 +35,8 @@ module _ {X : Type 0} where
   get-with_value_of m None value imsi none = get-empty (slice_cmp nat_cmp) imsi ∙ sym (none refl)
   get-with_value_of m (Some own) value imsi none = get-with_value m own value imsi ∙ ap (λ b. cond b value (get m imsi)) (same_test own imsi)
 
-  -- two maps that hold the same of a subscriber hold the same of the one whom something concerns, if it concerns this one
+  -- two maps that hold the same of a subscriber hold the same of the one whom something concerns, if it concerns this
+  -- one
   pub value_of-same : (m n : ByImsi X) (whom : Option (List ℕ)) (imsi : List ℕ) → concerns whom imsi ≡ true → get m imsi ≡ get n imsi
       → value_of m whom ≡ value_of n whom
   value_of-same m n None imsi own same = refl

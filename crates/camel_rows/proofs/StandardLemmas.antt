@@ -31,7 +31,8 @@ module _ (profile : Profile) where
   meets_means (ToO shown) (T entry) = (λ e. absurd (cc), λ met. absurd met)
   meets_means (ToVt shown) (O entry) = (λ e. absurd (cc), λ met. absurd met)
 
-  -- the decision by what the standard names: whether the CSI is stored, the row, whether the call is an emergency call, the entry
+  -- the decision by what the standard names: whether the CSI is stored, the row, whether the call is an emergency call,
+  -- the entry
   abbrev at_entry : (EntryData → Bool) → TdpRowData → Option EntryData → DecisionData
   at_entry is_met row None = Triggers row None
   at_entry is_met row (Some entry) = if is_met entry then Triggers row (Some entry) else TriggersNothing Criteria

@@ -1,5 +1,5 @@
--- The trigger rules (TS 23.078): whether an event triggers a service. The order of the reasons, and that CAMEL does
--- not apply to emergency calls at the VT-CSI either, is profile 1's own. `Standard` says the same in the standard's words.
+-- The trigger rules (TS 23.078): whether an event triggers a service. The order of the reasons, and that CAMEL does not
+-- apply to emergency calls at the VT-CSI either, is profile 1's own. `Standard` says the same in the standard's words.
 use Rattle.std.specs.Prelude.{ℕ, Bool, Option, Some, None, if◌then◌else◌}
 use Rattle.std.specs.FinMap as map
 use Rattle.std.specs.Option.{option_map}

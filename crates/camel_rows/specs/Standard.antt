@@ -55,7 +55,8 @@ pub record IsEmergencyCall (m : RecordsData) (event : EventData) : Type 0 where
   pub armed : IsSome (row_at (event_dp event) subscriber)
   pub emergency : IsTrue (is_emergency (event_basic event))
 
--- the detection point is armed, the call is no emergency call, and the event does not meet the entry of the detection point
+-- the detection point is armed, the call is no emergency call, and the event does not meet the entry of the detection
+-- point
 pub record FailsCriteria (profile : Profile) (m : RecordsData) (event : EventData) : Type 0 where
   pub subscriber : SubscriberData
   pub registered : map.get m (event_imsi event) ≡ Some subscriber

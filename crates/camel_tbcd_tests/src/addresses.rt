@@ -2,8 +2,8 @@ use camel_tbcd::{Address, AddressFault, CallAddress, IsdnAddress, Profile};
 use std::process::Abort;
 use std::test::Fail;
 
-/// One octet more than the longest address has: 11, 15, 19, 1d, 21 and so on to 61 hexadecimal. No two are alike, so that
-/// a lost or moved one shows, and none holds a filler.
+/// One octet more than the longest address has: 11, 15, 19, 1d, 21 and so on to 61 hexadecimal. No two are alike, so
+/// that a lost or moved one shows, and none holds a filler.
 fn distinct_octets() -> [u8; 21] {
     let mut octets = [0; 21];
     let mut next = 0x11u8;

@@ -9,8 +9,8 @@ use camel_vlr::{MAX_PLACES, MAX_UPDATES, NoLook, Session, Vlr};
 use std::alloc::Global;
 use std::sync::Wait;
 
-/// A store is filled in publications of so many subscribers, as by a switch that is restored. The memory for the list of
-/// the pending updates stays, and is to be little.
+/// A store is filled in publications of so many subscribers, as by a switch that is restored. The memory for the list
+/// of the pending updates stays, and is to be little.
 const FILLED_AT_ONCE: u64 = 1000;
 
 /// A store with so many known subscribers, and its sessions.

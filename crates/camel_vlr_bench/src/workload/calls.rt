@@ -13,8 +13,8 @@ const FEWEST_CALLS: u64 = 1 << 14;
 
 const MOST_CALLS: u64 = 1 << 20;
 
-/// What is known of a call at detection point 2. Its destination has at most nine octets, so that it takes little room in
-/// a list of calls.
+/// What is known of a call at detection point 2. Its destination has at most nine octets, so that it takes little room
+/// in a list of calls.
 #[derive(Clone, Copy)]
 pub(crate) struct Call {
     imsi: Imsi,
