@@ -28,7 +28,7 @@ records_of-longer updates front longer small =
     sym (records_from-append no_records (take front updates) (take (longer - front) (drop front updates)))
     ∙ ap records_of (sym (take-add front (longer - front) updates) ∙ ap (λ n. take n updates) sum)
 
--- what is said of a reason that can't be holds only where there is none
+-- what is said of a reason that can't be holds only if there is none
 pub not_refused : {E : Type 0} {Says : E → Type 0} {o : Option E} → IfSome o Says → ((e : E) → Says e → ⊥) → o ≡ None
 not_refused {o = None} is never = refl
 not_refused {o = Some e} is never = absurd (never e is)

@@ -14,13 +14,13 @@ use Rattle.camel_rows.specs.declared.trigger.outcome.Outcome.{Outcome}
 abbrev pub outcome_at_front : Profile → List Update → Entry → Outcome
 outcome_at_front profile updates entry = outcome_of (decision profile (records_of (take entry.answer.front updates)) entry.event)
 
--- the updates explain an entry, where the entry before it has a front of `earlier` updates
+-- the updates explain an entry that comes behind a front of `earlier` updates
 pub record IsExplained (profile : Profile) (updates : List Update) (earlier : ℕ) (entry : Entry) : Type 0 where
   pub within : entry.answer.front ≤ length updates
   pub later : earlier ≤ entry.answer.front
   pub outcome : entry.answer.outcome ≡ outcome_at_front profile updates entry
 
--- they explain each entry of a list, where the entry before the list has a front of `earlier` updates
+-- the updates explain each entry of a list that comes behind a front of `earlier` updates
 abbrev pub AreExplained : Profile → List Update → ℕ → List Entry → Type 0
 AreExplained profile updates earlier [] = Unit {0}
 AreExplained profile updates earlier (entry ∷ entries) = IsExplained profile updates earlier entry × AreExplained profile updates entry.answer.front entries
@@ -37,7 +37,7 @@ pub record RefusedAt (updates : List Update) (at : ℕ) : Type 0 where
   pub accepted : Accepted (take at updates)
   pub refused : IsSome (refusal (records_of (take at updates)) update)
 
--- how many updates the front of the last entry has; `earlier`, where there is none
+-- how many updates the front of the last entry has; `earlier`, if there is none
 abbrev pub last_front : ℕ → List Entry → ℕ
 last_front earlier [] = earlier
 last_front earlier (entry ∷ entries) = last_front entry.answer.front entries

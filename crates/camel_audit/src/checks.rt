@@ -13,8 +13,8 @@ use std::alloc::Global;
 /// front goes back, and each answer is the decision over as many updates as its front has.
 ///
 /// Fails with the first fault: of the updates, with `BadHistory` (304); then session by session and entry by entry,
-/// with `FrontTooLong` (301), `FrontWentBack` (302) or `AnswerDiffers` (303). Fails with `OutOfMemory` (102) where
-/// memory is refused.
+/// with `FrontTooLong` (301), `FrontWentBack` (302) or `AnswerDiffers` (303). Fails with `OutOfMemory` (102) if memory
+/// is refused.
 pub fn audit(
     alloc: Global,
     updates: &[Update],

@@ -2,7 +2,7 @@
 //!
 //! A transcript is what one session answered, in its order. Each answer says over how many updates it was decided.
 //! [`audit`] decides each call once more, over that many updates, and says where an answer differs. It stands on
-//! subscriber data and trigger rules alone, so a switch may audit logs of its own with it.
+//! subscriber data and trigger rules only, so a switch may audit logs of its own with it.
 #![tactic(auto)]
 
 mod audit_fault;

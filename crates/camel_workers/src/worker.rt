@@ -35,9 +35,9 @@ pub struct Served {
 /// Answers jobs in their order, each by a look of its own, over fronts that extend that of a receipt and all that the
 /// session saw and learnt. The receipt has to be of the session's own store.
 ///
-/// Before each look it asks the gate, and it tells the gate of each answer. It ends before all jobs are answered where
-/// the gate refuses a call, where a look fails, or where memory is refused; `ended` says so, and the transcript has
-/// what was answered before.
+/// Before each look it asks the gate, and it tells the gate of each answer. It ends before all jobs are answered if the
+/// gate refuses a call, if a look fails, or if memory is refused; `ended` says so, and the transcript has what was
+/// answered before.
 pub fn serve<G: Gate>(
     alloc: Global,
     session: Session,
