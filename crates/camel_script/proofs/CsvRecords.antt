@@ -61,7 +61,7 @@ enough cfg (suc n) (suc m) s (c ∷ rest) a b = by (next_record cfg s [] [] (c �
         let l = shrinks cfg s [] [] c rest p e in
         rw e (ap (λ (rs : List (List (List ℕ))). p.0 ∷ rs) (more p (omega arith) (omega arith)))
 
--- where there is no next record there are none
+-- if there is no next record, there are none
 pub csv_records-none : (s : State) (xs : List ℕ) → next_record default_config s [] [] xs ≡ None → csv_records s xs ≡ []
 unfolding records_from
 csv_records-none s xs h = rw (add-one, h) refl

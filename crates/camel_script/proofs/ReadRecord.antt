@@ -24,7 +24,7 @@ gives_end (Some bytes) (Some rest) state next most fields reads = by (next_recor
     by None e = rw (csv_records-none state bytes e) refl
     by (Some read) e = let found = rw e at reads in cc found.0
 
--- a CSV record that was read stands in front of those after it
+-- a CSV record that was read is in front of those after it
 abbrev pub StandsInFront : Option (List ℕ) → Option (List ℕ) → State → State → List (List ℕ) → Type 0
 StandsInFront None after state next fields = Unit {0}
 StandsInFront (Some bytes) None state next fields = ⊥

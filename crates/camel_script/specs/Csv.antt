@@ -1,4 +1,4 @@
--- How the reader of CSV records underneath a `Script` stands.
+-- The state of the reader of CSV records underneath a `Script`.
 use Rattle.std.specs.Prelude.{ℕ, ◌+◌, ◌≡◌, ⊤, true, false, List, length, Option, option_map}
 use Rattle.csv.specs.Reading.{default_config, has_failed, is_flexible, reader_config, reader_trim, Ready, records_from}
 use Rattle.csv.specs.declared.error.ErrorKind.{ErrorKind}
@@ -14,7 +14,7 @@ use Rattle.camel_script.specs.declared.script.Phase.TheVariants as phase
 abbrev pub csv_records : State → List ℕ → List (List (List ℕ))
 csv_records state bytes = records_from default_config (length bytes + 1) state bytes
 
--- what bytes still give, where they are known
+-- what bytes still give, if they are known
 abbrev pub known_data : Option (List ℕ) → State → ℕ → Option ScriptData
 known_data source state most = option_map (λ bytes. script_of (csv_records state bytes) most) source
 

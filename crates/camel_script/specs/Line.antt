@@ -14,7 +14,7 @@ use Rattle.camel_rows.specs.declared.trigger.outcome.Outcome.TheVariants.{Trigge
 use Rattle.camel_script.specs.declared.line.Line.{Line}
 use Rattle.camel_script.specs.declared.line.Line.TheVariants.{Accepted, Refused, Published, Decided, Served, AuditOk}
 
--- what is done with the call where the dialogue with the gsmSCF fails
+-- what is done with the call if the dialogue with the gsmSCF fails
 abbrev pub action_text : CallAction → List ℕ
 action_text Continue = codes "continue"
 action_text Release = codes "release"

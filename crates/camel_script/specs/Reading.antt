@@ -6,7 +6,7 @@ use Rattle.camel_script.specs.Parts.{elements_of}
 use Rattle.camel_script.specs.declared.text.record_fault.RecordFault.{RecordFault}
 use Rattle.camel_script.specs.declared.text.record_fault.RecordFault.TheVariants.{FieldCount, OutOfMemory, Refused}
 
--- a step, and the next one where the first has no fault
+-- a step, and the next one if the first has no fault
 infixl 10 ◌>>=◌
 abbrev pub ◌>>=◌ : {A B : Type 0} → Result A RecordFault → (A → Result B RecordFault) → Result B RecordFault
 Ok value >>= next = next value
@@ -57,6 +57,6 @@ abbrev pub ReadsList : {A G : Type 0} → Result (Vec A G) RecordFault → Resul
 ReadsList (Ok values) reading = reading ≡ Ok values.items
 ReadsList (Err fault) reading = FailsAs fault reading
 
--- each answer that may come for a source is what the source reads as, or out of memory
+-- each result that may come for a source is what the source reads as, or out of memory
 abbrev pub AnswersAs : {A S : Type 0} → (S → Result A RecordFault → Type 0) → (S → Result A RecordFault) → Type 0
 AnswersAs may_answer value_of = (source : _) (answer : _) → may_answer source answer → ReadsAs answer (value_of source)

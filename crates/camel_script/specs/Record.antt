@@ -20,7 +20,7 @@ use Rattle.camel_script.specs.declared.script_fault.ScriptFault.TheVariants as f
 use Rattle.camel_script.specs.declared.text.record_fault.RecordFault.{RecordFault}
 use Rattle.camel_script.specs.declared.text.record_fault.RecordFault.TheVariants as record_fault
 
--- the IMSI of a record that has a word and an IMSI alone
+-- the IMSI of a record that has only a word and an IMSI
 unfoldable pub imsi_alone_of : List (List ℕ) → Result (List ℕ) RecordFault
 imsi_alone_of fields = of_count 2 fields (imsi_of_text (field fields 1))
 
@@ -77,7 +77,7 @@ delete_of fields =
       what ← in_turn withdrawal_with no_withdrawal (drop 2 fields)
       Ok (record_of_script.Update (update.Delete imsi what))
 
--- a record that has a word alone
+-- a record that has only a word
 unfoldable pub word_alone_of : List (List ℕ) → Record → Result Record RecordFault
 word_alone_of fields read = of_count 1 fields (Ok read)
 

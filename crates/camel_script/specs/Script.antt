@@ -35,15 +35,15 @@ script_of (fields ∷ more) (suc most) = first_then (record_of fields) (script_o
 abbrev pub script : List ℕ → ℕ → ScriptData
 script bytes most = script_of (records default_config (strip_bom bytes)) most
 
--- What a `Script` is to its caller. `Unread`: it is not read to its end. The number is how many records more
--- may be read, and what it still gives stands beside it, where its bytes are known. `Failed`: a read has
--- answered a fault. `Ended`: a read has found the end.
+-- What a `Script` is to its caller. `Unread`: it is not read to its end. The number is how many records more may be
+-- read, and what it still gives is beside it, if its bytes are known. `Failed`: a read has returned a fault. `Ended`: a
+-- read has found the end.
 pub data ScriptState : Type 0 where
   Unread : ℕ → Option ScriptData → ScriptState
   Failed : ScriptState
   Ended : ScriptState
 
--- what the calls from here on give, where it is known
+-- what the calls from here on give, if it is known
 abbrev pub still_gives : ScriptState → Option ScriptData
 still_gives (Unread most known) = known
 still_gives Failed = Some (only_fault fault.Failed)

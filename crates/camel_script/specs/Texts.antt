@@ -18,7 +18,7 @@ use Rattle.camel_script.specs.Reading.{◌>>=◌}
 use Rattle.camel_script.specs.declared.text.record_fault.RecordFault.{RecordFault}
 use Rattle.camel_script.specs.declared.text.record_fault.RecordFault.TheVariants.{Word, Hexadecimal, Number, Refused}
 
--- the characters are 0 to 9 alone
+-- the characters are only 0 to 9
 abbrev pub is_digits : List ℕ → Bool
 is_digits text = list_all is_ascii_digit text
 

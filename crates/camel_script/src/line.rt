@@ -38,7 +38,7 @@ pub enum Line {
 
 /// Appends the text of a line, with its line feed.
 ///
-/// Fails with `OutOfMemory` (102) alone; the bytes are then as before.
+/// Fails only with `OutOfMemory` (102); the bytes are then as before.
 pub fn push_line(alloc: Global, out: &mut Vec<u8>, line: &Line) -> Result<(), Refusal>
     ensures appended { OnOk result (out.new.items ≡ out.old.items ++ line_text line.now) }
     ensures unchanged { OnErr result (out.new.items ≡ out.old.items) }
@@ -182,7 +182,7 @@ fn push_decimal(out: &mut Vec<u8>, number: u64) -> Result<(), AllocError>
     push_text(out, digits.format(number))
 }
 
-/// What is done with the call where the dialogue with the gsmSCF fails.
+/// What is done with the call if the dialogue with the gsmSCF fails.
 fn action_text(handling: Handling) -> &'static str
     ensures { result.now ≡ action_text (action_of handling) }
 {

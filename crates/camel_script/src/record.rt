@@ -33,7 +33,8 @@ pub enum Record {
     Publish,
     /// A call at a trigger detection point.
     Call(CallEvent),
-    /// A record whose texts can be read and whose data are refused: 35 or 36.
+    /// A record whose texts can be read and whose data are refused, with `DataMissing` (35) or
+    /// `UnexpectedDataValue` (36).
     Refused(Refusal),
 }
 
@@ -102,7 +103,7 @@ fn parse_kind(word: &[u8]) -> Result<RecordKind, RecordFault>
     }
 }
 
-/// Reads the IMSI of a record that has a word and an IMSI alone.
+/// Reads the IMSI of a record that has only a word and an IMSI.
 #[tactic(auto, unfolding(crate::specs::Record::imsi_alone_of))]
 fn parse_imsi_alone(fields: &ByteRecord) -> Result<Imsi, RecordFault>
     ensures { result ≡ imsi_alone_of (fields_of fields.now) }
@@ -127,7 +128,7 @@ fn parse_cancel(fields: &ByteRecord) -> Result<Record, RecordFault>
     Ok(Record::Update(Update::Cancel { imsi }))
 }
 
-/// Reads a record that has a word alone, and so no texts.
+/// Reads a record that has only a word, and so no texts.
 #[tactic(auto, unfolding(crate::specs::Record::word_alone_of))]
 fn parse_word_alone(fields: &ByteRecord, read: Record) -> Result<Record, RecordFault>
     ensures { result ≡ word_alone_of (fields_of fields.now) read }

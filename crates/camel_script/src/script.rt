@@ -21,7 +21,7 @@ enum Phase {
 
 /// A script that is read record by record, in the form that docs/SCRIPT.md states.
 ///
-/// Contracts see what it still gives where the bytes of the reader are known: records, and then a fault or the end.
+/// Contracts see what it still gives if the bytes of the reader are known: records, and then a fault or the end.
 #[derive(Drop)]
 pub struct Script<R: Read> {
     alloc: Global,
@@ -70,14 +70,15 @@ impl<R: Read> Script<R> {
     ///
     /// Fails with `Word` (202), `FieldCount` (203), `Hexadecimal` (204) or `Number` (205) for the first fault of a
     /// record's text, in the order of docs/SCRIPT.md; with `TooManyRecords` (207) for one record more than
-    /// `max_records`, before any other fault of it; with `Read` (206) where the reader failed; and with `OutOfMemory`
-    /// (102). After any fault each later call fails with `Failed` (209), and after None each returns None.
+    /// `max_records`, before any other fault of it; with `Read` (206) if the reader failed; and with
+    /// `OutOfMemory` (102). After any fault each later call fails with `Failed` (209), and after None each returns
+    /// None.
     pub fn read_record(&mut self) -> Result<Option<Record>, ScriptFault>
         ensures gives { IfOk result (λ read. Gives (still_gives self.old) (still_gives self.new) read) }
         ensures faults { IfErr result (λ fault. FaultsAs fault (still_gives self.old)) }
         ensures counts { IfOk result (λ read. IfSome read (λ _. records_left self.old ≡ records_left self.new + 1)) }
 
-        // `Failed` comes after a fault alone, and then for good. None is returned for good after the end.
+        // `Failed` comes only after a fault, and then for good. None is returned for good after the end.
         ensures fails { OnErr result (self.new ≡ Failed) }
         ensures failed { self.old ≡ Failed → result ≡ Err ScriptFault.Failed }
         ensures failed_only { result ≡ Err ScriptFault.Failed → self.old ≡ Failed }

@@ -190,7 +190,7 @@ pub(crate) fn make_call_address(octets: &Octets) -> Result<CallAddress, RecordFa
     }
 }
 
-/// Whether the characters are `0` to `9` alone.
+/// Whether the characters are only `0` to `9`.
 fn is_digits(text: &[u8]) -> bool
     ensures { result ≡ is_digits text.now }
 {

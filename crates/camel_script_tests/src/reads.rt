@@ -30,7 +30,7 @@ fn reads_to_the_end_or_a_fault(rt: HostRuntime) -> Result<(), Fail> {
     Ok(())
 }
 
-/// A reader that gives one octet a call, and fails at one call alone.
+/// A reader that gives one octet a call, and fails at one call only.
 #[derive(Drop)]
 struct FailsOnce<'a> {
     octets: &'a [u8],
@@ -55,7 +55,7 @@ impl Read for FailsOnce<'_> {
     }
 }
 
-/// The first answer that is no record, among five.
+/// The first result that is no record, among five.
 fn first_without_record<R: Read>(script: &mut Script<R>) -> Option<Given> {
     for _ in 0..5u8 {
         match next(script) {
