@@ -95,7 +95,7 @@ fn count_triggers_of_looks(session: &mut Session, events: &[CallEvent]) -> u64 {
     triggers
 }
 
-// Where nothing triggered, nothing was measured.
+// If nothing triggered, nothing was measured.
 fn hundredths(taken: u64, rounds: u64, triggers: u64) -> Option<u64> {
     if triggers == 0 {
         return None;

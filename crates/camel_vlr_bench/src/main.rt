@@ -52,7 +52,7 @@ fn request(words: &[String]) -> Option<Request> {
     Request::from_words(asked)
 }
 
-// The figure of what `bench/run-vlr` names, and 0 where nothing is named.
+// The figure of what `bench/run-vlr` names, and 0 if nothing is named.
 fn measured<R: AllocGlobal + Clock + Threads + Wait + Sync>(
     rt: &R,
     words: &[String],

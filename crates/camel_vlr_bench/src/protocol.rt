@@ -36,7 +36,7 @@ pub(crate) struct Measurement {
 }
 
 impl Request {
-    /// The request of these words; None where they are not of the protocol.
+    /// The request of these words; None if they are not of the protocol.
     pub(crate) fn from_words(words: &[String]) -> Option<Request> {
         match words {
             [what, known, events, every, batch] if what.as_str() == "check" => {

@@ -1,5 +1,5 @@
 //! The workload of the protocol in `bench/peers`: subscribers, events and updates that are made by integer arithmetic
-//! alone. So each program makes the same ones, and their answers can be compared.
+//! only. So each program makes the same ones, and their answers can be compared.
 
 pub(crate) mod calls;
 pub(crate) mod changes;

@@ -144,7 +144,7 @@ impl Stage<'_> {
         })
     }
 
-    /// Keeps the readers for the next run, and answers what they did.
+    /// Keeps the readers for the next run, and returns what they did.
     fn take_back(
         &mut self,
         alloc: Global,
@@ -159,7 +159,7 @@ impl Stage<'_> {
     }
 }
 
-/// Lets the readers decide in threads of their own until the run is over. Answers what they did, and when they ended.
+/// Lets the readers decide in threads of their own until the run is over. Returns what they did, and when they ended.
 fn read_until<R: Clock + Threads + Wait + Sync>(
     rt: &R,
     signals: &Signals,

@@ -12,7 +12,7 @@ pub(super) struct Signals {
 }
 
 impl Signals {
-    /// For so many threads, beside the one that has the run end.
+    /// The signals for so many threads, beside the one that has the run end.
     pub(super) fn new(threads: usize) -> Signals {
         Signals {
             start: Barrier::new(threads.saturating_add(1)),
@@ -28,7 +28,7 @@ impl Signals {
         self.stop.load(Ordering::SeqCst)
     }
 
-    /// Lets the threads start, and tells them to stop after this time. Answers when they started.
+    /// Lets the threads start, and tells them to stop after this time. Returns when they started.
     pub(super) fn run_for<R: Clock + Wait>(&self, rt: &R, time: Duration) -> io::Result<Instant> {
         self.start.wait(rt);
         let begin = Instant::now(rt);

@@ -75,7 +75,7 @@ pub(crate) fn probed(alloc: Global, known: u64) -> Result<Vec<u64>, AllocError> 
     Ok(subscribers)
 }
 
-/// A call of a subscriber. Its destination begins with a listed number where it is to and where there is one.
+/// A call of a subscriber. Its destination begins with a listed number if it is to and if there is one.
 fn call_of(subscriber: u64, choice: u64, digits: u64, begins_with_listed: bool) -> Result<Call> {
     let count = if choice >> 8 & 3 == 0 { 11 } else { 12 };
     let any = Number::of(INTERNATIONAL, digits, count);

@@ -12,8 +12,8 @@ use camel_rows::{OCriteriaSet, OCsi, TdpRow, Update, VtCsi};
 use camel_tbcd::{AddressFault, IsdnAddress};
 use std::alloc::Global;
 
-/// The Insert by which the record of a subscriber becomes that of a version from 0 to 2047, where there is a record.
-/// Which CSIs a subscriber has does not depend on the version.
+/// The Insert by which the record of a subscriber becomes that of a version from 0 to 2047, if there is a record. Which
+/// CSIs a subscriber has does not depend on the version.
 pub(crate) fn insert_of(alloc: Global, subscriber: u64, version: u32) -> Result<Update> {
     let traits = traits_of(subscriber);
     let rows = Rows::of(traits, version)?;
@@ -41,8 +41,8 @@ struct Rows {
 }
 
 impl Rows {
-    /// The version stands above the service key, and its lowest seven bits are the last octet of the gsmSCF address. So
-    /// a row of two versions is found.
+    /// The version is in the bits above the service key, and its lowest seven bits are the last octet of the gsmSCF
+    /// address. So a row of two versions is found.
     fn of(traits: u64, version: u32) -> Result<Rows, AddressFault> {
         let count = 8 + 2 * ((traits >> 31) % 5);
         let scf = Number::of(INTERNATIONAL, mix(traits), count as usize);

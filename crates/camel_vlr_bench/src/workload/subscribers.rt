@@ -59,8 +59,8 @@ pub(crate) fn traits_of(subscriber: u64) -> u64 {
     Generator::new(subscriber.wrapping_mul(4)).draw()
 }
 
-/// The three numbers that the criteria of a subscriber list, where it has criteria. The first one is always shorter
-/// than a destination.
+/// The three numbers that the criteria of a subscriber list, if it has criteria. The first one is always shorter than a
+/// destination.
 pub(crate) fn listed_by(subscriber: u64) -> Option<[Number; 3]> {
     if traits_of(subscriber) >> 43 & 3 == 0 {
         return None;

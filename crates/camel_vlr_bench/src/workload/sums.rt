@@ -91,7 +91,7 @@ impl ScfOctets {
         (self.number >> 64) as u64
     }
 
-    /// With a zero in the place of the last octet, and that octet.
+    /// The octets with a zero in the place of the last one, and the last one.
     fn split_last(self) -> (ScfOctets, u64) {
         let ScfOctets { length, number } = self;
         let last = 0xFF << (8 * (length - 1));
