@@ -11,7 +11,7 @@ struct flat_number {
     uint8_t digits[8];
 };
 
-/* A criteria entry. Behind its listed numbers stand its lengths, its basic services and its causes. */
+/* A criteria entry. Behind its listed numbers are its lengths, its basic services and its causes. */
 struct flat_entry {
     uint8_t size;
     uint8_t detection_point;
@@ -52,7 +52,7 @@ static uint64_t digits_of(const struct isdn_address *address)
     return (octets & lower_nibbles) << 4 | (octets >> 4 & lower_nibbles) | (digits < 64 ? UINT64_MAX >> digits : 0);
 }
 
-/* How many digits stand before the first filler. */
+/* How many digits are before the first filler. */
 static unsigned count_of(uint64_t digits)
 {
     unsigned count = 0;

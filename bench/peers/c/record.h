@@ -3,7 +3,7 @@
 #define RECORD_H
 #include "workload.h"
 
-/* In place of a count of rows, where there is no CSI. */
+/* In place of a count of rows, if there is no CSI. */
 enum { ABSENT = 0xFF };
 
 /* The rows of the O-CSI and the VT-CSI, and behind them the criteria entries of the O-CSI and the VT-CSI. */

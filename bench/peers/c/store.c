@@ -148,7 +148,7 @@ void store_publish(struct store *store, const struct update *updates, size_t cou
         free_retired(store);
 }
 
-/* The table counts its subscribers. Where it has only the lengths of its chains to go by, it grows far too much. */
+/* The table counts its subscribers. If it has only the lengths of its chains to go by, it grows far too much. */
 struct store *store_open(uint64_t known)
 {
     struct store *store = checked(calloc(1, sizeof *store));

@@ -93,7 +93,8 @@ static void list_numbers(uint64_t subscriber, struct number listed[3])
     }
 }
 
-/* The version stands above the service key, and its lowest seven bits are the last octet of the gsmSCF address. */
+/* The version is in the bits above the service key, and its lowest seven bits are the last octet of the gsmSCF
+ * address. */
 static struct tdp_row row_of(uint64_t traits, uint32_t version, uint8_t detection_point, uint32_t difference)
 {
     size_t count = 8 + 2 * ((traits >> 31) % 5);
@@ -165,7 +166,7 @@ static struct basic_service basic_of(uint64_t choice)
     return (struct basic_service){ (choice & 63) < 16 ? BEARER : TELE, 0x11 };
 }
 
-/* An event of a subscriber. Its destination begins with a listed number where it is to and where there is one. */
+/* An event of a subscriber. Its destination begins with a listed number if it is to and if there is one. */
 static struct event event_of(uint64_t subscriber, uint64_t choice, uint64_t digits, bool begins_with_listed)
 {
     struct number destination = number_of(INTERNATIONAL, (choice >> 8 & 3) == 0 ? 11 : 12, digits);

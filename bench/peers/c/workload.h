@@ -59,7 +59,7 @@ struct csi {
     struct tdp_row row[2];
 };
 
-/* The data of a subscriber. Where there are listed numbers, an entry at DP2 of the O-CSI is enabled by them. */
+/* The data of a subscriber. If there are listed numbers, an entry at DP2 of the O-CSI is enabled by them. */
 struct record {
     struct csi o, vt;
     size_t numbers;

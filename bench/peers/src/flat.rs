@@ -64,7 +64,7 @@ fn flat_row(row: &TdpRow) -> FlatRow {
     flat
 }
 
-/// The row that stands in a block for a detection point.
+/// The row that is in a block for a detection point.
 fn row_of(flat: &FlatRow, detection_point: DetectionPoint) -> TdpRow {
     let [k0, k1, k2, k3, _, handling, octets @ .., length] = *flat;
     let handling = match handling {
@@ -83,7 +83,7 @@ fn row_of(flat: &FlatRow, detection_point: DetectionPoint) -> TdpRow {
 struct FlatCsi<'a> {
     rows: &'a [FlatRow],
     entries: u8,
-    /// The entries, and what stands behind them.
+    /// The entries, and what comes behind them.
     rest: &'a [u8],
 }
 

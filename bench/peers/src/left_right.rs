@@ -26,7 +26,7 @@ struct Copies<T> {
     sides: [UnsafeCell<T>; 2],
 }
 
-// SAFETY: readers share the live side, which asks for `T: Sync`. The writer alone changes the other one, after all
+// SAFETY: readers share the live side, which asks for `T: Sync`. Only the writer changes the other one, after all
 // readers have left it, which asks for `T: Send`.
 unsafe impl<T: Send + Sync> Sync for Copies<T> {}
 

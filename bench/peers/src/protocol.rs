@@ -183,7 +183,7 @@ fn parsed_run(line: &str) -> Option<Run> {
     (all.parse() == Ok(run.all_decisions())).then_some(run)
 }
 
-/// What a program answers where it has not what it is asked for.
+/// What a program answers if it has not what it is asked for.
 pub const NONE: &str = "none";
 
 /// All that a program answers to a measurement.

@@ -76,8 +76,8 @@ impl Sums {
         )
     }
 
-    /// The checksum of a run in which the readers made so many decisions. None where one of them did not end with a
-    /// chunk, or there are other readers.
+    /// The checksum of a run in which the readers made so many decisions. None if one of them did not end with a chunk,
+    /// or there are other readers.
     pub fn checksum(&self, decisions: &[u64]) -> Option<u64> {
         let readers = self.0.get(..decisions.len())?;
         readers

@@ -1,5 +1,5 @@
-//! The workload: subscribers, events and updates, made by integer arithmetic alone. So each program makes the same
-//! ones, and their answers can be compared. `c/workload.c` is the same in C.
+//! The workload: subscribers, events and updates, made by integer arithmetic only. So each program makes the same ones,
+//! and their answers can be compared. `c/workload.c` is the same in C.
 mod data;
 mod events;
 mod numbers;

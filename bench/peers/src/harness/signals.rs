@@ -10,7 +10,7 @@ pub(super) struct Signals {
 }
 
 impl Signals {
-    /// For so many threads, beside the one that has the run end.
+    /// The signals for so many threads, beside the one that has the run end.
     pub(super) fn new(threads: usize) -> Signals {
         Signals {
             start: Barrier::new(threads + 1),
@@ -26,7 +26,7 @@ impl Signals {
         self.stop.load(Ordering::Relaxed)
     }
 
-    /// Lets the threads start, and tells them to stop after this time. Answers when they started.
+    /// Lets the threads start, and tells them to stop after this time. Returns when they started.
     pub(super) fn run_for(&self, time: Duration) -> Instant {
         self.start.wait();
         let begin = Instant::now();

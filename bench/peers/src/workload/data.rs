@@ -1,4 +1,4 @@
-//! What a store is given, and what it answers.
+//! What a store is given, and what it returns.
 
 /// The nibble behind the last digit of an address with an odd count of digits.
 pub const FILLER: u8 = 15;
@@ -74,7 +74,7 @@ pub enum DetectionPoint {
     NoAnswer = 14,
 }
 
-/// What is done with the call where the dialogue with the gsmSCF fails.
+/// What is done with the call if the dialogue with the gsmSCF fails.
 #[derive(Clone, Copy, Debug, PartialEq, Eq)]
 #[repr(u8)]
 pub enum Handling {

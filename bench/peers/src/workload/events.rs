@@ -25,7 +25,7 @@ pub fn probe(subscriber: u64) -> Event {
     event(subscriber, 0x7F, mix(subscriber), true)
 }
 
-/// An event of a subscriber. Its destination begins with a listed number where it is to and where there is one.
+/// An event of a subscriber. Its destination begins with a listed number if it is to and if there is one.
 fn event(subscriber: u64, choice: u64, digits: u64, begins_with_listed: bool) -> Event {
     let count = if choice >> 8 & 3 == 0 { 11 } else { 12 };
     let any = digits_of(digits, count);

@@ -85,8 +85,8 @@ struct Rows {
 }
 
 impl Rows {
-    /// The version stands above the service key, and its lowest seven bits are the last octet of the gsmSCF address. So
-    /// a row of two versions is found.
+    /// The version is in the bits above the service key, and its lowest seven bits are the last octet of the gsmSCF
+    /// address. So a row of two versions is found.
     fn of(traits: u64, version: u32) -> Rows {
         let count = 8 + 2 * ((traits >> 31) % 5) as usize;
         let mut scf = IsdnAddress::of_digits(INTERNATIONAL, digits_of(mix(traits), count));

@@ -24,7 +24,7 @@ pub fn check(program: &Program, asked: &Check, expected: &str) -> Result<(), Fau
     })
 }
 
-/// The runs of a program, where all that it answers is right. None where it has no such measurement.
+/// The runs of a program, if all that it answers is right. None if it has no such measurement.
 pub fn runs(
     program: &Program,
     asked: &Measurement,

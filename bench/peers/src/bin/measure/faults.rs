@@ -67,7 +67,7 @@ impl fmt::Display for Fault {
     }
 }
 
-/// What is told beside the figures.
+/// What is printed beside the figures.
 #[derive(Default)]
 pub struct Notes {
     lines: Vec<String>,
@@ -86,7 +86,7 @@ impl Notes {
         self.wrong_answers += usize::from(fault.is_wrong_answer());
     }
 
-    /// A program without such a measurement is told of once.
+    /// A program without such a measurement is named once.
     pub fn add_absence(&mut self, name: &str, asked: &Request) {
         let line = format!("left out: {name}, asked for {asked}: it has no such measurement");
         if !self.lines.contains(&line) {

@@ -25,7 +25,7 @@ impl Default for Figures {
 }
 
 impl Figures {
-    /// How many times the decisions of one reader four make. Not a number above zero where one of the two is not known.
+    /// How many times the decisions of one reader four make. Not a number above zero if one of the two is not known.
     pub fn four_to_one(&self) -> f64 {
         self.decision / self.decision_of_four
     }

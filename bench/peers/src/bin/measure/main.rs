@@ -1,5 +1,5 @@
-//! `measure LIST`: asks the programs of a list in turn, compares what they answer with the slow reference, and prints
-//! a table of the least times. It ends with 1 where a program answered wrongly, and with 2 where nothing is measured.
+//! `measure LIST`: asks the programs of a list in turn, compares what they answer with the slow reference, and prints a
+//! table of the least times. It ends with 1 if a program answered wrongly, and with 2 if nothing is measured.
 mod answers;
 mod checks;
 mod faults;

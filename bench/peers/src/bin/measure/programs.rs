@@ -64,7 +64,7 @@ impl Program {
     }
 }
 
-/// What a program prints until it closes its output. The program can be killed where it takes too long.
+/// What a program prints until it closes its output. The program can be killed if it takes too long.
 fn printed(child: &mut Child, limit: Duration) -> Result<String, Fault> {
     let mut output = child
         .stdout
@@ -74,7 +74,7 @@ fn printed(child: &mut Child, limit: Duration) -> Result<String, Fault> {
     thread::spawn(move || {
         let mut text = String::new();
         let read = output.read_to_string(&mut text).map(|_| text);
-        // Nobody receives it where it took too long.
+        // Nobody receives it if it took too long.
         _ = sender.send(read);
     });
     Ok(receiver.recv_timeout(limit).map_err(|_| Fault::TooLong)??)

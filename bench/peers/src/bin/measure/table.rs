@@ -58,7 +58,7 @@ fn beside(figure: f64, least: f64) -> String {
     }
 }
 
-/// A figure with three digits, or a dash where there is none.
+/// A figure with three digits, or a dash if there is none.
 fn rounded(figure: f64) -> String {
     match figure {
         _ if !figure.is_finite() || figure <= 0.0 => "–".to_owned(),

@@ -21,8 +21,8 @@ fn measurements(known: u64, seconds: f64) -> [Measurement; 3] {
     })
 }
 
-/// The figures of each program, and None where it answered wrongly. The programs take turns, so that what else the
-/// machine does concerns them alike.
+/// The figures of each program, and None if it answered wrongly. The programs take turns, so that what else the machine
+/// does concerns them alike.
 pub fn figures(
     programs: &[Program],
     known: u64,
