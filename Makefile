@@ -60,7 +60,7 @@ crate:
 	@[ -n "$$CRATE" ] && [ -d "crates/$$CRATE/src" ] || \
 		{ echo "CRATE=$$CRATE is no crate: name one of \`ls crates\`, as CRATE=camel_rows" >&2; exit 2; }
 
-# Proves and builds a program where a source below it is newer, and runs it once. What `rt ci` has built is newer than
+# Proves and builds a program if a source below it is newer, and runs it once. What `rt ci` has built is newer than
 # its sources.
 $(PROGRAM) $(BENCH) $(REFUSALS) $(SOAK): $$(shell .ci/sources $$(@F))
 	@.ci/need rt python3
@@ -76,7 +76,7 @@ $(SOAK): ARGUMENTS := 0 1000
 try: script need-rt need-python3
 	@.ci/try $(OPTIONS) < "$$SCRIPT"
 
-# The output of the script alone comes on standard output.
+# Only the output of the script comes on standard output.
 ## Runs SCRIPT by the proved program, which is built first where a source is newer.
 replay: script $(PROGRAM)
 	@$(PROGRAM) $(OPTIONS) < "$$SCRIPT"
@@ -137,7 +137,7 @@ bench-vlr: need-python3 $(BENCH)
 	$(say)
 	@bench/run-vlr
 
-# Says which Debian packages it needs, where one is missing.
+# Says which Debian packages it needs, if one is missing.
 ## Measures the store beside others in Rust and C: about ten minutes, once its program is built.
 bench-peers: need-cargo need-gcc $(BENCH)
 	$(say)

@@ -25,7 +25,7 @@
 
 enum { LIMIT_SECONDS = 30, LINE_ROOM = 256, RECORD_ROOM = 8192, DEFAULT_CALLS = 100000, MOST_CALLS = 900000 };
 
-/* A child reads so many records, and the next one is fault 207. */
+/* A child reads so many records, and fails at the next one with `TooManyRecords` (207). */
 enum { MOST_RECORDS = 1000000 };
 
 /* A child, the switch's ends of its three pipes, the limit of a record in microseconds, and how many it was sent. */

@@ -7,7 +7,7 @@ from .one_thread import OneThread
 from .program import Difference, Fault, replay, replay_with_threads
 from .sessions import check_sessions
 
-# The faults that a script may have. 206 is that of an input that cannot be read.
+# The faults that a script may have. `Read` (206) is that of an input that cannot be read.
 SCRIPT_FAULTS = (202, 203, 204, 205, 207)
 
 
