@@ -94,9 +94,9 @@ pub struct Run {
     pub checksum: u64,
     /// The octets that the store took in memory when it was made.
     pub resident: i64,
-    /// From the start of the readers to the end of the last of them.
+    /// The time from the start of the readers to the end of the last of them.
     pub reading: u64,
-    /// From the start of the writer to its end.
+    /// The time from the start of the writer to its end.
     pub writing: u64,
     /// The time within publications.
     pub publishing: u64,

@@ -24,7 +24,7 @@ packed-replicate : (count : ℕ) → packed (nibbles (replicate count 0)) ≡ 0
 packed-replicate zero = refl
 packed-replicate (suc count) = let rest = packed-replicate count in omega arith
 
--- so a room of octets has the number of its octets
+-- a room of octets has the number of its octets
 pub packed-room : (most : ℕ) (octets : List ℕ) → packed (nibbles (room_with most octets)) ≡ packed (nibbles octets)
 packed-room most octets =
     packed-append octets _ (ap (λ zeros. packed (nibbles zeros)) (drop-replicate (length octets) most 0) ∙ packed-replicate _)
@@ -65,7 +65,7 @@ packed-take-append zero octets zeros none = refl
 packed-take-append (suc most) [] zeros none = none (suc most)
 packed-take-append (suc most) (octet ∷ octets) zeros none = let rest = packed-take-append most octets zeros none in omega arith
 
--- so octets 2 to 9 of a room have the number of the digits of its octets
+-- octets 2 to 9 of a room have the number of the digits of its octets
 pub packed_digits-room : (most : ℕ) (octets : List ℕ) → 1 ≤ length octets → packed_digits (room_with most octets) ≡ packed_digits octets
 packed_digits-room most [] some = absurd (omega arith)
 packed_digits-room most (first ∷ octets) some =
@@ -123,7 +123,7 @@ nibbles-take (suc count) twice (octet ∷ octets) is =
     let more : twice ≡ suc (suc (count + count)) = omega arith in
     rw more (ap (λ rest. octet % 16 ∷ octet / 16 ∷ rest) (nibbles-take count (count + count) octets refl))
 
--- the first 16 digits stand in octets 2 to 9
+-- the first 16 digits are in octets 2 to 9
 front_nibbles : (octets : List ℕ) (count : ℕ) → count ≤ length (digits octets) → count ≤ 16 → take count (nibbles (take 8 (drop 1 octets))) ≡ take count (digits octets)
 front_nibbles octets count within few =
     let all : List ℕ = nibbles (drop 1 octets) in

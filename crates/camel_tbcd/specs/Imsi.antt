@@ -11,7 +11,7 @@ pub record IsImsi (digits : List ℕ) : Type 0 where
   pub most : length digits ≤ 15
   pub decimal : All (λ digit. digit ≤ 9) digits
 
--- the fault of the first value over 9, or else this answer
+-- the fault of the first value over 9, or else this result
 abbrev pub unless_over_nine : Option ℕ → Result (List ℕ) ImsiFault → Result (List ℕ) ImsiFault
 unless_over_nine (Some at) answer = Err (NotDigit at)
 unless_over_nine None answer = answer

@@ -8,7 +8,7 @@ ghost use Rattle.camel_tbcd.specs.PackedDigits.{packed_digits};
 
 use crate::short_list::ShortList;
 
-/// The digits of an address, read where its octets stand: no list is made of them.
+/// The digits of an address, read where its octets are: no list is made of them.
 ///
 /// A digit is a number from 0 to 14: 0 to 9, 10 for `*`, 11 for `#`, and 12, 13 and 14 for `a`, `b` and `c`.
 #[derive(Clone, Copy, Debug)]
@@ -131,7 +131,7 @@ fn nibble(bytes: &[u8], at: usize) -> u8
     if at % 2 == 0 { octet % 16 } else { octet / 16 }
 }
 
-// How many nibbles stand after octet 1 and before the first filler.
+// How many nibbles are after octet 1 and before the first filler.
 pub(crate) fn digit_count(bytes: &[u8]) -> usize
     requires { IsAddress max_address_length bytes.now }
     ensures { result ≡ length (digits bytes.now) }

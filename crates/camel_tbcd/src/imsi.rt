@@ -106,8 +106,8 @@ impl Imsi {
         }
     }
 
-    /// Keeps the digits that TBCD octets hold, two in each, as an IMSI. A filler stands only as the high nibble
-    /// of the last octet.
+    /// Keeps the digits that TBCD octets hold, two in each, as an IMSI. A filler is allowed only as the high nibble of
+    /// the last octet.
     ///
     /// Fails with `Length` (1) for fewer than 3 octets or more than 8, then with `NotDigit` (2) and the place, from 0
     /// and low nibble first, of the first nibble over 9 other than that filler, and then with `Length` (1) for 16

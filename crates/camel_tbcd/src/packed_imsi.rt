@@ -56,7 +56,7 @@ impl PackedImsi {
         let mut digits = [0; MAX_IMSI_DIGITS];
         for at in 0..MAX_IMSI_DIGITS {
             let value = (self.number >> (4 * (MAX_IMSI_DIGITS - 1 - at))) % 16;
-            // A digit stands in its place as the digit plus 1, and 0 stands after the last one.
+            // A digit is kept in its place as the digit plus 1, and 0 is after the last one.
             if value == 0 {
                 return Imsi::of_decimal(&digits[..at]);
             }

@@ -117,7 +117,7 @@ fn check_digits(rt: &impl Abort, octets: &[u8], wanted: &[u8]) -> Result<(), Fai
     Ok(())
 }
 
-/// By TS 29.002 digits stand low nibble first, 10 to 14 are `*`, `#`, `a`, `b` and `c`, and a filler, f, ends them.
+/// By TS 29.002 digits come low nibble first, 10 to 14 are `*`, `#`, `a`, `b` and `c`, and a filler, f, ends them.
 #[test]
 fn reads_the_digits_of_an_address(rt: HostRuntime) -> Result<(), Fail> {
     check_digits(&rt, &[0x91], &[])?;

@@ -13,7 +13,7 @@ use std::{io, thread};
 #[derive(Clone, Copy, Default)]
 pub(super) struct Published {
     pub(super) publications: u64,
-    /// From the start of the writer to its end.
+    /// The time from the start of the writer to its end.
     pub(super) writing: u64,
     /// The time within publications.
     pub(super) publishing: u64,
