@@ -1,4 +1,4 @@
--- What the updates of one subscriber alone leave.
+-- What only the updates of one subscriber leave.
 use Rattle.std.proofs.Common.{◌≡◌, ◌∙◌, ℕ, Bool, true, false, List, [], ◌∷◌, None, refl, sym, ap, arith}
 use Rattle.std.proofs.lemmas.List.Sums.{count_by-le-length, length-filter}
 use Rattle.std.specs.FinMap as map
@@ -20,7 +20,7 @@ use Rattle.camel_vlr.specs.Prefix.{StoreId}
 same_refusal : (m n : RecordsData) (update : Update) → value_of m (update_imsi update) ≡ value_of n (update_imsi update) → refusal m update ≡ refusal n update
 same_refusal m n update same = ap (λ old. csis_refusal (option_map csis_of old) update) same
 
--- from the same record on, a subscriber's own updates are accepted where they are among others, and leave the same record
+-- from the same record on, a subscriber's own updates are accepted if they are among others, and leave the same record
 record OwnLeave (imsi : List ℕ) (m n : RecordsData) (updates : List Update) : Type 0 where
   accepted : AcceptedFrom n (own_updates imsi updates)
   leaves : map.get (records_from m updates) imsi ≡ map.get (records_from n (own_updates imsi updates)) imsi

@@ -20,7 +20,7 @@ pub record PrefixData : Type 0 where
   pub store : StoreId
   pub updates : List Update
 
--- the prefix that stands in these links, where the history begins at the cell that the last link of `start` names
+-- the prefix in these links, if the history begins at the cell that the last link of `start` names
 abbrev pub prefix_in : Book → List Link → List Link → PrefixData
 prefix_in book start links = record {
   store = record { book = book; root = root_of start; limit = (terms_of start).limit; profile = (terms_of start).profile };

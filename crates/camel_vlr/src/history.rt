@@ -1,4 +1,4 @@
-//! What exists for proofs alone: the history of a store, of which no byte is kept at run time.
+//! What exists only for proofs: the history of a store, of which no byte is kept at run time.
 
 ghost use Rattle.std.specs.Prelude.{◌≡◌, [], ◌++◌};
 ghost use Rattle.logbook.specs.Pages.{may_write};
@@ -17,7 +17,7 @@ use logbook::{Offer, Pen, Play, Seen, Start, Word};
 use std::marker::{Brand, Model, PhantomData};
 
 /// The updates by which a history grows, and the cell at which it goes on. Each call of [`History::grow`] chooses it,
-/// in clauses alone.
+/// only in clauses.
 pub(crate) trait Growth {
     ghost use Rattle.std.specs.Prelude.{List, ℕ};
     ghost use Rattle.camel_rows.specs.declared.subscriber.update.Update.{Update};

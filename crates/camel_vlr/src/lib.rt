@@ -7,7 +7,7 @@
 //! *read-your-writes* by receipts: a publication gives one, and a session that learns it sees at least that front from
 //! then on.
 //!
-//! The writer's loop has the [`Vlr`] to itself, and answers the home register once the update is published:
+//! The writer's loop has the [`Vlr`] to itself, and answers the HLR once the update is published:
 //!
 //! ```text
 //! store.submit(update)?;
@@ -17,7 +17,7 @@
 //! The reader's loop, in a thread of its own, has one [`Session`] of those that [`Vlr::open`] gives:
 //!
 //! ```text
-//! session.learn(receipt);             // where one has come
+//! session.learn(receipt);             // if one has come
 //! let Ok(look) = session.look() else { .. };
 //! let outcome = Outcome::of(&look.decide(&event));
 //! look.leave();
@@ -31,11 +31,13 @@
 #![tactic(auto)]
 
 mod history;
+mod of_store;
 mod published_copy;
 mod receipt;
 mod session;
 mod writer;
 
+pub use of_store::{HasStore, Of, StoreName};
 pub use receipt::Receipt;
 pub use session::Session;
 pub use session::look::{Look, NoLook};

@@ -33,7 +33,7 @@ impl Receipt {
         self.count
     }
 
-    /// The same receipt.
+    /// A copy of the receipt.
     pub(crate) fn copy(&self) -> Receipt
         ensures { result ≡ self.now }
     {

@@ -33,7 +33,7 @@ pub struct Session {
     longest: Receipt,
     /// Each front that it has learnt.
     told: Snapshot<Told>,
-    /// That of its store.
+    /// The profile of its store.
     profile: Profile,
 }
 
@@ -109,7 +109,7 @@ impl Session {
     /// A look at a front that extends all that the session saw and learnt. It takes no lock, does not wait, and takes no
     /// memory.
     ///
-    /// It fails with [`NoLook`] where the store has ended, or, which no run meets, where the published copy is older than
+    /// It fails with [`NoLook`] if the store has ended, or, which no run meets, if the published copy is older than
     /// what the session was told of. Then the session keeps what it had seen and learnt.
     pub fn look(&mut self) -> Result<Look<'_>, NoLook>
         ensures* refused { sem 𝓛 (RestsIfErr the_row self.entry (λ l. l.session.ghost_name) result (LeavesLook self.old)) }

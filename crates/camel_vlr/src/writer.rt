@@ -45,7 +45,7 @@ pub struct Vlr {
     history: History,
     /// Which updates are accepted, by the published and the pending ones.
     admission: Admission,
-    /// That of its sessions.
+    /// The profile of its sessions.
     profile: Profile,
 }
 
@@ -66,9 +66,9 @@ impl Vlr {
     /// changes.
     ///
     /// The seed of its tables is from the runtime's random source, so that nobody who chooses IMSIs can make look-ups
-    /// slow. Where that source fails, the seed is the fixed one.
+    /// slow. If that source fails, the seed is the fixed one.
     ///
-    /// It fails with `OutOfMemory` (102) where memory was refused, and with `NoPlace` (103) where a session got no place;
+    /// It fails with `OutOfMemory` (102) if memory was refused, and with `NoPlace` (103) if a session got no place;
     /// then nothing remains. It takes `Wait`, and nobody looks yet. What its clauses say holds if it returns; that it
     /// returns is not proved.
     pub fn open<R: Wait + RandomSource>(
@@ -90,7 +90,7 @@ impl Vlr {
         Vlr::open_seeded(rt, alloc, places, limit, profile, seed)
     }
 
-    /// The same, with a seed that the switch hands in.
+    /// An empty store as [`Vlr::open`] gives it, with a seed that the switch hands in.
     pub fn open_seeded<R: Wait>(
         rt: &R,
         alloc: Global,
@@ -171,7 +171,7 @@ impl Vlr {
     /// Accepts an update behind those that are pending, and returns its number, the first being 1.
     ///
     /// It is rejected, by the data that all accepted updates leave, with `UnidentifiedSubscriber` (5) or `DataMissing`
-    /// (35) as `Records::apply` says, then with `HistoryFull` (101) where the store has accepted as many updates as its
+    /// (35) as `Records::apply` says, then with `HistoryFull` (101) if the store has accepted as many updates as its
     /// limit, then with `OutOfMemory` (102). A rejected update is as if it had not been submitted.
     pub fn submit(&mut self, update: Update) -> Result<u64, Refusal>
         ensures refused { IfSome (submission_refusal self.old update) (λ why. result ≡ Err why) }
@@ -185,11 +185,11 @@ impl Vlr {
         Ok(self.admission.accepted())
     }
 
-    /// Publishes all that is pending, at once, also where nothing is. It waits for each look at the copy that is to be
+    /// Publishes all that is pending, at once, also if nothing is. It waits for each look at the copy that is to be
     /// changed. The receipt is of all that is published then. What its clauses say holds if it returns; that it returns is
     /// not proved.
     ///
-    /// It fails with `OutOfMemory` (102) where memory was refused: nothing was published, all is pending as before, and
+    /// It fails with `OutOfMemory` (102) if memory was refused: nothing was published, all is pending as before, and
     /// it may be tried again.
     pub fn publish<R: Wait>(&mut self, rt: &R) -> Result<Receipt, Refusal>
         ensures published { OnOk result (self.new ≡ record self.old { updates = all_published self.old.updates }) }

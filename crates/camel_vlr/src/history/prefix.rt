@@ -23,7 +23,7 @@ impl Model for Prefix {
 }
 
 impl Prefix {
-    /// The same prefix.
+    /// A copy of the prefix.
     pub(crate) fn copy(&self) -> Prefix
         ensures { result ≡ self.now }
     {

@@ -9,7 +9,7 @@ pub(crate) struct Terms {
     pub profile: Profile,
 }
 
-/// Those of a link that begins no history.
+/// The terms of a link that begins no history.
 pub(crate) const NO_TERMS: Terms = Terms {
     limit: 0,
     profile: Profile::One,

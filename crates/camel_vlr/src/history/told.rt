@@ -3,7 +3,7 @@ use std::marker::Model;
 use std::snapshot::Snapshot;
 
 /// The fronts that a session has learnt: those before, and the last one. A session keeps a snapshot of it, so that
-/// clauses alone read it, and it takes no bytes.
+/// only clauses read it, and it takes no bytes.
 #[derive(Drop)]
 pub(crate) struct Told {
     last: Option<(Snapshot<Told>, Snapshot<Receipt>)>,

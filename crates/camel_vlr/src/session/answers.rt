@@ -14,7 +14,7 @@ impl Session {
     /// The answer to an event, by a look of its own, which has ended when it returns. It takes no lock, does not wait, and
     /// takes no memory.
     ///
-    /// It fails with [`NoLook`] where [`Session::look`] does. Then the session keeps what it had seen and learnt.
+    /// It fails with [`NoLook`] if [`Session::look`] does. Then the session keeps what it had seen and learnt.
     pub fn answer(&mut self, event: &CallEvent) -> Result<Answer, NoLook>
         ensures answers { IfOk result (λ answer. Answers self.old (event.now ∷ []) (answer ∷ []) self.new) }
         ensures refused { OnErr result (LeavesLook self.old self.new) }
@@ -32,8 +32,8 @@ impl Session {
     /// Answers the events in their order, each by a look of its own, and appends the answers to the list. It takes no
     /// lock and does not wait.
     ///
-    /// It fails with `OutOfMemory` (102) where memory for the answers was refused: it has not looked then, and the list is
-    /// as before. It fails with `NoGuard` (104) where a look failed: the answers to the events before that one are
+    /// It fails with `OutOfMemory` (102) if memory for the answers was refused: it has not looked then, and the list is
+    /// as before. It fails with `NoGuard` (104) if a look failed: the answers to the events before that one are
     /// appended.
     pub fn answer_all(
         &mut self,

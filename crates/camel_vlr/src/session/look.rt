@@ -28,8 +28,8 @@ impl Look<'_> {
     ghost use Rattle.camel_vlr.specs.Session.{LeavesLook};
 
     /// Decides an event by the trigger rules of TS 23.078, over the data of the front, under the profile of the store. The
-    /// row and the entry that it lends are the stored ones. The updates of the event's subscriber alone would leave the
-    /// same decision; an update of all subscribers is one of them.
+    /// row and the entry that it lends are the stored ones. Only the updates of the event's subscriber would leave the same
+    /// decision; an update of all subscribers is one of them.
     pub fn decide(&self, event: &Event) -> Decision<'_>
         requires { self.now.session.now.looks ≡ true }
         ensures decision { decision_data result ≡ decision self.now.session.now.store.profile (records_of self.now.session.now.seen) (event_data event.now) }
@@ -48,7 +48,7 @@ impl Look<'_> {
         self.session.published().count
     }
 
-    /// The TDP row of a subscriber at a detection point, where it is armed.
+    /// The TDP row of a subscriber at a detection point, if it is armed.
     pub fn row(&self, imsi: &Imsi, dp: u8) -> Option<&TdpRow>
         requires { self.now.session.now.looks ≡ true }
         ensures { option_copied result ≡ option_and_then (row_at dp) (map.get (records_of self.now.session.now.seen) imsi.now) }
@@ -56,7 +56,7 @@ impl Look<'_> {
         self.session.published().records.get(imsi)?.row(dp)
     }
 
-    /// The criteria entry of a subscriber at a detection point, where there is one.
+    /// The criteria entry of a subscriber at a detection point, if there is one.
     pub fn criteria(&self, imsi: &Imsi, dp: u8) -> Option<Lent<'_>>
         requires { self.now.session.now.looks ≡ true }
         ensures { option_map entry_data result ≡ option_and_then (entry_at dp) (map.get (records_of self.now.session.now.seen) imsi.now) }
@@ -65,7 +65,7 @@ impl Look<'_> {
     }
 
     /// The records of the front, so that a running store can be listed ([`Records::imsis`]) and read whole. They are
-    /// borrowed from the look: it copies nothing. A look that is held over a long list holds up the writer; where that
+    /// borrowed from the look: it copies nothing. A look that is held over a long list holds up the writer; if that
     /// matters, list an equal copy of them ([`Records::copy`]) once the look is left.
     pub fn records(&self) -> &Records
         requires { self.now.session.now.looks ≡ true }

@@ -17,7 +17,7 @@ impl Seat {
     ghost use Rattle.left_right.specs.Sides.{view};
     ghost use Rattle.camel_vlr.specs.Seat.{IsSeated, known_of};
 
-    /// Gives the copy back, where there is one.
+    /// Gives the copy back, if there is one.
     pub(crate) fn into_reader(self) -> Reader<PublishedCopy, Known, PublicationRule>
         requires { IsSeated self }
         ensures { view result.place ≡ known_of self }

@@ -11,9 +11,9 @@ use std::sync::Wait;
 
 /// A store that was not closed, as it was, and why.
 pub struct CloseRefused {
-    /// 102 or 104.
+    /// `OutOfMemory` (102) or `NoGuard` (104).
     pub why: Refusal,
-    /// With all that is published and pending.
+    /// The store, with all that is published and pending.
     pub store: Vlr,
 }
 
@@ -22,7 +22,7 @@ impl Vlr {
     /// the looks that are held. The session has to be of the same store; it learns all that is published. What the clauses
     /// say holds if it returns; that it returns is not proved.
     ///
-    /// It fails with `OutOfMemory` (102) where memory was refused, and with `NoGuard` (104) where the session got no look,
+    /// It fails with `OutOfMemory` (102) if memory was refused, and with `NoGuard` (104) if the session got no look,
     /// or one at another front. The store then comes back with all that is published and pending. No run meets 104, since
     /// the store has not ended there, and the published copy is what the session was told of last.
     pub fn close<R: Wait>(self, rt: &R, session: &mut Session) -> Result<Records, CloseRefused>

@@ -11,7 +11,7 @@ use camel_tbcd::Imsi;
 use std::alloc::AllocError;
 
 /// Puts an update behind what is pending, and accepts it with the CSIs that it leaves in the record of its IMSI, if it
-/// leaves one. Where memory is refused, both are as before.
+/// leaves one. If memory is refused, both are as before.
 pub(crate) fn accept(
     writer: &mut StoreWriter,
     admission: &mut Admission,
