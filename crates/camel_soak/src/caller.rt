@@ -1,13 +1,14 @@
 //! A call-control thread.
 
+ghost use Rattle.std.specs.Prelude.{◌≡◌};
+
 use crate::draws::Draws;
 use crate::failure::{Difference, Result};
-use crate::of_store::{Of, StoreName};
 use crate::workload::events::draw_event;
 use camel_audit::{Entry, Transcript};
 use camel_criteria::Refusal;
-use camel_rows::{Answer, CallEvent};
-use camel_vlr::{Receipt, Session};
+use camel_rows::{Answer, CallEvent, Outcome};
+use camel_vlr::{Of, Receipt, Session, StoreName};
 use crossbeam_channel::Receiver;
 use std::alloc::Global;
 use std::sync::Wait;
@@ -68,9 +69,9 @@ impl<S: StoreName> Caller<S> {
         let mut learnt = Vec::new(alloc);
         for _ in 0..looks {
             if let Ok(receipt) = self.receipts.try_recv(rt) {
-                let (place, front) = (entries.len(), receipt.front());
+                let (place, front) = (entries.len(), receipt.value.front());
                 learnt.push(Learnt { place, front })?;
-                self.session.learn(receipt);
+                self.session.value.learn(receipt.value);
             }
             self.answer_in_one_look(alloc, &mut entries, published)?;
         }
@@ -89,7 +90,7 @@ impl<S: StoreName> Caller<S> {
         let events = self.draw_events(alloc)?;
         let mut answers = Vec::with_capacity(alloc, events.len())?;
         let returned = published.load(Ordering::SeqCst);
-        match self.session.answer_in_one_look(&events, &mut answers) {
+        match answer_over_one_look(&mut self.session.value, &events, &mut answers) {
             Ok(()) => check_look(self.number, &answers, returned)?,
             Err(Refusal::NoGuard) => {
                 let session = self.number;
@@ -121,6 +122,27 @@ impl<S: StoreName> Caller<S> {
         }
         Ok(events)
     }
+}
+
+// Appends the answers to these events, all over one look. Fails with `NoGuard` (104) if the look fails.
+fn answer_over_one_look(
+    session: &mut Session,
+    events: &[CallEvent],
+    answers: &mut Vec<Answer>,
+) -> Result<(), Refusal>
+    ensures { session.new.store ≡ session.old.store }
+{
+    let Ok(look) = session.look() else {
+        return Err(Refusal::NoGuard);
+    };
+    for event in events {
+        answers.push(Answer {
+            front: look.front(),
+            outcome: Outcome::of(&look.decide(&event.lend())),
+        })?;
+    }
+    look.leave();
+    Ok(())
 }
 
 // All answers of a look are of one front, which is not older than the publication that had returned before the look.

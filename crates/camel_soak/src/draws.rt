@@ -17,14 +17,14 @@ impl Draws {
         }
     }
 
-    /// Those of another thread: no number of the one comes from where one of the other does.
+    /// Draws for another thread: no number of the one comes from where one of the other does.
     pub(crate) fn split(&mut self) -> Result<Draws, AllocError> {
         let generator = self.generator.clone()?;
         self.generator.jump();
         Ok(Draws { generator })
     }
 
-    /// A number below this one; 0 where it is 0.
+    /// A number below this one; 0 if it is 0.
     pub(crate) fn below(&mut self, end: u64) -> u64 {
         self.generator.next_u64() % end.max(1)
     }

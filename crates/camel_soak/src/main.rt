@@ -30,7 +30,6 @@ mod closing;
 mod draws;
 mod failure;
 mod model;
-mod of_store;
 mod options;
 mod progress;
 mod round;

@@ -58,7 +58,7 @@ impl Progress {
         Ok(self.rounds >= FEWEST_ROUNDS && self.time(rt)? >= time)
     }
 
-    /// Adds a round, and prints a line where one is due.
+    /// Adds a round, and prints a line if one is due.
     pub(crate) fn add<R: AllocGlobal + Clock + Eprint + Files>(
         &mut self,
         rt: &R,

@@ -9,7 +9,6 @@ use crate::closing::compare_records;
 use crate::draws::Draws;
 use crate::failure::Result;
 use crate::model::Model;
-use crate::of_store::{Of, StoreName};
 use crate::options::Options;
 use crate::progress::Progress;
 use crate::round::Round;
@@ -18,9 +17,9 @@ use crate::workload::updates::Updates;
 use crate::writer::{Batch, Writer};
 use anyhow::anyhow;
 use camel_tbcd::Profile;
-use camel_vlr::{MAX_PLACES, MAX_UPDATES, Session, Vlr};
+use camel_vlr::{CloseRefused, MAX_PLACES, MAX_UPDATES, Of, Session, StoreName, Vlr};
 use crossbeam_channel::unbounded;
-use std::alloc::{AllocError, Global};
+use std::alloc::Global;
 use std::marker::Brand;
 use std::mem;
 use std::random::RandomSource;
@@ -34,7 +33,7 @@ const LOOKS_FOR_EACH: u64 = 2;
 
 const FEWEST_LOOKS: u64 = 2000;
 
-/// The updates of a round, about, where the sessions answer for long enough.
+/// The updates of a round, about, if the sessions answer for long enough.
 const UPDATES: usize = 50_000;
 
 /// The subscribers who come in one publication before the first round.
@@ -80,12 +79,15 @@ fn soak_store<S: StoreName, R: AllocGlobal + Clock + Eprint + Files + Threads + 
 {
     let mut store = Of::<S, Vlr>::new(store);
     match soak_sessions(rt, options, &mut store, sessions) {
-        Ok((model, mut session)) => {
-            let records = store.close(rt, &mut session)?;
-            compare_records(rt.alloc(), &records, &model.records)
-        }
+        Ok((model, mut session)) => match store.value.close(rt, &mut session.value) {
+            Ok(records) => compare_records(rt.alloc(), &records, &model.records),
+            Err(CloseRefused { why, store }) => {
+                store.end(rt);
+                Err(why.into())
+            }
+        },
         Err(failure) => {
-            store.end(rt);
+            store.value.end(rt);
             Err(failure)
         }
     }
@@ -99,21 +101,7 @@ fn soak_sessions<S: StoreName, R: AllocGlobal + Clock + Eprint + Files + Threads
 ) -> Result<(Model, Of<S, Session>)>
     requires { All (λ session. S.store ≡ Some session.store) sessions.items }
 {
-    let sessions = sessions_of(rt.alloc(), sessions)?;
-    soak_rounds(rt, options, store, sessions)
-}
-
-fn sessions_of<S: StoreName>(
-    alloc: Global,
-    sessions: Vec<Session>,
-) -> Result<Vec<Of<S, Session>>, AllocError>
-    requires { All (λ session. S.store ≡ Some session.store) sessions.items }
-{
-    let mut named = Vec::new(alloc);
-    for session in sessions {
-        named.push(Of::new(session))?;
-    }
-    Ok(named)
+    soak_rounds(rt, options, store, Of::list(rt.alloc(), sessions)?)
 }
 
 /// Runs rounds until the time is over. Gives the model of the last front, and a session.

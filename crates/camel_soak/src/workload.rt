@@ -1,4 +1,4 @@
-//! What the threads are given to do, drawn at random: the events of calls, and the updates of the home register.
+//! What the threads are given to do, drawn at random: the events of calls, and the updates of the HLR.
 
 pub(crate) mod data;
 pub(crate) mod events;

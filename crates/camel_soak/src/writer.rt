@@ -2,11 +2,10 @@
 
 use crate::draws::Draws;
 use crate::failure::Result;
-use crate::of_store::{Of, StoreName};
 use crate::workload::updates::Updates;
 use camel_criteria::Refusal;
 use camel_rows::Update;
-use camel_vlr::{Receipt, Vlr};
+use camel_vlr::{Of, Receipt, StoreName, Vlr};
 use crossbeam_channel::Sender;
 use std::alloc::Global;
 use std::rt::Clock;
@@ -76,10 +75,10 @@ impl<S: StoreName> Writer<'_, S> {
     ) -> Result<Batch> {
         let mut submitted = Vec::with_capacity(alloc, updates.len())?;
         for update in updates {
-            let answer = self.store.submit(update.copy()?);
+            let answer = submit(self.store, update.copy()?);
             submitted.push(Submitted { update, answer })?;
         }
-        let front = self.store.publish(rt)?.front();
+        let front = publish(rt, self.store)?;
         published.store(front, Ordering::SeqCst);
         self.hand_receipts(rt)?;
         Ok(Batch { submitted, front })
@@ -87,7 +86,7 @@ impl<S: StoreName> Writer<'_, S> {
 
     fn hand_receipts<R: Wait>(&mut self, rt: &R) -> Result<()> {
         for thread in &self.receipts {
-            if self.draws.one_in(2) && thread.send(rt, self.store.receipt()).is_err() {
+            if self.draws.one_in(2) && thread.send(rt, receipt(self.store)).is_err() {
                 return Err(Refusal::OutOfMemory.into());
             }
         }
@@ -101,4 +100,17 @@ impl<S: StoreName> Writer<'_, S> {
             thread::sleep(rt, Duration::from_micros(pause));
         }
     }
+}
+
+fn submit<S: StoreName>(store: &mut Of<S, Vlr>, update: Update) -> Result<u64, Refusal> {
+    store.value.submit(update)
+}
+
+// Publishes all that is pending. Gives the front.
+fn publish<S: StoreName, R: Wait>(rt: &R, store: &mut Of<S, Vlr>) -> Result<u64, Refusal> {
+    Ok(store.value.publish(rt)?.front())
+}
+
+fn receipt<S: StoreName>(store: &Of<S, Vlr>) -> Of<S, Receipt> {
+    Of::new(store.value.receipt())
 }

@@ -18,7 +18,7 @@ const DESTINATIONS: [&[u8]; 6] = [
     &[0x91, 0x55, 0x55, 0x55, 0x55],
 ];
 
-/// An event of any detection point, where so many subscribers are known.
+/// An event of any detection point, if so many subscribers are known.
 pub(crate) fn draw_event(draws: &mut Draws, known: u64) -> Result<CallEvent> {
     let imsi = calling_one(draws, known)?;
     let basic = draw_basic(draws);

@@ -8,7 +8,7 @@ const OFTEN: u64 = 256;
 /// One event of so many is of a subscriber who is never known.
 const UNKNOWN: u64 = 16;
 
-/// A subscriber whom updates concern, where there are so many.
+/// A subscriber whom updates concern, if there are so many.
 pub(crate) fn known_one(draws: &mut Draws, known: u64) -> u64 {
     if draws.one_in(2) {
         draws.below(known.min(OFTEN))
@@ -17,7 +17,7 @@ pub(crate) fn known_one(draws: &mut Draws, known: u64) -> u64 {
     }
 }
 
-/// The subscriber of a call, where so many are known.
+/// The subscriber of a call, if so many are known.
 pub(crate) fn calling_one(draws: &mut Draws, known: u64) -> Result<Imsi, ImsiFault> {
     if draws.one_in(UNKNOWN) {
         imsi_of(known.saturating_add(draws.below(known)))

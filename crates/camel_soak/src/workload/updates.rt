@@ -22,7 +22,7 @@ pub(crate) struct Updates {
     draws: Draws,
     /// How many subscribers there are.
     known: u64,
-    /// The first subscriber who has not come back since all were cleared; `known` where all have. At first nobody is
+    /// The first subscriber who has not come back since all were cleared; `known` if all have. At first nobody is
     /// there.
     missing: u64,
 }
@@ -41,7 +41,7 @@ impl Updates {
         self.missing < self.known
     }
 
-    /// A batch of changes of any size, with as many subscribers who come back where some are missing.
+    /// A batch of changes of any size, with as many subscribers who come back if some are missing.
     pub(crate) fn draw_batch(&mut self, alloc: Global) -> Result<Vec<Update>> {
         let changes = match self.draws.below(64) {
             0 => MANY,
@@ -128,7 +128,7 @@ impl Updates {
         })
     }
 
-    // An Insert of criteria alone, which is refused where their CSI is not stored.
+    // An Insert of criteria only, which is rejected if their CSI is not stored.
     fn draw_criteria(&mut self, alloc: Global, imsi: Imsi) -> Result<Update> {
         let draws = &mut self.draws;
         let (mut o_criteria, mut t_criteria) = (None, None);
