@@ -90,10 +90,11 @@ check: crate need-rt need-python3
 	$(say)
 	@cd "crates/$$CRATE" && rt check
 
-## Looks up what the pages name, and compares their picture of figures with its table: a second.
+## Looks up what the pages name, compares their picture of figures with its table, and looks for banned words: a second.
 pages: need-python3
 	$(say)
 	@.ci/pages
+	@.ci/words
 	@bench/plot --check
 
 ## Compares what the scripts and the converter of examples/ leave: seconds, once the program is built.

@@ -56,6 +56,8 @@ fn entries_in<E: CriteriaEntry>(set: &CriteriaSet<E>, dp: u8) -> (usize, [Option
 #[test]
 fn a_set_of_criteria_keeps_its_entries_in_order(rt: HostRuntime) -> Result<(), Fail> {
     let (mut o, mut t) = (Vec::new(rt.alloc()), Vec::new(rt.alloc()));
+    assert_eq!(rt; OCriteriaSet::new(Vec::new(rt.alloc())).err(), MISSING);
+    assert_eq!(rt; TCriteriaSet::new(Vec::new(rt.alloc())).err(), MISSING);
     for dp in [14, 4, 12, 2] {
         o.push(OCriteria::new(dp, None, &[], None, &[])?)?;
         t.push(TCriteria::new(dp, &[], &[])?)?;
