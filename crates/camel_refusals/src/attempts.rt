@@ -1,4 +1,6 @@
-//! Steps that are made again where memory was refused, and how often that was.
+//! Steps that are made again if memory was refused, and how often that was.
+
+ghost use Rattle.std.specs.Prelude.{IfOk};
 
 use crate::failure::Failure;
 
@@ -51,12 +53,13 @@ impl Refusals {
     }
 }
 
-/// Makes a step, and makes it again where memory was refused.
+/// Makes a step, and makes it again if memory was refused. What it returns is what a step returned.
 pub(crate) fn again<T, F: FnMut() -> Result<T, Failure>>(
     refused: &mut Refused,
     mut step: F,
 ) -> Result<T, Failure>
     requires { F.IsAlwaysCallable step }
+    ensures { IfOk result (λ made. (state : F) × F.post state (Ok made)) }
 {
     for _ in 1..MOST_ATTEMPTS {
         match step() {

@@ -3,10 +3,9 @@
 use crate::attempts::Refusals;
 use crate::failure::Failure;
 use crate::publications::Next;
+use crate::stage_calls::{StageCall, make_on_stage};
 use crate::values::Kind;
-use crate::{
-    criteria, openings, publications, records, replays, scripts, sessions, submissions, workers,
-};
+use crate::{criteria, openings, records, replays, scripts, workers};
 use std::random::RandomSource;
 use std::sync::Wait;
 use std::thread::Threads;
@@ -27,17 +26,12 @@ pub(crate) enum Call {
     ToInsert,
     Decide,
     Open,
-    Submit(Kind),
-    /// The publication of this number, from 1, and what comes next.
-    Publish(u8, Next),
-    Look,
-    AnswerAll,
-    Close,
+    /// A call of a store that is opened for it, or of its session.
+    OnStage(StageCall),
     NewScript,
     ReadRecord,
     PushLine,
     Replay,
-    Serve,
     ReplayThreads,
     Audit,
 }
@@ -86,70 +80,86 @@ pub(crate) const CALLS: [(Call, bool, &str); 40] = [
     ),
     (Call::Open, true, "`Vlr::open`"),
     (
-        Call::Submit(Kind::Register),
+        Call::OnStage(StageCall::Submit(Kind::Register)),
         true,
         "`Vlr::submit`, Register",
     ),
-    (Call::Submit(Kind::Insert), true, "`Vlr::submit`, Insert"),
-    (Call::Submit(Kind::Delete), true, "`Vlr::submit`, Delete"),
-    (Call::Submit(Kind::Cancel), true, "`Vlr::submit`, Cancel"),
     (
-        Call::Submit(Kind::ClearAll),
+        Call::OnStage(StageCall::Submit(Kind::Insert)),
+        true,
+        "`Vlr::submit`, Insert",
+    ),
+    (
+        Call::OnStage(StageCall::Submit(Kind::Delete)),
+        true,
+        "`Vlr::submit`, Delete",
+    ),
+    (
+        Call::OnStage(StageCall::Submit(Kind::Cancel)),
+        true,
+        "`Vlr::submit`, Cancel",
+    ),
+    (
+        Call::OnStage(StageCall::Submit(Kind::ClearAll)),
         true,
         "`Vlr::submit`, ClearAll",
     ),
     (
-        Call::Publish(1, Next::Publish),
+        Call::OnStage(StageCall::Publish(1, Next::Publish)),
         true,
         "`Vlr::publish`, the first",
     ),
     (
-        Call::Publish(2, Next::Publish),
+        Call::OnStage(StageCall::Publish(2, Next::Publish)),
         true,
         "`Vlr::publish`, the second",
     ),
     (
-        Call::Publish(3, Next::Publish),
+        Call::OnStage(StageCall::Publish(3, Next::Publish)),
         true,
         "`Vlr::publish`, the third",
     ),
     (
-        Call::Publish(4, Next::Publish),
+        Call::OnStage(StageCall::Publish(4, Next::Publish)),
         true,
         "`Vlr::publish`, the fourth",
     ),
     (
-        Call::Publish(1, Next::Submit),
+        Call::OnStage(StageCall::Publish(1, Next::Submit)),
         true,
         "`Vlr::publish`, the first, with a submit before the next",
     ),
     (
-        Call::Publish(2, Next::Submit),
+        Call::OnStage(StageCall::Publish(2, Next::Submit)),
         true,
         "`Vlr::publish`, the second, with a submit before the next",
     ),
     (
-        Call::Publish(3, Next::Submit),
+        Call::OnStage(StageCall::Publish(3, Next::Submit)),
         true,
         "`Vlr::publish`, the third, with a submit before the next",
     ),
     (
-        Call::Publish(4, Next::Submit),
+        Call::OnStage(StageCall::Publish(4, Next::Submit)),
         true,
         "`Vlr::publish`, the fourth, with a submit before the next",
     ),
     (
-        Call::Look,
+        Call::OnStage(StageCall::Look),
         false,
         "`Vlr::receipt`; `Session::learn`, `look`, `answer`; `Look::decide`, `row`, `criteria`, `records`, `leave`",
     ),
-    (Call::AnswerAll, true, "`Session::answer_all`"),
-    (Call::Close, true, "`Vlr::close`"),
+    (
+        Call::OnStage(StageCall::AnswerAll),
+        true,
+        "`Session::answer_all`",
+    ),
+    (Call::OnStage(StageCall::Close), true, "`Vlr::close`"),
     (Call::NewScript, false, "`Script::new`"),
     (Call::ReadRecord, true, "`Script::read_record`"),
     (Call::PushLine, true, "`push_line`"),
     (Call::Replay, true, "`replay`"),
-    (Call::Serve, true, "`serve`"),
+    (Call::OnStage(StageCall::Serve), true, "`serve`"),
     (Call::ReplayThreads, true, "`replay_threads`"),
     (Call::Audit, true, "`audit`"),
 ];
@@ -186,16 +196,11 @@ pub(crate) fn make<R: AllocGlobal + Print + RandomSource + Threads + Wait + Sync
         Call::ToInsert => records::to_insert(rt, refusals),
         Call::Decide => records::decide(rt, refusals),
         Call::Open => openings::open(rt, refusals),
-        Call::Submit(kind) => submissions::submit(rt, refusals, kind),
-        Call::Publish(number, next) => publications::publish(rt, refusals, number, next),
-        Call::Look => sessions::look(rt, refusals),
-        Call::AnswerAll => sessions::answer_all(rt, refusals),
-        Call::Close => sessions::close(rt, refusals),
+        Call::OnStage(call) => make_on_stage(rt, refusals, call),
         Call::NewScript => scripts::new_script(rt),
         Call::ReadRecord => scripts::read_record(rt, refusals),
         Call::PushLine => scripts::push(rt, refusals),
         Call::Replay => replays::replay_script(rt, refusals),
-        Call::Serve => workers::serve_jobs(rt, refusals),
         Call::ReplayThreads => replays::replay_with_threads(rt, refusals),
         Call::Audit => workers::audit_transcript(rt, refusals),
     }

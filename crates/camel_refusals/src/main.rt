@@ -16,6 +16,7 @@ mod replays;
 mod scripts;
 mod sessions;
 mod stage;
+mod stage_calls;
 mod submissions;
 mod values;
 mod workers;

@@ -6,6 +6,7 @@ use crate::stage::{Shown, Stage};
 use crate::values::full_insert;
 use camel_fixtures::imsi_of;
 use camel_rows::Update;
+use camel_vlr::StoreName;
 use std::sync::Wait;
 
 /// What a writer does after a publication that was refused memory.
@@ -18,22 +19,10 @@ pub(crate) enum Next {
 }
 
 /// Makes the publication of this number, of a subscriber who registers and is sent all data.
-pub(crate) fn publish<R: AllocGlobal + Print + Wait>(
+pub(crate) fn publish<S: StoreName, R: AllocGlobal + Print + Wait>(
     rt: &R,
     refusals: &mut Refusals,
-    number: u8,
-    next: Next,
-) -> Result<(), Failure> {
-    let mut stage = again(&mut refusals.stage, || Stage::open(rt, rt.alloc()))?;
-    let done = publish_at(rt, refusals, &mut stage, u64::from(number), next);
-    stage.end(rt);
-    done
-}
-
-fn publish_at<R: AllocGlobal + Print + Wait>(
-    rt: &R,
-    refusals: &mut Refusals,
-    stage: &mut Stage,
+    stage: &mut Stage<S>,
     number: u64,
     next: Next,
 ) -> Result<(), Failure> {
@@ -49,10 +38,10 @@ fn publish_at<R: AllocGlobal + Print + Wait>(
     stage.print(rt)
 }
 
-fn submit_both<R: AllocGlobal>(
+fn submit_both<S: StoreName, R: AllocGlobal>(
     rt: &R,
     refusals: &mut Refusals,
-    stage: &mut Stage,
+    stage: &mut Stage<S>,
     subscriber: u64,
 ) -> Result<(), Failure> {
     let imsi = imsi_of(subscriber)?;
@@ -67,11 +56,11 @@ fn submit_both<R: AllocGlobal>(
     Ok(())
 }
 
-// Publishes, and again where memory was refused.
-fn publish_again<R: Wait>(
+// Publishes, and again if memory was refused.
+fn publish_again<S: StoreName, R: Wait>(
     rt: &R,
     refusals: &mut Refusals,
-    stage: &mut Stage,
+    stage: &mut Stage<S>,
     number: u64,
 ) -> Result<(), Failure> {
     let before = stage.shown()?;
@@ -85,12 +74,12 @@ fn publish_again<R: Wait>(
     check_published(stage, front)
 }
 
-// Publishes, submits an update, and publishes again. Where the first publication was refused memory, the update comes
-// behind what is pending, and the second one publishes all of it.
-fn submit_and_publish<R: Wait>(
+// Publishes, submits an update, and publishes again. If the first publication was refused memory, the update comes
+// after what is pending, and the second one publishes all of it.
+fn submit_and_publish<S: StoreName, R: Wait>(
     rt: &R,
     refusals: &mut Refusals,
-    stage: &mut Stage,
+    stage: &mut Stage<S>,
     number: u64,
 ) -> Result<(), Failure> {
     let before = stage.shown()?;
@@ -115,12 +104,16 @@ fn submit_and_publish<R: Wait>(
 }
 
 // The store shows what it showed, and the next subscriber has no record.
-fn check_not_published(stage: &mut Stage, before: &Shown, number: u64) -> Result<(), Failure> {
+fn check_not_published<S: StoreName>(
+    stage: &mut Stage<S>,
+    before: &Shown,
+    number: u64,
+) -> Result<(), Failure> {
     stage.check_shown(before)?;
     stage.check_unknown(number.saturating_add(1))
 }
 
 // A publication of this front has left nothing pending.
-fn check_published(stage: &Stage, front: u64) -> Result<(), Failure> {
+fn check_published<S: StoreName>(stage: &Stage<S>, front: u64) -> Result<(), Failure> {
     check(stage.counts() == (front, 0), Lost::Publication)
 }

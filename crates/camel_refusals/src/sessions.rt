@@ -7,23 +7,14 @@ use crate::stage::{Stage, set};
 use crate::values::{KNOWN, SECOND, STRANGER, SUBSCRIBERS, full_insert};
 use camel_fixtures::{call_of, imsi_of};
 use camel_rows::{Answer, Outcome, Reason, Records, Update};
+use camel_vlr::StoreName;
 use std::sync::Wait;
 
 /// Learns a receipt, looks, decides and leaves.
-pub(crate) fn look<R: AllocGlobal + Print + Wait>(
+pub(crate) fn look<S: StoreName, R: AllocGlobal + Print + Wait>(
     rt: &R,
     refusals: &mut Refusals,
-) -> Result<(), Failure> {
-    let mut stage = again(&mut refusals.stage, || Stage::open(rt, rt.alloc()))?;
-    let done = look_at(rt, refusals, &mut stage);
-    stage.end(rt);
-    done
-}
-
-fn look_at<R: AllocGlobal + Print + Wait>(
-    rt: &R,
-    refusals: &mut Refusals,
-    stage: &mut Stage,
+    stage: &mut Stage<S>,
 ) -> Result<(), Failure> {
     set(rt, refusals, stage)?;
     stage.learn();
@@ -34,21 +25,11 @@ fn look_at<R: AllocGlobal + Print + Wait>(
     Ok(())
 }
 
-/// Answers calls behind an answer that stands in the list, and looks for the first time.
-pub(crate) fn answer_all<R: AllocGlobal + Print + Wait>(
+/// Appends the answers to calls to a list that has one, at the first look of the session.
+pub(crate) fn answer_all<S: StoreName, R: AllocGlobal + Print + Wait>(
     rt: &R,
     refusals: &mut Refusals,
-) -> Result<(), Failure> {
-    let mut stage = again(&mut refusals.stage, || Stage::open(rt, rt.alloc()))?;
-    let done = answer_all_at(rt, refusals, &mut stage);
-    stage.end(rt);
-    done
-}
-
-fn answer_all_at<R: AllocGlobal + Print + Wait>(
-    rt: &R,
-    refusals: &mut Refusals,
-    stage: &mut Stage,
+    stage: &mut Stage<S>,
 ) -> Result<(), Failure> {
     set(rt, refusals, stage)?;
     let calls = [
@@ -79,11 +60,11 @@ fn answer_all_at<R: AllocGlobal + Print + Wait>(
 }
 
 /// Closes a store that has a pending update.
-pub(crate) fn close<R: AllocGlobal + Print + Wait>(
+pub(crate) fn close<S: StoreName, R: AllocGlobal + Print + Wait>(
     rt: &R,
     refusals: &mut Refusals,
+    mut stage: Stage<S>,
 ) -> Result<(), Failure> {
-    let mut stage = again(&mut refusals.stage, || Stage::open(rt, rt.alloc()))?;
     match fill(rt, refusals, &mut stage) {
         Ok(()) => {
             let records = close_again(rt, refusals, stage)?;
@@ -97,10 +78,10 @@ pub(crate) fn close<R: AllocGlobal + Print + Wait>(
 }
 
 // Publishes data of two subscribers, and submits a Cancel, which the close drops.
-fn fill<R: AllocGlobal + Wait>(
+fn fill<S: StoreName, R: AllocGlobal + Wait>(
     rt: &R,
     refusals: &mut Refusals,
-    stage: &mut Stage,
+    stage: &mut Stage<S>,
 ) -> Result<(), Failure> {
     set(rt, refusals, stage)?;
     let (known, second) = (imsi_of(KNOWN)?, imsi_of(SECOND)?);
@@ -117,8 +98,12 @@ fn fill<R: AllocGlobal + Wait>(
     Ok(())
 }
 
-// Closes a store, and again where it came back, with all that it had.
-fn close_again<R: Wait>(rt: &R, refusals: &mut Refusals, stage: Stage) -> Result<Records, Failure> {
+// Closes a store, and again if it came back, with all that it had.
+fn close_again<S: StoreName, R: Wait>(
+    rt: &R,
+    refusals: &mut Refusals,
+    stage: Stage<S>,
+) -> Result<Records, Failure> {
     let mut left = stage;
     let before = left.shown();
     for _ in 0..MOST_ATTEMPTS {

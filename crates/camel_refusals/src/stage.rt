@@ -1,6 +1,6 @@
 //! A store with one session, on which the calls of a switch are made.
 
-ghost use Rattle.std.specs.Prelude.{◌≡◌};
+ghost use Rattle.std.specs.Prelude.{◌≡◌, IfOk, Some};
 
 use crate::attempts::{Refusals, again};
 use crate::failure::{Failure, Lost, check};
@@ -12,18 +12,17 @@ use camel_fixtures::{
 use camel_rows::{Answer, CallEvent, Records, Update};
 use camel_table::Seed;
 use camel_tbcd::{Imsi, Profile};
-use camel_vlr::{CloseRefused, Session, Vlr};
+use camel_vlr::{CloseRefused, Of, Session, StoreName, Vlr};
 use std::alloc::Global;
 use std::sync::Wait;
 
 /// How many updates a stage takes.
 pub(crate) const LIMIT: u64 = 16;
 
-/// A store and a session of it.
-pub(crate) struct Stage {
-    store: Vlr,
-    session: Session,
-    ghost same_store: { session.store ≡ store.store },
+/// The store `S` and a session of it.
+pub(crate) struct Stage<S: StoreName> {
+    store: Of<S, Vlr>,
+    session: Of<S, Session>,
 }
 
 /// Whether the subscriber has a record, and the row and the entry of a detection point.
@@ -44,42 +43,58 @@ pub(crate) struct Shown {
     subscribers: [SubscriberShown; 5],
 }
 
-impl Stage {
-    /// An empty store.
-    pub(crate) fn open<R: Wait>(rt: &R, alloc: Global) -> Result<Stage, Failure> {
-        let seed = Seed::fixed();
-        let (store, mut sessions) = Vlr::open_seeded(rt, alloc, 1, LIMIT, Profile::One, seed)?;
-        let Some(session) = sessions.pop() else {
+/// An empty store and its session.
+pub(crate) fn open<R: Wait>(rt: &R, alloc: Global) -> Result<(Vlr, Session), Failure>
+    ensures { IfOk result (λ opened. opened.1.store ≡ opened.0.store) }
+{
+    let seed = Seed::fixed();
+    let (store, mut sessions) = Vlr::open_seeded(rt, alloc, 1, LIMIT, Profile::One, seed)?;
+    match sessions.pop() {
+        Some(session) => Ok((store, session)),
+        None => {
             store.end(rt);
-            return Err(Failure::Lost(Lost::Session));
-        };
-        Ok(Stage { store, session })
+            Err(Failure::Lost(Lost::Session))
+        }
+    }
+}
+
+impl<S: StoreName> Stage<S> {
+    /// A store and a session of it, which both have to be of the store `S`.
+    pub(crate) fn new(store: Vlr, session: Session) -> Stage<S>
+        requires store { S.store ≡ Some store.store }
+        requires session { S.store ≡ Some session.store }
+    {
+        Stage {
+            store: Of::new(store),
+            session: Of::new(session),
+        }
     }
 
     pub(crate) fn submit(&mut self, update: Update) -> Result<u64, Failure> {
-        Ok(self.store.submit(update)?)
+        Ok(self.store.value.submit(update)?)
     }
 
-    /// Publishes, and lets the session learn it. Gives the front.
+    /// Publishes, and lets the session learn it. Returns the front.
     pub(crate) fn publish<R: Wait>(&mut self, rt: &R) -> Result<u64, Failure> {
-        let receipt = self.store.publish(rt)?;
+        let receipt = self.store.value.publish(rt)?;
         let front = receipt.front();
-        self.session.learn(receipt);
+        self.session.value.learn(receipt);
         Ok(front)
     }
 
     /// Lets the session learn all that is published.
     pub(crate) fn learn(&mut self) {
-        self.session.learn(self.store.receipt());
+        let receipt = self.store.value.receipt();
+        self.session.value.learn(receipt);
     }
 
     /// Whether the session has seen all that is published.
     pub(crate) fn has_seen_all(&self) -> bool {
-        self.session.has_seen(&self.store.receipt())
+        self.session.value.has_seen(&self.store.value.receipt())
     }
 
     pub(crate) fn answer(&mut self, call: &CallEvent) -> Result<Answer, Failure> {
-        Ok(self.session.answer(call)?)
+        Ok(self.session.value.answer(call)?)
     }
 
     pub(crate) fn answer_all(
@@ -87,12 +102,12 @@ impl Stage {
         calls: &[CallEvent],
         answers: &mut Vec<Answer>,
     ) -> Result<(), Failure> {
-        Ok(self.session.answer_all(calls, answers)?)
+        Ok(self.session.value.answer_all(calls, answers)?)
     }
 
     /// How many updates are published, and how many are pending.
     pub(crate) fn counts(&self) -> (u64, u64) {
-        (self.store.published(), self.store.pending())
+        (self.store.value.published(), self.store.value.pending())
     }
 
     /// How many updates are accepted.
@@ -103,9 +118,10 @@ impl Stage {
 
     pub(crate) fn shown(&mut self) -> Result<Shown, Failure> {
         let [known, second, stranger, fourth, fifth] = SUBSCRIBERS;
+        let (published, pending) = self.counts();
         Ok(Shown {
-            published: self.store.published(),
-            pending: self.store.pending(),
+            published,
+            pending,
             subscribers: [
                 self.subscriber_shown(known)?,
                 self.subscriber_shown(second)?,
@@ -131,7 +147,7 @@ impl Stage {
     }
 
     fn point_shown(&mut self, imsi: &Imsi, dp: u8) -> Result<PointShown, Failure> {
-        let Ok(look) = self.session.look() else {
+        let Ok(look) = self.session.value.look() else {
             return Err(Failure::Lost(Lost::Look));
         };
         let is_known = look.records().get(imsi).is_some();
@@ -147,7 +163,7 @@ impl Stage {
         check(after == Ok(*before), Lost::Shown)
     }
 
-    /// Fails unless a row of a subscriber who has no record is rejected with 5.
+    /// Fails unless a row of a subscriber who has no record is rejected with `UnidentifiedSubscriber` (5).
     pub(crate) fn check_unknown(&mut self, number: u64) -> Result<(), Failure> {
         let rejected = self.submit(row_update(imsi_of(number)?)?);
         let unknown = Failure::from(Refusal::UnidentifiedSubscriber);
@@ -161,34 +177,32 @@ impl Stage {
         Ok(())
     }
 
-    /// Closes the store. Where it is not closed, it comes back.
-    pub(crate) fn close<R: Wait>(self, rt: &R) -> Result<Records, (Refusal, Stage)> {
+    /// Closes the store. If it is not closed, it comes back.
+    pub(crate) fn close<R: Wait>(self, rt: &R) -> Result<Records, (Refusal, Stage<S>)> {
         let Stage { store, mut session } = self;
-        match store.close(rt, &mut session) {
+        match store.value.close(rt, &mut session.value) {
             Ok(records) => Ok(records),
-            Err(CloseRefused { why, store }) => Err((why, Stage { store, session })),
+            Err(CloseRefused { why, store }) => Err((why, Stage::new(store, session.value))),
         }
     }
 
     /// The store and its session.
-    pub(crate) fn into_parts(self) -> (Vlr, Session)
-        ensures { result.1.store ≡ result.0.store }
-    {
+    pub(crate) fn into_parts(self) -> (Of<S, Vlr>, Of<S, Session>) {
         let Stage { store, session } = self;
         (store, session)
     }
 
     pub(crate) fn end<R: Wait>(self, rt: &R) {
         let (store, _session) = self.into_parts();
-        store.end(rt);
+        store.value.end(rt);
     }
 }
 
 /// Registers the known subscriber, and publishes a row of it.
-pub(crate) fn set<R: AllocGlobal + Wait>(
+pub(crate) fn set<S: StoreName, R: AllocGlobal + Wait>(
     rt: &R,
     refusals: &mut Refusals,
-    stage: &mut Stage,
+    stage: &mut Stage<S>,
 ) -> Result<(), Failure> {
     let imsi = imsi_of(KNOWN)?;
     again(

@@ -7,25 +7,15 @@ use crate::values::{FIFTH, FOURTH, KNOWN, Kind, SECOND, STRANGER, t_criteria_upd
 use camel_criteria::Refusal;
 use camel_fixtures::{entry_update, imsi_of, row_update};
 use camel_rows::Update;
+use camel_vlr::StoreName;
 use std::alloc::Global;
 use std::sync::Wait;
 
-/// Submits an update behind a published row of the known subscriber, and pending rows of it and of two others.
-pub(crate) fn submit<R: AllocGlobal + Print + Wait>(
+/// Submits an update after a published row of the known subscriber, and pending rows of it and of two others.
+pub(crate) fn submit<S: StoreName, R: AllocGlobal + Print + Wait>(
     rt: &R,
     refusals: &mut Refusals,
-    kind: Kind,
-) -> Result<(), Failure> {
-    let mut stage = again(&mut refusals.stage, || Stage::open(rt, rt.alloc()))?;
-    let done = submit_at(rt, refusals, &mut stage, kind);
-    stage.end(rt);
-    done
-}
-
-fn submit_at<R: AllocGlobal + Print + Wait>(
-    rt: &R,
-    refusals: &mut Refusals,
-    stage: &mut Stage,
+    stage: &mut Stage<S>,
     kind: Kind,
 ) -> Result<(), Failure> {
     set(rt, refusals, stage)?;
@@ -48,8 +38,8 @@ fn submit_at<R: AllocGlobal + Print + Wait>(
     stage.print(rt)
 }
 
-// So many that neither the list of what is pending nor the line of a table has room for one more.
-fn submit_rows(refusals: &mut Refusals, stage: &mut Stage) -> Result<(), Failure> {
+// Submits so many updates that neither the list of what is pending nor the line of a table has room for one more.
+fn submit_rows<S: StoreName>(refusals: &mut Refusals, stage: &mut Stage<S>) -> Result<(), Failure> {
     for number in [FOURTH, FIFTH] {
         let imsi = imsi_of(number)?;
         again(
@@ -63,7 +53,7 @@ fn submit_rows(refusals: &mut Refusals, stage: &mut Stage) -> Result<(), Failure
     Ok(())
 }
 
-// One for each time that the call is made.
+// An update for each of two times that the call is made.
 fn two_updates(alloc: Global, kind: Kind) -> Result<Vec<Update>, Failure> {
     let mut updates = Vec::with_capacity(alloc, 2)?;
     for _ in 0..2 {
@@ -72,14 +62,18 @@ fn two_updates(alloc: Global, kind: Kind) -> Result<Vec<Update>, Failure> {
     Ok(updates)
 }
 
-// Whether an update is refused shows what the accepted ones leave: as if the refused one had not been submitted.
-fn check_not_submitted(alloc: Global, stage: &mut Stage, kind: Kind) -> Result<(), Failure> {
+// Another update is accepted or rejected as if the one that was refused memory had not been submitted.
+fn check_not_submitted<S: StoreName>(
+    alloc: Global,
+    stage: &mut Stage<S>,
+    kind: Kind,
+) -> Result<(), Failure> {
     let known = imsi_of(KNOWN)?;
     let accepted = stage.accepted();
     match kind {
         Kind::Register => stage.check_unknown(SECOND),
         Kind::Insert => {
-            // It would bring a VT-CSI, without which its criteria are refused.
+            // The refused Insert would bring a VT-CSI, without which these criteria are rejected.
             let rejected = stage.submit(t_criteria_update(alloc)?);
             let missing = Failure::from(Refusal::DataMissing);
             check(rejected == Err(missing), Lost::Csi)
@@ -92,9 +86,9 @@ fn check_not_submitted(alloc: Global, stage: &mut Stage, kind: Kind) -> Result<(
     }
 }
 
-// Cancels a subscriber who has no record, which changes no data, as often as the limit lets it: no refused call took a
+// Cancels a subscriber who has no record, which changes no data, as often as the limit allows: no refused call took a
 // number.
-fn fill(refusals: &mut Refusals, stage: &mut Stage) -> Result<(), Failure> {
+fn fill<S: StoreName>(refusals: &mut Refusals, stage: &mut Stage<S>) -> Result<(), Failure> {
     let imsi = imsi_of(STRANGER)?;
     let mut next = stage.accepted().saturating_add(1);
     for _ in 0..LIMIT {

@@ -1,7 +1,5 @@
 //! Workers, and audits of what they answer.
 
-ghost use Rattle.std.specs.Prelude.{◌≡◌};
-
 use crate::attempts::{Refusals, again};
 use crate::failure::{Failure, Lost, OUT_OF_MEMORY, check};
 use crate::stage::{Stage, set};
@@ -10,42 +8,51 @@ use camel_audit::{Entry, Job, Transcript, audit};
 use camel_fixtures::{call_of, imsi_of, row_update, triggered};
 use camel_rows::{Answer, Outcome, Reason, Update};
 use camel_tbcd::Profile;
-use camel_vlr::{Session, Vlr};
+use camel_vlr::{Of, Session, StoreName, Vlr};
 use camel_workers::{Ended, OpenGate, Served, serve};
 use std::alloc::Global;
 use std::sync::Wait;
 
-/// Lets a worker answer jobs. After a refusal it gives back the session that it was handed.
-pub(crate) fn serve_jobs<R: AllocGlobal + Print + Wait>(
+/// Lets a worker answer jobs. After a refusal it returns the session that it was handed.
+pub(crate) fn serve_jobs<S: StoreName, R: AllocGlobal + Print + Wait>(
     rt: &R,
     refusals: &mut Refusals,
+    mut stage: Stage<S>,
 ) -> Result<(), Failure> {
-    let mut jobs = again(&mut refusals.stage, || jobs_twice(rt.alloc()))?;
-    let mut stage = again(&mut refusals.stage, || Stage::open(rt, rt.alloc()))?;
-    let is_set = set(rt, refusals, &mut stage);
+    let jobs = set_with_jobs(rt, refusals, &mut stage);
     let (store, session) = stage.into_parts();
-    let served = match is_set {
-        Ok(()) => serve_again(rt.alloc(), refusals, &store, session, &mut jobs),
+    let served = match jobs {
+        Ok(jobs) => serve_again(rt.alloc(), refusals, &store, session, jobs),
         Err(failure) => Err(failure),
     };
-    store.end(rt);
+    store.value.end(rt);
     println!(rt; "{:?}", served?)?;
     Ok(())
 }
 
-// What a worker answers, and another one with the same session where the first was refused memory.
-fn serve_again(
+// Sets the stage, and makes the jobs for each of two times that the call is made.
+fn set_with_jobs<S: StoreName, R: AllocGlobal + Wait>(
+    rt: &R,
+    refusals: &mut Refusals,
+    stage: &mut Stage<S>,
+) -> Result<(Vec<Job>, Vec<Job>), Failure> {
+    let first = again(&mut refusals.stage, || jobs(rt.alloc()))?;
+    let second = again(&mut refusals.stage, || jobs(rt.alloc()))?;
+    set(rt, refusals, stage)?;
+    Ok((first, second))
+}
+
+// What a worker answers. If it was refused memory, what another one answers with the same session.
+fn serve_again<S: StoreName>(
     alloc: Global,
     refusals: &mut Refusals,
-    store: &Vlr,
-    session: Session,
-    jobs: &mut Vec<Vec<Job>>,
-) -> Result<Transcript, Failure>
-    requires { session.store ≡ store.now.store }
-{
-    let (Some(first), Some(second)) = (jobs.pop(), jobs.pop()) else {
-        return Err(Failure::Lost(Lost::Argument));
-    };
+    store: &Of<S, Vlr>,
+    session: Of<S, Session>,
+    jobs: (Vec<Job>, Vec<Job>),
+) -> Result<Transcript, Failure> {
+    let (first, second) = jobs;
+    let store = &store.value;
+    let session = session.value;
     let served = serve(alloc, session, store.receipt(), first, &OpenGate);
     if served.ended != Ended::OutOfMemory {
         return transcript_of(served);
@@ -73,15 +80,7 @@ fn transcript_of(served: Served) -> Result<Transcript, Failure> {
     Ok(transcript)
 }
 
-// Jobs of the known subscriber and of a stranger, for each of two times that the call is made.
-fn jobs_twice(alloc: Global) -> Result<Vec<Vec<Job>>, Failure> {
-    let mut twice = Vec::with_capacity(alloc, 2)?;
-    for _ in 0..2 {
-        twice.push(jobs(alloc)?)?;
-    }
-    Ok(twice)
-}
-
+// Jobs of the known subscriber and of one who has no record.
 fn jobs(alloc: Global) -> Result<Vec<Job>, Failure> {
     let mut jobs = Vec::new(alloc);
     for call in 0..5 {
