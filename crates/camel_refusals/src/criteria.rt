@@ -1,4 +1,4 @@
-//! Addresses, IMSIs, criteria, and the lists that a home register sends.
+//! Addresses, IMSIs, criteria, and the lists that an HLR sends.
 
 use crate::attempts::{Refusals, again};
 use crate::failure::{Failure, Lost, check};

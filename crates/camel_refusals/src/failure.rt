@@ -8,7 +8,7 @@ use std::alloc::{AllocError, AllocFailed};
 use std::io;
 use thiserror::Error;
 
-/// The number of an answer that memory was refused.
+/// `OutOfMemory` (102): the number of an answer that memory was refused.
 pub(crate) const OUT_OF_MEMORY: u16 = 102;
 
 /// Why a step of a run failed.
@@ -17,10 +17,10 @@ pub(crate) enum Failure {
     /// Memory was refused, and the call answered with this number.
     #[error("memory was refused too often, at last with {0}")]
     Memory(u16),
-    /// The call answered with this number, and not for want of memory.
+    /// The call answered with this number, and memory was not refused.
     #[error("answered {0}")]
     Answer(u16),
-    /// What has to stand does not.
+    /// What has to hold does not.
     #[error("{0}")]
     Lost(Lost),
 }
@@ -77,7 +77,7 @@ pub(crate) enum Lost {
 }
 
 impl Failure {
-    /// What a call means that answers with a number.
+    /// The failure of a call that answered with this number.
     pub(crate) fn of_code(code: u16) -> Failure {
         if code == OUT_OF_MEMORY {
             Failure::Memory(code)

@@ -1,7 +1,8 @@
 //! Makes each call of the libraries in a run in which memory is refused. `.ci/refusals` starts it with the name of a
-//! call, refuses one request for memory in each run, and compares what the runs print. Without words it lists the calls.
+//! call, refuses one request for memory in each run, and compares what the runs print. Without a name it lists the
+//! calls.
 //!
-//! Each run sets a stage, makes its call there, and prints what stands in the end. A step that fails for want of memory
+//! Each run sets a stage, makes its call there, and prints what is present in the end. A step that was refused memory
 //! is checked to leave all as it was, and is made again. Which step that was, and its answer, comes on standard error.
 #![tactic(auto)]
 
@@ -47,7 +48,7 @@ fn main(rt: HostRuntime) -> ExitCode {
     }
 }
 
-// The word behind the program's name.
+// The word after the program's name.
 fn word(rt: &HostRuntime) -> Result<Option<String>, Failure> {
     let mut words = std::env::args(rt)?;
     words.next();

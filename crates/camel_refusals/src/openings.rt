@@ -9,7 +9,7 @@ use std::sync::Wait;
 
 const PLACES: usize = 3;
 
-/// Opens a store, of which nothing remains where memory is refused.
+/// Opens a store, of which nothing remains if memory is refused.
 pub(crate) fn open<R: AllocGlobal + Print + RandomSource + Wait>(
     rt: &R,
     refusals: &mut Refusals,

@@ -1,4 +1,4 @@
-//! Whole replays. Each is begun anew where it was refused memory.
+//! Whole replays. Each is begun anew if it was refused memory.
 
 use crate::attempts::{Refusals, again};
 use crate::failure::{Failure, Lost, check};

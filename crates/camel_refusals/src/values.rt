@@ -7,8 +7,8 @@ use camel_rows::{OCriteriaSet, OCsi, TCriteriaSet, Update, VtCsi};
 use camel_tbcd::{Imsi, IsdnAddress};
 use std::alloc::Global;
 
-/// The subscribers of a stage: the first has data, and the second registers. Where updates are submitted, the third is
-/// never known, and the others come before the second, so that a table asks for a line more when that one registers.
+/// The subscribers of a stage: the first has data, and the second registers. In a run that submits updates, the third
+/// is never known, and the others come before the second, so that a table asks for a line more when that one registers.
 pub(crate) const SUBSCRIBERS: [u64; 5] = [KNOWN, SECOND, STRANGER, FOURTH, FIFTH];
 
 pub(crate) const KNOWN: u64 = 1;
@@ -112,7 +112,7 @@ pub(crate) fn full_insert(alloc: Global, imsi: Imsi) -> Result<Update, Failure> 
     })
 }
 
-/// An Insert of criteria alone, which is refused where the known subscriber has no VT-CSI.
+/// An Insert of criteria only, which is rejected if the known subscriber has no VT-CSI.
 pub(crate) fn t_criteria_update(alloc: Global) -> Result<Update, Failure> {
     Ok(Update::Insert {
         imsi: imsi_of(KNOWN)?,
