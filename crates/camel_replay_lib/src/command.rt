@@ -26,7 +26,7 @@ use std::thread::Threads;
 /// What the command line asks for.
 #[derive(Clone, Copy, Debug, PartialEq, Eq)]
 pub struct Options {
-    /// How many threads answer calls, 1 to 16; `None` where the replay has one thread alone.
+    /// How many threads answer calls, 1 to 16; `None` if the replay has only one thread.
     pub threads: Option<usize>,
     /// How many updates are accepted at most, 1 to 1000000.
     pub limit: u64,
@@ -48,11 +48,11 @@ pub const REJECTED_STATUS: u8 = 2;
 /// | 0 | no fault | the script's output | nothing |
 /// | 0 | `--help` | the help text | nothing |
 /// | 1 | a fault | what [`replay`] or [`replay_threads`] says of it | the fault's line, or a part of it |
-/// | 1 | out of memory before the script was read | nothing | the line of fault 102, or a part of it |
+/// | 1 | out of memory before the script was read | nothing | the line of `OutOfMemory` (102), or a part of it |
 /// | 2 | the command line was rejected | nothing | the text of `clap` |
 ///
-/// A failed write to `err`, or of the help text to `out`, is ignored. What is said of the output holds over a reader and
-/// a writer whose bytes a contract knows.
+/// A failed write to `err`, or of the help text to `out`, is ignored. What is said of the output holds over a reader
+/// and a writer whose bytes a contract knows.
 ///
 /// It takes `Wait`, with and without `--threads`: what is said holds if it returns, and that it returns is not proved.
 pub fn run<R: Threads + Wait, I: Read + Drop, W: Write, E: Write>(
@@ -103,7 +103,7 @@ fn run_replay<R: Threads + Wait, I: Read + Drop, W: Write, E: Write>(
     }
 }
 
-/// Replays the script with the threads that the options ask for, or on one thread alone.
+/// Replays the script with the threads that the options ask for, or on one thread only.
 fn replay_as<R: Threads + Wait, I: Read + Drop, W: Write>(
     rt: &R,
     alloc: Global,
@@ -163,20 +163,20 @@ fn report<W: Write, E: Write>(alloc: Global, error: &clap::Error, out: &mut W, e
     }
 }
 
-/// Writes the text of `clap`, or a part of it where memory or the writer refuses the rest.
+/// Writes the text of `clap`, or a part of it if memory or the writer refuses the rest.
 fn write_text<W: Write>(alloc: Global, writer: &mut W, error: &clap::Error) {
     if let Ok(text) = format!(in alloc; "{error}") {
         let _ = write_all(writer, text.as_bytes());
     }
 }
 
-/// Memory was refused before the script was read.
+/// The fault of a run to which memory was refused before the script was read: `OutOfMemory` (102).
 const OUT_OF_MEMORY: ReplayFault = ReplayFault {
     number: None,
     code: 102,
 };
 
-/// Writes the line of a fault, or a part of it where memory or the writer refuses the rest.
+/// Writes the line of a fault, or a part of it if memory or the writer refuses the rest.
 fn write_fault_line<E: Write>(alloc: Global, err: &mut E, fault: &ReplayFault)
     ensures { AppendsPart (E.contents err.old) (E.contents err.new) (fault_line fault.now) }
 {
@@ -185,7 +185,7 @@ fn write_fault_line<E: Write>(alloc: Global, err: &mut E, fault: &ReplayFault)
     }
 }
 
-/// The line of a fault, with the number of its record where there is one.
+/// The line of a fault, with the number of its record if there is one.
 fn fault_line(alloc: Global, fault: &ReplayFault) -> Result<String, AllocError>
     ensures { IfOk result (λ text. string_bytes text ≡ fault_line fault.now) }
 {

@@ -2,19 +2,19 @@
 //!
 //! - [`run`] is the whole program but for its streams: it reads the options of the command line, replays the script
 //!   that its reader gives, and returns the status. A fault is a line on standard error.
-//! - [`replay`] is the replay alone, on one thread: it reads a record, answers it over its store, writes the record's
-//!   line, and only then reads the next one. A call is decided over the published updates; an update is pending until
-//!   the next `publish`.
-//! - [`replay_threads`] is the replay with threads: sessions of a shared store answer the calls, each in a thread of its
-//!   own, beside the writer, and what they answered is audited before a line is written. Its workers and its audit stand
-//!   in crates of their own, for switches that replay nothing: [`serve`] and [`Gate`] are of `camel_workers`, [`audit`] and
-//!   what it reads are of `camel_audit`.
+//! - [`replay`] is the replay on one thread, without the command line: it reads a record, answers it over its store,
+//!   writes the record's line, and only then reads the next one. A call is decided over the published updates; an
+//!   update is pending until the next `publish`.
+//! - [`replay_threads`] is the replay with threads: sessions of a shared store answer the calls, each in a thread of
+//!   its own, beside the writer, and what they answered is audited before a line is written. Its workers and its audit
+//!   are in crates of their own, for switches that replay nothing: [`serve`] and [`Gate`] are of `camel_workers`,
+//!   [`audit`] and what it reads are of `camel_audit`.
 //! - [`published_fronts`] is a law of every replay: what is published is a front, and only grows.
 //!
 //! Which records the bytes of a script give, and the text of each line, is stated in `camel_script`; the output of all
-//! records is stated in `specs/Output.antt`, and that with threads in `specs/ThreadsOutput.antt`. The contracts of
-//! `replay`, `replay_threads` and `run` speak of it over a reader and a writer whose bytes a contract knows, as slices and
-//! vectors. What a file, a pipe or a terminal gives and takes, no contract can say.
+//! records is stated in `specs/Output.antt`, and the output with threads in `specs/ThreadsOutput.antt`. The contracts
+//! of `replay`, `replay_threads` and `run` state the output over a reader and a writer whose bytes a contract knows, as
+//! slices and vectors. What a file, a pipe or a terminal gives and takes, no contract can say.
 #![tactic(auto)]
 
 mod command;

@@ -32,26 +32,29 @@ pub const WRITE_FAULT: u16 = 208;
 #[derive(Clone, Copy, Debug, PartialEq, Eq)]
 pub struct ReplayFault {
     /// The record that was being read or answered, from 1; for the flush at the end, the number of records that were
-    /// read. None where memory was refused before the script was read, and with threads for each fault that comes after
+    /// read. None if memory was refused before the script was read, and with threads for each fault that comes after
     /// all records were read.
     pub number: Option<u64>,
-    /// The fault's number: 102 (out of memory), 202 to 207 (the script, and reading it) or 208 (writing); with threads
-    /// also 103 (no place), 104 (no look), 105 (stopped), 106 (no worker) and 301 to 304 (the audit).
+    /// The fault's number: `OutOfMemory` (102), one of the script or of reading it, `Word` (202) to `TooManyRecords`
+    /// (207), or [`WRITE_FAULT`] (208). With threads also `NoPlace` (103), `NoGuard` (104), `Stopped` (105), `NoWorker`
+    /// (106), or one of the audit, `FrontTooLong` (301) to `BadHistory` (304).
     pub code: u16,
 }
 
 /// Replays a script on one thread: the line of a record is written before the next record is read.
 ///
 /// At most `limit` updates are accepted, and calls are decided under the profile. Ok: the script has no fault, and its
-/// whole output was written, with nothing else. After a fault a part of the output was written, from its beginning, and the fault names a record:
+/// whole output was written, with nothing else. After a fault a part of the output was written, from its beginning, and
+/// the fault names a record:
 ///
 /// | Fault | Its number | What was written |
 /// |---|---|---|
-/// | 102 | the record that was being read or answered | the lines of the records before it |
-/// | 202 to 205, 207 | the script's record with that fault | the lines of all records before it |
-/// | 206 | the record that was being read, or one more than were read | the lines of the records before it |
-/// | 208, a write failed or took no octet | the record whose line was being written | also a part of its line |
-/// | 208, the flush at the end failed | the number of records that were read | all lines |
+/// | `OutOfMemory` (102) | the record that was being read or answered | the lines of the records before it |
+/// | `Word` (202) to `Number` (205) | the script's record with that fault | the lines of all records before it |
+/// | `TooManyRecords` (207) | the script's record with that fault | the lines of all records before it |
+/// | `Read` (206) | the record that was being read, or one more than were read | the lines of the records before it |
+/// | [`WRITE_FAULT`] (208) of a write | the record whose line was being written | also a part of its line |
+/// | [`WRITE_FAULT`] (208) of the flush at the end | the number of records that were read | all lines |
 ///
 /// The clauses say so over a reader and a writer whose bytes a contract knows. Of others, as of the streams of the
 /// process, they say which codes a fault may have.
@@ -120,7 +123,7 @@ pub(crate) fn fault_at(number: u64, code: u16) -> ReplayFault
     }
 }
 
-/// Answers a record, and writes its line. Where memory is refused, nothing of the line is written.
+/// Answers a record, and writes its line. If memory is refused, nothing of the line is written.
 ///
 /// `text` is room for the line: what it holds is cleared.
 fn answer<W: Write>(

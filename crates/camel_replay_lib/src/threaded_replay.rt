@@ -46,32 +46,33 @@ use std::thread::Threads;
 
 /// Replays a script with threads. The script is read whole, and its records are cut into segments, behind each
 /// publication. In the round of a segment `threads` sessions (1 to [`crate::MAX_THREADS`]) answer its calls, each in a
-/// thread of its own, while the writer answers its other records. The calls whose data are not refused are numbered from 0
-/// over the script, and the session `call % threads` answers a call. A session is told of the last publication before the round, and may see that of the
-/// round.
+/// thread of its own, while the writer answers its other records. The calls whose data are not refused are numbered
+/// from 0 over the script, and the session `call % threads` answers a call. A session learns the receipt of the last
+/// publication before the round, and may see the publication of the round.
 ///
-/// At most `limit` updates (1 to 1000000) are accepted, and calls are decided under the profile. The gate is asked before
-/// each call and before each publication.
+/// At most `limit` updates (1 to 1000000) are accepted, and calls are decided under the profile. The gate is asked
+/// before each call and before each publication.
 ///
-/// Ok: the script has no fault, and its whole output was written, with nothing else: the lines of the records that are no
-/// calls, the lines of the calls, session by session, and `audit ok`, since [`camel_audit::audit`] has found that the
-/// published updates explain each answer. After a fault nothing was written, but for 208:
+/// Ok: the script has no fault, and its whole output was written, with nothing else: the lines of the records that are
+/// no calls, the lines of the calls, session by session, and `audit ok`, since [`camel_audit::audit`] has found that
+/// the published updates explain each answer. After a fault nothing was written, except after [`WRITE_FAULT`] (208):
 ///
 /// | Fault | Its number | What was written |
 /// |---|---|---|
-/// | 102, 202 to 207: the script could not be read | the record that was being read | nothing |
-/// | 102: out of memory later | none | nothing |
-/// | 103, 104: a session got no place, or no look | none | nothing |
-/// | 105: the gate answered false | none | nothing |
-/// | 106: a worker was not started | none | nothing |
-/// | 301 to 304: the audit | none | nothing |
-/// | 208: a write failed or took no octet, or the flush failed | none | a part of the output, from its beginning |
+/// | `OutOfMemory` (102): reading the script | the record that was being read | nothing |
+/// | `Word` (202) to `TooManyRecords` (207): reading the script | the record that was being read | nothing |
+/// | `OutOfMemory` (102): out of memory later | none | nothing |
+/// | `NoPlace` (103), `NoGuard` (104): a session got no place, or no look | none | nothing |
+/// | `Stopped` (105): the gate returned false | none | nothing |
+/// | `NoWorker` (106): a worker was not started | none | nothing |
+/// | `FrontTooLong` (301) to `BadHistory` (304): the audit | none | nothing |
+/// | [`WRITE_FAULT`] (208): a write or the flush | none | a part of the output, from its beginning |
 ///
-/// Where a round has more faults than one, the writer's comes first, and then that of the session with the lowest number.
+/// If a round has more faults than one, the writer's comes first, and then that of the session with the lowest number.
 /// The workers are joined before it returns.
 ///
-/// The clauses say so over a reader and a writer whose bytes a contract knows. It takes `Wait`: what they say holds if it
-/// returns, and that it returns is not proved.
+/// The clauses say so over a reader and a writer whose bytes a contract knows. It takes `Wait`: what they say holds if
+/// it returns, and that it returns is not proved.
 pub fn replay_threads<I: Read + Drop, O: Write, G: Gate, R: Threads + Wait>(
     rt: &R,
     alloc: Global,
@@ -147,7 +148,7 @@ fn answer_script<G: Gate, R: Threads + Wait>(
     finish_output(alloc, writer, &transcripts)
 }
 
-/// The output, where the audit has passed: the writer's lines, those of the sessions, and the audit's.
+/// The output after an audit without a fault: the writer's lines, the lines of the sessions, and the audit's line.
 fn finish_output<W: Wait + Drop>(
     alloc: Global,
     writer: Writer<W>,

@@ -20,7 +20,7 @@ use std::snapshot::Snapshot;
 pub(crate) struct Store {
     admission: Admission,
     records: Records,
-    /// The updates that leave the records, for contracts alone.
+    /// The updates that leave the records, for contracts only.
     published: Snapshot<UpdateList>,
     pending: VecDeque<Update>,
     profile: Profile,
@@ -59,7 +59,7 @@ impl Store {
 
     /// The line of a record of a script, after which the store holds what the record asks.
     ///
-    /// Fails with `OutOfMemory` alone. The store may then hold a part of a publication, so it is not used again.
+    /// Fails only with `OutOfMemory` (102). The store may then hold a part of a publication, so it is not used again.
     pub(crate) fn answer(&mut self, script_record: Record) -> Result<Line, Refusal>
         ensures line { IfOk result (λ line. line ≡ line_of self.old.profile self.old.limit self.old.updates script_record) }
         ensures after { OnOk result (self.new ≡ store_after self.old script_record) }
@@ -88,8 +88,8 @@ impl Store {
 
     /// Accepts an update as pending, and returns its number, counted from 1.
     ///
-    /// It is refused by the data that all accepted updates leave, then where they are as many as the limit. A refused
-    /// update leaves the store as it was, and so does `OutOfMemory`.
+    /// It is refused by the data that all accepted updates leave, and then if these updates are as many as the limit. A
+    /// refused update leaves the store as it was, and so does `OutOfMemory` (102).
     fn submit(&mut self, update: Update) -> Result<u64, Refusal>
         ensures number { IfOk result (λ number. number ≡ length (accepted_updates self.old.updates) + 1) }
         ensures accepted { OnOk result (store_refusal self.old.limit self.old.updates update ≡ None) }

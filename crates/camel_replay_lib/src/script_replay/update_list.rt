@@ -3,7 +3,7 @@ use std::marker::Model;
 use std::mem;
 use std::snapshot::Snapshot;
 
-/// A list of updates: those before the last one, and the last one. A store keeps a snapshot of it, which contracts alone
+/// A list of updates: those before the last one, and the last one. A store keeps a snapshot of it, which only contracts
 /// read and which takes no memory.
 #[derive(Drop)]
 pub(crate) struct UpdateList {

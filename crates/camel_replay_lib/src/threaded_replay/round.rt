@@ -31,7 +31,7 @@ impl Promise<Served> for ServedOf {
     ghost kept_by = { λ p served. Serves p.0.value.session p.0.value.told p.0.value.jobs.items served };
 }
 
-/// A session in a round: what it has answered before, and its worker, where one was started.
+/// A session in a round: what it has answered before, and its worker, if one was started.
 #[derive(Drop)]
 struct Worker {
     number: u64,
@@ -168,7 +168,8 @@ fn serve_work<G: Gate>(alloc: Global, work: Work, gate: &G) -> Served
     serve(alloc, session, told, jobs, gate)
 }
 
-/// Joins the workers, and returns their sessions with all that they answered. `front` is how many updates are published.
+/// Joins the workers, and returns their sessions with all that they answered. `front` is how many updates are
+/// published.
 ///
 /// It fails with the fault of the first worker that has one. The scope joins those behind it.
 fn join_all<R: Threads>(
@@ -233,7 +234,7 @@ fn check_ended(ended: Ended) -> Result<(), ThreadsFault>
     }
 }
 
-/// Fails where an entry has a longer front than the last publication. No run meets that.
+/// Fails with `FrontTooLong` (301) if an entry has a longer front than the last publication. No run meets that.
 fn check_fronts(entries: &[Entry], session: u64, front: u64) -> Result<(), AuditFault>
     ensures { OnOk result (All (FrontIsAtMost front) entries.now) }
 {

@@ -45,7 +45,7 @@ pub(crate) fn cut_segment(
     Ok(segment)
 }
 
-/// Those of the calls that the session of this number answers.
+/// The jobs of a session: the calls among these that the session of this number answers.
 pub(crate) fn jobs_for(
     alloc: Global,
     calls: &[Job],

@@ -18,7 +18,8 @@ pub(crate) enum ThreadsFault {
     Stopped,
     /// 106: a worker was not started.
     NoWorker,
-    /// 102: the audit was out of memory; 301 to 304: the published updates do not explain what was answered.
+    /// The audit failed. `OutOfMemory` (102): memory was refused; `FrontTooLong` (301) to `BadHistory` (304): the
+    /// published updates do not explain what was answered.
     Audit(AuditFault),
 }
 
@@ -66,7 +67,7 @@ impl From<Refusal> for ThreadsFault {
 
     ghost from_gives = { λ refusal fault. fault ≡ threads_fault_of refusal };
 
-    /// Of a call that is refused with 102, 103 or 104 alone.
+    /// The fault of a call that is refused only with `OutOfMemory` (102), `NoPlace` (103) or `NoGuard` (104).
     fn from(refusal: Refusal) -> ThreadsFault {
         match refusal {
             Refusal::NoPlace => ThreadsFault::NoPlace,

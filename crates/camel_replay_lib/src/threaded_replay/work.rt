@@ -3,8 +3,8 @@ ghost use Rattle.std.specs.Prelude.{◌≡◌};
 use camel_audit::Job;
 use camel_vlr::{Receipt, Session};
 
-/// What a worker is handed for a round: a session, the receipt of the last publication of their store, and the calls that
-/// the session answers.
+/// What a worker is handed for a round: a session, the receipt of the last publication of their store, and the calls
+/// that the session answers.
 #[derive(Drop)]
 pub(crate) struct Work {
     pub(crate) session: Session,

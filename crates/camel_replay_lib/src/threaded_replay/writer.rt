@@ -98,7 +98,7 @@ impl<W: Wait + Drop> Writer<W> {
         }
     }
 
-    /// Publishes what is pending, where the gate lets it.
+    /// Publishes what is pending, if the gate lets it.
     fn publish<G: Gate, R: Wait>(&mut self, rt: &R, gate: &G) -> Result<Line, ThreadsFault>
         ensures line { IfOk result (λ line. line
             ≡ line_of self.old.store.store.profile self.old.store.store.limit self.old.store.updates Record.Publish) }
@@ -137,7 +137,7 @@ impl<W: Wait + Drop> Writer<W> {
     }
 }
 
-/// Submits a copy of an update, and keeps the update behind the accepted ones where it is accepted.
+/// Submits a copy of an update, and keeps the update behind the accepted ones if it is accepted.
 fn submit(store: &mut Vlr, accepted: &mut Vec<Update>, update: Update) -> Result<Line, ThreadsFault>
     requires accepted { accepted.old.items ≡ accepted_updates store.old.updates }
     ensures line { IfOk result (λ line. line ≡ line_of store.old.store.profile store.old.store.limit store.old.updates (Record.Update update)) }
