@@ -11,7 +11,7 @@ use Rattle.clap.specs.declared.parser.matches.ArgMatches.{ArgMatches}
 use Rattle.camel_replay_lib.specs.CommandLine.{AsksForHelp, GivesNumber, HoldsLimit, HoldsProfile, HoldsThreads, LimitOf, MayGiveNumber, ProfileOf, ThreadsOf, option_text, profile_number, the_program}
 use Rattle.camel_replay_lib.specs.Limits.{max_limit, max_profile, max_threads}
 
--- so `clap` says which matches every list of words has
+-- the program is simple, so `clap` says which matches every list of words has
 program_is_simple : is_simple the_program ≡ true
 unfolding clap_on_literals
 program_is_simple = refl
@@ -38,7 +38,7 @@ threads_in_range words (Some threads) given = (given.2.least, given.2.most)
 pub limit_in_range : (words : List Text) (limit : ℕ) → LimitOf words limit → (1 ≤ limit) × (limit ≤ max_limit)
 limit_in_range words limit given = (given.2.least, given.2.most)
 
--- and which kinds of error it may answer
+-- the program is simple and free, so `clap` says which kinds of error every list of words may give
 program_is_free : is_simple_and_free the_program ≡ true
 unfolding clap_on_literals
 program_is_free = refl
@@ -53,7 +53,7 @@ AsksForHelp-answered words app error same has help =
     let free : is_simple_and_free app ≡ true = rw same program_is_free in
     subst (λ (app : App). IsAmong DisplayHelp (fault_of app words)) same (help_is_among (kind_of error) (fault_of app words) (has free) help)
 
--- an error that is passed on is the error that was answered
+-- an error that is passed on is the error that was returned
 pub passed_on : {T : Type 0} (result : Result T Error) (Given Shown : Error → Type 0) → IsErrAnd result Given → ((error : Error) → Given error → Shown error) → IfErr result Shown
 passed_on (Ok value) Given Shown given shown = tt
 passed_on (Err error) Given Shown given shown = shown error given

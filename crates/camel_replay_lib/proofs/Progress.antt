@@ -28,7 +28,7 @@ pub record Progress (old new : Option (List ℕ)) (all : ScriptData) (profile : 
   pub fault : all.fault ≡ rest.fault
   pub count : number ≡ length answered + 1
 
--- the same, where the octets of the script are known
+-- `Progress`, if the octets of the script are known
 abbrev pub Progresses : Option (List ℕ) → Option (List ℕ) → Option ScriptData → Profile → ℕ → ℕ → StoreData → Option ScriptData → Type 0
 Progresses old new None profile limit number store left = Unit {0}
 Progresses old new (Some all) profile limit number store None = ⊥
@@ -80,7 +80,7 @@ module _ {old new : Option (List ℕ)} {all rest : ScriptData} {profile : Profil
   written_output =
       ap (λ (records : List Record). output profile limit records) (sym (append-nil so_far.answered)) ∙ so_far.lines [] ∙ append-nil so_far.written
 
-  -- where nothing is left, what was written is the whole output
+  -- if nothing is left, what was written is the whole output
   output_at_end : rest.records ≡ [] → output profile limit all.records ≡ so_far.written
   unfolding output_from
   output_at_end none = whole_output ∙ rw none (append-nil so_far.written)
@@ -207,7 +207,7 @@ is_no_write_fault fault.Read = refl
 is_no_write_fault fault.TooManyRecords = refl
 is_no_write_fault fault.Failed = refl
 
--- the script answered a fault
+-- a read of the script failed
 pub stopped_by_script : (known : Option ScriptData) (old new : Option (List ℕ)) (left : Option ScriptData) (profile : Profile) (limit number : ℕ) (store : StoreData) (e : ScriptFault) (stop : ReplayFault)
     → Progresses old new known profile limit number store left → stop ≡ record { number = Some number; code = script_fault_code e } → FaultsAs e left
     → IfSome known (λ given. Stops old new profile limit given stop)

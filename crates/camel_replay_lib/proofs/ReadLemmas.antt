@@ -16,7 +16,7 @@ use Rattle.camel_replay_lib.specs.declared.script_replay.ReplayFault.{ReplayFaul
 use Rattle.camel_replay_lib.specs.declared.threaded_replay.threads_fault.ThreadsFault.{ThreadsFault}
 use Rattle.camel_replay_lib.specs.declared.threaded_replay.threads_fault.ThreadsFault.TheVariants as run
 
--- These records were read, and the script still gives the rest, where its octets are known.
+-- These records were read, and the script still gives the rest, if its octets are known.
 abbrev pub HasRead : Option ScriptData → List Record → Option ScriptData → Type 0
 HasRead None records left = Unit {0}
 HasRead (Some all) records None = ⊥
@@ -61,12 +61,12 @@ stopped_by_memory (Some all) (Some rest) records stop so_far is = record {
   text = not_of_kind _ is_text_code stop.code 102 (ap (λ (x : ReplayFault). x.code) is) refl;
 }
 
--- the code of a fault that the script answered, which is none of its text
+-- the code of a fault of memory or of the reader is none of the script's text
 not_text : (e : ScriptFault) → IsMemoryOrReadFault e → is_text_code (script_fault_code e) ≡ false
 not_text e (inl memory) = rw memory refl
 not_text e (inr read) = rw read refl
 
--- the script answered a fault
+-- a read of the script failed
 pub stopped_reading : (known left : Option ScriptData) (records : List Record) (e : ScriptFault) (stop : ReplayFault) → HasRead known records left → FaultsAs e left
     → stop ≡ record { number = Some (length records + 1); code = script_fault_code e } → IfSome known (λ given. StopsReading given stop)
 stopped_reading None left records e stop so_far faults is = tt

@@ -29,7 +29,8 @@ AllZip-append R [] (y ∷ ys) more more' first second = absurd first
 AllZip-append R (x ∷ xs) [] more more' first second = absurd first
 AllZip-append R (x ∷ xs) (y ∷ ys) more more' first second = (first.0, AllZip-append R xs ys more more' first.1 second)
 
--- what holds of the pairs of two lists, and of those of the second and a third, holds of those of the first and the third
+-- what holds of the pairs of two lists, and of those of the second and a third, holds of those of the first and the
+-- third
 pub AllZip-trans : {A B C : Type 0} (R : A → B → Type 0) (S : B → C → Type 0) (T : A → C → Type 0) → ((x : A) (y : B) (z : C) → R x y → S y z → T x z)
     → (xs : List A) (ys : List B) (zs : List C) → AllZip R xs ys → AllZip S ys zs → AllZip T xs zs
 AllZip-trans R S T both [] [] [] first second = tt
@@ -84,7 +85,7 @@ SessionsAnswer-numbered threads number calls (seat ∷ seats) numbered answered 
   SessionsAnswer-numbered threads (number + 1) calls seats numbered.1 (All-tail (HasAnswered threads calls) seat seats answered),
 )
 
--- each front extends the one that the session was told of last
+-- each front extends the one of the receipt that the session learnt last
 pub reaches-told : (store : StoreId) (seen : List Update) (told : List (List Update)) (receipt : List Update) (entries : List Entry) (fronts : List (List Update))
     → Run store seen (told ++ receipt ∷ []) (map event_in entries) (map answer_in entries) fronts → All (FrontIsAtLeast (length receipt)) entries
 reaches-told store seen told receipt [] fronts run = All-nil (FrontIsAtLeast (length receipt))

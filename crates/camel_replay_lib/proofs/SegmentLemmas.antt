@@ -106,7 +106,7 @@ output_from-append profile limit updates (next ∷ xs) ys =
 pub was_split : {X : Type 0} (done left was all : List X) (next : X) → was ≡ next ∷ left → done ++ was ≡ all → (done ++ next ∷ []) ++ left ≡ all
 was_split done left was all next popped whole = append_assoc done (next ∷ []) left ∙ sym (ap (λ xs. done ++ xs) popped) ∙ whole
 
--- no publication stands among these records: a segment behind them makes one with them
+-- no publication is among these records: a segment behind them makes one with them
 abbrev pub IsQuiet : List Record → Type 0
 IsQuiet done = (more left : List Record) → IsSegment more left → IsSegment (done ++ more) left
 

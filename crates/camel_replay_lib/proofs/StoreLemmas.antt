@@ -12,7 +12,7 @@ use Rattle.camel_rows.specs.Update.{records_after, refusal, update_imsi}
 use Rattle.camel_rows.specs.declared.subscriber.update.Update.{Update}
 use Rattle.camel_replay_lib.specs.Store.{IsSound}
 
--- those of a store that is empty
+-- the fields of a store that is empty agree
 pub IsSound-new : (limit : ℕ) → IsSound (no_admissions limit) no_records no_updates
 IsSound-new limit = record {
   front = IsFront-empty limit;
@@ -20,7 +20,7 @@ IsSound-new limit = record {
   published = refl;
 }
 
--- those of a store with an accepted update more
+-- the fields of a store with an accepted update more agree
 pub IsSound-accept : (admission next : AdmissionData) (records : RecordsData) (updates : Updates) (update : Update) → IsSound admission records updates
     → admission_refusal admission update ≡ None
     → next ≡ with_admission admission (update_imsi update) (csis_after (value_of admission.directory (update_imsi update)) update)
@@ -42,7 +42,7 @@ module _ (admission : AdmissionData) (records : RecordsData) (published rest : L
   moved : published ++ update ∷ rest ≡ (published ++ update ∷ []) ++ rest
   moved = sym (append_assoc published (update ∷ []) rest)
 
-  -- those of a store whose first pending update is published
+  -- the fields of a store whose first pending update is published agree
   IsSound-publish : IsSound admission (records_after records update) (record { published = published ++ update ∷ []; pending = rest })
   IsSound-publish = record {
     front = rw (← moved) sound.front;

@@ -10,7 +10,7 @@ use Rattle.clap.specs.declared.error.kind.ErrorKind.TheVariants.{DisplayHelp}
 use Rattle.clap.specs.declared.parser.matches.ArgMatches.{ArgMatches}
 use Rattle.camel_replay_lib.specs.Limits.{max_limit, max_profile, max_threads}
 
--- The option `--limit` is a number from 1 to 1000000, and 1000000 where it is not given.
+-- The option `--limit` is a number from 1 to 1000000, and 1000000 if it is not given.
 abbrev pub limit_rule : Rule
 limit_rule = record (new_rule (codes "limit")) {
   long = Some (codes "limit");
@@ -27,7 +27,7 @@ threads_rule = record (new_rule (codes "threads")) {
   parser = Some (Unsigned 1 max_threads);
 }
 
--- The option `--profile` is the number of a profile, and 1 where it is not given.
+-- The option `--profile` is the number of a profile, and 1 if it is not given.
 abbrev pub profile_rule : Rule
 profile_rule = record (new_rule (codes "profile")) {
   long = Some (codes "profile");
@@ -54,7 +54,7 @@ pub record IsNumberUpTo (greatest : ℕ) (text : Text) (number : ℕ) : Type 0 w
 abbrev pub GivesNumber : ℕ → Option Text → ℕ → Type 0
 GivesNumber greatest given number = (text : Text) × (given ≡ Some text) × IsNumberUpTo greatest text number
 
--- The number that an option with this text has, and none where there is no text.
+-- The number that an option with this text has, and none if there is no text.
 abbrev pub MayGiveNumber : ℕ → Option Text → Option ℕ → Type 0
 MayGiveNumber greatest given None = given ≡ None
 MayGiveNumber greatest given (Some number) = GivesNumber greatest given number
@@ -63,7 +63,7 @@ MayGiveNumber greatest given (Some number) = GivesNumber greatest given number
 abbrev pub LimitOf : List Text → ℕ → Type 0
 LimitOf words limit = GivesNumber max_limit (option_text (codes "limit") words) limit
 
--- How many threads answer calls by these words: none where they do not say it.
+-- How many threads answer calls by these words: none if they do not say it.
 abbrev pub ThreadsOf : List Text → Option ℕ → Type 0
 ThreadsOf words threads = MayGiveNumber max_threads (option_text (codes "threads") words) threads
 
@@ -76,7 +76,7 @@ profile_number profile.Two = 2
 abbrev pub ProfileOf : List Text → Profile → Type 0
 ProfileOf words chosen = GivesNumber max_profile (option_text (codes "profile") words) (profile_number chosen)
 
--- These words ask for the help text: `clap` answers them by it.
+-- These words ask for the help text: `clap` returns it for them.
 abbrev pub AsksForHelp : List Text → Type 0
 AsksForHelp words = IsAmong DisplayHelp (fault_of the_program words)
 

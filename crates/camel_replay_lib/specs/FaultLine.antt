@@ -1,9 +1,9 @@
--- The line that tells the fault with which a run ended (profile 1's own format).
+-- The line that says with which fault a run ended (profile 1's own format).
 use Rattle.std.specs.Prelude.{ℕ, List, ◌++◌, codes, Option, Some, None}
 use Rattle.std.specs.Fmt.{decimal}
 use Rattle.camel_replay_lib.specs.declared.script_replay.ReplayFault.{ReplayFault}
 
--- The line of a fault, with the number of its record where there is one.
+-- The line of a fault, with the number of its record if there is one.
 abbrev pub fault_line_at : Option ℕ → ℕ → List ℕ
 fault_line_at (Some number) code =
     codes "camel_replay: record " ++ decimal number ++ codes ": fault " ++ decimal code ++ codes "\n"

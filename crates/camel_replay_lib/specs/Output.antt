@@ -15,11 +15,11 @@ use Rattle.camel_script.specs.declared.line.Line.TheVariants as line
 use Rattle.camel_script.specs.declared.record.Record.{Record}
 use Rattle.camel_script.specs.declared.record.Record.TheVariants as script_record
 
--- A call is decided over the published updates alone.
+-- A call is decided over the published updates only.
 abbrev pub answer_of : Profile → Updates → EventData → Answer
 answer_of profile updates event = answer_over profile updates.published event
 
--- The line of an update, where so many are accepted before it.
+-- The line of an update, before which so many are accepted.
 abbrev pub update_line : ℕ → Option Refusal → Line
 update_line count None = line.Accepted (count + 1)
 update_line count (Some why) = line.Refused (refusal_code why)
@@ -49,7 +49,7 @@ output_from profile limit updates [] = []
 output_from profile limit updates (script_record ∷ records) =
     line_text (line_of profile limit updates script_record) ++ output_from profile limit (updates_after limit updates script_record) records
 
--- The output of the records of a script, where at most `limit` updates are accepted, and calls are decided under a
--- profile.
+-- The output of the records of a script, of which at most `limit` updates are accepted, and whose calls are decided
+-- under a profile.
 abbrev pub output : Profile → ℕ → List Record → List ℕ
 output profile limit records = output_from profile limit no_updates records

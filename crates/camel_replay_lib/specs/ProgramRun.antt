@@ -10,12 +10,12 @@ use Rattle.camel_replay_lib.specs.ThreadsWritten.{ThreadsStop, WritesThreadsOutp
 use Rattle.camel_replay_lib.specs.Written.{AppendsPart, Stops, WritesAll}
 use Rattle.camel_replay_lib.specs.declared.script_replay.ReplayFault.{ReplayFault}
 
--- What a stream holds before the run and after it, where this is known.
+-- What a stream holds before the run and after it, if this is known.
 pub record Stream : Type 0 where
   pub before : Option (List ℕ)
   pub after : Option (List ℕ)
 
--- What a run is given, does and answers: the bytes of the input, where they are known, the two streams that it writes
+-- What a run is given, writes and returns: the bytes of the input, if they are known, the two streams that it writes
 -- to, standard output and standard error, and the status of the process.
 pub record RunData : Type 0 where
   pub input : Option (List ℕ)
@@ -31,14 +31,14 @@ IsSilent stream = stream.after ≡ stream.before
 abbrev pub ShowsPart : Stream → List ℕ → Type 0
 ShowsPart stream octets = AppendsPart stream.before stream.after octets
 
--- What a replay promises: what it has written of a script where it has no fault, what it has written where it ends with
--- one, and which codes its faults have. What was held before comes first, then what is held after.
+-- What a replay promises: what it has written of a script if it has no fault, what it has written if it ends with one,
+-- and which codes its faults have. What was held before comes first, then what is held after.
 pub record Promise : Type 1 where
   pub whole : Option (List ℕ) → Option (List ℕ) → ScriptData → Type 0
   pub stop : Option (List ℕ) → Option (List ℕ) → ScriptData → ReplayFault → Type 0
   pub codes : ℕ → Bool
 
--- What a replay under this profile and limit promises: on one thread alone, or with so many threads that answer calls.
+-- What a replay under this profile and limit promises: on one thread only, or with so many threads that answer calls.
 abbrev pub promise_of : Option ℕ → Profile → ℕ → Promise
 promise_of None profile limit = record {
   whole = λ old new given. WritesAll old new profile limit given;
@@ -51,7 +51,8 @@ promise_of (Some threads) profile limit = record {
   codes = is_threaded_replay_code;
 }
 
--- The run ended with this fault: it told a part of the output, as the fault says, and the fault's line or a part of it.
+-- The run ended with this fault: it wrote a part of the output, as the fault says, and the fault's line or a part of
+-- the line.
 pub record EndsWithFault (promise : Promise) (run : RunData) : Type 0 where
   pub fault : ReplayFault
   pub code : promise.codes fault.code ≡ true
@@ -71,7 +72,7 @@ pub record Replays (promise : Promise) (run : RunData) : Type 0 where
 abbrev pub Rejects : RunData → Type 0
 Rejects run = (run.status ≡ 2) × IsSilent run.out
 
--- The help text is answered: status 0, and nothing is written to standard error.
+-- The help text is written: status 0, and nothing is written to standard error.
 abbrev pub Helps : RunData → Type 0
 Helps run = (run.status ≡ 0) × IsSilent run.err
 

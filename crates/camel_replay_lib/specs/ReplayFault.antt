@@ -8,15 +8,15 @@ use Rattle.camel_workers.specs.declared.worker.Ended.TheVariants as ended
 use Rattle.camel_replay_lib.specs.declared.threaded_replay.threads_fault.ThreadsFault.{ThreadsFault}
 use Rattle.camel_replay_lib.specs.declared.threaded_replay.threads_fault.ThreadsFault.TheVariants.{OutOfMemory, NoPlace, NoGuard, Stopped, NoWorker, Audit}
 
--- The fault is one of the script: of the text of a record (202 to 205), or too many records (207).
+-- The fault is one of the script: of the text of a record, `Word` (202) to `Number` (205), or `TooManyRecords` (207).
 abbrev pub is_text_code : ℕ → Bool
 is_text_code code = (nat_le 202 code && nat_le code 205) || code == 207
 
--- The fault comes from outside: memory was refused (102), or the input could not be read (206).
+-- The fault comes from outside: `OutOfMemory` (102), or the input could not be read, `Read` (206).
 abbrev pub is_memory_or_read_code : ℕ → Bool
 is_memory_or_read_code code = code == 102 || code == 206
 
--- The output could not be written (208).
+-- The output could not be written: `WRITE_FAULT` (208).
 abbrev pub is_write_code : ℕ → Bool
 is_write_code code = code == 208
 
@@ -37,24 +37,25 @@ threads_fault_code Stopped = 105
 threads_fault_code NoWorker = 106
 threads_fault_code (Audit fault) = audit_fault_code fault
 
--- The fault of a call of a store that is refused with 102, 103 or 104 alone.
+-- The fault of a call of a store that is refused only with `OutOfMemory` (102), `NoPlace` (103) or `NoGuard` (104).
 abbrev pub threads_fault_of : Refusal → ThreadsFault
 threads_fault_of refusal.NoPlace = NoPlace
 threads_fault_of refusal.NoGuard = NoGuard
 threads_fault_of other = OutOfMemory
 
--- The fault of a worker, where it has not answered all of its jobs.
+-- The fault of a worker, if it has not answered all of its jobs.
 abbrev pub fault_of_end : Ended → Option ThreadsFault
 fault_of_end ended.All = None
 fault_of_end ended.Stopped = Some Stopped
 fault_of_end ended.NoGuard = Some NoGuard
 fault_of_end ended.OutOfMemory = Some OutOfMemory
 
--- Such a fault: out of memory (102), no place (103), no look (104), stopped (105), no worker (106), or one of the audit.
+-- The number of a fault that comes after the reading of the script and before its output: `OutOfMemory` (102),
+-- `NoPlace` (103), `NoGuard` (104), `Stopped` (105), `NoWorker` (106), or one of the audit.
 abbrev pub is_threads_code : ℕ → Bool
 is_threads_code code = (nat_le 102 code && nat_le code 106) || (nat_le 301 code && nat_le code 304)
 
--- Such a fault, or one of the output: it comes after the script was read whole.
+-- The number of a fault that comes after the script was read whole: before its output, or of the output.
 abbrev pub is_later_code : ℕ → Bool
 is_later_code code = is_threads_code code || is_write_code code
 

@@ -31,14 +31,14 @@ FrontIsAtLeast least entry = least ≤ entry.answer.front
 abbrev pub FrontIsAtMost : ℕ → Entry → Type 0
 FrontIsAtMost most entry = entry.answer.front ≤ most
 
--- the worker is that of a session, and is handed a receipt and jobs
+-- the worker is the one of a session, and is handed a receipt and jobs
 pub record IsWorkerOf (told : PrefixData) (jobs : List Job) (seat : Seat) (worker : Worker) : Type 0 where
   pub number : worker.number ≡ seat.number
   pub entries : worker.entries.items ≡ seat.entries.items
   pub work : IfSome worker.started (λ handle. let work : Work = handle.promise.0.value in
       (work.session ≡ seat.session) × (work.told ≡ told) × (work.jobs.items ≡ jobs))
 
--- each session has a worker, which is told of the last publication and has those of the calls that the session answers
+-- each session has a worker, which is handed the receipt of the last publication and the calls that the session answers
 abbrev pub AreWorkersOf : StoreData → ℕ → List Job → List Seat → List Worker → Type 0
 AreWorkersOf store threads calls seats workers =
     AllZip (λ (seat : Seat). IsWorkerOf (record { store = store.store; updates = store.updates.published }) (jobs_for threads seat.number calls) seat)
@@ -65,7 +65,8 @@ pub record ServesSeat (least most threads : ℕ) (calls : List Job) (before afte
   pub store : after.session.store ≡ before.session.store
   pub served : ServesJobs least most (jobs_for threads before.number calls) before.entries.items after.entries.items
 
--- each session has answered its calls over fronts from the last publication before the round to the one that the round made
+-- each session has answered its calls over fronts from the last publication before the round to the one that the round
+-- made
 abbrev pub ServesRound : Updates → Updates → List Job → List Seat → List Seat → Type 0
 ServesRound before after calls seats served =
     AllZip (ServesSeat (length before.published) (length after.published) (length seats) calls) seats served

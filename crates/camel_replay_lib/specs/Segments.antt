@@ -15,11 +15,11 @@ jobs_from number (script_record.Update update ∷ records) = jobs_from number re
 jobs_from number (script_record.Publish ∷ records) = jobs_from number records
 jobs_from number (script_record.Refused why ∷ records) = jobs_from number records
 
--- those that the session of this number answers
+-- the jobs among these that the session of this number answers
 abbrev pub jobs_for : ℕ → ℕ → List Job → List Job
 jobs_for threads session jobs = filter (λ (job : Job). job.call % threads == session) jobs
 
--- a publication ends the records and stands nowhere else among them; where they have none, no record is left behind them
+-- a publication ends the records and is nowhere else among them; if they have none, no record is left behind them
 abbrev pub IsSegment : List Record → List Record → Type 0
 IsSegment [] left = left ≡ []
 IsSegment (script_record.Publish ∷ records) left = records ≡ []

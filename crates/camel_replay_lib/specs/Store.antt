@@ -22,7 +22,8 @@ empty_store profile limit = record { profile = profile; limit = limit; updates =
 abbrev pub store_after : StoreData → Record → StoreData
 store_after store script_record = record store { updates = updates_after store.limit store.updates script_record }
 
--- The fields of a store agree: its updates are a front, the admission is theirs, and the records are those of the published ones.
+-- The fields of a store agree: its updates are a front, the admission is theirs, and the records are those of the
+-- published ones.
 pub record IsSound (admission : AdmissionData) (records : RecordsData) (updates : Updates) : Type 0 where
   pub front : IsFront admission.limit (accepted_updates updates)
   pub admits : IsAdmissionOfUpdates admission admission.limit updates

@@ -19,7 +19,7 @@ abbrev pub is_no_call : Record → Bool
 is_no_call (script_record.Call event) = false
 is_no_call other = true
 
--- how many updates the next publication shows; as many as are published, where none follows
+-- how many updates the next publication shows; as many as are published, if none follows
 abbrev pub next_front : ℕ → Updates → List Record → ℕ
 next_front limit updates [] = length updates.published
 next_front limit updates (script_record.Publish ∷ records) = length (accepted_updates updates)

@@ -14,8 +14,8 @@ pub record IsAllOf (given : ScriptData) (records : List Record) : Type 0 where
   pub fault : given.fault ≡ None
   pub records_read : given.records ≡ records
 
--- The reading of a script ends with a fault behind its first `count` records. The record after them is named. A fault of
--- the script's text is the script's own, of its own record.
+-- The reading of a script ends with a fault behind its first `count` records. The record after them is named. A fault
+-- of the script's text is the script's own, of its own record.
 pub record StopsReading (given : ScriptData) (stop : ReplayFault) : Type 0 where
   pub count : ℕ
   pub within : count ≤ length given.records
@@ -42,8 +42,9 @@ pub record WritesThreadsPart (old new : Option (List ℕ)) (threads : ℕ) (prof
   pub output : IsThreadsOutput threads profile limit given.records octets
   pub written : AppendsPart old new octets
 
--- A fault of writing leaves a part of the output. After any other nothing was written. A fault of the script's text is the
--- script's own, of its own record. A fault of reading names the record that was being read, and a later one names none.
+-- A fault of writing leaves a part of the output. After any other fault nothing was written. A fault of the script's
+-- text is the script's own, of its own record. A fault of reading names the record that was being read, and a later one
+-- names none.
 pub record ThreadsStop (old new : Option (List ℕ)) (threads : ℕ) (profile : Profile) (limit : ℕ) (given : ScriptData)
     (stop : ReplayFault) : Type 0 where
   pub unwritten : (IsTrue (is_write_code stop.code) → ⊥) → Keeps old new

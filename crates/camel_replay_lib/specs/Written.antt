@@ -10,11 +10,11 @@ use Rattle.camel_replay_lib.specs.Output.{output}
 use Rattle.camel_replay_lib.specs.ReplayFault.{is_memory_or_read_code, is_text_code, is_write_code}
 use Rattle.camel_replay_lib.specs.declared.script_replay.ReplayFault.{ReplayFault}
 
--- What was held, where it is known, grows by a part of the octets, from the first one on. The part may be all of them.
+-- What was held, if it is known, grows by a part of the octets, from the first one on. The part may be all of them.
 abbrev pub AppendsPart : Option (List ℕ) → Option (List ℕ) → List ℕ → Type 0
 AppendsPart old new octets = (front : List ℕ) × (back : List ℕ) × (octets ≡ front ++ back) × Appends old new front
 
--- What was held, where it is known, grows by a part of the octets, from the first one on, and the last one is missing.
+-- What was held, if it is known, grows by a part of the octets, from the first one on, and the last one is missing.
 abbrev pub AppendsProperPart : Option (List ℕ) → Option (List ℕ) → List ℕ → Type 0
 AppendsProperPart old new octets =
     (front : List ℕ) × (back : List ℕ) × (octets ≡ front ++ back) × (back ≢ []) × Appends old new front
@@ -23,7 +23,7 @@ AppendsProperPart old new octets =
 abbrev pub WritesAll : Option (List ℕ) → Option (List ℕ) → Profile → ℕ → ScriptData → Type 0
 WritesAll old new profile limit given = (given.fault ≡ None) × Appends old new (output profile limit given.records)
 
--- The fault has the code and the record of the script's own.
+-- The fault has the code and the record of the script's own fault.
 pub record NamesFault (given : ScriptData) (stop : ReplayFault) : Type 0 where
   pub fault : IsSomeAnd given.fault (λ fault. script_fault_code fault ≡ stop.code)
   pub place : stop.number ≡ Some (length given.records + 1)
@@ -55,7 +55,7 @@ pub record StopsInLine (old new : Option (List ℕ)) (profile : Profile) (limit 
   pub proper : back ≢ []
   pub place : number ≡ Some (count + 1)
 
--- The flush behind the last line failed: all was written, and the last record is named, by 0 where there is none.
+-- The flush behind the last line failed: all was written, and the last record is named, by 0 if there is none.
 pub record StopsAtFlush (old new : Option (List ℕ)) (profile : Profile) (limit : ℕ) (given : ScriptData)
     (number : Option ℕ) : Type 0 where
   pub whole : WritesAll old new profile limit given

@@ -5,7 +5,7 @@ use Rattle.camel_replay_lib.specs.Segments.{IsSegment, jobs_from}
 use Rattle.camel_replay_lib.specs.ThreadsOutput.{is_no_call}
 use Rattle.camel_replay_lib.proofs.threaded_replay.segment.cut_segment.Given as goal
 
--- no publication stands among the records so far: a segment behind them makes one with them
+-- no publication is among the records so far: a segment behind them makes one with them
 abbrev pub invariant-records : goal.invariant-records
 invariant-records l = record {
   done : List Record;
