@@ -1,4 +1,4 @@
-//! The tests of `camel_replay_lib`, which call it from outside, as its users do. Whole scripts with what they leave stand
+//! The tests of `camel_replay_lib`, which call it from outside, as its users do. Whole scripts with what they leave are
 //! in `tests/scripts`, beside the crates; here are readers, writers and gates that no script has, and what takes long.
 #![tactic(auto)]
 

@@ -5,8 +5,8 @@ use std::io;
 use std::io::{ErrorKind, Read, Write};
 use std::test::Fail;
 
-// A reader that gives one piece of a script a call, and fails where the count of octets that are written by then
-// is another than that of the piece.
+// A reader that gives one piece of a script a call, and fails if the count of octets that are written by then is not
+// the count of the piece.
 #[derive(Drop)]
 struct Steps<'a> {
     left: &'a [(&'a [u8], usize)],
@@ -29,7 +29,7 @@ impl Read for Steps<'_> {
     }
 }
 
-// A writer that tells how many octets it has taken.
+// A writer that counts the octets that it has taken where its reader sees the count.
 #[derive(Drop)]
 struct Told<'a> {
     taken: Vec<u8>,
@@ -48,7 +48,7 @@ impl Write for Told<'_> {
     }
 }
 
-// A record a piece, but for the first octet, which is read alone, and the end.
+// Pieces, of one record each; but the first octet is a piece of its own, and so is the end.
 const STEPS: [(&[u8], usize); 7] = [
     (b"r", 0),
     (b"egister,26201\n", 0),
@@ -78,7 +78,7 @@ fn writes_each_line_before_the_next_record_is_read(rt: HostRuntime) -> Result<()
     Ok(())
 }
 
-// A writer that does not tell its count: the reader then fails at the second record.
+// A writer whose count its reader does not see: the reader then fails at the second record.
 #[test]
 fn fails_where_a_line_is_not_written(rt: HostRuntime) {
     let written = Cell::new(0);

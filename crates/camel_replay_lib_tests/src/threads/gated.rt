@@ -18,7 +18,8 @@ session 1 call 1 front 2 trigger 2 100 919471160000 continue
 audit ok
 ";
 
-// Each call waits for the other one. So they are answered in threads that run at once, or the run ends with 105.
+// Each call waits for the other one. So they are answered in threads that run at once, or the run ends with `Stopped`
+// (105).
 #[test]
 fn answers_two_calls_at_once(rt: HostRuntime) {
     let script = TWO_CALLS.as_bytes();

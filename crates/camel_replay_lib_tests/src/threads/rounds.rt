@@ -10,7 +10,7 @@ use std::sync::Wait;
 use std::test::Fail;
 use std::thread::Threads;
 
-// A script of 60 records. Its calls stand among the other records of their round: these are the records before the calls
+// A script of 60 records. Its calls are among the other records of their round: these are the records before the calls
 // of a round, its calls, and the records behind them, up to its publication.
 const ROUNDS: [[&str; 3]; 8] = [
     [
@@ -145,7 +145,7 @@ fn replayed(rt: &impl Abort, alloc: Global, script: &str) -> Result<Vec<u8>, Fai
     Ok(output)
 }
 
-// The output with threads, where each call is decided as in this output of one thread.
+// The output with threads, in which each call is decided as in this output of one thread.
 fn with_sessions(alloc: Global, output: &str, threads: usize) -> Result<String, Fail>
     requires { 1 ≤ threads }
 {
@@ -183,7 +183,7 @@ fn push_session(
     Ok(())
 }
 
-// Whether each line is the one that stands in its place in the one text or in the other.
+// Whether each line is the one at its place in the one text or in the other.
 fn is_line_by_line(output: &str, early: &str, late: &str) -> bool {
     let mut early = early.lines();
     let mut late = late.lines();

@@ -9,10 +9,11 @@ use std::alloc::Global;
 use std::sync::Wait;
 use std::thread::Threads;
 
-/// The faults with which a run may end on a machine that has much else to do. A run that ends with one is repeated.
+/// The faults with which a run may end on a machine that has much else to do: `NoPlace` (103), `NoGuard` (104) and
+/// `NoWorker` (106). A run that ends with one is repeated.
 pub(crate) const BUSY: [u16; 3] = [103, 104, 106];
 
-/// The same for a run whose gate waits no more than some time.
+/// The faults of `BUSY`, and `Stopped` (105), with which a run may end whose gate waits no more than some time.
 pub(crate) const BUSY_OR_LATE: [u16; 4] = [103, 104, 105, 106];
 
 /// How often a run is repeated at most.
@@ -25,7 +26,8 @@ pub(crate) struct Ran {
     pub(crate) output: Vec<u8>,
 }
 
-/// Runs a script under profile 1 with the greatest limit. A run that ends with one of the faults is repeated with a new gate and a new writer.
+/// Runs a script under profile 1 with the greatest limit. A run that ends with one of the faults is repeated with a new
+/// gate and a new writer.
 pub(crate) fn run<G: Fresh, R: Threads + Wait>(
     rt: &R,
     alloc: Global,
