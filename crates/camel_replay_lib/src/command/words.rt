@@ -165,8 +165,12 @@ Items of an insert, up to ten of each name, and at most one of each detection po
   hexadecimal: the first is nature and numbering plan, the others hold two digits each, the earlier one in the lower
   half, and f fills up. NUMBER is e/9121f3+9155/4, with e (enabling) or i (inhibiting), listed numbers and lengths.
   BASICS is t11+b10, teleservices and bearer services in hexadecimal. TYPE is f (forwarded) or n. CAUSES is 17+18.
+  Pairs of plain digits are octets too, without a fault: +4912345 is 91942143f5.
+  A number dialled with + is 91 and its digits, one dialled without + usually 81
+  and its digits: 012345 is 81103254, and 004912345 is 8100942143f5.
 
-The lines:
+The lines. register, insert, delete, cancel and clear are updates, and give
+accepted or refused; publish gives published; call gives front or refused.
 
   accepted N                          the update is the Nth
   refused C                           5 unknown subscriber, 35 data missing, 36 unexpected value, 101 limit reached
@@ -175,7 +179,9 @@ The lines:
                                       release, what is done with the call where the service can't be reached
   front F none REASON                 unknown, no-csi, not-armed, emergency or criteria
 
-With --threads the lines of the calls come after those of all other records:
+With --threads the lines of the calls come after those of all other records, and
+refused calls are among the others. Call C is decided by session C modulo N of
+--threads, and C counts only the calls that are not refused:
 
   session S call C front F ...        session S decided call C of the script, both counted from 0
   audit ok                            the last line: the published updates explain each answer
