@@ -18,9 +18,9 @@ use Rattle.camel_replay_lib.specs.Round.{FrontIsAtLeast, FrontIsAtMost, IsJoined
 use Rattle.camel_replay_lib.specs.Rounds.{AreNumbered, HasAnswered, HasNoEntries, entries_in, session_in}
 use Rattle.camel_replay_lib.specs.Segments.{jobs_for}
 use Rattle.camel_replay_lib.specs.ThreadsOutput.{AnswersCall, Call, SessionsAnswer}
+use Rattle.camel_replay_lib.specs.declared.threaded_replay.round.ServedOf.{ServedOf}
 use Rattle.camel_replay_lib.specs.declared.threaded_replay.round.Worker.{Worker}
 use Rattle.camel_replay_lib.specs.declared.threaded_replay.seat.Seat.{Seat}
-use Rattle.camel_replay_lib.specs.declared.threaded_replay.work.Work.{Work}
 
 pub AllZip-append : {A B : Type 0} (R : A → B → Type 0) (xs : List A) (ys : List B) (more : List A) (more' : List B) → AllZip R xs ys → AllZip R more more'
     → AllZip R (xs ++ more) (ys ++ more')
@@ -136,12 +136,12 @@ pub ServesSeat-joined : (store : StoreData) (threads most : ℕ) (calls : List J
 ServesSeat-joined store threads most calls seat after worker is joined =
     let told : PrefixData = record { store = store.store; updates = store.updates.published } in
     let own = jobs_for threads seat.number calls in
-    let both = both-of _ _ worker.started is.work joined.served in
-    let work : Work = both.value.promise.0.value in
-    let session : work.session ≡ seat.session = both.one.0 in
-    let receipt : work.told ≡ told = both.one.1 in
-    let jobs : work.jobs.items ≡ own = both.one.2 in
-    let least : length work.told.updates ≡ length store.updates.published = ap (λ (r : PrefixData). length r.updates) receipt in
+    let both = both-of _ _ worker.started is.promise joined.served in
+    let promise : ServedOf = both.value.promise in
+    let session : promise.session.value ≡ seat.session = both.one.0 in
+    let receipt : promise.told.value ≡ told = both.one.1 in
+    let jobs : promise.jobs.value.items ≡ own = both.one.2 in
+    let least : length promise.told.value.updates ≡ length store.updates.published = ap (λ (r : PrefixData). length r.updates) receipt in
     record {
       number = joined.number ∙ is.number;
       store = both.other.0 ∙ ap (λ (s : SessionData). s.store) session;

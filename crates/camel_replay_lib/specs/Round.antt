@@ -6,15 +6,16 @@ use Rattle.camel_audit.specs.declared.transcript.Job.{Job}
 use Rattle.camel_rows.specs.Store.{Updates}
 use Rattle.camel_script.specs.declared.record.Record.{Record}
 use Rattle.camel_vlr.specs.Prefix.{PrefixData, StoreId}
+use Rattle.camel_vlr.specs.Session.{SessionData}
 use Rattle.camel_vlr.specs.Store.{StoreData}
 use Rattle.camel_workers.specs.Serves.{job_of}
 use Rattle.camel_replay_lib.specs.Fronts.{updates_from}
 use Rattle.camel_replay_lib.specs.Output.{output_from}
 use Rattle.camel_replay_lib.specs.Segments.{jobs_for}
 use Rattle.camel_replay_lib.specs.Writer.{WriterData}
+use Rattle.camel_replay_lib.specs.declared.threaded_replay.round.ServedOf.{ServedOf}
 use Rattle.camel_replay_lib.specs.declared.threaded_replay.round.Worker.{Worker}
 use Rattle.camel_replay_lib.specs.declared.threaded_replay.seat.Seat.{Seat}
-use Rattle.camel_replay_lib.specs.declared.threaded_replay.work.Work.{Work}
 
 -- the session is one of this store
 abbrev pub IsOfStore : StoreId → Seat → Type 0
@@ -31,12 +32,16 @@ FrontIsAtLeast least entry = least ≤ entry.answer.front
 abbrev pub FrontIsAtMost : ℕ → Entry → Type 0
 FrontIsAtMost most entry = entry.answer.front ≤ most
 
+-- the promise of a worker's thread is of this session, this receipt and these jobs
+abbrev pub IsPromiseOf : SessionData → PrefixData → List Job → ServedOf → Type 0
+IsPromiseOf session told jobs promise =
+    (promise.session.value ≡ session) × (promise.told.value ≡ told) × (promise.jobs.value.items ≡ jobs)
+
 -- the worker is the one of a session, and is handed a receipt and jobs
 pub record IsWorkerOf (told : PrefixData) (jobs : List Job) (seat : Seat) (worker : Worker) : Type 0 where
   pub number : worker.number ≡ seat.number
   pub entries : worker.entries.items ≡ seat.entries.items
-  pub work : IfSome worker.started (λ handle. let work : Work = handle.promise.0.value in
-      (work.session ≡ seat.session) × (work.told ≡ told) × (work.jobs.items ≡ jobs))
+  pub promise : IfSome worker.started (λ handle. IsPromiseOf seat.session told jobs handle.promise)
 
 -- each session has a worker, which is handed the receipt of the last publication and the calls that the session answers
 abbrev pub AreWorkersOf : StoreData → ℕ → List Job → List Seat → List Worker → Type 0
@@ -55,9 +60,9 @@ pub record ServesJobs (least most : ℕ) (jobs : List Job) (earlier later : List
 -- the session of a worker comes back with what it has answered
 pub record IsJoined (most : ℕ) (worker : Worker) (seat : Seat) : Type 0 where
   pub number : seat.number ≡ worker.number
-  pub served : IsSomeAnd worker.started (λ handle. let work : Work = handle.promise.0.value in
-      (seat.session.store ≡ work.session.store)
-      × ServesJobs (length work.told.updates) most work.jobs.items worker.entries.items seat.entries.items)
+  pub served : IsSomeAnd worker.started (λ handle. let promise : ServedOf = handle.promise in
+      (seat.session.store ≡ promise.session.value.store)
+      × ServesJobs (length promise.told.value.updates) most promise.jobs.value.items worker.entries.items seat.entries.items)
 
 -- a session after a round
 pub record ServesSeat (least most threads : ℕ) (calls : List Job) (before after : Seat) : Type 0 where

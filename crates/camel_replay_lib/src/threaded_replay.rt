@@ -19,7 +19,6 @@ mod round;
 mod seat;
 mod segment;
 mod threads_fault;
-mod work;
 mod writer;
 
 use crate::script_replay::write::{WriteFault, write_all};

@@ -4,31 +4,35 @@
 ghost use Rattle.std.specs.Prelude.{◌≡◌, ◌≤◌, true, None, Some, Err, length, All, IfErr, IfOk, IfSome, OnOk, []};
 ghost use Rattle.std.specs.List.{AllZip};
 ghost use Rattle.camel_replay_lib.specs.ReplayFault.{fault_of_end};
-ghost use Rattle.camel_replay_lib.specs.Round.{AreWorkersOf, FrontIsAtMost, IsJoined, IsOfStore, IsWorkerOf, ServesRound, WritesLines};
+ghost use Rattle.camel_replay_lib.specs.Round.{AreWorkersOf, FrontIsAtMost, IsJoined, IsOfStore, IsPromiseOf, IsWorkerOf, ServesRound, WritesLines};
 ghost use Rattle.camel_replay_lib.specs.ThreadsOutput.{is_no_call};
 ghost use Rattle.camel_workers.specs.Serves.{Serves};
 
 use crate::threaded_replay::seat::Seat;
 use crate::threaded_replay::segment::{Segment, jobs_for};
 use crate::threaded_replay::threads_fault::ThreadsFault;
-use crate::threaded_replay::work::Work;
 use crate::threaded_replay::writer::Writer;
 use camel_audit::{AuditFault, Entry, Job, Transcript};
-use camel_vlr::Receipt;
+use camel_vlr::{Of, Receipt, Session, StoreName};
 use camel_workers::{Ended, Gate, Served, serve};
 use std::alloc::{AllocError, Global};
 use std::collections::VecDeque;
+use std::marker::Brand;
 use std::snapshot::Snapshot;
 use std::sync::Wait;
 use std::thread;
 use std::thread::{Promise, PromisedHandle, Scope, Threads};
 
-/// The promise of a worker's thread: it gives back what `serve` makes of its work.
+/// The promise of a worker's thread: it gives back what `serve` makes of this session, this receipt and these jobs.
 #[derive(Drop)]
-struct ServedOf(Snapshot<Work>);
+struct ServedOf {
+    session: Snapshot<Session>,
+    told: Snapshot<Receipt>,
+    jobs: Snapshot<Vec<Job>>,
+}
 
 impl Promise<Served> for ServedOf {
-    ghost kept_by = { λ p served. Serves p.0.value.session p.0.value.told p.0.value.jobs.items served };
+    ghost kept_by = { λ p served. Serves p.session.value p.told.value p.jobs.value.items served };
 }
 
 /// A session in a round: what it has answered before, and its worker, if one was started.
@@ -139,16 +143,7 @@ fn start<'s, E, G: Gate>(
         session,
         entries,
     } = seat;
-    let work = Work {
-        session,
-        told,
-        jobs,
-    };
-    let promise = ServedOf(Snapshot::of(&work));
-    let started = match scope.spawn_with(promise, move || serve_work(alloc, work, gate)) {
-        Ok(handle) => Some(handle),
-        Err(_) => None,
-    };
+    let started = spawn_worker::<Brand, E, G>(scope, alloc, session, told, jobs, gate);
     Worker {
         number,
         entries,
@@ -156,16 +151,43 @@ fn start<'s, E, G: Gate>(
     }
 }
 
-/// What a worker's thread does.
-fn serve_work<G: Gate>(alloc: Global, work: Work, gate: &G) -> Served
-    ensures { Serves work.session work.told work.jobs.items result }
+/// Starts the thread of a worker, whose session and receipt are of the store `S`. None if no thread is started.
+fn spawn_worker<'s, S: StoreName + 's, E, G: Gate>(
+    scope: &Scope<'s, E>,
+    alloc: Global,
+    session: Session,
+    told: Receipt,
+    jobs: Vec<Job>,
+    gate: &'s G,
+) -> Option<PromisedHandle<Served, ServedOf>>
+    requires session { S.store ≡ Some session.store }
+    requires told { S.store ≡ Some told.store }
+    ensures { IfSome result (λ handle. IsPromiseOf session told jobs.items handle.promise) }
 {
-    let Work {
-        session,
-        told,
-        jobs,
-    } = work;
-    serve(alloc, session, told, jobs, gate)
+    let promise = ServedOf {
+        session: Snapshot::of(&session),
+        told: Snapshot::of(&told),
+        jobs: Snapshot::of(&jobs),
+    };
+    let session = Of::<S, Session>::new(session);
+    let told = Of::<S, Receipt>::new(told);
+    match scope.spawn_with(promise, move || serve_of(alloc, session, told, jobs, gate)) {
+        Ok(handle) => Some(handle),
+        Err(_) => None,
+    }
+}
+
+/// What a worker's thread does.
+fn serve_of<S: StoreName, G: Gate>(
+    alloc: Global,
+    session: Of<S, Session>,
+    told: Of<S, Receipt>,
+    jobs: Vec<Job>,
+    gate: &G,
+) -> Served
+    ensures { Serves session.value told.value jobs.items result }
+{
+    serve(alloc, session.value, told.value, jobs, gate)
 }
 
 /// Joins the workers, and returns their sessions with all that they answered. `front` is how many updates are

@@ -1,13 +1,13 @@
 use Rattle.std.proofs.Common.{rules, arith, ◌≡◌, ◌≢◌, ◌∙◌, ◌++◌, All, length, refl, ap, take_all}
 use Rattle.camel_replay_lib.proofs.RoundLemmas.{reaches-told}
 use Rattle.camel_replay_lib.specs.Round.{FrontIsAtMost}
-use Rattle.camel_replay_lib.specs.declared.threaded_replay.work.Work.{Work}
+use Rattle.camel_replay_lib.specs.declared.threaded_replay.round.ServedOf.{ServedOf}
 use Rattle.camel_workers.specs.declared.worker.Ended.TheVariants.{All as Answered, OutOfMemory}
 use Rattle.camel_replay_lib.proofs.threaded_replay.round.join.Goals as goal
 
 pub returns-clause-joined : goal.returns-clause-joined
 returns-clause-joined g c =
-    let work : Work = c.in-Some.handle.promise.0.value in
+    let promise : ServedOf = c.in-Some.handle.promise in
     let served = c.join-session.result in
     let is = c.join-session.ensures in
     let ended : served.ended ≡ Answered = c.in_ok-check_ended.ensures.answered in
@@ -16,7 +16,7 @@ returns-clause-joined g c =
     let entries = served.transcript in
     let shown : c.transcript.inside.entries.items ≡ entries = c.transcript.view_is in
     let within : All (FrontIsAtMost c.args.front) c.transcript.inside.entries.items = search rules in
-    let count : length entries ≡ length work.jobs.items = is.all.0 ended in
+    let count : length entries ≡ length promise.jobs.value.items = is.all.0 ended in
     rw c.in-Some.is record {
       number = refl;
       served = (
@@ -24,8 +24,8 @@ returns-clause-joined g c =
         record {
           entries = entries;
           kept = c.in_ok-append.ensures.items ∙ ap (λ more. c.args.worker.entries.items ++ more) shown;
-          jobs_served = is.jobs_served ∙ take_all (length entries) work.jobs.items (omega (arith, count));
-          at_least = reaches-told work.session.store work.session.seen work.session.told work.told.updates entries answers.fronts answers.run;
+          jobs_served = is.jobs_served ∙ take_all (length entries) promise.jobs.value.items (omega (arith, count));
+          at_least = reaches-told promise.session.value.store promise.session.value.seen promise.session.value.told promise.told.value.updates entries answers.fronts answers.run;
           at_most = rw (← shown) within;
         },
       );
