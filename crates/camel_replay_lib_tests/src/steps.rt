@@ -29,7 +29,7 @@ impl Read for Steps<'_> {
     }
 }
 
-// A writer that counts the octets that it has taken where its reader sees the count.
+// A writer that keeps the count of the octets that it has taken in a cell that its reader sees.
 #[derive(Drop)]
 struct Told<'a> {
     taken: Vec<u8>,
