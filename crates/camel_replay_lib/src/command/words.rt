@@ -176,7 +176,7 @@ accepted or refused; publish gives published; call gives front or refused.
   refused C                           5 unknown subscriber, 35 data missing, 36 unexpected value, 101 limit reached
   published F                         the first F updates are published
   front F trigger DP KEY SCF ACTION   by the first F updates this row's service is invoked; ACTION is continue or
-                                      release, what is done with the call where the service can't be reached
+                                      release, what is done with the call if the service can't be reached
   front F none REASON                 unknown, no-csi, not-armed, emergency or criteria
 
 With --threads the lines of the calls come after those of all other records, and
@@ -186,10 +186,10 @@ refused calls are among the others. Call C is decided by session C modulo N of
   session S call C front F ...        session S decided call C of the script, both counted from 0
   audit ok                            the last line: the published updates explain each answer
 
-A fault ends the run and is told on standard error: 202 word, 203 count of fields or parts, 204 hexadecimal digits,
+A fault ends the run and is printed on standard error: 202 word, 203 count of fields or parts, 204 hexadecimal digits,
 205 IMSI or number, 206 the input could not be read, 207 too many records, 208 the output could not be written,
 102 memory. With --threads also: 103 no place, 104 no look, 105 stopped, 106 a worker was not started, 301 to 304 the
 updates do not explain the answers.
 
-Status: 0 without a fault; 1 after a fault, which is told on standard error, with the number of its record if it has
-one; 2 where the command line is rejected.";
+Status: 0 without a fault; 1 after a fault, which is printed on standard error, with the number of its record if it has
+one; 2 if the command line is rejected.";
