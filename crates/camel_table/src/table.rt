@@ -96,8 +96,10 @@ impl<V: Drop, S: BuildHasher + Copy> Table<V, S> {
         }
         let at = self.places.place(imsi.number());
         let mut line = self.lines.replace(at, Line::new(self.alloc));
+        let before = line.len();
         let done = line.put(imsi, value);
-        let is_long = line.len() > MOST_IN_LINE;
+        // A value in the place of another one asks for no line more, so a table grows with its entries only.
+        let is_long = line.len() > MOST_IN_LINE.max(before);
         self.lines.replace(at, line);
         if is_long {
             // If memory is refused, the line stays long.

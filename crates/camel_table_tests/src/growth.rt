@@ -90,6 +90,23 @@ fn a_put_moves_the_entries_of_one_line_at_most(rt: HostRuntime) -> Result<(), Fa
     Ok(())
 }
 
+const REPLACED: u64 = 1_000;
+
+// A value that is put in the place of another one is hashed once, also if its line is long.
+#[test]
+fn a_put_that_replaces_a_value_divides_no_line(rt: HostRuntime) -> Result<(), Fail> {
+    let made = Cell::new(0);
+    let mut table = counted_table(rt.alloc(), &made);
+    for number in 0..REPLACED {
+        table.put(&imsi_of(number)?, 0)?;
+    }
+    for number in 0..REPLACED {
+        let hashes = hashes_of_put(&mut table, &made, &imsi_of(number)?)?;
+        assert_eq!(rt; hashes, 1, "{number}");
+    }
+    Ok(())
+}
+
 const RANDOM: u64 = 200_000;
 
 // No line of so many random ones has more entries when it is divided.
