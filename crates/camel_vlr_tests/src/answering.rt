@@ -1,45 +1,42 @@
 //! What sessions answer to lists of call events.
 
-ghost use Rattle.std.specs.Prelude.{◌≡◌};
-
 use crate::answers::TURNS;
-use crate::given::{filled, opened_with_one};
+use crate::cases::{Case, run_case};
+use crate::given::{Opened, filled};
 use camel_criteria::Refusal;
 use camel_fixtures::{call_of, imsi_of, triggered};
 use camel_rows::{Answer, CallEvent, Outcome, Reason};
-use camel_vlr::{Session, Vlr};
+use camel_vlr::{Of, Session, StoreName};
 use std::alloc::Global;
 use std::process::Abort;
 use std::sync::Wait;
 use std::test::Fail;
 
-// Appends the answers to the events, and makes the call again where there was no look.
-fn answered(
-    session: &mut Session,
+// Appends the answers to the events. The call is made again while there is no look.
+fn answered<S: StoreName>(
+    session: &mut Of<S, Session>,
     events: &[CallEvent],
     answers: &mut Vec<Answer>,
 ) -> Result<(), Refusal> {
     let before = answers.len();
     for _ in 1..TURNS {
-        match session.answer_all(events, answers) {
+        match session.value.answer_all(events, answers) {
             Err(Refusal::NoGuard) => answers.truncate(before),
             ended => return ended,
         }
     }
-    session.answer_all(events, answers)
+    session.value.answer_all(events, answers)
 }
 
-// Of a list that had one answer.
-fn check_appended<R: Wait + Abort>(
+// Answers are appended to a list that had one answer.
+pub(crate) fn appends_to_a_list<S: StoreName, R: Wait + Abort>(
     rt: &R,
     alloc: Global,
-    store: &mut Vlr,
-    session: &mut Session,
-) -> Result<(), Fail>
-    requires { session.old.store ≡ store.old.store }
-{
+    opened: &mut Opened<S>,
+) -> Result<(), Fail> {
+    let session = &mut opened.session;
     let (imsi, stranger) = (imsi_of(1)?, imsi_of(2)?);
-    filled(rt, store, session, imsi)?;
+    filled(rt, &mut opened.store, session, imsi)?;
     let old = Answer {
         front: 0,
         outcome: Outcome::NoTrigger(Reason::NoCsi),
@@ -61,23 +58,18 @@ fn check_appended<R: Wait + Abort>(
 
 #[test]
 fn answers_stand_behind_those_that_were_there(rt: HostRuntime) -> Result<(), Fail> {
-    let (mut store, mut session) = opened_with_one(&rt, rt.alloc(), 10)?;
-    let done = check_appended(&rt, rt.alloc(), &mut store, &mut session);
-    store.end(&rt);
-    done
+    run_case(&rt, rt.alloc(), 1, 10, Case::AppendsToAList)
 }
 
-// Of a thousand events of one call.
-fn check_thousand<R: Wait + Abort>(
+// A thousand events of one call have as many answers.
+pub(crate) fn answers_thousand<S: StoreName, R: Wait + Abort>(
     rt: &R,
     alloc: Global,
-    store: &mut Vlr,
-    session: &mut Session,
-) -> Result<(), Fail>
-    requires { session.old.store ≡ store.old.store }
-{
+    opened: &mut Opened<S>,
+) -> Result<(), Fail> {
+    let session = &mut opened.session;
     let imsi = imsi_of(1)?;
-    filled(rt, store, session, imsi)?;
+    filled(rt, &mut opened.store, session, imsi)?;
     let mut events = Vec::new(alloc);
     for _ in 0..1000 {
         events.push(call_of(imsi)?)?;
@@ -95,8 +87,5 @@ fn check_thousand<R: Wait + Abort>(
 
 #[test]
 fn a_thousand_events_have_a_thousand_answers(rt: HostRuntime) -> Result<(), Fail> {
-    let (mut store, mut session) = opened_with_one(&rt, rt.alloc(), 10)?;
-    let done = check_thousand(&rt, rt.alloc(), &mut store, &mut session);
-    store.end(&rt);
-    done
+    run_case(&rt, rt.alloc(), 1, 10, Case::AnswersThousand)
 }

@@ -1,48 +1,53 @@
 //! What stores and their looks answer.
 
-ghost use Rattle.std.specs.Prelude.{◌≡◌};
-
 use camel_criteria::Refusal;
 use camel_fixtures::{EntrySummary, RowSummary, entry_summary, row_summary, row_update};
 use camel_rows::{CallEvent, Decision, Reason, Update};
 use camel_tbcd::Imsi;
-use camel_vlr::{Session, Vlr};
+use camel_vlr::{Of, Session, StoreName, Vlr};
 use std::process::Abort;
 
-/// How often a call is made again that was answered by no place, no guard or no look.
+/// How often a call is made that may fail with `NoPlace` (103) or `NoGuard` (104), or may get no look.
 pub(crate) const TURNS: usize = 100;
 
 /// The answer to an update of a subscriber who has no record.
 pub(crate) const UNKNOWN: Result<u64, Refusal> = Err(Refusal::UnidentifiedSubscriber);
 
 /// An update has this answer.
-pub(crate) fn check_submit(
+pub(crate) fn check_submit<S: StoreName>(
     rt: &impl Abort,
-    store: &mut Vlr,
+    store: &mut Of<S, Vlr>,
     update: Update,
     wanted: Result<u64, Refusal>,
-)
-    ensures { store.new.store ≡ store.old.store }
-{
-    assert_eq!(rt; store.submit(update), wanted);
+) {
+    assert_eq!(rt; store.value.submit(update), wanted);
 }
 
 /// So many updates are published, and so many are pending.
-pub(crate) fn check_counts(rt: &impl Abort, store: &Vlr, published: u64, pending: u64) {
-    assert_eq!(rt; (store.published(), store.pending()), (published, pending));
+pub(crate) fn check_counts<S: StoreName>(
+    rt: &impl Abort,
+    store: &Of<S, Vlr>,
+    published: u64,
+    pending: u64,
+) {
+    assert_eq!(rt;
+        (store.value.published(), store.value.pending()),
+        (published, pending)
+    );
 }
 
 /// An Insert of the row has this answer.
-pub(crate) fn check_row(rt: &impl Abort, store: &mut Vlr, imsi: Imsi, wanted: Result<u64, Refusal>)
-    ensures { store.new.store ≡ store.old.store }
-{
+pub(crate) fn check_row<S: StoreName>(
+    rt: &impl Abort,
+    store: &mut Of<S, Vlr>,
+    imsi: Imsi,
+    wanted: Result<u64, Refusal>,
+) {
     assert_eq!(rt; row_answer(store, imsi), wanted);
 }
 
-fn row_answer(store: &mut Vlr, imsi: Imsi) -> Result<u64, Refusal>
-    ensures { store.new.store ≡ store.old.store }
-{
-    store.submit(row_update(imsi)?)
+fn row_answer<S: StoreName>(store: &mut Of<S, Vlr>, imsi: Imsi) -> Result<u64, Refusal> {
+    store.value.submit(row_update(imsi)?)
 }
 
 /// What is told of a call: the service key and the lent entry, or the reason.
@@ -56,10 +61,11 @@ pub(crate) fn told(decision: &Decision) -> Told {
 }
 
 /// The front of one look, and what is told of the call there.
-pub(crate) fn asked_once(session: &mut Session, call: &CallEvent) -> Option<(u64, Told)>
-    ensures store { session.new.store ≡ session.old.store }
-{
-    let Ok(look) = session.look() else {
+pub(crate) fn asked_once<S: StoreName>(
+    session: &mut Of<S, Session>,
+    call: &CallEvent,
+) -> Option<(u64, Told)> {
+    let Ok(look) = session.value.look() else {
         return None;
     };
     let event = call.lend();
@@ -69,10 +75,11 @@ pub(crate) fn asked_once(session: &mut Session, call: &CallEvent) -> Option<(u64
     Some((front, told))
 }
 
-/// The same, and again where there was no look.
-pub(crate) fn asked(session: &mut Session, call: &CallEvent) -> Option<(u64, Told)>
-    ensures store { session.new.store ≡ session.old.store }
-{
+/// The front of a look, and what is told of the call there. Looks are made again while they fail.
+pub(crate) fn asked<S: StoreName>(
+    session: &mut Of<S, Session>,
+    call: &CallEvent,
+) -> Option<(u64, Told)> {
     for _ in 1..TURNS {
         let answered = asked_once(session, call);
         if answered.is_some() {
@@ -83,36 +90,31 @@ pub(crate) fn asked(session: &mut Session, call: &CallEvent) -> Option<(u64, Tol
 }
 
 /// A look has this front, and a call is told this there.
-pub(crate) fn check_asked<R: Abort>(
+pub(crate) fn check_asked<S: StoreName, R: Abort>(
     rt: &R,
-    session: &mut Session,
+    session: &mut Of<S, Session>,
     call: &CallEvent,
     front: u64,
     wanted: Told,
-)
-    ensures { session.new.store ≡ session.old.store }
-{
+) {
     assert_eq!(rt; asked(session, call), Some((front, wanted)));
 }
 
 /// The front of a look, and the row and the entry of a subscriber at a detection point there.
 pub(crate) type LentTold = (u64, Option<RowSummary>, Option<EntrySummary>);
 
-pub(crate) fn check_lent<R: Abort>(
+/// A look lends this row and this entry.
+pub(crate) fn check_lent<S: StoreName, R: Abort>(
     rt: &R,
-    session: &mut Session,
+    session: &mut Of<S, Session>,
     imsi: &Imsi,
     dp: u8,
     wanted: LentTold,
-)
-    ensures { session.new.store ≡ session.old.store }
-{
+) {
     assert_eq!(rt; lent(session, imsi, dp), Some(wanted), "at {dp}");
 }
 
-fn lent(session: &mut Session, imsi: &Imsi, dp: u8) -> Option<LentTold>
-    ensures store { session.new.store ≡ session.old.store }
-{
+fn lent<S: StoreName>(session: &mut Of<S, Session>, imsi: &Imsi, dp: u8) -> Option<LentTold> {
     for _ in 1..TURNS {
         let shown = lent_once(session, imsi, dp);
         if shown.is_some() {
@@ -122,10 +124,8 @@ fn lent(session: &mut Session, imsi: &Imsi, dp: u8) -> Option<LentTold>
     lent_once(session, imsi, dp)
 }
 
-fn lent_once(session: &mut Session, imsi: &Imsi, dp: u8) -> Option<LentTold>
-    ensures store { session.new.store ≡ session.old.store }
-{
-    let Ok(look) = session.look() else {
+fn lent_once<S: StoreName>(session: &mut Of<S, Session>, imsi: &Imsi, dp: u8) -> Option<LentTold> {
+    let Ok(look) = session.value.look() else {
         return None;
     };
     let row = row_summary(look.row(imsi, dp));

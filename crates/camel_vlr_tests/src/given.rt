@@ -1,6 +1,6 @@
 //! Updates, stores with their sessions, and what is published in them.
 
-ghost use Rattle.std.specs.Prelude.{◌≡◌, ◌≤◌, All, IfOk, vec_len};
+ghost use Rattle.std.specs.Prelude.{◌≡◌, ◌≤◌, All, IfOk, Some, vec_len};
 ghost use Rattle.camel_vlr.specs.Store.{fresh_session};
 
 use crate::answers::{TURNS, check_asked, check_row, check_submit};
@@ -9,7 +9,7 @@ use camel_fixtures::{call_of, row_update};
 use camel_rows::{Records, Update};
 use camel_table::Seed;
 use camel_tbcd::{Imsi, Profile};
-use camel_vlr::{CloseRefused, MAX_PLACES, MAX_UPDATES, Receipt, Session, Vlr};
+use camel_vlr::{CloseRefused, MAX_PLACES, MAX_UPDATES, Of, Receipt, Session, StoreName, Vlr};
 use std::alloc::Global;
 use std::process::Abort;
 use std::sync::Wait;
@@ -23,173 +23,213 @@ pub(crate) fn row_updates(alloc: Global, imsi: Imsi) -> Result<Vec<Update>, Fail
     Ok(updates)
 }
 
-/// A store with so many sessions.
-fn opened<R: Wait>(
+/// A store that was opened, and its sessions.
+pub(crate) struct NewStore {
+    pub(crate) store: Vlr,
+    pub(crate) sessions: Vec<Session>,
+    pub(crate) ghost are_of_store: { All (λ session. session ≡ fresh_session store.store) sessions.items },
+}
+
+/// A store of a name, and its sessions.
+pub(crate) struct Opened<S: StoreName> {
+    pub(crate) store: Of<S, Vlr>,
+    /// The last session.
+    pub(crate) session: Of<S, Session>,
+    /// The sessions before the last one.
+    pub(crate) others: Vec<Of<S, Session>>,
+}
+
+impl<S: StoreName> Opened<S> {
+    /// A new store and its sessions, by the name `S`. If memory is refused, the store is ended.
+    pub(crate) fn new<R: Wait>(rt: &R, alloc: Global, new: NewStore) -> Result<Opened<S>, Refusal>
+        requires { S.store ≡ Some new.store.store }
+    {
+        let NewStore { store, sessions } = new;
+        match last_and_others(alloc, sessions) {
+            Ok((session, others)) => Ok(Opened {
+                store: Of::new(store),
+                session,
+                others,
+            }),
+            Err(why) => {
+                store.end(rt);
+                Err(why)
+            }
+        }
+    }
+
+    /// The store, and its last session. The others are dropped.
+    pub(crate) fn into_one(self) -> (Of<S, Vlr>, Of<S, Session>) {
+        let Opened {
+            store,
+            session,
+            others,
+        } = self;
+        drop(others);
+        (store, session)
+    }
+
+    /// The store, the session before the last one, and the last one. If there is only one, the store is ended.
+    pub(crate) fn into_two<R: Wait>(
+        self,
+        rt: &R,
+    ) -> Result<(Of<S, Vlr>, Of<S, Session>, Of<S, Session>), Refusal> {
+        let Opened {
+            store,
+            session,
+            mut others,
+        } = self;
+        match others.pop() {
+            Some(first) => Ok((store, first, session)),
+            None => {
+                store.value.end(rt);
+                Err(Refusal::NoPlace)
+            }
+        }
+    }
+}
+
+/// A store with so many sessions. It is opened again if a session got no place, and for no other reason.
+pub(crate) fn open_store<R: Wait>(
     rt: &R,
     alloc: Global,
     places: usize,
     limit: u64,
     profile: Profile,
-) -> Result<(Vlr, Vec<Session>), Refusal>
+) -> Result<NewStore, Refusal>
     requires places { (1 ≤ places) × (places ≤ MAX_PLACES) }
     requires limit { (1 ≤ limit) × (limit ≤ MAX_UPDATES) }
-    ensures places { IfOk result (λ r. vec_len r.1 ≡ places) }
-    ensures sessions { IfOk result (λ r. All (λ s. s ≡ fresh_session r.0.store) r.1.items) }
+    ensures places { IfOk result (λ new. vec_len new.sessions ≡ places) }
 {
     for _ in 1..TURNS {
-        match Vlr::open_seeded(rt, alloc, places, limit, profile, Seed::fixed()) {
+        match open_once(rt, alloc, places, limit, profile) {
             Err(Refusal::NoPlace) => {}
             opened => return opened,
         }
     }
-    Vlr::open_seeded(rt, alloc, places, limit, profile, Seed::fixed())
+    open_once(rt, alloc, places, limit, profile)
 }
 
-/// The same: the store, the sessions before the last one, and the last one.
-pub(crate) fn opened_with_last<R: Wait>(
+fn open_once<R: Wait>(
     rt: &R,
     alloc: Global,
     places: usize,
     limit: u64,
     profile: Profile,
-) -> Result<(Vlr, Vec<Session>, Session), Refusal>
+) -> Result<NewStore, Refusal>
     requires places { (1 ≤ places) × (places ≤ MAX_PLACES) }
     requires limit { (1 ≤ limit) × (limit ≤ MAX_UPDATES) }
-    ensures others { IfOk result (λ r. All (λ s. s ≡ fresh_session r.0.store) r.1.items) }
-    ensures last { IfOk result (λ r. r.2 ≡ fresh_session r.0.store) }
+    ensures places { IfOk result (λ new. vec_len new.sessions ≡ places) }
 {
-    let (store, mut sessions) = opened(rt, alloc, places, limit, profile)?;
-    let Some(last) = sessions.pop() else {
-        store.end(rt);
-        return Err(Refusal::NoPlace);
-    };
-    Ok((store, sessions, last))
+    let (store, sessions) = Vlr::open_seeded(rt, alloc, places, limit, profile, Seed::fixed())?;
+    Ok(NewStore { store, sessions })
 }
 
-/// A store with one session.
-pub(crate) fn opened_with_one<R: Wait>(
-    rt: &R,
+// The last session, and those before it.
+fn last_and_others<S: StoreName>(
     alloc: Global,
-    limit: u64,
-) -> Result<(Vlr, Session), Refusal>
-    requires limit { (1 ≤ limit) × (limit ≤ MAX_UPDATES) }
-    ensures session { IfOk result (λ r. r.1 ≡ fresh_session r.0.store) }
+    sessions: Vec<Session>,
+) -> Result<(Of<S, Session>, Vec<Of<S, Session>>), Refusal>
+    requires { All (λ session. S.store ≡ Some session.store) sessions.items }
 {
-    let (store, _, session) = opened_with_last(rt, alloc, 1, limit, Profile::One)?;
-    Ok((store, session))
+    let mut others = Of::list(alloc, sessions)?;
+    match others.pop() {
+        Some(session) => Ok((session, others)),
+        None => Err(Refusal::NoPlace),
+    }
 }
 
-/// A store with two sessions.
-pub(crate) fn opened_with_two<R: Wait>(
+/// The records that a store leaves. It is closed again if its session got no look, and for no other reason.
+pub(crate) fn closed<S: StoreName, R: Wait>(
     rt: &R,
-    alloc: Global,
-    limit: u64,
-) -> Result<(Vlr, Session, Session), Refusal>
-    requires limit { (1 ≤ limit) × (limit ≤ MAX_UPDATES) }
-    ensures first { IfOk result (λ r. r.1 ≡ fresh_session r.0.store) }
-    ensures second { IfOk result (λ r. r.2 ≡ fresh_session r.0.store) }
-{
-    let (store, mut others, second) = opened_with_last(rt, alloc, 2, limit, Profile::One)?;
-    let Some(first) = others.pop() else {
-        store.end(rt);
-        return Err(Refusal::NoPlace);
-    };
-    Ok((store, first, second))
-}
-
-/// The records that a store leaves. It is closed again where its session got no look, and for no other reason.
-pub(crate) fn closed<R: Wait>(rt: &R, store: Vlr, session: &mut Session) -> Result<Records, Refusal>
-    requires { session.old.store ≡ store.store }
-{
+    store: Of<S, Vlr>,
+    session: &mut Of<S, Session>,
+) -> Result<Records, Refusal> {
     let mut left = store;
     for _ in 1..TURNS {
-        match left.close(rt, session) {
+        match closed_once(rt, left, session) {
             Ok(records) => return Ok(records),
-            Err(
-                CloseRefused {
-                    why: Refusal::NoGuard,
-                    store,
-                },
-            ) => left = store,
-            Err(CloseRefused { why, store }) => {
-                store.end(rt);
+            Err((Refusal::NoGuard, store)) => left = store,
+            Err((why, store)) => {
+                store.value.end(rt);
                 return Err(why);
             }
         }
     }
-    match left.close(rt, session) {
+    match closed_once(rt, left, session) {
         Ok(records) => Ok(records),
-        Err(CloseRefused { why, store }) => {
-            store.end(rt);
+        Err((why, store)) => {
+            store.value.end(rt);
             Err(why)
         }
     }
 }
 
-/// The store with which a test goes on. Where it does not, the store is ended.
-pub(crate) fn going_on<R: Wait>(rt: &R, store: Vlr, done: Result<(), Fail>) -> Result<Vlr, Fail>
-    ensures { IfOk result (λ kept. kept.store ≡ store.store) }
-{
+// The records, or why the store is not closed, and the store.
+fn closed_once<S: StoreName, R: Wait>(
+    rt: &R,
+    store: Of<S, Vlr>,
+    session: &mut Of<S, Session>,
+) -> Result<Records, (Refusal, Of<S, Vlr>)> {
+    match store.value.close(rt, &mut session.value) {
+        Ok(records) => Ok(records),
+        Err(CloseRefused { why, store }) => Err((why, Of::new(store))),
+    }
+}
+
+/// The store with which a test goes on. If the test fails, the store is ended.
+pub(crate) fn going_on<S: StoreName, R: Wait>(
+    rt: &R,
+    store: Of<S, Vlr>,
+    done: Result<(), Fail>,
+) -> Result<Of<S, Vlr>, Fail> {
     match done {
         Ok(()) => Ok(store),
         Err(fail) => {
-            store.end(rt);
+            store.value.end(rt);
             Err(fail)
         }
     }
 }
 
 /// Registers a subscriber, inserts the row, publishes both, and lets the session learn and look.
-pub(crate) fn filled<R: Wait + Abort>(
+pub(crate) fn filled<S: StoreName, R: Wait + Abort>(
     rt: &R,
-    store: &mut Vlr,
-    session: &mut Session,
+    store: &mut Of<S, Vlr>,
+    session: &mut Of<S, Session>,
     imsi: Imsi,
-) -> Result<(), Fail>
-    requires { session.old.store ≡ store.old.store }
-    ensures store { store.new.store ≡ store.old.store }
-    ensures session { session.new.store ≡ session.old.store }
-{
+) -> Result<(), Fail> {
     let call = call_of(imsi)?;
     row_sent(rt, store, imsi);
-    tell(rt, store, session, 2)?;
+    publish_to(rt, store, session, 2)?;
     check_asked(rt, session, &call, 2, Ok((100, None)));
     Ok(())
 }
 
 /// Registers a subscriber and inserts the row, as the first two updates.
-pub(crate) fn row_sent(rt: &impl Abort, store: &mut Vlr, imsi: Imsi)
-    ensures { store.new.store ≡ store.old.store }
-{
+pub(crate) fn row_sent<S: StoreName>(rt: &impl Abort, store: &mut Of<S, Vlr>, imsi: Imsi) {
     check_submit(rt, store, Update::Register { imsi }, Ok(1));
     check_row(rt, store, imsi, Ok(2));
 }
 
 /// The receipt of a publication that has this front.
-pub(crate) fn receipt_of<R: Wait + Abort>(
+pub(crate) fn receipt_of<S: StoreName, R: Wait + Abort>(
     rt: &R,
-    store: &mut Vlr,
+    store: &mut Of<S, Vlr>,
     front: u64,
-) -> Result<Receipt, Refusal>
-    ensures store { store.new.store ≡ store.old.store }
-    ensures receipt { IfOk result (λ receipt. receipt.store ≡ store.old.store) }
-{
-    let receipt = store.publish(rt)?;
+) -> Result<Of<S, Receipt>, Refusal> {
+    let receipt = store.value.publish(rt)?;
     assert_eq!(rt; receipt.front(), front);
-    Ok(receipt)
+    Ok(Of::new(receipt))
 }
 
-/// Publishes what is pending, with this front, and tells the session.
-fn tell<R: Wait + Abort>(
+/// Publishes what is pending, with this front, and lets the session learn of it.
+pub(crate) fn publish_to<S: StoreName, R: Wait + Abort>(
     rt: &R,
-    store: &mut Vlr,
-    session: &mut Session,
+    store: &mut Of<S, Vlr>,
+    session: &mut Of<S, Session>,
     front: u64,
-) -> Result<(), Refusal>
-    requires { session.old.store ≡ store.old.store }
-    ensures store { store.new.store ≡ store.old.store }
-    ensures session { session.new.store ≡ session.old.store }
-{
-    session.learn(receipt_of(rt, store, front)?);
+) -> Result<(), Refusal> {
+    session.value.learn(receipt_of(rt, store, front)?.value);
     Ok(())
 }

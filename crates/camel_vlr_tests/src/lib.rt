@@ -8,13 +8,15 @@ mod answers;
 #[cfg(test)]
 mod audit_faults;
 #[cfg(test)]
+mod cases;
+#[cfg(test)]
 mod clearing;
 #[cfg(test)]
 mod closing;
 #[cfg(test)]
-mod given;
+mod fronts;
 #[cfg(test)]
-mod integration;
+mod given;
 #[cfg(test)]
 mod limits;
 #[cfg(test)]

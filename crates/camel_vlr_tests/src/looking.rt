@@ -1,34 +1,23 @@
-ghost use Rattle.std.specs.Prelude.{◌≡◌, IfOk};
-
 use crate::answers::{
     Told, UNKNOWN, check_asked, check_counts, check_lent, check_row, check_submit,
 };
-use crate::given::{closed, filled, going_on, opened_with_one, opened_with_two, receipt_of};
+use crate::cases::{Case, EndingCase, run_case, run_ending_case};
+use crate::given::{Opened, closed, filled, going_on, receipt_of};
 use camel_criteria::Refusal;
 use camel_fixtures::{ARMED, LISTED, call_of, criteria_update, imsi_of};
 use camel_rows::{CallEvent, Reason, Records, Update};
 use camel_tbcd::Imsi;
-use camel_vlr::{Receipt, Session, Vlr};
+use camel_vlr::{Of, Receipt, Session, StoreName, Vlr};
 use std::alloc::Global;
 use std::process::Abort;
 use std::sync::Wait;
 use std::test::Fail;
 
-#[test]
-fn a_told_session_decides_by_what_was_published(rt: HostRuntime) -> Result<(), Fail> {
-    let (mut store, mut session) = opened_with_one(&rt, rt.alloc(), 10)?;
-    let done = decides_by_what_was_published(&rt, &mut store, &mut session);
-    store.end(&rt);
-    done
-}
-
-fn decides_by_what_was_published<R: Wait + Abort>(
+pub(crate) fn decides_by_what_was_published<S: StoreName, R: Wait + Abort>(
     rt: &R,
-    store: &mut Vlr,
-    session: &mut Session,
-) -> Result<(), Fail>
-    requires { session.old.store ≡ store.old.store }
-{
+    opened: &mut Opened<S>,
+) -> Result<(), Fail> {
+    let (store, session) = (&mut opened.store, &mut opened.session);
     let imsi = imsi_of(1)?;
     let call = call_of(imsi)?;
     check_asked(rt, session, &call, 0, Err(Reason::Unknown));
@@ -39,74 +28,62 @@ fn decides_by_what_was_published<R: Wait + Abort>(
 }
 
 #[test]
-fn what_is_pending_is_not_seen(rt: HostRuntime) -> Result<(), Fail> {
-    let (mut store, mut first, mut second) = opened_with_two(&rt, rt.alloc(), 10)?;
-    let done = pending_is_not_seen(&rt, rt.alloc(), &mut store, &mut first, &mut second);
-    store.end(&rt);
-    done
+fn a_told_session_decides_by_what_was_published(rt: HostRuntime) -> Result<(), Fail> {
+    run_case(&rt, rt.alloc(), 1, 10, Case::DecidesByWhatWasPublished)
 }
 
-fn pending_is_not_seen<R: Wait + Abort>(
+pub(crate) fn pending_is_not_seen<S: StoreName, R: Wait + Abort>(
     rt: &R,
     alloc: Global,
-    store: &mut Vlr,
-    first: &mut Session,
-    second: &mut Session,
-) -> Result<(), Fail>
-    requires first { first.old.store ≡ store.old.store }
-    requires second { second.old.store ≡ store.old.store }
-{
+    opened: &mut Opened<S>,
+) -> Result<(), Fail> {
+    let (store, second) = (&mut opened.store, &mut opened.session);
+    let Some(first) = opened.others.first_mut() else {
+        return Err(Refusal::NoPlace.into());
+    };
     sees_nothing_pending(rt, store, first, second)?;
     sees_the_row(rt, store, first, second)?;
     sees_the_entry(rt, alloc, store, first, second)
 }
 
-// A look of each of two sessions has this front, and a call is told this there.
-fn check_both_asked<R: Abort>(
+#[test]
+fn what_is_pending_is_not_seen(rt: HostRuntime) -> Result<(), Fail> {
+    run_case(&rt, rt.alloc(), 2, 10, Case::PendingIsNotSeen)
+}
+
+// A look of each session has this front, and a call has this answer there.
+fn check_both_asked<S: StoreName, R: Abort>(
     rt: &R,
-    first: &mut Session,
-    second: &mut Session,
+    first: &mut Of<S, Session>,
+    second: &mut Of<S, Session>,
     call: &CallEvent,
     front: u64,
     wanted: Told,
-)
-    ensures first { first.new.store ≡ first.old.store }
-    ensures second { second.new.store ≡ second.old.store }
-{
+) {
     check_asked(rt, first, call, front, wanted);
     check_asked(rt, second, call, front, wanted);
 }
 
-// Publishes what is pending, with this front, and tells both sessions.
-fn tell_both<R: Wait + Abort>(
+// Publishes what is pending, with this front, and lets both sessions learn of it.
+fn publish_to_both<S: StoreName, R: Wait + Abort>(
     rt: &R,
-    store: &mut Vlr,
-    first: &mut Session,
-    second: &mut Session,
+    store: &mut Of<S, Vlr>,
+    first: &mut Of<S, Session>,
+    second: &mut Of<S, Session>,
     front: u64,
-) -> Result<(), Refusal>
-    requires first { first.old.store ≡ store.old.store }
-    requires second { second.old.store ≡ store.old.store }
-    ensures store { store.new.store ≡ store.old.store }
-    ensures first { first.new.store ≡ first.old.store }
-    ensures second { second.new.store ≡ second.old.store }
-{
-    first.learn(receipt_of(rt, store, front)?);
-    second.learn(store.receipt());
+) -> Result<(), Refusal> {
+    first.value.learn(receipt_of(rt, store, front)?.value);
+    second.value.learn(store.value.receipt());
     Ok(())
 }
 
-// A register and the row of the subscriber are pending, and a row of another one is refused.
-fn sees_nothing_pending<R: Abort>(
+// A Register and the row of a subscriber are pending, and a row of another one is rejected.
+fn sees_nothing_pending<S: StoreName, R: Abort>(
     rt: &R,
-    store: &mut Vlr,
-    first: &mut Session,
-    second: &mut Session,
-) -> Result<(), Fail>
-    ensures store { store.new.store ≡ store.old.store }
-    ensures first { first.new.store ≡ first.old.store }
-    ensures second { second.new.store ≡ second.old.store }
-{
+    store: &mut Of<S, Vlr>,
+    first: &mut Of<S, Session>,
+    second: &mut Of<S, Session>,
+) -> Result<(), Fail> {
     let (imsi, other) = (imsi_of(1)?, imsi_of(2)?);
     let call = call_of(imsi)?;
     let unknown = Err(Reason::Unknown);
@@ -119,39 +96,30 @@ fn sees_nothing_pending<R: Abort>(
     Ok(())
 }
 
-fn sees_the_row<R: Wait + Abort>(
+fn sees_the_row<S: StoreName, R: Wait + Abort>(
     rt: &R,
-    store: &mut Vlr,
-    first: &mut Session,
-    second: &mut Session,
-) -> Result<(), Fail>
-    requires first { first.old.store ≡ store.old.store }
-    requires second { second.old.store ≡ store.old.store }
-    ensures store { store.new.store ≡ store.old.store }
-    ensures first { first.new.store ≡ first.old.store }
-    ensures second { second.new.store ≡ second.old.store }
-{
-    tell_both(rt, store, first, second, 2)?;
+    store: &mut Of<S, Vlr>,
+    first: &mut Of<S, Session>,
+    second: &mut Of<S, Session>,
+) -> Result<(), Fail> {
+    publish_to_both(rt, store, first, second, 2)?;
     let call = call_of(imsi_of(1)?)?;
     check_both_asked(rt, first, second, &call, 2, Ok((100, None)));
     Ok(())
 }
 
 // The entry comes after the row.
-fn sees_the_entry<R: Wait + Abort>(
+fn sees_the_entry<S: StoreName, R: Wait + Abort>(
     rt: &R,
     alloc: Global,
-    store: &mut Vlr,
-    first: &mut Session,
-    second: &mut Session,
-) -> Result<(), Fail>
-    requires first { first.old.store ≡ store.old.store }
-    requires second { second.old.store ≡ store.old.store }
-{
+    store: &mut Of<S, Vlr>,
+    first: &mut Of<S, Session>,
+    second: &mut Of<S, Session>,
+) -> Result<(), Fail> {
     let imsi = imsi_of(1)?;
     let call = call_of(imsi)?;
     check_submit(rt, store, criteria_update(alloc, imsi)?, Ok(3));
-    tell_both(rt, store, first, second, 3)?;
+    publish_to_both(rt, store, first, second, 3)?;
     check_both_asked(rt, first, second, &call, 3, Ok((100, Some(LISTED))));
     check_lent(rt, first, &imsi, 2, (3, Some(ARMED), Some(LISTED)));
     check_lent(rt, second, &imsi, 2, (3, Some(ARMED), Some(LISTED)));
@@ -159,12 +127,19 @@ fn sees_the_entry<R: Wait + Abort>(
     Ok(())
 }
 
+pub(crate) fn learns_and_closes<S: StoreName, R: Wait + Abort>(
+    rt: &R,
+    opened: Opened<S>,
+) -> Result<(), Fail> {
+    let (mut store, mut first, mut second) = opened.into_two(rt)?;
+    let done = learns_in_any_order(rt, &mut store, &mut first, &mut second);
+    let store = going_on(rt, store, done)?;
+    check_registered(rt, &closed(rt, store, &mut second)?)
+}
+
 #[test]
 fn receipts_are_learnt_in_any_order(rt: HostRuntime) -> Result<(), Fail> {
-    let (mut store, mut first, mut second) = opened_with_two(&rt, rt.alloc(), 10)?;
-    let done = learns_in_any_order(&rt, &mut store, &mut first, &mut second);
-    let store = going_on(&rt, store, done)?;
-    check_registered(&rt, &closed(&rt, store, &mut second)?)
+    run_ending_case(&rt, rt.alloc(), 2, 10, &EndingCase::LearnsAndCloses)
 }
 
 // Two subscribers have a record, and no third one.
@@ -175,47 +150,42 @@ fn check_registered(rt: &impl Abort, records: &Records) -> Result<(), Fail> {
     Ok(())
 }
 
-// Whether a record holds neither CSI, where there is one.
+// Whether a record holds neither CSI. None if there is no record.
 fn is_bare(records: &Records, imsi: &Imsi) -> Option<bool> {
     let subscriber = records.get(imsi)?;
     Some(subscriber.o().is_none() && subscriber.vt().is_none())
 }
 
-fn learns_in_any_order<R: Wait + Abort>(
+fn learns_in_any_order<S: StoreName, R: Wait + Abort>(
     rt: &R,
-    store: &mut Vlr,
-    first: &mut Session,
-    second: &mut Session,
-) -> Result<(), Fail>
-    requires first { first.old.store ≡ store.old.store }
-    requires second { second.old.store ≡ store.old.store }
-    ensures store { store.new.store ≡ store.old.store }
-    ensures second { second.new.store ≡ second.old.store }
-{
+    store: &mut Of<S, Vlr>,
+    first: &mut Of<S, Session>,
+    second: &mut Of<S, Session>,
+) -> Result<(), Fail> {
     let call = call_of(imsi_of(1)?)?;
     let imsi = imsi_of(1)?;
     check_submit(rt, store, Update::Register { imsi }, Ok(1));
     let published = receipt_of(rt, store, 1)?;
-    let (once, again) = (store.receipt(), store.receipt());
+    let (once, again) = (store.value.receipt(), store.value.receipt());
     assert_eq!(rt; (once.front(), again.front()), (1, 1));
-    first.learn(published);
+    first.value.learn(published.value);
     check_asked(rt, first, &call, 1, Err(Reason::NoCsi));
     // Receipts of the first publication are learnt before and after those of the second one.
     let (later, latest) = published_again(rt, store)?;
-    first.learn(once);
-    first.learn(later);
-    first.learn(again);
-    first.learn(latest);
-    // Told nothing, the second session sees what is published all the same.
+    first.value.learn(once);
+    first.value.learn(later.value);
+    first.value.learn(again);
+    first.value.learn(latest.value);
+    // The second session has learnt nothing, and sees what is published.
     check_both_asked(rt, first, second, &call, 2, Err(Reason::NoCsi));
     Ok(())
 }
 
 // The receipts of the publication of a second update, and of one with nothing to publish.
-fn published_again<R: Wait + Abort>(rt: &R, store: &mut Vlr) -> Result<(Receipt, Receipt), Fail>
-    ensures store { store.new.store ≡ store.old.store }
-    ensures receipts { IfOk result (λ r. (r.0.store ≡ store.old.store) × (r.1.store ≡ store.old.store)) }
-{
+fn published_again<S: StoreName, R: Wait + Abort>(
+    rt: &R,
+    store: &mut Of<S, Vlr>,
+) -> Result<(Of<S, Receipt>, Of<S, Receipt>), Fail> {
     let imsi = imsi_of(2)?;
     check_submit(rt, store, Update::Register { imsi }, Ok(2));
     let later = receipt_of(rt, store, 2)?;

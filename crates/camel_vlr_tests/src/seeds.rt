@@ -1,20 +1,18 @@
 //! The seed of a store, which shows in the order in which its records list their subscribers.
 
-ghost use Rattle.std.specs.Prelude.{◌≡◌, All, IfOk};
-ghost use Rattle.camel_vlr.specs.Store.{fresh_session};
+ghost use Rattle.std.specs.Prelude.{◌≡◌, Some};
 
-use crate::given::{closed, going_on};
-use camel_criteria::Refusal;
+use crate::given::{NewStore, Opened, closed, going_on};
 use camel_fixtures::imsi_of;
 use camel_rows::Update;
 use camel_table::Seed;
 use camel_tbcd::{Imsi, Profile};
-use camel_vlr::{MAX_UPDATES, Session, Vlr};
+use camel_vlr::{MAX_UPDATES, Of, StoreName, Vlr};
 use std::alloc::Global;
 use std::cell::Cell;
 use std::io;
 use std::io::ErrorKind;
-use std::marker::PhantomData;
+use std::marker::{Brand, PhantomData};
 use std::random::RandomSource;
 use std::sync::Wait;
 use std::test::Fail;
@@ -45,38 +43,32 @@ impl<R> RandomSource for Source<R> {
 // So many subscribers that hardly two seeds list them in one order.
 const SUBSCRIBERS: u64 = 100;
 
-type Opened = Result<(Vlr, Vec<Session>), Refusal>;
-
 // The order in which the closed records of an opened store list the subscribers.
-fn order_of<R: Wait>(rt: &R, opened: Opened) -> Result<Vec<Imsi>, Fail>
-    requires { IfOk opened (λ r. All (λ s. s ≡ fresh_session r.0.store) r.1.items) }
+fn order_of<R: Wait>(rt: &R, alloc: Global, new: NewStore) -> Result<Vec<Imsi>, Fail> {
+    order_in::<Brand, R>(rt, alloc, new)
+}
+
+fn order_in<S: StoreName, R: Wait>(rt: &R, alloc: Global, new: NewStore) -> Result<Vec<Imsi>, Fail>
+    requires { S.store ≡ Some new.store.store }
 {
-    let (mut store, mut sessions) = opened?;
-    let Some(mut session) = sessions.pop() else {
-        store.end(rt);
-        return Err(Refusal::NoPlace.into());
-    };
+    let (mut store, mut session) = Opened::<S>::new(rt, alloc, new)?.into_one();
     let done = registered(rt, &mut store);
     let store = going_on(rt, store, done)?;
     Ok(closed(rt, store, &mut session)?.imsis()?)
 }
 
-fn registered<R: Wait>(rt: &R, store: &mut Vlr) -> Result<(), Fail>
-    ensures { store.new.store ≡ store.old.store }
-{
+fn registered<S: StoreName, R: Wait>(rt: &R, store: &mut Of<S, Vlr>) -> Result<(), Fail> {
     for number in 0..SUBSCRIBERS {
         let imsi = imsi_of(number)?;
-        store.submit(Update::Register { imsi })?;
+        store.value.submit(Update::Register { imsi })?;
     }
-    store.publish(rt)?;
+    store.value.publish(rt)?;
     Ok(())
 }
 
 fn order_of_seed<R: Wait>(rt: &R, alloc: Global, seed: Seed) -> Result<Vec<Imsi>, Fail> {
-    order_of(
-        rt,
-        Vlr::open_seeded(rt, alloc, 1, MAX_UPDATES, Profile::One, seed),
-    )
+    let (store, sessions) = Vlr::open_seeded(rt, alloc, 1, MAX_UPDATES, Profile::One, seed)?;
+    order_of(rt, alloc, NewStore { store, sessions })
 }
 
 // The order that a source leads to, and how often it is asked.
@@ -90,11 +82,12 @@ fn order_of_source<R: Wait>(
         octet,
         asked: Cell::new(0),
     };
-    let opened = Vlr::open(&source, alloc, 1, MAX_UPDATES, Profile::One);
-    Ok((order_of(rt, opened)?, source.asked.get()))
+    let (store, sessions) = Vlr::open(&source, alloc, 1, MAX_UPDATES, Profile::One)?;
+    let order = order_of(rt, alloc, NewStore { store, sessions })?;
+    Ok((order, source.asked.get()))
 }
 
-// The octets 7 are this number. Where the source fails, the seed is the fixed one.
+// Eight octets 7 are the number 0x0707_0707_0707_0707. If the source fails, the seed is the fixed one.
 #[test]
 fn opens_with_the_seed_that_the_random_source_gives(rt: HostRuntime) -> Result<(), Fail> {
     let alloc = rt.alloc();

@@ -1,14 +1,16 @@
 //! Workers that serve calls of a subscriber whose row is published.
 
-ghost use Rattle.std.specs.Prelude.{◌≡◌, IfOk};
+ghost use Rattle.std.specs.Prelude.{◌≡◌, Some};
 
 use crate::answers::TURNS;
-use crate::given::{opened_with_one, receipt_of, row_sent};
+use crate::given::{NewStore, Opened, open_store, receipt_of, row_sent};
 use camel_audit::Job;
 use camel_fixtures::{call_of, imsi_of};
-use camel_vlr::{Receipt, Session, Vlr};
+use camel_tbcd::Profile;
+use camel_vlr::{Of, Receipt, Session, StoreName, Vlr};
 use camel_workers::{Ended, Gate, Served, serve};
 use std::alloc::Global;
+use std::marker::Brand;
 use std::process::Abort;
 use std::sync::Wait;
 use std::test::Fail;
@@ -24,7 +26,7 @@ fn jobs(alloc: Global, count: u64) -> Result<Vec<Job>, Fail> {
     Ok(jobs)
 }
 
-/// What a worker gives back that has learnt of the published row. It begins again where it got no look.
+/// What a worker gives back that has learnt of the published row. It begins again if it got no look.
 pub(crate) fn served<R: Wait + Abort, G: Gate>(
     rt: &R,
     alloc: Global,
@@ -46,31 +48,43 @@ fn served_once<R: Wait + Abort, G: Gate>(
     count: u64,
     gate: &G,
 ) -> Result<Served, Fail> {
-    let (mut store, session) = opened_with_one(rt, alloc, 10)?;
+    let new = open_store(rt, alloc, 1, 10, Profile::One)?;
+    served_with::<Brand, R, G>(rt, alloc, new, count, gate)
+}
+
+fn served_with<S: StoreName, R: Wait + Abort, G: Gate>(
+    rt: &R,
+    alloc: Global,
+    new: NewStore,
+    count: u64,
+    gate: &G,
+) -> Result<Served, Fail>
+    requires { S.store ≡ Some new.store.store }
+{
+    let (mut store, session) = Opened::<S>::new(rt, alloc, new)?.into_one();
     let served = served_at(rt, alloc, &mut store, session, count, gate);
-    store.end(rt);
+    store.value.end(rt);
     served
 }
 
 // Publishes the row, and lets the session serve the calls.
-fn served_at<R: Wait + Abort, G: Gate>(
+fn served_at<S: StoreName, R: Wait + Abort, G: Gate>(
     rt: &R,
     alloc: Global,
-    store: &mut Vlr,
-    session: Session,
+    store: &mut Of<S, Vlr>,
+    session: Of<S, Session>,
     count: u64,
     gate: &G,
-) -> Result<Served, Fail>
-    requires { session.store ≡ store.old.store }
-{
+) -> Result<Served, Fail> {
     let jobs = jobs(alloc, count)?;
     let published = row_published(rt, store)?;
-    Ok(serve(alloc, session, published, jobs, gate))
+    Ok(serve(alloc, session.value, published.value, jobs, gate))
 }
 
-fn row_published<R: Wait + Abort>(rt: &R, store: &mut Vlr) -> Result<Receipt, Fail>
-    ensures { IfOk result (λ receipt. receipt.store ≡ store.old.store) }
-{
+fn row_published<S: StoreName, R: Wait + Abort>(
+    rt: &R,
+    store: &mut Of<S, Vlr>,
+) -> Result<Of<S, Receipt>, Fail> {
     row_sent(rt, store, imsi_of(1)?);
     Ok(receipt_of(rt, store, 2)?)
 }

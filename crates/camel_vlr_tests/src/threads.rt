@@ -1,10 +1,11 @@
 use crate::answers::{TURNS, Told, asked, asked_once, told};
-use crate::given::opened_with_two;
+use crate::cases::{EndingCase, run_ending_case};
+use crate::given::Opened;
 use camel_criteria::Refusal;
 use camel_fixtures::{O_ALONE, call_of, criteria_update, imsi_of, row_update};
 use camel_rows::{CallEvent, Records, Update, decide_in};
 use camel_tbcd::{Imsi, Profile};
-use camel_vlr::{Session, Vlr};
+use camel_vlr::{Of, Session, StoreName, Vlr};
 use std::alloc::Global;
 use std::process::Abort;
 use std::sync::Wait;
@@ -18,7 +19,7 @@ const MOST_LOOKS: usize = 100_000;
 
 // Whether a session sees the front before a publication of two updates, or the one after it, and nothing else. It looks
 // until a front is the one after it.
-fn sees_both_at_once(session: &mut Session) -> bool {
+fn sees_both_at_once<S: StoreName>(session: &mut Of<S, Session>) -> bool {
     for _ in 0..MOST_LOOKS {
         match front_of(session) {
             Some(2) => return true,
@@ -29,8 +30,8 @@ fn sees_both_at_once(session: &mut Session) -> bool {
     true
 }
 
-fn front_of(session: &mut Session) -> Option<u64> {
-    let Ok(look) = session.look() else {
+fn front_of<S: StoreName>(session: &mut Of<S, Session>) -> Option<u64> {
+    let Ok(look) = session.value.look() else {
         return None;
     };
     let front = look.front();
@@ -40,9 +41,9 @@ fn front_of(session: &mut Session) -> Option<u64> {
 
 // One session holds a look of the front before the publication, until the other one sees the front after it. Whether
 // each front is one of these two.
-fn watches(
-    mut first: Session,
-    mut second: Session,
+fn watches<S: StoreName>(
+    mut first: Of<S, Session>,
+    mut second: Of<S, Session>,
     holds: &AtomicBool,
     has_published: &AtomicBool,
 ) -> bool {
@@ -55,8 +56,12 @@ fn watches(
     false
 }
 
-fn watches_once(first: &mut Session, second: &mut Session, holds: &AtomicBool) -> Option<bool> {
-    let Ok(look) = first.look() else {
+fn watches_once<S: StoreName>(
+    first: &mut Of<S, Session>,
+    second: &mut Of<S, Session>,
+    holds: &AtomicBool,
+) -> Option<bool> {
+    let Ok(look) = first.value.look() else {
         return None;
     };
     let front = look.front();
@@ -67,8 +72,9 @@ fn watches_once(first: &mut Session, second: &mut Session, holds: &AtomicBool) -
     Some(are_both && front == 0 && after == 0)
 }
 
-// The same until the publication has returned, and once more.
-fn sees_both_until(session: &mut Session, has_published: &AtomicBool) -> bool {
+// Whether a session sees the front before the publication, or the one after it, and nothing else. It looks until the
+// publication has returned, and once more.
+fn sees_both_until<S: StoreName>(session: &mut Of<S, Session>, has_published: &AtomicBool) -> bool {
     for _ in 0..u64::MAX {
         let is_last = has_published.load(Ordering::SeqCst);
         match front_of(session) {
@@ -92,15 +98,15 @@ fn waits_for(is_so: &AtomicBool) {
     }
 }
 
-// Publishes where the look is held.
-fn publishes<R: Wait>(
+// Publishes once the look is held.
+fn publishes<S: StoreName, R: Wait>(
     rt: &R,
-    store: &mut Vlr,
+    store: &mut Of<S, Vlr>,
     holds: &AtomicBool,
     has_published: &AtomicBool,
 ) -> Option<u64> {
     waits_for(holds);
-    let published = store.publish(rt);
+    let published = store.value.publish(rt);
     has_published.store(true, Ordering::SeqCst);
     match published {
         Ok(receipt) => Some(receipt.front()),
@@ -108,34 +114,42 @@ fn publishes<R: Wait>(
     }
 }
 
-fn submitted(store: &mut Vlr, imsis: &[Imsi]) -> Result<(), Refusal> {
+fn submitted<S: StoreName>(store: &mut Of<S, Vlr>, imsis: &[Imsi]) -> Result<(), Refusal> {
     for imsi in imsis {
-        store.submit(Update::Register { imsi: *imsi })?;
+        store.value.submit(Update::Register { imsi: *imsi })?;
     }
+    Ok(())
+}
+
+pub(crate) fn seen_whole<S: StoreName, R: Threads + Wait + Abort + Sync>(
+    rt: &R,
+    opened: Opened<S>,
+    imsis: &[Imsi],
+) -> Result<(), Fail> {
+    let (mut store, first, second) = opened.into_two(rt)?;
+    let (holds, has_published) = (AtomicBool::new(false), AtomicBool::new(false));
+    let sent = submitted(&mut store, imsis);
+    let (are_whole, front) = thread::join(
+        rt,
+        || watches(first, second, &holds, &has_published),
+        || publishes(rt, &mut store, &holds, &has_published),
+    );
+    store.value.end(rt);
+    assert_eq!(rt; sent, Ok(()));
+    assert_eq!(rt; (are_whole, front), (true, Some(2)));
     Ok(())
 }
 
 #[test]
 fn a_publication_is_seen_whole(rt: HostRuntime) -> Result<(), Fail> {
     let imsis = [imsi_of(1)?, imsi_of(2)?];
-    let (holds, has_published) = (AtomicBool::new(false), AtomicBool::new(false));
-    let (mut store, first, second) = opened_with_two(&rt, rt.alloc(), 10)?;
-    let sent = submitted(&mut store, &imsis);
-    let (are_whole, front) = thread::join(
-        &rt,
-        || watches(first, second, &holds, &has_published),
-        || publishes(&rt, &mut store, &holds, &has_published),
-    );
-    store.end(&rt);
-    assert_eq!(rt; sent, Ok(()));
-    assert_eq!(rt; (are_whole, front), (true, Some(2)));
-    Ok(())
+    run_ending_case(&rt, rt.alloc(), 2, 10, &EndingCase::SeenWhole(imsis))
 }
 
 // The subscribers of the updates below.
-type Three<T> = [T; 3];
+pub(crate) type Three<T> = [T; 3];
 
-// What stands after each count of accepted updates: what is told of a call of each subscriber.
+// For each count of accepted updates, the answer to a call of each subscriber then.
 type Outcomes = Vec<Three<Told>>;
 
 const ROUNDS: usize = 1000;
@@ -179,7 +193,7 @@ fn all_told(records: &Records, calls: &Three<CallEvent>) -> Three<Told> {
     ]
 }
 
-// What each front tells, by plain records to which the updates are applied one by one.
+// The answers at each front, by plain records to which the updates are applied one by one.
 fn outcomes_of(
     alloc: Global,
     imsis: &Three<Imsi>,
@@ -202,10 +216,10 @@ fn outcomes_of(
 
 // Submits the updates of a seed and publishes after each. Halfway it waits until a session has had a look at a front
 // between the first and the last one.
-fn writes<R: Wait>(
+fn writes<S: StoreName, R: Wait>(
     rt: &R,
     alloc: Global,
-    store: &mut Vlr,
+    store: &mut Of<S, Vlr>,
     imsis: &Three<Imsi>,
     seed: u64,
     has_looked: &AtomicBool,
@@ -216,18 +230,18 @@ fn writes<R: Wait>(
             waits_for(has_looked);
         }
         number = next_of(number);
-        match store.submit(update_by(alloc, imsis, number)?) {
+        match store.value.submit(update_by(alloc, imsis, number)?) {
             Ok(_) | Err(Refusal::UnidentifiedSubscriber) => {}
             Err(why) => return Err(why),
         }
-        store.publish(rt)?;
+        store.value.publish(rt)?;
     }
     Ok(())
 }
 
-// The same, after which the writer waits for no look of this session.
-fn reads(
-    mut session: Session,
+// What `reads_until` returns, after which the writer waits for no look of this session.
+fn reads<S: StoreName>(
+    mut session: Of<S, Session>,
     calls: &Three<CallEvent>,
     outcomes: &[Three<Told>],
     has_looked: &AtomicBool,
@@ -240,8 +254,8 @@ fn reads(
 
 // Whether what a session sees at each front is what the list says, and no front goes back. It looks until the writer
 // has ended, and then once more: the front is the last one.
-fn reads_until(
-    session: &mut Session,
+fn reads_until<S: StoreName>(
+    session: &mut Of<S, Session>,
     calls: &Three<CallEvent>,
     outcomes: &[Three<Told>],
     has_looked: &AtomicBool,
@@ -292,22 +306,24 @@ fn wanted_at(outcomes: &[Three<Told>], front: u64, at: usize) -> Option<Told> {
     outcomes.get(front)?.get(at).copied()
 }
 
-fn check_seed<R: Threads + Wait + Abort + Sync>(
+/// The updates of a seed are published one by one while two sessions look, which see the outcome of each front.
+pub(crate) fn of_seed<S: StoreName, R: Threads + Wait + Abort + Sync>(
     rt: &R,
     alloc: Global,
+    opened: Opened<S>,
     imsis: &Three<Imsi>,
     calls: &Three<CallEvent>,
+    outcomes: &[Three<Told>],
     seed: u64,
 ) -> Result<(), Fail> {
-    let outcomes = outcomes_of(alloc, imsis, calls, seed)?;
+    let (mut store, first, second) = opened.into_two(rt)?;
     let (has_looked, has_ended) = (AtomicBool::new(false), AtomicBool::new(false));
-    let (mut store, first, second) = opened_with_two(rt, alloc, 1000)?;
     let (are_right, written) = thread::join(
         rt,
         || thread::join(
             rt,
-            || reads(first, calls, &outcomes, &has_looked, &has_ended),
-            || reads(second, calls, &outcomes, &has_looked, &has_ended),
+            || reads(first, calls, outcomes, &has_looked, &has_ended),
+            || reads(second, calls, outcomes, &has_looked, &has_ended),
         ),
         || {
             let written = writes(rt, alloc, &mut store, imsis, seed, &has_looked);
@@ -315,18 +331,34 @@ fn check_seed<R: Threads + Wait + Abort + Sync>(
             written
         },
     );
-    store.end(rt);
+    store.value.end(rt);
     assert_eq!(rt; written, Ok(()), "of seed {seed}");
     assert_eq!(rt; are_right, (true, true), "of seed {seed}");
     Ok(())
 }
 
+fn check_seed<R: Threads + Wait + Abort + Sync>(
+    rt: &R,
+    alloc: Global,
+    imsis: Three<Imsi>,
+    seed: u64,
+) -> Result<(), Fail> {
+    let calls = [call_of(imsis[0])?, call_of(imsis[1])?, call_of(imsis[2])?];
+    let outcomes = outcomes_of(alloc, &imsis, &calls, seed)?;
+    let case = EndingCase::OfSeed {
+        imsis,
+        calls,
+        outcomes,
+        seed,
+    };
+    run_ending_case(rt, alloc, 2, 1000, &case)
+}
+
 #[test]
 fn each_front_decides_as_its_updates_do_in_two_threads(rt: HostRuntime) -> Result<(), Fail> {
     let imsis = [imsi_of(1)?, imsi_of(2)?, imsi_of(3)?];
-    let calls = [call_of(imsis[0])?, call_of(imsis[1])?, call_of(imsis[2])?];
     for seed in 1..=20 {
-        check_seed(&rt, rt.alloc(), &imsis, &calls, seed)?;
+        check_seed(&rt, rt.alloc(), imsis, seed)?;
     }
     Ok(())
 }

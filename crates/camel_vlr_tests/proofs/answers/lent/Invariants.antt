@@ -1,5 +1,0 @@
-use Rattle.std.proofs.Common.{◌≡◌}
-use Rattle.camel_vlr_tests.proofs.answers.lent.Given as goal
-
-abbrev pub invariant-loop : goal.invariant-loop
-invariant-loop l = l.session.store ≡ l.fn.session.store
