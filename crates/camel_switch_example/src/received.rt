@@ -42,8 +42,8 @@ pub struct TCriteriaData {
     pub causes: Option<Vec<u8>>,
 }
 
-/// The fields of an InsertSubscriberDataArg that the store takes. A list that came has items: the decoder rejects one
-/// without.
+/// The fields of an InsertSubscriberDataArg that the store takes. The IMSI is that of the dialogue if none came. A list
+/// that came has items: the decoder rejects one without.
 #[derive(Debug, Drop)]
 pub struct InsertSubscriberData {
     pub imsi: Vec<u8>,

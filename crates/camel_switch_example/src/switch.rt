@@ -18,7 +18,7 @@ use std::thread::Threads;
 /// writer in this one, until nobody can send an operation or a call any more. Then it ends the store.
 ///
 /// It fails if the store is not opened, if memory is refused, or if a thread is not started. Then it takes no operation,
-/// and it waits for the threads that were started.
+/// and it waits for the threads that were started, which answer calls until nobody can send one any more.
 pub fn run_switch<R: RandomSource + Threads + Wait + Sync>(
     rt: &R,
     alloc: Global,

@@ -44,7 +44,7 @@ impl<S: StoreName> Writer<S> {
     }
 
     /// Submits the update, publishes it, and hands the receipt to each caller. So a call that is set up after the HLR was
-    /// answered finds a caller who sees the update.
+    /// answered finds a caller who has learnt of the update, unless memory was refused for its receipt.
     ///
     /// If memory is refused for the publication, the update stays pending, and the next publication shows it. The HLR,
     /// which is answered with a reject, may send it again: what it leaves is the same a second time.
@@ -69,8 +69,11 @@ impl<S: StoreName> Writer<S> {
     }
 }
 
-/// Submits a Register of the update's subscriber, and the update behind it. If the update is rejected, no record of the
-/// subscriber is left, so that no call is decided by an empty one.
+/// Submits a Register of the update's subscriber, and the update behind it. If the update is rejected, a Cancel removes
+/// the record, so that no call is decided by an empty one.
+///
+/// If memory is refused for the Cancel too, the empty record stays pending, and the next publication shows it. A switch
+/// submits the Cancel again before that.
 fn register<S: StoreName>(store: &mut Of<S, Vlr>, update: Update) -> Result<(), Refusal> {
     let Some(imsi) = update.imsi() else {
         return Err(Refusal::UnexpectedDataValue);
