@@ -327,7 +327,8 @@ static void ask_each(double *times, long calls)
     }
 }
 
-/* Fills the second child while the first one answers calls. An update that comes meanwhile has to go to both. */
+/* Fills the second child while the first one answers calls. An update that comes meanwhile goes to the first one, and
+ * to the second one too if its subscriber is filled there already. */
 static void warm(const char *program)
 {
     start(&second, program);
