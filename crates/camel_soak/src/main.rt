@@ -4,8 +4,8 @@
 //! `camel_soak SECONDS [SUBSCRIBERS [SEED [SESSIONS]]]` runs rounds until the time is over, and twenty at least. In a
 //! round each session answers events of all five detection points in a thread of its own, one or several over one look,
 //! and the writer submits updates of all kinds, publishes them in batches of any size, and hands the receipts to the
-//! sessions' threads over channels. A session learns each receipt that comes, so that its later looks have to extend it.
-//! At the end of a round all threads are joined, and what they gave is checked:
+//! sessions' threads over channels. A session learns each receipt that comes, so that its later looks have to extend
+//! it. At the end of a round all threads are joined, and what they gave is checked:
 //!
 //! - The writer: each update has the number, or is refused with the number, that plain records (`Records::apply`) give
 //!   after all updates before it, and each receipt has as many updates as are accepted.

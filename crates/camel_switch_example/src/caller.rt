@@ -24,7 +24,8 @@ pub(crate) struct Caller<S: StoreName> {
 }
 
 impl<S: StoreName> Caller<S> {
-    /// Decides calls until nobody can send one any more. It takes no lock of the store, and does not wait for the writer.
+    /// Decides calls until nobody can send one any more. It takes no lock of the store, and does not wait for the
+    /// writer.
     pub(crate) fn run<R: Wait>(&mut self, rt: &R) {
         for _ in rt.forever() {
             let Ok(Call { event, reply }) = self.calls.recv(rt) else {

@@ -5,8 +5,8 @@ use camel_rows::{CallEvent, Outcome, Reason, Subscriber};
 use camel_tbcd::Profile;
 use camel_vlr::Session;
 
-/// What a call was given at its set-up, and what is kept of it for a later detection point. A call keeps the CSIs of its
-/// set-up (TS 23.078), whatever the HLR sends meanwhile.
+/// What a call was given at its set-up, and what is kept of it for a later detection point. A call keeps the CSIs of
+/// its set-up (TS 23.078), whatever the HLR sends meanwhile.
 #[derive(Debug, Drop)]
 pub struct SetUp {
     /// The outcome at DP 2 or DP 12.
@@ -18,7 +18,8 @@ pub struct SetUp {
 impl SetUp {
     /// Decides an event at DP 2 or DP 12, and copies the subscriber's record, both over one look.
     ///
-    /// It fails with `NoGuard` (104) if the look fails, and with `OutOfMemory` (102) if memory was refused for the copy.
+    /// It fails with `NoGuard` (104) if the look fails, and with `OutOfMemory` (102) if memory was refused for the
+    /// copy.
     pub fn of(session: &mut Session, event: &CallEvent) -> Result<SetUp, Refusal>
         ensures { session.new.store ≡ session.old.store }
     {

@@ -17,8 +17,8 @@ use std::thread::Threads;
 /// Opens a store with so many sessions (1 to 64), and runs a caller for each session, in a thread of its own, and the
 /// writer in this one, until nobody can send an operation or a call any more. Then it ends the store.
 ///
-/// It fails if the store is not opened, if memory is refused, or if a thread is not started. Then it takes no operation,
-/// and it waits for the threads that were started, which answer calls until nobody can send one any more.
+/// It fails if the store is not opened, if memory is refused, or if a thread is not started. Then it takes no
+/// operation, and it waits for the threads that were started, which answer calls until nobody can send one any more.
 pub fn run_switch<R: RandomSource + Threads + Wait + Sync>(
     rt: &R,
     alloc: Global,

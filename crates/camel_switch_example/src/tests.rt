@@ -36,8 +36,8 @@ fn row_data(alloc: Global, detection_point: u32, service_key: u32) -> Result<Tdp
     })
 }
 
-// At DP 2 the destination has to begin with 12, the basic service to be a teleservice of group 1, and the call not to be
-// forwarded. At DP 4 the cause has to be 17, which comes with its extension bit.
+// At DP 2 the destination has to begin with 12, the basic service to be a teleservice of group 1, and the call not to
+// be forwarded. At DP 4 the cause has to be 17, which comes with its extension bit.
 fn criteria_data(alloc: Global) -> Result<Vec<OCriteriaData>, AllocError> {
     let numbers = list(alloc, octets(alloc, &[0x91, 0x21])?)?;
     let service = BasicServiceCode::Tele(octets(alloc, &[0x10, 0x00])?);

@@ -1,9 +1,11 @@
 use crate::map_fault::MapFault;
 use camel_criteria::Refusal;
 use camel_rows::Update;
+use camel_tbcd::Imsi;
 use camel_vlr::{Of, Receipt, StoreName, Vlr};
 use crossbeam_channel::{Receiver, Sender};
 use std::sync::Wait;
+use std::thread;
 
 /// An operation of the HLR.
 #[derive(Drop)]
@@ -43,8 +45,8 @@ impl<S: StoreName> Writer<S> {
         }
     }
 
-    /// Submits the update, publishes it, and hands the receipt to each caller. So a call that is set up after the HLR was
-    /// answered finds a caller who has learnt of the update, unless memory was refused for its receipt.
+    /// Submits the update, publishes it, and hands the receipt to each caller. So a call that is set up after the HLR
+    /// was answered finds a caller who has learnt of the update, unless memory was refused for its receipt.
     ///
     /// If memory is refused for the publication, the update stays pending, and the next publication shows it. The HLR,
     /// which is answered with a reject, may send it again: what it leaves is the same a second time.
@@ -56,7 +58,7 @@ impl<S: StoreName> Writer<S> {
         registers: bool,
     ) -> Result<(), MapFault> {
         if registers {
-            register(store, update)?;
+            register(rt, store, update)?;
         } else {
             store.value.submit(update)?;
         }
@@ -70,11 +72,12 @@ impl<S: StoreName> Writer<S> {
 }
 
 /// Submits a Register of the update's subscriber, and the update behind it. If the update is rejected, a Cancel removes
-/// the record, so that no call is decided by an empty one.
-///
-/// If memory is refused for the Cancel too, the empty record stays pending, and the next publication shows it. A switch
-/// submits the Cancel again before that.
-fn register<S: StoreName>(store: &mut Of<S, Vlr>, update: Update) -> Result<(), Refusal> {
+/// the record before anything is published, so that no call is decided by an empty one.
+fn register<S: StoreName, R: Wait>(
+    rt: &R,
+    store: &mut Of<S, Vlr>,
+    update: Update,
+) -> Result<(), Refusal> {
     let Some(imsi) = update.imsi() else {
         return Err(Refusal::UnexpectedDataValue);
     };
@@ -82,8 +85,18 @@ fn register<S: StoreName>(store: &mut Of<S, Vlr>, update: Update) -> Result<(), 
     match store.value.submit(update) {
         Ok(_) => Ok(()),
         Err(why) => {
-            store.value.submit(Update::Cancel { imsi })?;
+            cancel(rt, store, imsi);
             Err(why)
+        }
+    }
+}
+
+/// Submits a Cancel, and submits it again while memory is refused for it.
+fn cancel<S: StoreName, R: Wait>(rt: &R, store: &mut Of<S, Vlr>, imsi: Imsi) {
+    for _ in rt.forever() {
+        match store.value.submit(Update::Cancel { imsi }) {
+            Err(Refusal::OutOfMemory) => thread::yield_now(),
+            _ => return,
         }
     }
 }

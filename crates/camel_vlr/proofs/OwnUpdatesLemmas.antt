@@ -1,4 +1,4 @@
--- What only the updates of one subscriber leave.
+-- What the updates of one subscriber leave by themselves.
 use Rattle.std.proofs.Common.{◌≡◌, ◌∙◌, ℕ, Bool, true, false, List, [], ◌∷◌, None, refl, sym, ap, arith}
 use Rattle.std.proofs.lemmas.List.Sums.{count_by-le-length, length-filter}
 use Rattle.std.specs.FinMap as map

@@ -12,7 +12,7 @@ use Rattle.camel_vlr.specs.Prefix.{StoreId}
 abbrev pub own_updates : List ℕ → List Update → List Update
 own_updates imsi updates = filter (is_of imsi) updates
 
--- only the updates of the event's subscriber are a front too, over whose data the decision is the same
+-- the updates of the event's subscriber are a front by themselves too, over whose data the decision is the same
 pub record DecidedByOwn (store : StoreId) (front : List Update) (event : EventData) (decided : DecisionData) : Type 0 where
   pub own_front : IsFront store.limit (own_updates (event_imsi event) front)
   pub decision : decided ≡ decision store.profile (records_of (own_updates (event_imsi event) front)) event

@@ -106,8 +106,8 @@ impl Session {
         receipt.is_prefix_of(&self.seen)
     }
 
-    /// A look at a front that extends all that the session saw and learnt. It takes no lock, does not wait, and takes no
-    /// memory.
+    /// A look at a front that extends all that the session saw and learnt. It takes no lock, does not wait, and takes
+    /// no memory.
     ///
     /// It fails with [`NoLook`] if the store has ended, or, which no run meets, if the published copy is older than
     /// what the session was told of. Then the session keeps what it had seen and learnt.

@@ -186,8 +186,8 @@ impl Vlr {
     }
 
     /// Publishes all that is pending, at once, also if nothing is. It waits for each look at the copy that is to be
-    /// changed. The receipt is of all that is published then. What its clauses say holds if it returns; that it returns is
-    /// not proved.
+    /// changed. The receipt is of all that is published then. What its clauses say holds if it returns; that it returns
+    /// is not proved.
     ///
     /// It fails with `OutOfMemory` (102) if memory was refused: nothing was published, all is pending as before, and
     /// it may be tried again.
@@ -234,8 +234,8 @@ impl Vlr {
         self.admission.accepted() - self.writer.published().count
     }
 
-    /// Ends the store, and gives nothing. What is pending is dropped. It waits for the looks that are held; that it returns
-    /// is not proved.
+    /// Ends the store, and gives nothing. What is pending is dropped. It waits for the looks that are held; that it
+    /// returns is not proved.
     pub fn end<R: Wait>(self, rt: &R) {
         let Vlr {
             writer,

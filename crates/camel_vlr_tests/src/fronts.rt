@@ -1,5 +1,5 @@
-//! What the promises of a session come to for a caller: after a receipt was learnt, the front of the next look extends the
-//! receipt's, and a second look extends the first.
+//! What the promises of a session come to for a caller: after a receipt was learnt, the front of the next look extends
+//! the receipt's, and a second look extends the first.
 
 ghost use Rattle.std.specs.Prelude.{◌≡◌, ◌≤◌, length, IfSome, OnSome};
 ghost use Rattle.camel_rows.specs.Front.{Extends};
@@ -44,7 +44,8 @@ fn front_after<S: StoreName>(session: &mut Of<S, Session>, receipt: Of<S, Receip
     Some(front)
 }
 
-/// How many updates the fronts of two looks after a receipt have: the second look extends the first, and so the receipt.
+/// How many updates the fronts of two looks after a receipt have: the second look extends the first, and so the
+/// receipt.
 fn fronts_after<S: StoreName>(
     session: &mut Of<S, Session>,
     receipt: Of<S, Receipt>,

@@ -11,8 +11,8 @@ use camel_criteria::Refusal;
 use camel_rows::{Answer, CallEvent, Outcome};
 
 impl Session {
-    /// The answer to an event, by a look of its own, which has ended when it returns. It takes no lock, does not wait, and
-    /// takes no memory.
+    /// The answer to an event, by a look of its own, which has ended when it returns. It takes no lock, does not wait,
+    /// and takes no memory.
     ///
     /// It fails with [`NoLook`] if [`Session::look`] does. Then the session keeps what it had seen and learnt.
     pub fn answer(&mut self, event: &CallEvent) -> Result<Answer, NoLook>

@@ -19,11 +19,11 @@ pub struct CloseRefused {
 
 impl Vlr {
     /// Ends the store, and gives the records that the published updates leave. What is pending is dropped. It waits for
-    /// the looks that are held. The session has to be of the same store; it learns all that is published. What the clauses
-    /// say holds if it returns; that it returns is not proved.
+    /// the looks that are held. The session has to be of the same store; it learns all that is published. What the
+    /// clauses say holds if it returns; that it returns is not proved.
     ///
-    /// It fails with `OutOfMemory` (102) if memory was refused, and with `NoGuard` (104) if the session got no look,
-    /// or one at another front. The store then comes back with all that is published and pending. No run meets 104, since
+    /// It fails with `OutOfMemory` (102) if memory was refused, and with `NoGuard` (104) if the session got no look, or
+    /// one at another front. The store then comes back with all that is published and pending. No run meets 104, since
     /// the store has not ended there, and the published copy is what the session was told of last.
     pub fn close<R: Wait>(self, rt: &R, session: &mut Session) -> Result<Records, CloseRefused>
         requires { session.old.store ≡ self.store }
