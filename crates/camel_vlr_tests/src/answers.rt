@@ -50,7 +50,7 @@ fn row_answer<S: StoreName>(store: &mut Of<S, Vlr>, imsi: Imsi) -> Result<u64, R
     store.value.submit(row_update(imsi)?)
 }
 
-/// What is told of a call: the service key and the lent entry, or the reason.
+/// The decision of a call: the service key and the lent entry, or the reason.
 pub(crate) type Told = Result<(u32, Option<EntrySummary>), Reason>;
 
 pub(crate) fn told(decision: &Decision) -> Told {
@@ -60,7 +60,7 @@ pub(crate) fn told(decision: &Decision) -> Told {
     }
 }
 
-/// The front of one look, and what is told of the call there.
+/// The front of one look, and the decision of the call there.
 pub(crate) fn asked_once<S: StoreName>(
     session: &mut Of<S, Session>,
     call: &CallEvent,
@@ -75,7 +75,7 @@ pub(crate) fn asked_once<S: StoreName>(
     Some((front, told))
 }
 
-/// The front of a look, and what is told of the call there. Looks are made again while they fail.
+/// The front of a look, and the decision of the call there. Looks are made again while they fail.
 pub(crate) fn asked<S: StoreName>(
     session: &mut Of<S, Session>,
     call: &CallEvent,
@@ -89,7 +89,7 @@ pub(crate) fn asked<S: StoreName>(
     asked_once(session, call)
 }
 
-/// A look has this front, and a call is told this there.
+/// A look has this front, and a call has this decision there.
 pub(crate) fn check_asked<S: StoreName, R: Abort>(
     rt: &R,
     session: &mut Of<S, Session>,

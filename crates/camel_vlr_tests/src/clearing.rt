@@ -61,7 +61,7 @@ pub(crate) fn lends_beside_a_clear<S: StoreName, R: Wait + Abort>(
     Err(Fail::new("no look"))
 }
 
-// The front of a look and what is told of a call there, read after a publication was made beside the look, which the
+// The front of a look and the decision of a call there, read after a publication was made beside the look, which the
 // other session sees. None if there was no look.
 fn lent_beside<S: StoreName, R: Wait + Abort>(
     rt: &R,

@@ -51,7 +51,7 @@ fn what_is_pending_is_not_seen(rt: HostRuntime) -> Result<(), Fail> {
     run_case(&rt, rt.alloc(), 2, 10, Case::PendingIsNotSeen)
 }
 
-// A look of each session has this front, and a call has this answer there.
+// A look of each session has this front, and a call has this decision there.
 fn check_both_asked<S: StoreName, R: Abort>(
     rt: &R,
     first: &mut Of<S, Session>,

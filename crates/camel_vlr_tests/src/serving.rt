@@ -9,7 +9,7 @@ use std::process::Abort;
 use std::sync::atomic::{AtomicU64, Ordering};
 use std::test::Fail;
 
-/// A gate that refuses the calls from this number on, and counts those that were answered.
+/// A gate that lets no call through from this number on, and counts those that were answered.
 #[derive(Drop)]
 struct StopAt {
     refused: u64,

@@ -149,7 +149,7 @@ fn a_publication_is_seen_whole(rt: HostRuntime) -> Result<(), Fail> {
 // The subscribers of the updates below.
 pub(crate) type Three<T> = [T; 3];
 
-// For each count of accepted updates, the answer to a call of each subscriber then.
+// For each count of accepted updates, the decision of a call of each subscriber then.
 type Outcomes = Vec<Three<Told>>;
 
 const ROUNDS: usize = 1000;
@@ -193,7 +193,7 @@ fn all_told(records: &Records, calls: &Three<CallEvent>) -> Three<Told> {
     ]
 }
 
-// The answers at each front, by plain records to which the updates are applied one by one.
+// The decisions at each front, by plain records to which the updates are applied one by one.
 fn outcomes_of(
     alloc: Global,
     imsis: &Three<Imsi>,

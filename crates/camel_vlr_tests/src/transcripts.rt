@@ -13,7 +13,7 @@ type PlainAnswer = (u64, bool);
 
 /// The transcript of a session that answered this at calls of the subscriber.
 fn transcript_of(alloc: Global, answers: &[PlainAnswer]) -> Result<Transcript, Fail> {
-    // The prover finds the types of an entry that is pushed only where the function names them.
+    // The prover finds the types of an entry that is pushed only if the function names them.
     let _: Option<Answer> = None;
     let _: Option<Outcome> = None;
     let event = call_of(imsi_of(1)?)?;
