@@ -1,5 +1,4 @@
-use Rattle.std.proofs.Common.{◌≡◌, ◌∙◌, ◌∷◌, ◌++◌, [], ap, arith, subst}
-use Rattle.camel_rows.specs.Front.{Extends}
+use Rattle.std.proofs.Common.{ap, arith, subst}
 use Rattle.camel_vlr.proofs.FrontLemmas.{all_last, extends_length}
 use Rattle.camel_vlr.specs.Session.{ExtendsAll}
 use Rattle.camel_vlr_tests.proofs.fronts.front_after.Goals as goal

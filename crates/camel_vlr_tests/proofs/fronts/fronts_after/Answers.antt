@@ -1,4 +1,4 @@
-use Rattle.std.proofs.Common.{◌≡◌, arith}
+use Rattle.std.proofs.Common.{arith}
 use Rattle.camel_vlr.proofs.FrontLemmas.{extends_length}
 use Rattle.camel_vlr_tests.proofs.fronts.fronts_after.Goals as goal
 
