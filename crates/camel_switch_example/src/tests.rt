@@ -13,6 +13,7 @@ use std::process::Abort;
 use std::sync::Wait;
 use std::test::Fail;
 use std::thread;
+use std::thread::Threads;
 
 /// The IMSI 262010000000001 as a TBCD-STRING.
 const IMSI: [u8; 8] = [0x62, 0x02, 0x01, 0x00, 0x00, 0x00, 0x00, 0xF1];
@@ -94,42 +95,55 @@ struct Network {
 }
 
 impl Network {
-    /// What the HLR is answered.
+    /// What the HLR is answered; None if it is not answered.
     fn answer<R: Wait>(
         &self,
         rt: &R,
         update: Update,
         registers: bool,
-    ) -> Result<Result<(), MapFault>, Fail> {
-        let (reply, answered) = unbounded(self.alloc)?;
+    ) -> Option<Result<(), MapFault>> {
+        let (reply, answered) = unbounded(self.alloc).ok()?;
         let operation = Operation {
             update,
             registers,
             reply,
         };
-        if self.operations.send(rt, operation).is_err() {
-            return Err(Fail::new("no writer"));
-        }
-        answered.recv(rt).map_err(|_| Fail::new("no answer"))
+        self.operations.send(rt, operation).ok()?;
+        answered.recv(rt).ok()
     }
 
-    /// What a call is given at DP 2.
-    fn set_up<R: Wait>(&self, rt: &R) -> Result<SetUp, Fail> {
-        let event = CallEvent::CollectedInfo {
-            imsi: Imsi::from_tbcd(&IMSI)?,
-            destination: CallAddress::from_bytes(&DESTINATION)?,
-            basic: BasicService::Tele(0x11),
-            forwarded: false,
+    /// What a call is given at its set-up; None if it is not decided.
+    fn set_up<R: Wait>(&self, rt: &R, event: &CallEvent) -> Option<SetUp> {
+        let (reply, decided) = unbounded(self.alloc).ok()?;
+        let call = Call {
+            event: *event,
+            reply,
         };
-        let (reply, decided) = unbounded(self.alloc)?;
-        if self.calls.send(rt, Call { event, reply }).is_err() {
-            return Err(Fail::new("no caller"));
-        }
-        match decided.recv(rt) {
-            Ok(set_up) => Ok(set_up?),
-            Err(_) => Err(Fail::new("no decision")),
-        }
+        self.calls.send(rt, call).ok()?;
+        decided.recv(rt).ok()?.ok()
     }
+
+    /// The outcome at DP 2 or DP 12; None if it is not decided.
+    fn outcome<R: Wait>(&self, rt: &R, event: &CallEvent) -> Option<Outcome> {
+        Some(self.set_up(rt, event)?.outcome)
+    }
+}
+
+fn update_of_data(alloc: Global, data: &InsertSubscriberData) -> Result<Update, Fail> {
+    match update_of(alloc, data) {
+        Ok(update) => Ok(update),
+        Err(_) => Err(Fail::new("no update")),
+    }
+}
+
+// A call at DP 2.
+fn call() -> Result<CallEvent, Fail> {
+    Ok(CallEvent::CollectedInfo {
+        imsi: Imsi::from_tbcd(&IMSI)?,
+        destination: CallAddress::from_bytes(&DESTINATION)?,
+        basic: BasicService::Tele(0x11),
+        forwarded: false,
+    })
 }
 
 // The same call after its route has failed with cause 17, user busy.
@@ -155,19 +169,69 @@ fn triggered(dp: u8, key: u32) -> Result<Outcome, Fail> {
     })
 }
 
-// An InsertSubscriberData, a call that keeps its record over a DeleteSubscriberData, and a call after it.
-fn insert_and_delete<R: Wait + Abort>(rt: &R, network: &Network) -> Result<(), Fail> {
-    assert_eq!(rt;
-        network.set_up(rt)?.outcome,
-        Outcome::NoTrigger(Reason::Unknown)
-    );
+// A call before the first InsertSubscriberData, and one after it.
+fn insert_first<R: Wait + Abort>(rt: &R, network: &Network) -> Result<(), Fail> {
+    let unknown = Outcome::NoTrigger(Reason::Unknown);
+    assert_eq!(rt; network.outcome(rt, &call()?), Some(unknown));
+    let insert = update_of_data(network.alloc, &insert_data(network.alloc)?)?;
+    assert_eq!(rt; network.answer(rt, insert, true), Some(Ok(())));
+    assert_eq!(rt; network.outcome(rt, &call()?), Some(triggered(2, 100)?));
+    Ok(())
+}
+
+// How many calls are set up, and how many operations are carried out beside them.
+const CALLS: usize = 1000;
+
+const OPERATIONS: usize = 100;
+
+// Each call is given its service while the HLR sends the same data again and again.
+fn calls_beside_operations<R: Threads + Wait + Abort + Sync>(
+    rt: &R,
+    network: &Network,
+) -> Result<(), Fail> {
+    let (event, wanted) = (call()?, Some(triggered(2, 100)?));
     let data = insert_data(network.alloc)?;
-    let Ok(insert) = update_of(network.alloc, &data) else {
-        return Err(Fail::new("no update"));
+    let (are_served, are_done) = thread::join(
+        rt,
+        || are_calls_served(rt, network, &event, &wanted),
+        || are_inserts_done(rt, network, &data),
+    );
+    assert_eq!(rt; (are_served, are_done), (true, true));
+    Ok(())
+}
+
+fn are_calls_served<R: Wait>(
+    rt: &R,
+    network: &Network,
+    event: &CallEvent,
+    wanted: &Option<Outcome>,
+) -> bool {
+    let mut are_served = true;
+    for _ in 0..CALLS {
+        let outcome = network.outcome(rt, event);
+        are_served &= outcome == *wanted;
+    }
+    are_served
+}
+
+fn are_inserts_done<R: Wait>(rt: &R, network: &Network, data: &InsertSubscriberData) -> bool {
+    for _ in 0..OPERATIONS {
+        let Ok(insert) = update_of(network.alloc, data) else {
+            return false;
+        };
+        if network.answer(rt, insert, false) != Some(Ok(())) {
+            return false;
+        }
+    }
+    true
+}
+
+// A call that keeps its record over a DeleteSubscriberData, and a call after it.
+fn keep_over_a_delete<R: Wait + Abort>(rt: &R, network: &Network) -> Result<(), Fail> {
+    let Some(kept) = network.set_up(rt, &call()?) else {
+        return Err(Fail::new("no set-up"));
     };
-    assert_eq!(rt; network.answer(rt, insert, true)?, Ok(()));
-    let call = network.set_up(rt)?;
-    assert_eq!(rt; call.outcome, triggered(2, 100)?);
+    assert_eq!(rt; kept.outcome, triggered(2, 100)?);
     let delete = Update::Delete {
         imsi: Imsi::from_tbcd(&IMSI)?,
         what: Withdrawal {
@@ -176,35 +240,28 @@ fn insert_and_delete<R: Wait + Abort>(rt: &R, network: &Network) -> Result<(), F
             everything: false,
         },
     };
-    assert_eq!(rt; network.answer(rt, delete, false)?, Ok(()));
-    assert_eq!(rt; call.later(&route_failure()?), triggered(4, 101)?);
-    assert_eq!(rt;
-        network.set_up(rt)?.outcome,
-        Outcome::NoTrigger(Reason::NoCsi)
-    );
+    assert_eq!(rt; network.answer(rt, delete, false), Some(Ok(())));
+    assert_eq!(rt; kept.later(&route_failure()?), triggered(4, 101)?);
+    let no_csi = Outcome::NoTrigger(Reason::NoCsi);
+    assert_eq!(rt; network.outcome(rt, &call()?), Some(no_csi));
     Ok(())
 }
 
 // Operations that the HLR is answered with a user error. What is rejected with a Register leaves no record.
 fn rejected<R: Wait + Abort>(rt: &R, network: &Network) -> Result<(), Fail> {
     let imsi = Imsi::from_tbcd(&IMSI)?;
-    assert_eq!(rt; network.answer(rt, Update::Cancel { imsi }, false)?, Ok(()));
+    let cancel = Update::Cancel { imsi };
+    assert_eq!(rt; network.answer(rt, cancel, false), Some(Ok(())));
     let mut data = insert_data(network.alloc)?;
-    let Ok(insert) = update_of(network.alloc, &data) else {
-        return Err(Fail::new("no update"));
-    };
+    let insert = update_of_data(network.alloc, &data)?;
     let unknown = Err(MapFault::UnidentifiedSubscriber);
-    assert_eq!(rt; network.answer(rt, insert, false)?, unknown);
+    assert_eq!(rt; network.answer(rt, insert, false), Some(unknown));
     data.o_csi = None;
-    let Ok(criteria_only) = update_of(network.alloc, &data) else {
-        return Err(Fail::new("no update"));
-    };
+    let criteria_only = update_of_data(network.alloc, &data)?;
     let missing = Err(MapFault::DataMissing);
-    assert_eq!(rt; network.answer(rt, criteria_only, true)?, missing);
-    assert_eq!(rt;
-        network.set_up(rt)?.outcome,
-        Outcome::NoTrigger(Reason::Unknown)
-    );
+    assert_eq!(rt; network.answer(rt, criteria_only, true), Some(missing));
+    let no_data = Outcome::NoTrigger(Reason::Unknown);
+    assert_eq!(rt; network.outcome(rt, &call()?), Some(no_data));
     Ok(())
 }
 
@@ -232,9 +289,29 @@ fn a_call_finds_what_the_hlr_was_answered(rt: HostRuntime) -> Result<(), Fail> {
 }
 
 // The senders end here, and with them the switch.
-fn drive<R: Wait + Abort>(rt: &R, network: Network) -> Result<(), Fail> {
-    insert_and_delete(rt, &network)?;
+fn drive<R: Threads + Wait + Abort + Sync>(rt: &R, network: Network) -> Result<(), Fail> {
+    insert_first(rt, &network)?;
+    calls_beside_operations(rt, &network)?;
+    keep_over_a_delete(rt, &network)?;
     rejected(rt, &network)
+}
+
+// The entry of DP 2 without any criterion.
+fn bare_entry() -> OCriteriaData {
+    OCriteriaData {
+        detection_point: 2,
+        destination: None,
+        basic: None,
+        call_type: None,
+        causes: None,
+    }
+}
+
+// What the HLR is answered if an InsertSubscriberData has this entry.
+fn fault_of(alloc: Global, entry: OCriteriaData) -> Result<Option<MapFault>, AllocError> {
+    let mut data = insert_data(alloc)?;
+    data.o_criteria = Some(list(alloc, entry)?);
+    Ok(update_of(alloc, &data).err())
 }
 
 // What no constructor takes is the switch's own to refuse.
@@ -242,25 +319,19 @@ fn drive<R: Wait + Abort>(rt: &R, network: Network) -> Result<(), Fail> {
 fn a_value_without_a_meaning_is_an_unexpected_data_value(rt: HostRuntime) -> Result<(), Fail> {
     let alloc = rt.alloc();
     let unexpected = Some(MapFault::UnexpectedDataValue);
-    let mut call_type = insert_data(alloc)?;
-    let mut match_type = insert_data(alloc)?;
-    let mut code = insert_data(alloc)?;
-    if let Some(entries) = &mut call_type.o_criteria {
-        entries[0].call_type = Some(2);
-    }
-    if let Some(entries) = &mut match_type.o_criteria {
-        entries[0].destination = Some(DestinationNumberCriteria {
-            match_type: 2,
-            numbers: None,
-            lengths: Some(octets(alloc, &[5])?),
-        });
-    }
-    if let Some(entries) = &mut code.o_criteria {
-        entries[0].basic = Some(list(alloc, BasicServiceCode::Bearer(Vec::new(alloc)))?);
-    }
-    assert_eq!(rt; update_of(alloc, &insert_data(alloc)?).err(), None);
-    assert_eq!(rt; update_of(alloc, &call_type).err(), unexpected);
-    assert_eq!(rt; update_of(alloc, &match_type).err(), unexpected);
-    assert_eq!(rt; update_of(alloc, &code).err(), unexpected);
+    assert_eq!(rt; fault_of(alloc, bare_entry())?, None);
+    let mut call_type = bare_entry();
+    call_type.call_type = Some(2);
+    assert_eq!(rt; fault_of(alloc, call_type)?, unexpected);
+    let mut match_type = bare_entry();
+    match_type.destination = Some(DestinationNumberCriteria {
+        match_type: 2,
+        numbers: None,
+        lengths: Some(octets(alloc, &[5])?),
+    });
+    assert_eq!(rt; fault_of(alloc, match_type)?, unexpected);
+    let mut code = bare_entry();
+    code.basic = Some(list(alloc, BasicServiceCode::Bearer(Vec::new(alloc)))?);
+    assert_eq!(rt; fault_of(alloc, code)?, unexpected);
     Ok(())
 }
