@@ -10,7 +10,7 @@ pub use lock_tree::LockTree;
 use crate::flat::FlatRecord;
 use crate::workload::{Change, Event, Imsi, Outcome, comers, imsi_of, record_of};
 
-/// An update in the form that the stores take.
+/// An update in the form that the stores of blocks take.
 pub enum Update {
     Put(Imsi, FlatRecord),
     Cancel(Imsi),
@@ -34,8 +34,11 @@ pub trait Reader: Send {
 }
 
 pub trait Writer: Send {
+    /// In the form that the store takes. It is made before the time of its publication begins.
+    type Update: From<Change>;
+
     /// Each decision that begins afterwards is made over all updates of the batch, which is left empty.
-    fn publish(&mut self, batch: &mut Vec<Update>);
+    fn publish(&mut self, batch: &mut Vec<Self::Update>);
 }
 
 pub trait Store {

@@ -1,6 +1,6 @@
 use super::signals::Signals;
 use crate::protocol::Measurement;
-use crate::stores::{Update, Writer};
+use crate::stores::Writer;
 use crate::workload::Changes;
 use std::thread;
 use std::time::{Duration, Instant};
@@ -14,18 +14,18 @@ pub(super) struct Published {
 }
 
 /// Publishes batches of the next changes until the run is over. Each batch is made before its publication begins.
-pub(super) fn publish_until(
+pub(super) fn publish_until<W: Writer>(
     signals: &Signals,
-    writer: &mut impl Writer,
+    writer: &mut W,
     changes: &mut Changes,
     asked: &Measurement,
 ) -> Published {
     signals.wait_for_start();
     let start = Instant::now();
     let mut published = Published::default();
-    let mut batch: Vec<Update> = Vec::with_capacity(asked.batch);
+    let mut batch: Vec<W::Update> = Vec::with_capacity(asked.batch);
     while !signals.is_over() {
-        batch.extend(changes.by_ref().take(asked.batch).map(Update::from));
+        batch.extend(changes.by_ref().take(asked.batch).map(W::Update::from));
         wait_until_due(start, published.publications, asked.rate);
         let begin = Instant::now();
         writer.publish(&mut batch);

@@ -32,6 +32,8 @@ impl Reader for DashMapStore {
 }
 
 impl Writer for DashMapStore {
+    type Update = Update;
+
     fn publish(&mut self, batch: &mut Vec<Update>) {
         for update in batch.drain(..) {
             match update {

@@ -53,6 +53,8 @@ impl Reader for left_right::Reader<Subscribers> {
 }
 
 impl Writer for left_right::Writer<Subscribers, Update> {
+    type Update = Update;
+
     fn publish(&mut self, batch: &mut Vec<Update>) {
         left_right::Writer::publish(self, batch);
     }

@@ -35,6 +35,8 @@ impl Reader for LockTree {
 }
 
 impl Writer for LockTree {
+    type Update = Update;
+
     fn publish(&mut self, batch: &mut Vec<Update>) {
         self.locked(|tree| {
             for update in batch.drain(..) {
