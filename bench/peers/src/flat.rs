@@ -6,6 +6,7 @@ mod decide;
 mod entry;
 
 pub use decide::decide;
+pub(crate) use entry::digits_of;
 
 use crate::workload::{Csi, DetectionPoint, Handling, IsdnAddress, Record, TdpRow};
 use entry::FlatEntry;

@@ -2,6 +2,7 @@
 //! compared with.
 pub mod fast_hash;
 pub mod flat;
+pub mod flat_table;
 pub mod harness;
 pub mod left_right;
 pub mod protocol;

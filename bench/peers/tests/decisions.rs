@@ -1,5 +1,7 @@
-//! Compares the decision over a block with that by the rules, for criteria that the workload does not have.
+//! Compares the decisions over a block and over a slot with that by the rules, for criteria that the workload does not
+//! have.
 use peers::flat::{self, FlatRecord};
+use peers::flat_table::{Octets64, Octets80, Slot};
 use peers::reference;
 use peers::workload::{
     BasicService, CallType, Criteria, Csi, DetectionPoint, Event, Handling, Imsi, IsdnAddress,
@@ -72,15 +74,45 @@ fn event(destination: IsdnAddress, basic: BasicService, call_type: CallType) -> 
     }
 }
 
-/// Both decisions are made, and the same.
+/// All decisions are made, and the same.
 fn decided(record: &Record, event: &Event) -> peers::workload::Outcome {
-    let outcome = flat::decide(Some(&FlatRecord::from(record)), event);
-    assert_eq!(
-        outcome,
-        reference::decide(Some(record), event),
-        "{record:?} {event:?}"
-    );
+    let outcome = reference::decide(Some(record), event);
+    let of_stores = [
+        flat::decide(Some(&FlatRecord::from(record)), event),
+        Slot::<Octets64>::new(event.imsi, record.clone()).decide(event),
+        Slot::<Octets80>::new(event.imsi, record.clone()).decide(event),
+    ];
+    assert_eq!(of_stores, [outcome; 3], "{record:?} {event:?}");
     outcome
+}
+
+/// How many destinations trigger the row of a record that lists these numbers and lengths.
+fn triggers_of(match_type: MatchType, numbers: Vec<IsdnAddress>, lengths: Vec<u8>) -> usize {
+    let criterion = NumberCriterion {
+        match_type,
+        numbers,
+        lengths,
+    };
+    let record = record(vec![entry(Some(criterion))]);
+    let triggers = |destination: &IsdnAddress| {
+        let call = event(*destination, BasicService::Tele(0x11), CallType::Forwarded);
+        decided(&record, &call).is_ok()
+    };
+    addresses().into_iter().filter(triggers).count()
+}
+
+#[test]
+fn counts_of_numbers() {
+    for match_type in [MatchType::Enabling, MatchType::Inhibiting] {
+        let listed = [&[7][..], &[1, 2], &[1, 2, 0], &[3]].map(|digits| address(NATIONAL, digits));
+        let triggers = (0..=listed.len())
+            .map(|count| triggers_of(match_type, listed[..count].to_vec(), Vec::new()));
+        let triggers: Vec<_> = triggers.collect();
+        match match_type {
+            MatchType::Enabling => assert_eq!(triggers, [0, 0, 3, 3, 3]),
+            MatchType::Inhibiting => assert_eq!(triggers, [13, 13, 10, 10, 10]),
+        }
+    }
 }
 
 #[test]
@@ -90,16 +122,7 @@ fn numbers_and_lengths() {
         for lengths in [vec![], vec![2], vec![3, 16], vec![1, 2, 4]] {
             for listed in addresses() {
                 let numbers = vec![address(NATIONAL, &[7]), listed];
-                let criterion = NumberCriterion {
-                    match_type,
-                    numbers,
-                    lengths: lengths.clone(),
-                };
-                let record = record(vec![entry(Some(criterion))]);
-                for destination in addresses() {
-                    let call = event(destination, BasicService::Tele(0x11), CallType::Forwarded);
-                    triggers += usize::from(decided(&record, &call).is_ok());
-                }
+                triggers += triggers_of(match_type, numbers, lengths.clone());
             }
         }
     }

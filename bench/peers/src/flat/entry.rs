@@ -67,7 +67,7 @@ fn flat_basic(basic: BasicService) -> [u8; 2] {
 
 /// The digits of an address as a word, the first in the highest nibble, and behind the last a filler. A filler is no
 /// digit of a listed number, so what a destination has behind one does not count.
-fn digits_of(address: &IsdnAddress) -> u64 {
+pub(crate) fn digits_of(address: &IsdnAddress) -> u64 {
     let [_, tbcd @ ..] = address.octets;
     let octets = u64::from_be_bytes(tbcd);
     let earlier = octets & 0x0F0F_0F0F_0F0F_0F0F;

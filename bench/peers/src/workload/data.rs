@@ -12,6 +12,9 @@ pub const EMERGENCY_CALLS: BasicService = BasicService::Tele(0x12);
 pub struct Imsi(u64);
 
 impl Imsi {
+    /// No subscriber's, since it has no digits.
+    pub const NONE: Imsi = Imsi(0);
+
     /// Of at most 15 digits.
     pub fn of_digits(digits: impl IntoIterator<Item = u8>) -> Imsi {
         let (word, count) = digits.into_iter().fold((0, 0), |(word, count), digit| {
