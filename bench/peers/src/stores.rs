@@ -1,9 +1,11 @@
 //! The peer stores. Each is a map from IMSI to record, with readers and one writer.
 mod dash_map;
+mod left_right_flat;
 mod left_right_hash;
 mod lock_tree;
 
 pub use dash_map::DashMapStore;
+pub use left_right_flat::LeftRightFlat;
 pub use left_right_hash::LeftRightHash;
 pub use lock_tree::LockTree;
 

@@ -1,7 +1,8 @@
 //! `peer NAME` and the words of the protocol: answers them with the store of that name.
+use peers::flat_table::{Octets64, Octets80};
 use peers::harness;
 use peers::protocol::Request;
-use peers::stores::{DashMapStore, LeftRightHash, LockTree};
+use peers::stores::{DashMapStore, LeftRightFlat, LeftRightHash, LockTree};
 use std::env;
 use std::io;
 use std::process::ExitCode;
@@ -29,6 +30,8 @@ fn answered(words: &[&str]) -> Option<io::Result<()>> {
         "lock-tree" => Some(harness::answer::<LockTree>(&request)),
         "dashmap" => Some(harness::answer::<DashMapStore>(&request)),
         "leftright-hash" => Some(harness::answer::<LeftRightHash>(&request)),
+        "leftright-flat64" => Some(harness::answer::<LeftRightFlat<Octets64>>(&request)),
+        "leftright-flat80" => Some(harness::answer::<LeftRightFlat<Octets80>>(&request)),
         _ => None,
     }
 }
