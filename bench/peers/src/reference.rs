@@ -5,8 +5,8 @@ pub use rules::decide;
 
 use crate::protocol::Check;
 use crate::workload::{
-    CHUNK, Change, Changes, Event, Imsi, Kinds, Record, comers, events_of, full, imsi_of, probe,
-    probed, record_of, stable, weighed,
+    CHUNK, Change, Changes, Event, Imsi, Kinds, Record, events_of, full, imsi_of, probe, probed,
+    record_of, stable, weighed,
 };
 use std::collections::HashMap;
 
@@ -121,23 +121,24 @@ fn sum_of_decisions(sums: &[u64], decisions: u64) -> Option<u64> {
 
 /// The sum over the data of the probed subscribers after so many updates.
 pub fn last_sum(known: u64, updates: usize) -> u64 {
-    let mut versions: HashMap<_, _> = (0..known).map(|known| (known, 0)).collect();
-    versions.reserve(comers(known).count());
+    let mut changed = HashMap::new();
     for change in Changes::new(known).take(updates) {
         match change {
             Change::Put {
                 subscriber,
                 version,
-            } => versions.insert(subscriber, version),
-            Change::Cancel { subscriber } => versions.remove(&subscriber),
+            } => changed.insert(subscriber, Some(version)),
+            Change::Cancel { subscriber } => changed.insert(subscriber, None),
         };
     }
+    let at_first = |subscriber| (subscriber < known).then_some(0);
     (0_u64..)
         .zip(probed(known))
         .fold(0, |sum, (place, subscriber)| {
-            let record = versions
-                .get(&subscriber)
-                .map(|version| record_of(subscriber, *version));
+            let version = changed.get(&subscriber).copied();
+            let record = version
+                .unwrap_or_else(|| at_first(subscriber))
+                .map(|version| record_of(subscriber, version));
             let outcome = decide(record.as_ref(), &probe(subscriber));
             sum.wrapping_add(weighed(full(&outcome), place))
         })
