@@ -201,7 +201,8 @@ static uint64_t weighed_probe(struct store *store, uint64_t subscriber, uint64_t
     return weighed(full(&outcome), place);
 }
 
-/* The sum over the data of up to 100,000 known subscribers and of all that come and go. */
+/* The sum over the data of all known subscribers, or of every tenth if there are more than 100,000, and of all that
+ * come and go. */
 static uint64_t last_sum(struct store *store, uint64_t known)
 {
     uint64_t sum = 0, place = 0, step = known > 100000 ? 10 : 1;

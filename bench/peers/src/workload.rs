@@ -12,7 +12,7 @@ pub use data::{
     Handling, Imsi, IsdnAddress, MatchType, NumberCriterion, Outcome, Reason, Record, TdpRow,
 };
 pub use events::{events_of, probe};
-pub use subscribers::{comers, imsi_of, probed, record_of};
+pub use subscribers::{MOST_KNOWN, comers, imsi_of, probed, record_of};
 pub use sums::{Kinds, full, stable, weighed};
 pub use updates::{Change, Changes};
 

@@ -12,12 +12,16 @@ pub(super) const FIRST_NEVER_THERE: u64 = 1 << 25;
 pub(super) const INTERNATIONAL: u8 = 0x91;
 const NATIONAL: u8 = 0xA1;
 
+/// The known subscribers have numbers below those of the others.
+pub const MOST_KNOWN: u64 = FIRST_COMER;
+
 /// The subscribers that come and go beside so many known ones. No event is of them.
 pub fn comers(known: u64) -> Range<u64> {
     FIRST_COMER..FIRST_COMER + known / 16 + 1
 }
 
-/// The subscribers whose data are looked at in the end: up to 100,000 known ones, and all that come and go.
+/// The subscribers whose data are looked at in the end: all known ones, or every tenth if there are more than 100,000,
+/// and all that come and go.
 pub fn probed(known: u64) -> impl Iterator<Item = u64> {
     let step = if known > 100_000 { 10 } else { 1 };
     (0..known).step_by(step).chain(comers(known))

@@ -6,11 +6,13 @@ use peers::reference::{self, Sums};
 use std::time::Duration;
 
 /// Beside its runs a program makes its store and its events.
-const LIMIT: Duration = Duration::from_secs(300);
+fn limit(known: u64) -> Duration {
+    Duration::from_secs(300 + known / 20_000)
+}
 
 /// Whether the program prints what is expected of this check.
 pub fn check(program: &Program, asked: &Check, expected: &str) -> Result<(), Fault> {
-    let answer = program.ask(&Request::Check(*asked), LIMIT)?;
+    let answer = program.ask(&Request::Check(*asked), limit(asked.known))?;
     if answer == expected {
         return Ok(());
     }
@@ -30,7 +32,7 @@ pub fn runs(
     asked: &Measurement,
     sums: &Sums,
 ) -> Result<Option<Vec<Run>>, Fault> {
-    let text = program.ask(&Request::Measurement(*asked), LIMIT)?;
+    let text = program.ask(&Request::Measurement(*asked), limit(asked.known))?;
     let Answer::Runs { runs, last } = text.parse()? else {
         return Ok(None);
     };

@@ -12,6 +12,14 @@ pub enum Fault {
     Io(io::Error),
     Ended(ExitStatus),
     TooLong,
+    /// The system ends a program so if memory runs out.
+    Killed,
+    /// So many subscribers may need more octets of memory than are there.
+    NoRoom {
+        known: u64,
+        needed: u64,
+        available: u64,
+    },
     BadLine(String),
     /// A check differs from the reference from this line on, counted from 1.
     Check {
@@ -32,7 +40,10 @@ pub enum Fault {
 
 impl Fault {
     fn is_wrong_answer(&self) -> bool {
-        !matches!(self, Fault::NotStarted(_) | Fault::NoCheck)
+        !matches!(
+            self,
+            Fault::NotStarted(_) | Fault::NoCheck | Fault::Killed | Fault::NoRoom { .. }
+        )
     }
 }
 
@@ -56,6 +67,18 @@ impl fmt::Display for Fault {
             Fault::Io(error) => write!(formatter, "{error}"),
             Fault::Ended(status) => write!(formatter, "it ended with {status}"),
             Fault::TooLong => write!(formatter, "it took too long"),
+            Fault::Killed => write!(formatter, "it was killed, as if memory ran out"),
+            Fault::NoRoom {
+                known,
+                needed,
+                available,
+            } => {
+                let [needed, available] = [needed, available].map(|octets| *octets as f64 / 1e9);
+                write!(
+                    formatter,
+                    "{known} subscribers may need {needed:.1} GB, and {available:.1} GB are there"
+                )
+            }
             Fault::BadLine(line) => write!(formatter, "not a line of the protocol: {line}"),
             Fault::Check { line } => write!(formatter, "another sum in line {line}"),
             Fault::Runs { made } => write!(formatter, "it made {made} runs"),

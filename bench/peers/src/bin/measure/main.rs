@@ -4,6 +4,7 @@ mod answers;
 mod checks;
 mod faults;
 mod figures;
+mod memory;
 mod programs;
 mod settings;
 mod table;

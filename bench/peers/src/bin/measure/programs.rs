@@ -2,10 +2,13 @@ use super::faults::Fault;
 use peers::protocol::Request;
 use std::fs;
 use std::io::{self, Read};
+use std::os::unix::process::ExitStatusExt;
 use std::process::{Child, Command, Stdio};
 use std::sync::mpsc;
 use std::thread;
 use std::time::Duration;
+
+const SIGKILL: i32 = 9;
 
 /// A program that speaks the protocol.
 pub struct Program {
@@ -48,6 +51,7 @@ impl Program {
         let status = child.wait()?;
         match text? {
             text if status.success() => Ok(text),
+            _ if status.signal() == Some(SIGKILL) => Err(Fault::Killed),
             _ => Err(Fault::Ended(status)),
         }
     }

@@ -1,8 +1,13 @@
+use peers::workload::MOST_KNOWN;
 use std::env::{self, VarError};
 use std::fmt;
 use std::fs;
+use std::ops::RangeInclusive;
 use std::str::FromStr;
 use std::thread;
+
+/// How many subscribers can be known.
+const KNOWN: RangeInclusive<u64> = 1..=MOST_KNOWN;
 
 /// What narrows or widens a measurement.
 pub struct Settings {
@@ -40,7 +45,9 @@ impl Settings {
             Settings { seconds, .. } if !(0.01..=60.0).contains(&seconds) => {
                 Err(BadSetting("PEERS_SECONDS"))
             }
-            _ if settings.sizes.contains(&0) => Err(BadSetting("PEERS_SIZES")),
+            Settings { sizes, .. } if !sizes.iter().all(|size| KNOWN.contains(size)) => {
+                Err(BadSetting("PEERS_SIZES"))
+            }
             _ => Ok(settings),
         }
     }

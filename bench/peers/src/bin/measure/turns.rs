@@ -1,6 +1,7 @@
 use super::answers;
 use super::faults::Notes;
 use super::figures::Figures;
+use super::memory;
 use super::programs::Program;
 use super::settings::Settings;
 use peers::protocol::{Measurement, Request};
@@ -21,16 +22,23 @@ fn measurements(known: u64, seconds: f64) -> [Measurement; 3] {
     })
 }
 
-/// The figures of each program, and None if it answered wrongly. The programs take turns, so that what else the machine
-/// does concerns them alike.
+/// The figures of each program, and None if it answered wrongly or does not fit into memory. The programs take turns,
+/// so that what else the machine does concerns them alike.
 pub fn figures(
     programs: &[Program],
     known: u64,
     settings: &Settings,
     notes: &mut Notes,
 ) -> Vec<Option<Figures>> {
+    let fitting = memory::fitting(programs, known, notes);
+    let mut all: Vec<_> = fitting
+        .into_iter()
+        .map(|fits| fits.then(Figures::default))
+        .collect();
+    if all.iter().all(Option::is_none) {
+        return all;
+    }
     let sums = Sums::of_readers(MOST_READERS, known);
-    let mut all = vec![Some(Figures::default()); programs.len()];
     for turn in 1..=settings.turns {
         eprintln!("{known} subscribers, turn {turn} of {}", settings.turns);
         for asked in measurements(known, settings.seconds) {
