@@ -139,7 +139,7 @@ bench-vlr: need-python3 $(BENCH)
 	@bench/run-vlr
 
 # Says which Debian packages it needs, if one is missing.
-## Measures the store beside others in Rust and C: about ten minutes, once its program is built.
+## Measures the store beside others in Rust and C: about a quarter of an hour, once its program is built.
 bench-peers: need-cargo need-gcc $(BENCH)
 	$(say)
 	@bench/run-peers
