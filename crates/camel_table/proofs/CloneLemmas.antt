@@ -1,4 +1,4 @@
--- What a clone of entries, segments or lines keeps.
+-- What a clone of entries, segments or buckets keeps.
 use Rattle.std.proofs.Common.{◌≡◌, ◌∙◌, ℕ, zero, suc, ◌≤◌, ◌^◌, Bool, true, false, cond, List, [], ◌∷◌, ◌++◌, Some, length, slice_index_or, inl, inr, refl, sym, ap, subst, arith}
 use Rattle.std.specs.Cmp.Lexicographic.{slice_cmp, nat_list_cmp_total}
 use Rattle.std.specs.FinMap.{empty, find, get-from_entries}
@@ -8,7 +8,7 @@ use Rattle.std.specs.Option.{is_some}
 use Rattle.std.specs.Ordering.{nat_cmp}
 use Rattle.std.proofs.lemmas.Slice.Zip.{AllZip-long}
 use Rattle.camel_table.specs.ByImsi.{ByImsi, HasSameKeys, is_same, map_of}
-use Rattle.camel_table.specs.Lines.{IsTable}
+use Rattle.camel_table.specs.Buckets.{IsTable}
 use Rattle.camel_table.specs.Segments.{AreFull, joined}
 
 -- lists that are the same place by place are the same
@@ -70,13 +70,13 @@ module _ {V : Type 0} where
   same_keys_at R keys (m ∷ ms) (n ∷ ns) all (suc at) imsi = same_keys_at R keys ms ns all.1 at imsi
 
   -- a clone of a table is whole
-  pub whole_clone : (R : ByImsi V → ByImsi V → Type 0) → ((m n : ByImsi V) → R m n → HasSameKeys m n) → (place : ℕ → ℕ → List ℕ → ℕ) (level count : ℕ) (lines clones : List (ByImsi V))
-      → AllZip R lines clones → IsTable place level count lines → IsTable place level count clones
-  whole_clone R keys place level count lines clones all whole =
-      let same : length clones ≡ length lines = AllZip-long R lines clones all in
+  pub whole_clone : (R : ByImsi V → ByImsi V → Type 0) → ((m n : ByImsi V) → R m n → HasSameKeys m n) → (place : ℕ → ℕ → List ℕ → ℕ) (level count : ℕ) (buckets clones : List (ByImsi V))
+      → AllZip R buckets clones → IsTable place level count buckets → IsTable place level count clones
+  whole_clone R keys place level count buckets clones all whole =
+      let same : length clones ≡ length buckets = AllZip-long R buckets clones all in
       record {
         low = whole.low;
         round = elim whole.round [ inl none ↦ inl (none.0, same ∙ none.1) | inr round ↦ inr (round.0, (round.1.0, subst (λ n. count ≤ n) (sym same) round.1.1)) ];
         few = subst (λ n. n ≤ 2 ^ 32) (sym same) whole.few;
-        placed = λ at imsi some. whole.placed at imsi (sym (same_keys_at R keys lines clones all at imsi) ∙ some);
+        placed = λ at imsi some. whole.placed at imsi (sym (same_keys_at R keys buckets clones all at imsi) ∙ some);
       }

@@ -1,8 +1,9 @@
+pub mod AddressingLemmas
+pub mod BucketLemmas
+pub mod BucketsLemmas
 pub mod CloneLemmas
-pub mod FewLemmas
-pub mod LineLemmas
-pub mod LinesLemmas
+pub mod Hashing
+pub mod InlineLemmas
 pub mod ListedLemmas
-pub mod PlacesLemmas
 pub mod SegmentsLemmas
 pub mod TableLemmas

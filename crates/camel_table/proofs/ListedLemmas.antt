@@ -1,8 +1,8 @@
--- How often a list has an IMSI, after the entries of a line, or the lines of a table, that are gone through.
+-- How often a list has an IMSI, after the entries of a bucket, or the buckets of a table, that are gone through.
 use Rattle.std.proofs.Common.{◌≡◌, ◌∙◌, ℕ, zero, suc, ◌+◌, ◌<◌, ◌≤◌, Bool, true, false, cond, T, List, [], ◌∷◌, ◌++◌, Option, Some, None, Bor, IsSome, length, nat_lt, take, inl, inr, refl, sym, ap, subst, arith}
 use Rattle.std.specs.Cmp.Lexicographic.{slice_cmp, nat_list_cmp_total}
 use Rattle.std.specs.FinMap.{empty, find, get, get-empty, get-from_entries}
-use Rattle.std.specs.Option.{is_some, option_copied}
+use Rattle.std.specs.Option.{is_some, option_copied, option_map, option_to_list, unwrap_or}
 use Rattle.std.specs.Ordering.{nat_cmp}
 use Rattle.std.proofs.Math.Nat.{add-zero, add_assoc, zero-add}
 use Rattle.std.proofs.lemmas.Bool.{ltb-false, ltb-true}
@@ -10,9 +10,9 @@ use Rattle.std.proofs.lemmas.Bool.Decides.{eqb_tells}
 use Rattle.std.proofs.lemmas.List.{get_or-take}
 use Rattle.std.proofs.lemmas.List.Sums.{sum_by-append}
 use Rattle.camel_table.specs.ByImsi.{ByImsi, ListsEachOnce, ListsEachOnceMore, is_same, map_of, times_listed, times_stored}
-use Rattle.camel_table.specs.Lines.{ArePlaced, table_map}
-use Rattle.camel_table.proofs.LineLemmas.{same_are_equal}
-use Rattle.camel_table.proofs.LinesLemmas.{get-table, line_at}
+use Rattle.camel_table.specs.Buckets.{ArePlaced, table_map}
+use Rattle.camel_table.proofs.BucketLemmas.{same_are_equal}
+use Rattle.camel_table.proofs.BucketsLemmas.{get-table, bucket_at}
 
 abbrev once_if : Bool → ℕ
 once_if b = cond b 1 0
@@ -76,55 +76,70 @@ module _ {V : Type 0} where
       either false true s p = sym s ∙ ap (λ key. is_some (get (map_of es) key)) (same_are_equal q e.0 p) ∙ further
       either false false s p = refl
 
-  -- of the first lines, there are those before their end
-  line_within : (n at : ℕ) (lines : List (ByImsi V)) → at < n → line_at (take n lines) at ≡ line_at lines at
-  line_within n at lines lt = get_or-take n lines at empty lt
+  -- the entry in a slot, if there is one, whose IMSI is listed or passed over
+  pub slot_listed : (before imsis : List (List ℕ)) (es : Entries V) (slot : Option (List ℕ × V)) (imsi : List ℕ) → option_map (λ e. e.0) slot ≡ Some imsi
+      → is_some (get (map_of es) imsi) ≡ false → ListsEachOnceMore before imsis (map_of es) → ListsEachOnceMore before (imsis ++ imsi ∷ []) (map_of (es ++ option_to_list slot))
+  slot_listed before imsis es None imsi is first so_far = absurd (subst (λ o. T (is_some o)) (sym is) tt)
+  slot_listed before imsis es (Some e) imsi is first so_far =
+      let own : e.0 ≡ imsi = ap (λ o. unwrap_or o imsi) is in
+      subst (λ q. ListsEachOnceMore before (imsis ++ q ∷ []) (map_of (es ++ e ∷ []))) own
+      (first_listed before imsis es e (ap (λ q. is_some (get (map_of es) q)) own ∙ first) so_far)
 
-  line_beyond : (n at : ℕ) (lines : List (ByImsi V)) → n ≤ at → line_at (take n lines) at ≡ empty
-  line_beyond zero at lines le = refl
-  line_beyond (suc n) at [] le = refl
-  line_beyond (suc n) zero (line ∷ lines) le = absurd (omega (arith, le))
-  line_beyond (suc n) (suc at) (line ∷ lines) le = line_beyond n at lines (omega (arith, le))
+  pub slot_passed : (before imsis : List (List ℕ)) (es : Entries V) (slot : Option (List ℕ × V)) (imsi : List ℕ) → option_map (λ e. e.0) slot ≡ Some imsi
+      → is_some (get (map_of es) imsi) ≡ true → ListsEachOnceMore before imsis (map_of es) → ListsEachOnceMore before imsis (map_of (es ++ option_to_list slot))
+  slot_passed before imsis es None imsi is further so_far = absurd (subst (λ o. T (is_some o)) (sym is) tt)
+  slot_passed before imsis es (Some e) imsi is further so_far =
+      further_passed before imsis es e (ap (λ q. is_some (get (map_of es) q)) (ap (λ o. unwrap_or o imsi) is) ∙ further) so_far
 
-  module _ (place : List ℕ → ℕ) (lines : List (ByImsi V)) (placed : ArePlaced place lines) where
-    placed_first : (n : ℕ) → ArePlaced place (take n lines)
+  -- of the first buckets, there are those before their end
+  bucket_within : (n at : ℕ) (buckets : List (ByImsi V)) → at < n → bucket_at (take n buckets) at ≡ bucket_at buckets at
+  bucket_within n at buckets lt = get_or-take n buckets at empty lt
+
+  bucket_beyond : (n at : ℕ) (buckets : List (ByImsi V)) → n ≤ at → bucket_at (take n buckets) at ≡ empty
+  bucket_beyond zero at buckets le = refl
+  bucket_beyond (suc n) at [] le = refl
+  bucket_beyond (suc n) zero (bucket ∷ buckets) le = absurd (omega (arith, le))
+  bucket_beyond (suc n) (suc at) (bucket ∷ buckets) le = bucket_beyond n at buckets (omega (arith, le))
+
+  module _ (place : List ℕ → ℕ) (buckets : List (ByImsi V)) (placed : ArePlaced place buckets) where
+    placed_first : (n : ℕ) → ArePlaced place (take n buckets)
     placed_first n at q some =
         elim (nat_lt at n) as (λ b. nat_lt at n ≡ b → place q ≡ at) [
-          | true ↦ λ p. placed at q (subst (λ line. IsSome (get line q)) (line_within n at lines (ltb-true at n p)) some)
-          | false ↦ λ p. absurd (subst T (sym (sym (none_stored q _ (line_beyond n at lines (ltb-false at n p))) ∙ some)) tt)
+          | true ↦ λ p. placed at q (subst (λ bucket. IsSome (get bucket q)) (bucket_within n at buckets (ltb-true at n p)) some)
+          | false ↦ λ p. absurd (subst T (sym (sym (none_stored q _ (bucket_beyond n at buckets (ltb-false at n p))) ∙ some)) tt)
         ] refl
 
-    stored_first : (n : ℕ) (q : List ℕ) → is_some (get (table_map (take n lines)) q) ≡ is_some (get (line_at (take n lines) (place q)) q)
-    stored_first n q = ap is_some (get-table place (take n lines) (placed_first n) q)
+    stored_first : (n : ℕ) (q : List ℕ) → is_some (get (table_map (take n buckets)) q) ≡ is_some (get (bucket_at (take n buckets) (place q)) q)
+    stored_first n q = ap is_some (get-table place (take n buckets) (placed_first n) q)
 
-    elsewhere : (at : ℕ) (q : List ℕ) → (place q ≡ at → ⊥) → is_some (get (line_at lines at) q) ≡ false
-    elsewhere at q differ = elim (is_some (get (line_at lines at) q)) as (λ b. is_some (get (line_at lines at) q) ≡ b → b ≡ false) [
+    elsewhere : (at : ℕ) (q : List ℕ) → (place q ≡ at → ⊥) → is_some (get (bucket_at buckets at) q) ≡ false
+    elsewhere at q differ = elim (is_some (get (bucket_at buckets at) q)) as (λ b. is_some (get (bucket_at buckets at) q) ≡ b → b ≡ false) [
       | true ↦ λ some. absurd (differ (placed at q some))
       | false ↦ λ none. refl
     ] refl
 
-    same_line : (at i : ℕ) → (i ≡ at → ⊥) → line_at (take at lines) i ≡ line_at (take (at + 1) lines) i
-    same_line at i differ = elim (nat_lt i at) as (λ b. nat_lt i at ≡ b → line_at (take at lines) i ≡ line_at (take (at + 1) lines) i) [
-      | true ↦ λ p. let lt = ltb-true i at p in line_within at i lines lt ∙ sym (line_within (at + 1) i lines (omega (arith, lt)))
-      | false ↦ λ p. let le = ltb-false i at p in line_beyond at i lines le ∙ sym (line_beyond (at + 1) i lines (omega (arith, le, differ)))
+    same_bucket : (at i : ℕ) → (i ≡ at → ⊥) → bucket_at (take at buckets) i ≡ bucket_at (take (at + 1) buckets) i
+    same_bucket at i differ = elim (nat_lt i at) as (λ b. nat_lt i at ≡ b → bucket_at (take at buckets) i ≡ bucket_at (take (at + 1) buckets) i) [
+      | true ↦ λ p. let lt = ltb-true i at p in bucket_within at i buckets lt ∙ sym (bucket_within (at + 1) i buckets (omega (arith, lt)))
+      | false ↦ λ p. let le = ltb-false i at p in bucket_beyond at i buckets le ∙ sym (bucket_beyond (at + 1) i buckets (omega (arith, le, differ)))
     ] refl
 
-    -- an IMSI is in the lines so far, or in the next line, or in neither
-    next_stored : (at : ℕ) → at < length lines → (q : List ℕ)
-        → times_stored q (table_map (take at lines)) + times_stored q (line_at lines at) ≡ times_stored q (table_map (take (at + 1) lines))
+    -- an IMSI is in the buckets so far, or in the next bucket, or in neither
+    next_stored : (at : ℕ) → at < length buckets → (q : List ℕ)
+        → times_stored q (table_map (take at buckets)) + times_stored q (bucket_at buckets at) ≡ times_stored q (table_map (take (at + 1) buckets))
     next_stored at inside q =
         elim (eqb_tells (place q) at) [
           | inl here ↦
-              ap (λ n. n + times_stored q (line_at lines at)) (ap once_if (stored_first at q ∙ none_stored q _ (line_beyond at (place q) lines (omega (arith, here.1)))))
+              ap (λ n. n + times_stored q (bucket_at buckets at)) (ap once_if (stored_first at q ∙ none_stored q _ (bucket_beyond at (place q) buckets (omega (arith, here.1)))))
               ∙ zero-add _
-              ∙ ap once_if (sym (stored_first (at + 1) q ∙ ap (λ line. is_some (get line q)) (line_within (at + 1) (place q) lines (omega (arith, here.1)) ∙ ap (line_at lines) here.1)))
+              ∙ ap once_if (sym (stored_first (at + 1) q ∙ ap (λ bucket. is_some (get bucket q)) (bucket_within (at + 1) (place q) buckets (omega (arith, here.1)) ∙ ap (bucket_at buckets) here.1)))
           | inr there ↦
-              ap (λ n. times_stored q (table_map (take at lines)) + n) (ap once_if (elsewhere at q (λ same. there.1 same)))
+              ap (λ n. times_stored q (table_map (take at buckets)) + n) (ap once_if (elsewhere at q (λ same. there.1 same)))
               ∙ add-zero _
-              ∙ ap once_if (stored_first at q ∙ ap (λ line. is_some (get line q)) (same_line at (place q) there.1) ∙ sym (stored_first (at + 1) q))
+              ∙ ap once_if (stored_first at q ∙ ap (λ bucket. is_some (get bucket q)) (same_bucket at (place q) there.1) ∙ sym (stored_first (at + 1) q))
         ]
 
-    -- a line more that is gone through
-    pub line_listed : (at : ℕ) → at < length lines → (before imsis : List (List ℕ)) → ListsEachOnce before (table_map (take at lines))
-        → ListsEachOnceMore before imsis (line_at lines at) → ListsEachOnce imsis (table_map (take (at + 1) lines))
-    line_listed at inside before imsis so_far more q = more q ∙ ap (λ n. n + times_stored q (line_at lines at)) (so_far q) ∙ next_stored at inside q
+    -- a bucket more that is gone through
+    pub bucket_listed : (at : ℕ) → at < length buckets → (before imsis : List (List ℕ)) → ListsEachOnce before (table_map (take at buckets))
+        → ListsEachOnceMore before imsis (bucket_at buckets at) → ListsEachOnce imsis (table_map (take (at + 1) buckets))
+    bucket_listed at inside before imsis so_far more q = more q ∙ ap (λ n. n + times_stored q (bucket_at buckets at)) (so_far q) ∙ next_stored at inside q

@@ -47,12 +47,12 @@ module _ {A : Type 0} where
       let deeper = segment_inside rest number place (rest_full first rest full) (in_rest first rest number place full inside) in
       omega (arith, deeper)
 
-  pub place_inside : (segments : List (Vec A)) (number place : ℕ) (d : Vec A) → AreFull segments → place < 1024 → number * 1024 + place < length (joined segments)
+  pub bucket_inside : (segments : List (Vec A)) (number place : ℕ) (d : Vec A) → AreFull segments → place < 1024 → number * 1024 + place < length (joined segments)
       → place < length (slice_index_or segments number d).items
-  place_inside [] number place d full small inside = absurd (omega (arith, inside))
-  place_inside (first ∷ rest) zero place d full small inside = in_first first rest place full small inside
-  place_inside (first ∷ rest) (suc number) place d full small inside =
-      place_inside rest number place d (rest_full first rest full) small (in_rest first rest number place full inside)
+  bucket_inside [] number place d full small inside = absurd (omega (arith, inside))
+  bucket_inside (first ∷ rest) zero place d full small inside = in_first first rest place full small inside
+  bucket_inside (first ∷ rest) (suc number) place d full small inside =
+      bucket_inside rest number place d (rest_full first rest full) small (in_rest first rest number place full inside)
 
   pub item_at : (segments : List (Vec A)) (number place : ℕ) (d : Vec A) (x : A) → AreFull segments → place < 1024 → number * 1024 + place < length (joined segments)
       → slice_index_or (joined segments) (number * 1024 + place) x ≡ slice_index_or (slice_index_or segments number d).items place x
@@ -104,7 +104,7 @@ module _ {A : Type 0} where
 
     module _ (own : Vec A) (is : own ≡ slice_index_or segments (at / 1024) own) where
       pub its_place : at % 1024 < length own.items
-      its_place = subst (λ (v : Vec A). at % 1024 < length v.items) (sym is) (place_inside segments (at / 1024) (at % 1024) own full small within)
+      its_place = subst (λ (v : Vec A). at % 1024 < length v.items) (sym is) (bucket_inside segments (at / 1024) (at % 1024) own full small within)
 
       pub its_item : (x : A) → slice_index_or own.items (at % 1024) x ≡ slice_index_or (joined segments) at x
       its_item x =

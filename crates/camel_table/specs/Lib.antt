@@ -1,4 +1,6 @@
+pub mod Addressing
+pub mod Buckets
 pub mod ByImsi
-pub mod Lines
-pub mod Places
+pub mod Lending
 pub mod Segments
+pub mod Slots

@@ -1,8 +1,8 @@
 ghost use Rattle.std.specs.Prelude.{◌≡◌, ◌≤◌, ◌==◌};
 ghost use Rattle.camel_table.specs.ByImsi.{is_same};
-ghost use Rattle.camel_table.specs.Places.{place_of};
+ghost use Rattle.camel_table.specs.Addressing.{bucket_of};
 
-use crate::places::Places;
+use crate::addressing::Addressing;
 use camel_tbcd::{Imsi, PackedImsi};
 use std::alloc::AllocError;
 use std::hash::BuildHasher;
@@ -42,11 +42,11 @@ impl<V> Entry<V> {
         &self.value
     }
 
-    pub(crate) fn is_at<S: BuildHasher>(&self, places: &Places<S>, at: usize) -> bool
-        requires { places.now.level ≤ 32 }
-        ensures { result ≡ (place_of S.Hasher.finish S.Hasher.write (S.build_hasher places.now.hashes) places.now.level places.now.count self.now.0 == at) }
+    pub(crate) fn is_at<S: BuildHasher>(&self, addressing: &Addressing<S>, at: usize) -> bool
+        requires { addressing.now.level ≤ 32 }
+        ensures { result ≡ (bucket_of S.Hasher.finish S.Hasher.write (S.build_hasher addressing.now.hashes) addressing.now.level addressing.now.count self.now.0 == at) }
     {
-        places.place(self.key.number()) == at
+        addressing.bucket(self.key.number()) == at
     }
 }
 

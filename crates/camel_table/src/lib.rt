@@ -1,12 +1,13 @@
-//! A table from IMSIs to values that finds a value in few places of memory, and grows a line at a time.
+//! A table from IMSIs to values that finds a value in few places of memory, and grows a bucket at a time.
 #![tactic(auto)]
 
+mod addressing;
+mod bucket;
 mod entry;
-mod few;
-mod line;
-mod places;
+mod inline_entries;
 mod seed;
 mod segments;
+mod slot;
 mod table;
 
 pub use seed::Seed;

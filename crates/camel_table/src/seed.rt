@@ -2,7 +2,7 @@ use std::hash::{BuildHasher, FoldHasher, Hasher};
 use std::io;
 use std::random::RandomSource;
 
-/// Makes the hashers of a table from a number. Whoever knows the number can choose IMSIs of one line, and look-ups of
+/// Makes the hashers of a table from a number. Whoever knows the number can choose IMSIs of one bucket, and look-ups of
 /// these are slow then.
 #[derive(Clone, Copy, Debug)]
 pub struct Seed {

@@ -1,9 +1,10 @@
-ghost use Rattle.std.specs.Prelude.{◌≡◌, ◌<◌, ◌^◌, ◌++◌, [], ◌∷◌, length, slice_index_or, slice_set, OnErr, OnOk};
+ghost use Rattle.std.specs.Prelude.{◌≡◌, ◌<◌, ◌^◌, ◌++◌, [], ◌∷◌, length, slice_index_or, OnErr, OnOk};
+ghost use Rattle.std.specs.Borrow.{sem};
+ghost use Rattle.camel_table.specs.Lending.{lends_item};
 ghost use Rattle.camel_table.specs.Segments.{AreFull, HasRoom, joined};
 
 use std::alloc::{AllocError, Global};
 use std::marker::Model;
-use std::mem;
 
 /// How many items a segment has room for.
 const SEGMENT: usize = 1024;
@@ -56,13 +57,14 @@ impl<T> Segments<T> {
         &self.segments[at / SEGMENT][at % SEGMENT]
     }
 
-    /// Puts an item in the place of another, which it returns.
-    pub(crate) fn replace(&mut self, at: usize, item: T) -> T
+    /// The item at a place, from 0, to be changed there.
+    pub(crate) fn get_mut(&mut self, at: usize) -> &mut T
         requires { at < length self.old }
-        ensures before { result ≡ slice_index_or self.old at result }
-        ensures after { self.new ≡ slice_set self.old at item }
+        ensures* writes_back { sem 𝓛 (lends_item T.row self.entry at result) }
+        ensures item { result.now ≡ slice_index_or self.old at result.now }
     {
-        mem::replace(&mut self.segments[at / SEGMENT][at % SEGMENT], item)
+        let segment = &mut self.segments[at / SEGMENT];
+        &mut segment[at % SEGMENT]
     }
 }
 

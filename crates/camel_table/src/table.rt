@@ -3,46 +3,47 @@ ghost use Rattle.std.specs.FinMap as map;
 ghost use Rattle.std.specs.Option.{option_copied};
 ghost use Rattle.camel_table.specs.ByImsi.{ListsEachOnce};
 
-use crate::line::Line;
-use crate::places::Places;
+use crate::addressing::Addressing;
+use crate::bucket::Bucket;
 use crate::segments::Segments;
 use camel_tbcd::Imsi;
 use std::alloc::{AllocError, Global};
 use std::hash::BuildHasher;
 use std::marker::Model;
 
-/// A line that gets more entries than this asks for a line more. Two lie in the line itself. A line more for each third
-/// entry would leave fewer to be sought in a list, but more room unused.
-const MOST_IN_LINE: usize = 3;
+/// A bucket that gets more entries than this asks for a bucket more. Three lie in the bucket itself. Fewer would leave
+/// fewer to be sought in a list, but more room unused.
+const MOST_IN_BUCKET: usize = 4;
 
-/// There are never more lines than this. Further entries make the lines longer.
-const MOST_LINES: usize = 1 << 32;
+/// There are never more buckets than this. Further entries make the buckets longer.
+const MOST_BUCKETS: usize = 1 << 32;
 
-/// A table from IMSIs to values, in lines that the hash of an IMSI chooses. It grows by one line at a time, to which
-/// the entries of one other line are moved, so that no change of one value waits for the growth of all.
+/// A table from IMSIs to values by linear hashing: the hash of an IMSI chooses its bucket, and the table grows by one
+/// bucket at a time, to which entries of one other bucket are moved, so that no change of one value waits for the growth
+/// of all.
 ///
 /// Contracts see it as a finite map from the lists of their digits.
 #[derive(Debug, Drop)]
 pub struct Table<V, S: BuildHasher> {
     alloc: Global,
-    places: Places<S>,
-    lines: Segments<Line<V>>,
+    addressing: Addressing<S>,
+    buckets: Segments<Bucket<V>>,
 }
 
 impl<V, S: BuildHasher> Model for Table<V, S> {
     ghost use Rattle.std.specs.FinMap as map;
     ghost use Rattle.std.specs.Coded.{coded_ℕ, coded_list};
     ghost use Rattle.camel_table.specs.ByImsi.{ByImsi};
-    ghost use Rattle.camel_table.specs.Lines.{IsTable, table_map};
-    ghost use Rattle.camel_table.specs.Places.{place_of};
+    ghost use Rattle.camel_table.specs.Buckets.{IsTable, table_map};
+    ghost use Rattle.camel_table.specs.Addressing.{bucket_of};
 
     ghost Value = { ByImsi V };
 
     ghost coded = { map.code (coded_list coded_ℕ) V.code };
 
-    ghost view = { λ a. table_map a.lines };
+    ghost view = { λ a. table_map a.buckets };
 
-    ghost invariant = { λ a. IsTable (place_of S.Hasher.finish S.Hasher.write (S.build_hasher a.places.hashes)) a.places.level a.places.count a.lines };
+    ghost invariant = { λ a. IsTable (bucket_of S.Hasher.finish S.Hasher.write (S.build_hasher a.addressing.hashes)) a.addressing.level a.addressing.count a.buckets };
 }
 
 impl<V, S: BuildHasher + Copy> Table<V, S> {
@@ -52,12 +53,12 @@ impl<V, S: BuildHasher + Copy> Table<V, S> {
     {
         Table {
             alloc,
-            places: Places {
+            addressing: Addressing {
                 hashes,
                 level: 0,
                 count: 0,
             },
-            lines: Segments::new(alloc),
+            buckets: Segments::new(alloc),
         }
     }
 
@@ -65,10 +66,11 @@ impl<V, S: BuildHasher + Copy> Table<V, S> {
     pub fn get(&self, imsi: &Imsi) -> Option<&V>
         ensures { option_copied result ≡ map.get self.now imsi.now }
     {
-        if self.places.count == 0 {
+        if self.addressing.count == 0 {
             return None;
         }
-        self.lines.get(self.places.place(imsi.number())).get(imsi)
+        let bucket = self.buckets.get(self.addressing.bucket(imsi.number()));
+        bucket.get(imsi)
     }
 
     /// The IMSIs that have values, each once, in no order that is promised. Fails with `AllocError` if memory is
@@ -77,32 +79,30 @@ impl<V, S: BuildHasher + Copy> Table<V, S> {
         ensures { IfOk result (λ imsis. ListsEachOnce imsis.items self.now) }
     {
         let mut imsis = Vec::new(self.alloc);
-        for at in 0..self.lines.len() {
-            self.lines.get(at).push_imsis(&mut imsis)?;
+        for at in 0..self.buckets.len() {
+            self.buckets.get(at).push_imsis(&mut imsis)?;
         }
         Ok(imsis)
     }
 }
 
-impl<V: Drop, S: BuildHasher + Copy> Table<V, S> {
+impl<V: Default + Drop, S: BuildHasher + Copy> Table<V, S> {
     /// Puts a value in the place of the one that an IMSI has, or of none. Fails with `AllocError` if memory is refused;
     /// then nothing changes.
-    pub fn put(&mut self, imsi: &Imsi, value: V) -> Result<(), AllocError>
+    pub fn insert(&mut self, imsi: &Imsi, value: V) -> Result<(), AllocError>
         ensures put { OnOk result (self.new ≡ map.insert self.old imsi.now value) }
         ensures unchanged { OnErr result (self.new ≡ self.old) }
     {
-        if self.places.count == 0 {
-            return self.put_first(imsi, value);
+        if self.addressing.count == 0 {
+            return self.insert_first(imsi, value);
         }
-        let at = self.places.place(imsi.number());
-        let mut line = self.lines.replace(at, Line::new(self.alloc));
-        let before = line.len();
-        let done = line.put(imsi, value);
-        // A value in the place of another one asks for no line more, so a table grows with its entries only.
-        let is_long = line.len() > MOST_IN_LINE.max(before);
-        self.lines.replace(at, line);
+        let bucket = self.buckets.get_mut(self.addressing.bucket(imsi.number()));
+        let before = bucket.len();
+        let done = bucket.insert(imsi, value);
+        // A value in the place of another one asks for no bucket more, so a table grows with its entries only.
+        let is_long = bucket.len() > MOST_IN_BUCKET.max(before);
         if is_long {
-            // If memory is refused, the line stays long.
+            // If memory is refused, the bucket stays long.
             let _ = self.grow();
         }
         done
@@ -115,71 +115,66 @@ impl<V: Drop, S: BuildHasher + Copy> Table<V, S> {
         ensures replaced { IfSome result (λ _. self.new ≡ map.insert self.old imsi.now value) }
         ensures unchanged { IfNone result (self.new ≡ self.old) }
     {
-        if self.places.count == 0 {
+        if self.addressing.count == 0 {
             return None;
         }
-        let at = self.places.place(imsi.number());
-        let mut line = self.lines.replace(at, Line::new(self.alloc));
-        let before = line.replace(imsi, value);
-        self.lines.replace(at, line);
-        before
+        let bucket = self.buckets.get_mut(self.addressing.bucket(imsi.number()));
+        bucket.replace(imsi, value)
     }
 
     /// Takes the value of an IMSI out, if there is one. It takes no memory.
-    pub fn take_out(&mut self, imsi: &Imsi)
+    pub fn remove(&mut self, imsi: &Imsi)
         ensures { self.new ≡ map.remove self.old imsi.now }
     {
-        if self.places.count == 0 {
+        if self.addressing.count == 0 {
             return;
         }
-        let at = self.places.place(imsi.number());
-        let mut line = self.lines.replace(at, Line::new(self.alloc));
-        line.take_out(imsi);
-        self.lines.replace(at, line);
+        let bucket = self.buckets.get_mut(self.addressing.bucket(imsi.number()));
+        bucket.remove(imsi);
     }
 
     /// Takes all values out. It takes no memory.
     pub fn clear(&mut self)
         ensures { self.new ≡ map.empty }
     {
-        self.lines.clear();
-        self.places.level = 0;
-        self.places.count = 0;
+        self.buckets.clear();
+        self.addressing.level = 0;
+        self.addressing.count = 0;
     }
 
-    /// Puts the first value into a table, which has one line then.
-    fn put_first(&mut self, imsi: &Imsi, value: V) -> Result<(), AllocError>
+    /// Puts the first value into a table, which has one bucket then.
+    fn insert_first(&mut self, imsi: &Imsi, value: V) -> Result<(), AllocError>
         requires { self.old ≡ map.empty }
         ensures put { OnOk result (self.new ≡ map.insert self.old imsi.now value) }
         ensures unchanged { OnErr result (self.new ≡ self.old) }
     {
-        let mut line = Line::new(self.alloc);
-        line.put(imsi, value)?;
-        let mut lines = Segments::new(self.alloc);
-        lines.push(line)?;
-        self.lines = lines;
-        self.places.level = 0;
-        self.places.count = 1;
+        let mut bucket = Bucket::new(self.alloc);
+        bucket.insert(imsi, value)?;
+        let mut buckets = Segments::new(self.alloc);
+        buckets.push(bucket)?;
+        self.buckets = buckets;
+        self.addressing.level = 0;
+        self.addressing.count = 1;
         Ok(())
     }
 
-    /// Divides the next line of the round, if there may be a line more. Fails with `AllocError` if memory is refused;
-    /// then all lines are as they were.
+    /// Splits the next bucket of the round, if there may be a bucket more. Fails with `AllocError` if memory is refused;
+    /// then all buckets are as they were.
     fn grow(&mut self) -> Result<(), AllocError>
         ensures { self.new ≡ self.old }
     {
-        let new = self.places.count;
-        if new == 0 || new >= MOST_LINES {
+        let new = self.addressing.count;
+        if new == 0 || new >= MOST_BUCKETS {
             return Ok(());
         }
-        let places = self.places.with_line();
-        let at = new - (1 << places.level);
-        add_spare(&mut self.lines, self.alloc, new)?;
-        let mut line = self.lines.replace(at, Line::new(self.alloc));
-        let divided = line.divide(self.alloc, &places, at);
-        self.lines.replace(at, line);
-        self.lines.replace(new, divided?);
-        self.places = places;
+        let addressing = self.addressing.with_bucket();
+        let at = new - (1 << addressing.level);
+        add_spare(&mut self.buckets, self.alloc, new)?;
+        let bucket = self.buckets.get_mut(at);
+        let others = bucket.split(self.alloc, &addressing, at)?;
+        let spare = self.buckets.get_mut(new);
+        *spare = others;
+        self.addressing = addressing;
         Ok(())
     }
 }
@@ -192,26 +187,26 @@ impl<V: Clone, S: BuildHasher + Copy> Clone for Table<V, S> {
     fn clone(&self) -> Result<Table<V, S>, AllocError> {
         Ok(Table {
             alloc: self.alloc,
-            places: self.places,
-            lines: self.lines.clone()?,
+            addressing: self.addressing,
+            buckets: self.buckets.clone()?,
         })
     }
 }
 
-/// Adds an empty line if there are no more than so many.
-fn add_spare<V: Drop>(
-    lines: &mut Segments<Line<V>>,
+/// Adds an empty bucket if there are no more than so many.
+fn add_spare<V: Default + Drop>(
+    buckets: &mut Segments<Bucket<V>>,
     alloc: Global,
     count: usize,
 ) -> Result<(), AllocError>
-    requires within { count ≤ length lines.old }
-    requires few { (count < 2 ^ 32) × (length lines.old ≤ 2 ^ 32) }
-    ensures spare { OnOk result (count < length lines.new) }
-    ensures few { length lines.new ≤ 2 ^ 32 }
-    ensures lines { (lines.new ≡ lines.old) ⊎ (lines.new ≡ lines.old ++ map.empty ∷ []) }
+    requires within { count ≤ length buckets.old }
+    requires few { (count < 2 ^ 32) × (length buckets.old ≤ 2 ^ 32) }
+    ensures spare { OnOk result (count < length buckets.new) }
+    ensures few { length buckets.new ≤ 2 ^ 32 }
+    ensures buckets { (buckets.new ≡ buckets.old) ⊎ (buckets.new ≡ buckets.old ++ map.empty ∷ []) }
 {
-    if lines.len() == count {
-        lines.push(Line::new(alloc))?;
+    if buckets.len() == count {
+        buckets.push(Bucket::new(alloc))?;
     }
     Ok(())
 }

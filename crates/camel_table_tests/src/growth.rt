@@ -6,7 +6,7 @@ use std::cell::Cell;
 use std::hash::{BuildHasher, FoldHasher, Hasher};
 use std::test::Fail;
 
-// Counts the hashes that are made: one for each look at an entry's place.
+// Counts the hashes that are made: one for each question for an entry's bucket.
 #[derive(Clone, Copy, Drop)]
 struct Counted<'a> {
     hasher: FoldHasher,
@@ -34,14 +34,14 @@ fn counted_table(alloc: Global, made: &Cell<u64>) -> CountedTable<'_> {
     Table::new(alloc, counted)
 }
 
-/// Puts a value, and returns how many hashes are made for it.
-fn hashes_of_put(
+/// Inserts a value, and returns how many hashes are made for it.
+fn hashes_of_insert(
     table: &mut CountedTable,
     made: &Cell<u64>,
     imsi: &Imsi,
 ) -> Result<u64, AllocError> {
     made.set(0);
-    table.put(imsi, 0)?;
+    table.insert(imsi, 0)?;
     Ok(made.get())
 }
 
@@ -68,60 +68,66 @@ fn in_order_of_hashes(alloc: Global) -> Result<Vec<Option<Imsi>>, Fail> {
     Ok(found)
 }
 
-// In this order one line after the other gets its fourth entry, and is divided. So there is never a longer line than of
-// four entries, nor a shorter one than of two.
-const LONGEST: u64 = 4;
+// In this order one bucket after the other gets its fifth entry, and is split. So there is never a longer bucket than of
+// five entries, nor a shorter one than of two.
+const LONGEST: u64 = 5;
 
-// A value that is put is hashed once, and with it the entries of the line that is divided. Two lines would have six
-// entries or more.
+// A value that is inserted is hashed once, and with it the entries of the bucket that is split. Two buckets would have
+// seven entries or more.
 #[test]
-fn a_put_moves_the_entries_of_one_line_at_most(rt: HostRuntime) -> Result<(), Fail> {
+fn an_insertion_moves_the_entries_of_one_bucket_at_most(rt: HostRuntime) -> Result<(), Fail> {
     let made = Cell::new(0);
     let mut table = counted_table(rt.alloc(), &made);
-    let mut divided: usize = 0;
+    let mut splits: usize = 0;
     for found in in_order_of_hashes(rt.alloc())? {
         let imsi = found.ok_or("no hash with this end")?;
-        let hashes = hashes_of_put(&mut table, &made, &imsi)?;
+        let hashes = hashes_of_insert(&mut table, &made, &imsi)?;
         assert!(rt; hashes <= 1 + LONGEST, "{imsi:?}");
-        divided = divided.wrapping_add(usize::from(hashes > 1));
+        splits = splits.wrapping_add(usize::from(hashes > 1));
     }
-    // The lines become twice as many with each doubling of the entries, from one line to one for each two entries.
-    assert!(rt; divided == ORDERED / 2 - 1);
+    // The buckets become twice as many with each doubling of the entries, from one bucket to one for each four entries.
+    assert!(rt; splits == ORDERED / 4 - 1);
     Ok(())
 }
 
 const REPLACED: u64 = 1_000;
 
-// A value that is put in the place of another one is hashed once, also if its line is long.
+const ROUNDS: u64 = 1_000;
+
+// A value that is inserted in the place of another one is hashed once, also if its bucket is long: a table grows with
+// its subscribers, and not with the updates.
 #[test]
-fn a_put_that_replaces_a_value_divides_no_line(rt: HostRuntime) -> Result<(), Fail> {
+fn a_million_replaced_values_split_no_bucket(rt: HostRuntime) -> Result<(), Fail> {
     let made = Cell::new(0);
     let mut table = counted_table(rt.alloc(), &made);
     for number in 0..REPLACED {
-        table.put(&imsi_of(number)?, 0)?;
+        table.insert(&imsi_of(number)?, 0)?;
     }
-    for number in 0..REPLACED {
-        let hashes = hashes_of_put(&mut table, &made, &imsi_of(number)?)?;
-        assert_eq!(rt; hashes, 1, "{number}");
+    made.set(0);
+    for _ in 0..ROUNDS {
+        for number in 0..REPLACED {
+            table.insert(&imsi_of(number)?, 0)?;
+        }
     }
+    assert_eq!(rt; made.get(), ROUNDS * REPLACED);
     Ok(())
 }
 
 const RANDOM: u64 = 200_000;
 
-// No line of so many random ones has more entries when it is divided.
-const MOST_IN_A_LINE: u64 = 30;
+// No bucket of so many random ones has more entries when it is split.
+const MOST_IN_A_BUCKET: u64 = 30;
 
 #[test]
-fn no_line_of_random_hashes_is_long(rt: HostRuntime) -> Result<(), Fail> {
+fn no_bucket_of_random_hashes_is_long(rt: HostRuntime) -> Result<(), Fail> {
     let made = Cell::new(0);
     let mut table = counted_table(rt.alloc(), &made);
     for number in 0..RANDOM {
-        let hashes = hashes_of_put(&mut table, &made, &imsi_of(number)?)?;
-        assert!(rt; hashes <= 1 + MOST_IN_A_LINE, "{number}");
+        let hashes = hashes_of_insert(&mut table, &made, &imsi_of(number)?)?;
+        assert!(rt; hashes <= 1 + MOST_IN_A_BUCKET, "{number}");
     }
     let last = imsi_of(RANDOM)?;
-    table.put(&last, 0)?;
+    table.insert(&last, 0)?;
     made.set(0);
     assert!(rt; table.get(&last) == Some(&0) && made.get() == 1);
     Ok(())

@@ -4,7 +4,7 @@
 #[cfg(test)]
 mod growth;
 #[cfg(test)]
-mod one_line;
+mod one_bucket;
 #[cfg(test)]
 mod registers;
 #[cfg(test)]

@@ -10,11 +10,11 @@ const LISTED: u64 = 10_000;
 fn finds_each_of_a_million_that_is_there(rt: HostRuntime) -> Result<(), Fail> {
     let mut table = Table::new(rt.alloc(), Seed::new(17));
     for number in 0..SUBSCRIBERS {
-        table.put(&imsi_of(number)?, number)?;
+        table.insert(&imsi_of(number)?, number)?;
     }
     for number in 0..SUBSCRIBERS {
         if number % 2 == 0 {
-            table.take_out(&imsi_of(number)?);
+            table.remove(&imsi_of(number)?);
         }
     }
     for number in 0..SUBSCRIBERS {
@@ -29,11 +29,11 @@ fn lists_each_that_is_there(rt: HostRuntime) -> Result<(), Fail> {
     let mut table = Table::new(rt.alloc(), Seed::fixed());
     assert!(rt; table.imsis()?.is_empty());
     for number in 0..LISTED {
-        table.put(&imsi_of(number)?, number)?;
+        table.insert(&imsi_of(number)?, number)?;
     }
     for number in 0..LISTED {
         if number % 2 == 0 {
-            table.take_out(&imsi_of(number)?);
+            table.remove(&imsi_of(number)?);
         }
     }
     let mut imsis = table.imsis()?;
@@ -52,12 +52,12 @@ fn a_value_is_replaced_put_anew_and_cleared(rt: HostRuntime) -> Result<(), Fail>
     let mut table = Table::new(rt.alloc(), Seed::random(&rt)?);
     assert_eq!(rt; table.replace(&imsi, 1), None);
     assert_eq!(rt; table.get(&imsi), None);
-    table.put(&imsi, 2)?;
+    table.insert(&imsi, 2)?;
     assert_eq!(rt; table.replace(&imsi, 3), Some(2));
     let copied = table.clone()?;
     table.clear();
     assert_eq!(rt; (table.get(&imsi), copied.get(&imsi)), (None, Some(&3)));
-    table.put(&imsi, 4)?;
+    table.insert(&imsi, 4)?;
     assert_eq!(rt; table.get(&imsi), Some(&4));
     Ok(())
 }

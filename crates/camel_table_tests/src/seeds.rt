@@ -38,7 +38,7 @@ const SUBSCRIBERS: u64 = 100;
 fn listed_by(alloc: Global, seed: Seed) -> Result<Vec<Imsi>, Fail> {
     let mut table = Table::new(alloc, seed);
     for number in 0..SUBSCRIBERS {
-        table.put(&imsi_of(number)?, number)?;
+        table.insert(&imsi_of(number)?, number)?;
     }
     Ok(table.imsis()?)
 }

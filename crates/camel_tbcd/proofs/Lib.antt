@@ -1,5 +1,6 @@
 pub mod DigitLemmas
 pub mod ImsiOrderLemmas
+pub mod ImsiSlotLemmas
 pub mod PackedDigitLemmas
 pub mod PackedImsiLemmas
 pub mod ProfileLemmas

@@ -6,6 +6,7 @@ pub mod Digits
 pub mod Imsi
 pub mod ImsiFault
 pub mod ImsiOrder
+pub mod ImsiSlot
 pub mod Nature
 pub mod PackedDigits
 pub mod PackedImsi

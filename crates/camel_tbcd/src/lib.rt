@@ -1,7 +1,7 @@
 //! Addresses and IMSIs in the encodings of 3GPP TS 29.002.
 //!
 //! An address is borrowed as an [`Address`] or kept as an [`IsdnAddress`] or a [`CallAddress`], and an
-//! [`Imsi`] is kept as its digits, or as a [`PackedImsi`] in 8 octets. A [`Profile`] says whether the numbering plans
+//! [`Imsi`] is kept as its digits, or in 8 octets as a [`PackedImsi`] or, where there may be none, an [`ImsiSlot`]. A [`Profile`] says whether the numbering plans
 //! of two addresses are compared. No call of this crate takes memory.
 #![tactic(auto)]
 
@@ -9,6 +9,7 @@ mod address;
 mod call_address;
 mod digits;
 mod imsi;
+mod imsi_slot;
 mod isdn_address;
 mod kept_octets;
 mod packed_imsi;
@@ -21,6 +22,7 @@ pub use digits::Digits;
 pub use imsi::{
     Imsi, ImsiFault, MAX_IMSI_DIGITS, MAX_IMSI_OCTETS, MIN_IMSI_DIGITS, MIN_IMSI_OCTETS,
 };
+pub use imsi_slot::ImsiSlot;
 pub use isdn_address::{IsdnAddress, MAX_ISDN_ADDRESS_LENGTH};
 pub use packed_imsi::PackedImsi;
 pub use profile::Profile;

@@ -1,7 +1,9 @@
-ghost use Rattle.std.specs.Prelude.{◌≡◌};
+ghost use Rattle.std.specs.Prelude.{◌≡◌, IfSome};
 ghost use Rattle.std.specs.Cmp.Lexicographic.{slice_cmp};
 ghost use Rattle.std.specs.Ordering.{eq_by_cmp, nat_cmp};
+ghost use Rattle.camel_tbcd.specs.Imsi.{IsImsi};
 ghost use Rattle.camel_tbcd.specs.ImsiOrder.{order_number};
+ghost use Rattle.camel_tbcd.specs.ImsiSlot.{imsi_of_number};
 
 use crate::imsi::{Imsi, MAX_IMSI_DIGITS};
 use std::marker::Model;
@@ -39,6 +41,17 @@ impl PackedImsi {
     {
         PackedImsi {
             number: imsi.number(),
+        }
+    }
+
+    // The IMSI of this number; None of 0.
+    pub(crate) fn of_number(number: u64) -> Option<PackedImsi>
+        requires { IfSome (imsi_of_number number) (λ digits. IsImsi digits × (number ≡ order_number digits)) }
+        ensures { result ≡ imsi_of_number number }
+    {
+        match number {
+            0 => None,
+            _ => Some(PackedImsi { number }),
         }
     }
 

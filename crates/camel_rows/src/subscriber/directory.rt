@@ -54,7 +54,7 @@ impl Directory {
         ensures put { OnOk result (self.new ≡ map.insert self.old imsi csis) }
         ensures unchanged { OnErr result (self.new ≡ self.old) }
     {
-        self.table.put(&imsi, csis)
+        self.table.insert(&imsi, csis)
     }
 
     /// Puts back what was stored before an insertion, for a subscriber who has an entry since. It takes no memory.
@@ -74,7 +74,7 @@ impl Directory {
     pub(crate) fn remove(&mut self, imsi: &Imsi)
         ensures { self.new ≡ map.remove self.old imsi.now }
     {
-        self.table.take_out(imsi);
+        self.table.remove(imsi);
     }
 
     /// Takes all entries out. It takes no memory.

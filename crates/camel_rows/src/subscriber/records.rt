@@ -185,14 +185,14 @@ impl Records {
         ensures put { OnOk result (self.new ≡ map.insert self.old imsi subscriber) }
         ensures unchanged { OnErr result (self.new ≡ self.old) }
     {
-        self.table.put(&imsi, subscriber)
+        self.table.insert(&imsi, subscriber)
     }
 
     /// Takes the record of an IMSI out, if there is one.
     fn take_out(&mut self, imsi: &Imsi)
         ensures { self.new ≡ map.remove self.old imsi.now }
     {
-        self.table.take_out(imsi);
+        self.table.remove(imsi);
     }
 
     /// Takes all records out.

@@ -1,10 +1,6 @@
-use Rattle.std.proofs.Common.{ℕ, List}
-use Rattle.camel_tbcd.specs.ImsiOrder.{order_number}
-use Rattle.camel_table.specs.Places.{hash_of}
+use Rattle.camel_table.proofs.Hashing.{imsi_hash}
 use Rattle.camel_table.proofs.TableLemmas.{no_table}
 use Rattle.camel_table.proofs.table.Table.clear.Goals as goal
 
 pub invariant_of-self : goal.invariant_of-self
-invariant_of-self g c =
-    let hash : List ℕ → ℕ = λ key. hash_of g.S.Hasher.Hasher.finish g.S.Hasher.Hasher.write (g.S.BuildHasher.build_hasher c.self.inside.places.hashes) (order_number key) in
-    no_table hash c.clear.new.self c.clear.ensures
+invariant_of-self g c = no_table (imsi_hash g.S.Hasher.Hasher.finish g.S.Hasher.Hasher.write (g.S.BuildHasher.build_hasher c.self.inside.addressing.hashes)) c.clear.new.self c.clear.ensures

@@ -1,0 +1,20 @@
+use Rattle.std.proofs.Common.{◌∙◌, ◌++◌, ap, ap₂}
+use Rattle.std.specs.FinMap as map
+use Rattle.std.specs.Option.{is_some}
+use Rattle.camel_table.specs.ByImsi.{map_of}
+use Rattle.camel_table.proofs.CloneLemmas.{both_lists, same_keys, same_list}
+use Rattle.camel_table.proofs.bucket.BucketClone.clone.Goals as goal
+
+pub returns : goal.returns
+returns g c =
+    let inline = c.self.inside.inline in
+    let more = c.self.inside.more.items in
+    let old = inline ++ more in
+    let new = c.in_ok-clone.field-0 ++ c.in_ok-clone-2.field-0.items in
+    let all = both_lists _ inline c.in_ok-clone.field-0 more c.in_ok-clone-2.field-0.items c.in_ok-clone.ensures.cases c.in_ok-clone-2.ensures.cases.0 in
+    record {
+      cases = (
+        λ imsi. same_keys _ (λ x y both. both.0) old new all imsi ∙ ap (λ m. is_some (map.get m imsi)) c.self.view_is,
+        λ exact. ap map_of (same_list _ (λ x y both. ap₂ (λ k v. (k, v)) both.0 (exact x.1 y.1 both.1)) old new all) ∙ c.self.view_is,
+      );
+    }

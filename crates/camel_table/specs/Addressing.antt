@@ -1,0 +1,18 @@
+-- Which of the buckets of a table a hash chooses, while the buckets grow in number one by one.
+use Rattle.std.specs.Prelude.{ℕ, ◌+◌, ◌%◌, ◌^◌, nat_lt, List, if◌then◌else◌}
+use Rattle.std.specs.List.{fold}
+use Rattle.std.specs.Hash as input
+use Rattle.camel_tbcd.specs.ImsiOrder.{order_number}
+
+-- the bucket of a hash among so many, of which there were 2 ^ level when the present round of divisions began: that of
+-- the next round, if there is such a bucket already, and else that of the round before
+abbrev pub bucket_in : ℕ → ℕ → ℕ → ℕ
+bucket_in level count hash = if nat_lt (hash % 2 ^ (1 + level)) count then hash % 2 ^ (1 + level) else hash % 2 ^ level
+
+-- the hash of a number, by a hasher that begins so
+abbrev pub hash_of : {H : Type 0} → (H → ℕ) → (H → List ℕ → H) → H → ℕ → ℕ
+hash_of finish write initial number = finish (fold write initial (input.u64 number))
+
+-- the bucket of an IMSI, by the hasher of its number
+abbrev pub bucket_of : {H : Type 0} → (H → ℕ) → (H → List ℕ → H) → H → ℕ → ℕ → List ℕ → ℕ
+bucket_of finish write initial level count imsi = bucket_in level count (hash_of finish write initial (order_number imsi))

@@ -1,0 +1,54 @@
+ghost use Rattle.std.specs.Prelude.{◌≡◌, ◌⊎◌, ◌+◌, ◌≤◌, ◌<◌, ◌^◌};
+ghost use Rattle.camel_table.specs.Addressing.{hash_of, bucket_in};
+
+use std::hash::BuildHasher;
+
+/// Which bucket of a table a number is in.
+#[derive(Clone, Copy, Debug)]
+pub(crate) struct Addressing<S> {
+    /// Makes the hashers of the numbers.
+    pub(crate) hashes: S,
+    /// The present round of divisions began with `2 ^ level` buckets.
+    pub(crate) level: u32,
+    /// How many buckets there are.
+    pub(crate) count: usize,
+}
+
+impl<S: BuildHasher> Addressing<S> {
+    /// The number of its bucket, from 0.
+    pub(crate) fn bucket(&self, number: u64) -> usize
+        requires { self.now.level ≤ 32 }
+        ensures { result ≡ bucket_in self.now.level self.now.count (hash_of S.Hasher.finish S.Hasher.write (S.build_hasher self.now.hashes) number) }
+    {
+        let hash = self.hashes.hash_one(number);
+        let bucket = (hash % (2 << self.level)) as usize;
+        if bucket < self.count {
+            bucket
+        } else {
+            (hash % (1 << self.level)) as usize
+        }
+    }
+}
+
+impl<S: Copy> Addressing<S> {
+    /// The addressing with a bucket more, in this round or at the beginning of the next one.
+    pub(crate) fn with_bucket(&self) -> Addressing<S>
+        requires low { self.now.level ≤ 32 }
+        requires began { 2 ^ self.now.level ≤ self.now.count }
+        requires within { self.now.count ≤ 2 ^ (1 + self.now.level) }
+        requires few { self.now.count < 2 ^ 32 }
+        ensures count { result.count ≡ self.now.count + 1 }
+        ensures hashes { result.hashes ≡ self.now.hashes }
+        ensures low { result.level ≤ 32 }
+        ensures level { (result.level ≡ self.now.level) ⊎ ((result.level ≡ 1 + self.now.level) × (self.now.count ≡ 2 ^ (1 + self.now.level))) }
+        ensures began { 2 ^ result.level ≤ self.now.count }
+        ensures within { result.count ≤ 2 ^ (1 + result.level) }
+    {
+        let is_over = self.count == 2 << self.level;
+        Addressing {
+            hashes: self.hashes,
+            level: if is_over { self.level + 1 } else { self.level },
+            count: self.count + 1,
+        }
+    }
+}
