@@ -10,7 +10,6 @@ ghost use Rattle.camel_rows.specs.Update.{csi_after, is_insert, record_after, up
 pub(crate) mod admission;
 pub(crate) mod csi_change;
 pub(crate) mod csis_present;
-pub(crate) mod directory;
 pub(crate) mod laws;
 pub(crate) mod lent;
 pub(crate) mod one_block;
@@ -193,6 +192,17 @@ impl Subscriber {
         o.apply(&mut stored_o);
         vt.apply(&mut stored_vt);
         self.csis = StoredCsis::of(stored_o, stored_vt);
+    }
+}
+
+impl Default for Subscriber {
+    ghost use Rattle.std.specs.Prelude.{◌≡◌};
+    ghost use Rattle.camel_rows.specs.Subscriber.{empty_record};
+
+    ghost is_default = { λ subscriber. subscriber ≡ empty_record };
+
+    fn default() -> Subscriber {
+        Subscriber::new()
     }
 }
 

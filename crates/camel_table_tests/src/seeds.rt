@@ -43,7 +43,7 @@ fn listed_by(alloc: Global, seed: Seed) -> Result<Vec<Imsi>, Fail> {
     Ok(table.imsis()?)
 }
 
-// Whoever doesn't know the seed doesn't know which IMSIs are in one line.
+// Whoever doesn't know the seed doesn't know which IMSIs are in one bucket.
 #[test]
 fn the_seed_chooses_the_order(rt: HostRuntime) -> Result<(), Fail> {
     let by_17 = listed_by(rt.alloc(), Seed::new(17))?;

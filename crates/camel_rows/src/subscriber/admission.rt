@@ -6,10 +6,9 @@ ghost use Rattle.camel_rows.specs.CsisPresent.{csis_after};
 ghost use Rattle.camel_rows.specs.Update.{update_imsi};
 
 use crate::subscriber::csis_present::{CsisPresent, check_update, csis_after};
-use crate::subscriber::directory::Directory;
 use crate::subscriber::update::Update;
 use camel_criteria::Refusal;
-use camel_table::Seed;
+use camel_table::{Seed, Table};
 use camel_tbcd::Imsi;
 use std::alloc::{AllocError, Global};
 use std::marker::Model;
@@ -20,7 +19,9 @@ use std::marker::Model;
 /// CSIs that are stored in it.
 #[derive(Debug, Drop)]
 pub struct Admission {
-    directory: Directory,
+    // Which subscribers have a record, and which CSIs are stored in each: all that decides whether an update is refused,
+    // in far less memory than the records take.
+    directory: Table<CsisPresent, Seed>,
     accepted: u64,
     limit: u64,
 }
@@ -53,7 +54,7 @@ impl Admission {
         ensures { result ≡ no_admissions limit }
     {
         Admission {
-            directory: Directory::new(alloc, seed),
+            directory: Table::new(alloc, seed),
             accepted: 0,
             limit,
         }
@@ -97,7 +98,7 @@ impl Admission {
     pub fn csis(&self, imsi: &Imsi) -> Option<CsisPresent>
         ensures { result ≡ map.get self.now.directory imsi.now }
     {
-        self.directory.get(imsi)
+        self.directory.get(imsi).copied()
     }
 
     /// Accepts an update of this subscriber that leaves a record with these CSIs, or no record; if it concerns all of
@@ -113,7 +114,7 @@ impl Admission {
     {
         match (imsi, csis) {
             (Some(imsi), Some(csis)) => {
-                self.directory.insert(imsi, csis)?;
+                self.directory.insert(&imsi, csis)?;
                 self.accepted += 1;
             }
             (imsi, _) => self.accept_removal(imsi),
@@ -142,7 +143,12 @@ impl Admission {
           directory = with_value self.old.directory imsi.now before;
         } }
     {
-        self.directory.put_back(imsi, before);
+        match before {
+            Some(csis) => {
+                self.directory.replace(imsi, csis);
+            }
+            None => self.directory.remove(imsi),
+        }
         self.accepted -= 1;
     }
 }

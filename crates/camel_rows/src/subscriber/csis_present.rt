@@ -7,7 +7,7 @@ use crate::subscriber::update::Update;
 use camel_criteria::{CriteriaEntry, Refusal};
 
 /// Which CSIs are stored in the record of a subscriber.
-#[derive(Clone, Copy, Debug, PartialEq, Eq)]
+#[derive(Clone, Copy, Debug, Default, PartialEq, Eq)]
 pub struct CsisPresent {
     /// The O-CSI.
     pub o: bool,
