@@ -7,6 +7,7 @@ pub mod Imsi
 pub mod ImsiFault
 pub mod ImsiOrder
 pub mod ImsiSlot
+pub mod IsdnAddress
 pub mod Nature
 pub mod PackedDigits
 pub mod PackedImsi

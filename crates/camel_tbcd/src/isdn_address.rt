@@ -3,11 +3,13 @@ ghost use Rattle.camel_tbcd.specs.Address.{octets};
 ghost use Rattle.camel_tbcd.specs.AddressLength.{IsAddress, max_isdn_address_length};
 ghost use Rattle.camel_tbcd.specs.DigitList.{digit_list};
 ghost use Rattle.camel_tbcd.specs.Digits.{digits};
+ghost use Rattle.camel_tbcd.specs.PackedDigits.{packed_digits};
 
 use crate::address::{Address, AddressFault, check_length};
-use crate::digits::Digits;
-use crate::kept_octets::KeptOctets;
+use crate::digits::{Digits, digit_count};
+use crate::short_list::ShortList;
 use std::marker::Model;
+use std::mem::size_of;
 
 /// The greatest number of octets of an ISDN-AddressString: maxISDN-AddressLength of TS 29.002.
 pub const MAX_ISDN_ADDRESS_LENGTH: usize = 9;
@@ -15,22 +17,34 @@ pub const MAX_ISDN_ADDRESS_LENGTH: usize = 9;
 /// An ISDN-AddressString of TS 29.002, as a gsmSCF address or a number of a criterion: 1 to 9 octets.
 ///
 /// Contracts see it as the list of its octets. Two are equal if their octets are.
+///
+/// It takes 10 octets, of which a record of a subscriber holds many: the room, and both counts in the octet after it.
+/// The digits are counted when it is made, so that no comparison counts them.
 #[derive(Clone, Copy, Debug, PartialEq, Eq)]
 pub struct IsdnAddress {
-    octets: KeptOctets<MAX_ISDN_ADDRESS_LENGTH>,
+    // Octet 1, the digits in octets 2 to 9, and 0 after the last octet, so that the digits are read as one number and
+    // equal addresses have equal fields.
+    room: [u8; MAX_ISDN_ADDRESS_LENGTH],
+    // The count of octets, and 10 for each digit that there are fewer than 16: a comparison shifts by these.
+    counts: u8,
 }
 
 impl Model for IsdnAddress {
     ghost use Rattle.std.specs.Prelude.{ℕ, List};
-    ghost use Rattle.camel_tbcd.specs.AddressLength.{IsAddress, max_isdn_address_length};
+    ghost use Rattle.std.proofs.Common.{sym};
+    ghost use Rattle.camel_tbcd.specs.AddressLength.{max_isdn_address_length};
+    ghost use Rattle.camel_tbcd.specs.IsdnAddress.{IsCounted, counted_octets, counts_of};
+    ghost use Rattle.camel_tbcd.specs.ShortList.{room_with};
 
     ghost Value = { List ℕ };
 
-    ghost view = { λ a. a.octets };
+    ghost view = { λ a. counted_octets a.counts a.room };
 
-    ghost invariant = { λ a. IsAddress max_isdn_address_length a.octets };
+    ghost invariant = { λ a. IsCounted a.room a.counts };
 
-    ghost inverse = { λ octets. record { octets = octets } };
+    ghost inverse = { λ octets. record { room = room_with max_isdn_address_length octets; counts = counts_of octets } };
+
+    ghost inverse_ok = { λ a h i. record { room = sym h.kept.zeros i; counts = sym h.counted i } };
 }
 
 impl IsdnAddress {
@@ -43,9 +57,18 @@ impl IsdnAddress {
         ensures too_long { IsErrOf result AddressFault.TooLong ↔ (max_isdn_address_length < length bytes.now) }
     {
         check_length(bytes, MAX_ISDN_ADDRESS_LENGTH)?;
-        Ok(IsdnAddress {
-            octets: KeptOctets::from_slice(bytes),
-        })
+        Ok(IsdnAddress::of_octets(bytes))
+    }
+
+    fn of_octets(octets: &[u8]) -> IsdnAddress
+        requires { IsAddress max_isdn_address_length octets.now }
+        ensures { result ≡ octets.now }
+    {
+        let fewer = MOST_DIGITS - digit_count(octets);
+        IsdnAddress {
+            room: *ShortList::<MAX_ISDN_ADDRESS_LENGTH>::from_slice(octets).room(),
+            counts: (COUNT_PLACE * fewer + octets.len()) as u8,
+        }
     }
 
     /// Its octets, borrowed as an address.
@@ -53,13 +76,41 @@ impl IsdnAddress {
         ensures same { octets result ≡ self.now }
         ensures address { IsAddress max_isdn_address_length self.now }
     {
-        self.octets.lend()
+        Address::of_digits(self.read())
     }
 
     /// Its digits, as those of the address that it lends.
     pub fn digits(&self) -> Digits<'_>
         ensures { digit_list result ≡ digits self.now }
     {
-        self.octets.digits()
+        self.read()
+    }
+
+    // Its octets, with their digits.
+    fn read(&self) -> Digits<'_>
+        ensures octets { result.bytes.now ≡ self.now }
+        ensures address { IsAddress max_isdn_address_length self.now }
+    {
+        let counts = usize::from(self.counts);
+        let octets = &self.room[..counts % COUNT_PLACE];
+        Digits::of_counted(octets, MOST_DIGITS - counts / COUNT_PLACE, self.number())
+    }
+
+    // The digits of octets 2 to 9 as one number: one read, since the room behind the octets is 0.
+    fn number(&self) -> u64
+        ensures { result ≡ packed_digits self.now }
+    {
+        let room = &self.room;
+        u64::from_le_bytes([
+            room[1], room[2], room[3], room[4], room[5], room[6], room[7], room[8],
+        ])
     }
 }
+
+const _: () = prove!(size_of::<IsdnAddress>() == 10);
+
+// What a digit fewer than 16 adds to the counts: more than the count of octets, which is 1 to 9.
+const COUNT_PLACE: usize = 10;
+
+// The most digits that are in octets 2 to 9.
+const MOST_DIGITS: usize = 16;
