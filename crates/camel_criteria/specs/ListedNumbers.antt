@@ -1,11 +1,10 @@
 -- The listed numbers of a criterion, wherever they are kept.
-use Rattle.std.specs.Prelude.{ℕ, List}
+use Rattle.std.specs.Prelude.{ℕ, List, []}
 use Rattle.camel_criteria.specs.declared.listed_numbers.ListedNumbers.{ListedNumbers}
-use Rattle.camel_criteria.specs.declared.listed_numbers.ListedNumbers.TheVariants.{One, Two, Three, Apart}
+use Rattle.camel_criteria.specs.declared.listed_numbers.ListedNumbers.TheVariants.{Absent, Few, Apart}
 
 -- the numbers in their order, each as its octets
 abbrev pub numbers_of : ListedNumbers → List (List ℕ)
-numbers_of (One numbers) = numbers
-numbers_of (Two numbers) = numbers
-numbers_of (Three numbers) = numbers
+numbers_of Absent = []
+numbers_of (Few numbers) = numbers
 numbers_of (Apart numbers) = numbers.value.items

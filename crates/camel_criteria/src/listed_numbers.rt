@@ -1,6 +1,7 @@
 ghost use Rattle.std.specs.Prelude.{◌≡◌, IfOk};
 ghost use Rattle.camel_criteria.specs.ListedNumbers.{numbers_of};
 
+use crate::in_place::InPlace;
 use camel_tbcd::IsdnAddress;
 use std::alloc::{AllocError, Global};
 
@@ -8,11 +9,13 @@ use std::alloc::{AllocError, Global};
 // kept apart from it, in a box, since the head of a vector would take more room than three numbers do.
 #[derive(Debug, Drop)]
 pub(crate) enum ListedNumbers {
-    One([IsdnAddress; 1]),
-    Two([IsdnAddress; 2]),
-    Three([IsdnAddress; 3]),
+    Absent,
+    Few(InPlace<IsdnAddress, MAX_IN_PLACE>),
     Apart(Box<Vec<IsdnAddress>>),
 }
+
+// How many numbers are kept in place: with as many a criterion takes 40 octets.
+const MAX_IN_PLACE: usize = 3;
 
 impl ListedNumbers {
     pub(crate) fn from_slice(
@@ -21,11 +24,12 @@ impl ListedNumbers {
     ) -> Result<ListedNumbers, AllocError>
         ensures { IfOk result (λ kept. numbers_of kept ≡ numbers.now) }
     {
-        match numbers {
-            [first] => Ok(ListedNumbers::One([*first])),
-            [first, second] => Ok(ListedNumbers::Two([*first, *second])),
-            [first, second, third] => Ok(ListedNumbers::Three([*first, *second, *third])),
-            _ => ListedNumbers::apart(alloc, Vec::from_slice(alloc, numbers)?),
+        match numbers.first() {
+            None => Ok(ListedNumbers::Absent),
+            Some(first) if numbers.len() <= MAX_IN_PLACE => {
+                Ok(ListedNumbers::Few(InPlace::from_slice(numbers, *first)))
+            }
+            Some(_) => ListedNumbers::apart(alloc, Vec::from_slice(alloc, numbers)?),
         }
     }
 
@@ -39,9 +43,8 @@ impl ListedNumbers {
         ensures { result.now ≡ numbers_of self.now }
     {
         match self {
-            ListedNumbers::One(numbers) => numbers,
-            ListedNumbers::Two(numbers) => numbers,
-            ListedNumbers::Three(numbers) => numbers,
+            ListedNumbers::Absent => &[],
+            ListedNumbers::Few(numbers) => numbers.as_slice(),
             ListedNumbers::Apart(numbers) => numbers,
         }
     }
@@ -50,9 +53,8 @@ impl ListedNumbers {
         ensures { IfOk result (λ copied. numbers_of copied ≡ numbers_of self.now) }
     {
         Ok(match self {
-            ListedNumbers::One(numbers) => ListedNumbers::One(*numbers),
-            ListedNumbers::Two(numbers) => ListedNumbers::Two(*numbers),
-            ListedNumbers::Three(numbers) => ListedNumbers::Three(*numbers),
+            ListedNumbers::Absent => ListedNumbers::Absent,
+            ListedNumbers::Few(numbers) => ListedNumbers::Few(numbers.copy()),
             ListedNumbers::Apart(numbers) => ListedNumbers::Apart(numbers.clone()?),
         })
     }

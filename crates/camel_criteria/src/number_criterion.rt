@@ -1,4 +1,4 @@
-ghost use Rattle.std.specs.Prelude.{◌≡◌, IfErr, slice_get};
+ghost use Rattle.std.specs.Prelude.{◌≡◌, [], IfErr, slice_get};
 ghost use Rattle.std.specs.List.{list_all};
 ghost use Rattle.std.specs.Option.{option_map};
 ghost use Rattle.camel_tbcd.specs.Address.{octets};
@@ -63,6 +63,17 @@ impl NumberCriterion {
             lengths: InPlace::from_slice(lengths, 0),
             numbers: ListedNumbers::from_slice(alloc, numbers)?,
         })
+    }
+
+    // What stands in the place of a criterion that there is not: it holds nothing, and takes no memory.
+    pub(crate) fn absent() -> NumberCriterion
+        ensures { result ≡ record { match_type = MatchType.Enabling; numbers = []; lengths = [] } }
+    {
+        NumberCriterion {
+            match_type: MatchType::Enabling,
+            lengths: InPlace::from_slice(&[], 0),
+            numbers: ListedNumbers::Absent,
+        }
     }
 
     /// Whether the destination is to be listed or not.

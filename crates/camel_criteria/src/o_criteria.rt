@@ -11,24 +11,31 @@ use crate::number_criterion::NumberCriterion;
 use crate::refusal::Refusal;
 use std::alloc::AllocError;
 use std::marker::Model;
+use std::mem::size_of;
 
 /// The criteria of a detection point of the O-CSI (O-BcsmCamelTDP-Criteria of TS 29.002): any of a destination
 /// number criterion, a basic service criterion, a call type criterion and a cause criterion, or none.
+///
+/// It takes 64 octets, a line of the cache, and what a decision reads first is first.
 #[derive(Debug, Drop)]
 pub struct OCriteria {
+    // A filler if there is none: the tag of an `Option` would take 8 octets here.
+    number: NumberCriterion,
+    has_number: bool,
     dp: u8,
     call_type: Option<CallType>,
     causes: InPlace<u8, MAX_CAUSES>,
     basic: InPlace<BasicService, MAX_BASIC_SERVICES>,
-    number: Option<NumberCriterion>,
 }
 
+const _: () = prove!(size_of::<OCriteria>() == 64);
+
 impl Model for OCriteria {
-    ghost use Rattle.camel_criteria.specs.Criteria.{OCriteriaData};
+    ghost use Rattle.camel_criteria.specs.Criteria.{OCriteriaData, held_criterion};
 
     ghost Value = { OCriteriaData };
 
-    ghost view = { λ a. record { dp = a.dp; number = a.number; basic = a.basic; call_type = a.call_type; causes = a.causes } };
+    ghost view = { λ a. record { dp = a.dp; number = held_criterion a.has_number a.number; basic = a.basic; call_type = a.call_type; causes = a.causes } };
 }
 
 impl OCriteria {
@@ -49,11 +56,12 @@ impl OCriteria {
             return Err(Refusal::UnexpectedDataValue);
         }
         Ok(OCriteria {
+            has_number: number.is_some(),
+            number: number.unwrap_or(NumberCriterion::absent()),
             dp,
             call_type,
             causes: InPlace::from_slice(causes, 0),
             basic: InPlace::from_slice(basic, BLANK),
-            number,
         })
     }
 
@@ -68,7 +76,11 @@ impl OCriteria {
     pub fn number(&self) -> Option<&NumberCriterion>
         ensures { option_copied result ≡ self.now.number }
     {
-        self.number.as_ref()
+        if self.has_number {
+            Some(&self.number)
+        } else {
+            None
+        }
     }
 
     /// The codes of the basic service criterion, in the order received; none if it is absent.
@@ -100,11 +112,12 @@ impl Clone for OCriteria {
 
     fn clone(&self) -> Result<OCriteria, AllocError> {
         Ok(OCriteria {
+            number: self.number.clone()?,
+            has_number: self.has_number,
             dp: self.dp,
             call_type: self.call_type,
             causes: self.causes.copy(),
             basic: self.basic.copy(),
-            number: self.number.clone()?,
         })
     }
 }
