@@ -1,6 +1,6 @@
 -- The triggering criteria of a detection point (TS 23.078), as clauses see them: O-BcsmCamelTDP-Criteria
 -- and T-BCSM-CAMEL-TDP-Criteria of TS 29.002. An empty list of codes or causes is no criterion.
-use Rattle.std.specs.Prelude.{ℕ, Bool, false, true, not, ◌==◌, ◌&&◌, ◌||◌, nat_le, List, length, Option, Some, None, Result, Ok, Err, if◌then◌else◌}
+use Rattle.std.specs.Prelude.{◌≡◌, ℕ, Bool, false, true, not, ◌==◌, ◌&&◌, ◌||◌, nat_le, List, [], length, Option, Some, None, Result, Ok, Err, if◌then◌else◌}
 use Rattle.std.specs.List.{list_all}
 use Rattle.camel_criteria.specs.Cause.{max_cause}
 use Rattle.camel_criteria.specs.declared.basic_service.BasicService.{BasicService}
@@ -27,6 +27,12 @@ pub record OCriteriaData : Type 0 where
   pub basic : List BasicService
   pub call_type : Option CallType
   pub causes : List ℕ
+
+-- an entry holds no criterion but that of the number
+pub record HoldsNoOther (entry : OCriteriaData) : Type 0 where
+  pub basic : entry.basic ≡ []
+  pub call_type : entry.call_type ≡ None
+  pub causes : entry.causes ≡ []
 
 -- an entry of the criteria of the VT-CSI
 pub record TCriteriaData : Type 0 where

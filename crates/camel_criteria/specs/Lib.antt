@@ -3,6 +3,7 @@ pub mod Cause
 pub mod Criteria
 pub mod DetectionPoint
 pub mod Event
+pub mod FewNumbers
 pub mod Handling
 pub mod ListedNumbers
 pub mod Means

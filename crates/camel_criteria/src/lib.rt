@@ -9,6 +9,7 @@ mod criteria_entry;
 mod detection_point;
 mod entry_limits;
 mod event;
+mod few_numbers;
 mod handling;
 mod in_place;
 mod laws;

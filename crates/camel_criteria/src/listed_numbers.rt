@@ -1,8 +1,11 @@
 ghost use Rattle.std.specs.Prelude.{◌≡◌, IfOk};
+ghost use Rattle.std.specs.List.{list_any};
+ghost use Rattle.camel_tbcd.specs.Address.{octets};
 ghost use Rattle.camel_criteria.specs.ListedNumbers.{numbers_of};
+ghost use Rattle.camel_criteria.specs.Met.{number_matches};
 
-use crate::in_place::InPlace;
-use camel_tbcd::IsdnAddress;
+use crate::few_numbers::FewNumbers;
+use camel_tbcd::{Address, IsdnAddress, Profile};
 use std::alloc::{AllocError, Global};
 
 // The listed numbers of a criterion. Up to three are kept in place, so that they are read with the criterion; more are
@@ -10,12 +13,9 @@ use std::alloc::{AllocError, Global};
 #[derive(Debug, Drop)]
 pub(crate) enum ListedNumbers {
     Absent,
-    Few(InPlace<IsdnAddress, MAX_IN_PLACE>),
+    Few(FewNumbers),
     Apart(Box<Vec<IsdnAddress>>),
 }
-
-// How many numbers are kept in place: with as many a criterion takes 40 octets.
-const MAX_IN_PLACE: usize = 3;
 
 impl ListedNumbers {
     pub(crate) fn from_slice(
@@ -24,13 +24,15 @@ impl ListedNumbers {
     ) -> Result<ListedNumbers, AllocError>
         ensures { IfOk result (λ kept. numbers_of kept ≡ numbers.now) }
     {
-        match numbers.first() {
-            None => Ok(ListedNumbers::Absent),
-            Some(first) if numbers.len() <= MAX_IN_PLACE => {
-                Ok(ListedNumbers::Few(InPlace::from_slice(numbers, *first)))
+        Ok(match numbers {
+            [] => ListedNumbers::Absent,
+            [first] => ListedNumbers::Few(FewNumbers::of([*first, *first, *first], 1)),
+            [first, second] => ListedNumbers::Few(FewNumbers::of([*first, *second, *first], 2)),
+            [first, second, third] => {
+                ListedNumbers::Few(FewNumbers::of([*first, *second, *third], 3))
             }
-            Some(_) => ListedNumbers::apart(alloc, Vec::from_slice(alloc, numbers)?),
-        }
+            _ => ListedNumbers::apart(alloc, Vec::from_slice(alloc, numbers)?)?,
+        })
     }
 
     fn apart(alloc: Global, numbers: Vec<IsdnAddress>) -> Result<ListedNumbers, AllocError>
@@ -49,13 +51,32 @@ impl ListedNumbers {
         }
     }
 
+    // Whether a destination begins with one of the numbers, under a profile.
+    pub(crate) fn has_front_of(&self, destination: &Address, profile: Profile) -> bool
+        ensures { result ≡ list_any (λ listed. number_matches profile listed (octets destination.now)) (numbers_of self.now) }
+    {
+        match self {
+            ListedNumbers::Absent => false,
+            ListedNumbers::Few(numbers) => numbers.has_front_of(destination, profile),
+            ListedNumbers::Apart(numbers) => has_front_of(numbers, destination, profile),
+        }
+    }
+
     pub(crate) fn copy(&self) -> Result<ListedNumbers, AllocError>
         ensures { IfOk result (λ copied. numbers_of copied ≡ numbers_of self.now) }
     {
         Ok(match self {
             ListedNumbers::Absent => ListedNumbers::Absent,
-            ListedNumbers::Few(numbers) => ListedNumbers::Few(numbers.copy()),
+            ListedNumbers::Few(numbers) => ListedNumbers::Few(*numbers),
             ListedNumbers::Apart(numbers) => ListedNumbers::Apart(numbers.clone()?),
         })
     }
+}
+
+fn has_front_of(numbers: &[IsdnAddress], destination: &Address, profile: Profile) -> bool
+    ensures { result ≡ list_any (λ listed. number_matches profile listed (octets destination.now)) numbers.now }
+{
+    numbers
+        .iter()
+        .any(|listed| listed.is_front_of(destination, profile))
 }

@@ -1,12 +1,11 @@
-ghost use Rattle.std.specs.Prelude.{◌≡◌, ◌==◌};
+ghost use Rattle.std.specs.Prelude.{◌≡◌, ◌==◌, ◌&&◌, ◌↔◌, IsTrue};
 ghost use Rattle.std.specs.List.{list_any};
 ghost use Rattle.std.specs.Option.{option_copied};
 ghost use Rattle.camel_tbcd.specs.Address.{octets};
-ghost use Rattle.camel_tbcd.specs.DigitList.{digit_list};
-ghost use Rattle.camel_tbcd.specs.Digits.{digits};
 ghost use Rattle.camel_criteria.specs.BasicService.{covers};
+ghost use Rattle.camel_criteria.specs.Criteria.{HoldsNoOther};
 ghost use Rattle.camel_criteria.specs.Event.{o_event_data};
-ghost use Rattle.camel_criteria.specs.Met.{basic_met, cause_met, held_number_met, is_listed, number_matches, number_met, o_met, t_met, type_met};
+ghost use Rattle.camel_criteria.specs.Met.{basic_met, cause_met, held_number_met, is_listed, number_met, o_met, t_met, type_met};
 
 use crate::basic_service::{BasicService, covers};
 use crate::cause::Cause;
@@ -15,7 +14,7 @@ use crate::event::{OEvent, TEvent};
 use crate::number_criterion::NumberCriterion;
 use crate::o_criteria::OCriteria;
 use crate::t_criteria::TCriteria;
-use camel_tbcd::{Address, Digits, IsdnAddress, Profile};
+use camel_tbcd::{Address, Profile};
 
 /// Whether an event meets each criterion that an entry of the O-CSI holds. One that holds none is met by every
 /// event. The detection points are not compared. The profile says what of octet 1 a listed number and the destination
@@ -24,7 +23,21 @@ pub fn o_met(entry: &OCriteria, event: &OEvent, profile: Profile) -> bool
     ensures { result ≡ o_met profile entry.now (o_event_data event.now) }
 {
     held_number_met(entry.number(), &event.destination, profile)
-        && basic_met(entry.basic(), event.basic)
+        & (holds_no_other(entry) || others_met(entry, event))
+}
+
+// Whether an entry holds no criterion but that of the number, as most do: one test in place of three.
+fn holds_no_other(entry: &OCriteria) -> bool
+    ensures { IsTrue result ↔ HoldsNoOther entry.now }
+{
+    entry.basic().is_empty() & entry.call_type().is_none() & entry.causes().is_empty()
+}
+
+// Whether an event meets each criterion of an entry but that of the number.
+fn others_met(entry: &OCriteria, event: &OEvent) -> bool
+    ensures { result ≡ (basic_met entry.now.basic event.now.basic && (type_met entry.now.call_type event.now.forwarded && cause_met entry.now.causes event.now.cause)) }
+{
+    basic_met(entry.basic(), event.basic)
         && type_met(entry.call_type(), event.forwarded)
         && cause_met(entry.causes(), event.cause)
 }
@@ -63,41 +76,14 @@ fn number_met(criterion: &NumberCriterion, destination: &Address, profile: Profi
 fn is_listed(criterion: &NumberCriterion, destination: &Address, profile: Profile) -> bool
     ensures { result ≡ is_listed profile criterion.now (octets destination.now) }
 {
-    let digits = destination.digits();
-    has_number(criterion.numbers(), destination, &digits, profile)
-        || has_length(criterion.lengths(), digits.len())
-}
-
-// `destination_digits` are those of the destination.
-fn has_number(
-    numbers: &[IsdnAddress],
-    destination: &Address,
-    destination_digits: &Digits,
-    profile: Profile,
-) -> bool
-    requires { digit_list destination_digits.now ≡ digits (octets destination.now) }
-    ensures { result ≡ list_any (λ listed. number_matches profile listed (octets destination.now)) numbers.now }
-{
-    numbers.iter().any(|listed| number_matches(listed, destination, destination_digits, profile))
+    criterion.lists_front_of(destination, profile)
+        | has_length(criterion.lengths(), destination.digits().len())
 }
 
 fn has_length(lengths: &[u8], count: usize) -> bool
     ensures { result ≡ list_any (λ listed. listed == count) lengths.now }
 {
     lengths.iter().any(|listed| usize::from(*listed) == count)
-}
-
-// `destination_digits` are those of the destination.
-fn number_matches(
-    listed: &IsdnAddress,
-    destination: &Address,
-    destination_digits: &Digits,
-    profile: Profile,
-) -> bool
-    requires { digit_list destination_digits.now ≡ digits (octets destination.now) }
-    ensures { result ≡ number_matches profile listed.now (octets destination.now) }
-{
-    listed.lend().agrees(destination, profile) && destination_digits.begins_with(&listed.digits())
 }
 
 fn basic_met(listed: &[BasicService], call: BasicService) -> bool

@@ -1,15 +1,16 @@
 ghost use Rattle.std.specs.Prelude.{◌≡◌, [], IfErr, slice_get};
-ghost use Rattle.std.specs.List.{list_all};
+ghost use Rattle.std.specs.List.{list_all, list_any};
 ghost use Rattle.std.specs.Option.{option_map};
 ghost use Rattle.camel_tbcd.specs.Address.{octets};
 ghost use Rattle.camel_criteria.specs.Criteria.{is_length, number_criterion_of};
+ghost use Rattle.camel_criteria.specs.Met.{number_matches};
 ghost use Rattle.camel_criteria.specs.Refusal.{MakesOf};
 
 use crate::criteria::MatchType;
 use crate::in_place::InPlace;
 use crate::listed_numbers::ListedNumbers;
 use crate::refusal::Refusal;
-use camel_tbcd::{Address, IsdnAddress};
+use camel_tbcd::{Address, IsdnAddress, Profile};
 use std::alloc::{AllocError, Global};
 use std::marker::Model;
 
@@ -98,6 +99,13 @@ impl NumberCriterion {
             Some(number) => Some(number.lend()),
             None => None,
         }
+    }
+
+    // Whether a destination begins with a listed number, under a profile.
+    pub(crate) fn lists_front_of(&self, destination: &Address, profile: Profile) -> bool
+        ensures { result ≡ list_any (λ listed. number_matches profile listed (octets destination.now)) self.now.numbers }
+    {
+        self.numbers.has_front_of(destination, profile)
     }
 
     /// The listed lengths, in digits, in the order received.

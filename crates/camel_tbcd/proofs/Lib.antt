@@ -1,4 +1,6 @@
+pub mod DifferenceLemmas
 pub mod DigitLemmas
+pub mod FrontLemmas
 pub mod ImsiOrderLemmas
 pub mod ImsiSlotLemmas
 pub mod PackedDigitLemmas

@@ -72,11 +72,11 @@ packed_digits-room most (first ∷ octets) some =
     packed-take-append 8 octets _ (λ n. ap (λ zeros. packed (nibbles (take n zeros))) (drop-replicate (length (first ∷ octets)) most 0) ∙ packed-take-replicate _ n)
 
 -- a nibble is below 16
-abbrev IsNibble : ℕ → Type 0
+abbrev pub IsNibble : ℕ → Type 0
 IsNibble nibble = nibble < 16
 
 -- an octet is below 256
-abbrev IsOctet : ℕ → Type 0
+abbrev pub IsOctet : ℕ → Type 0
 IsOctet octet = octet < 256
 
 -- octets have nibbles
@@ -146,6 +146,17 @@ front_small octets count small within few =
     All-same IsNibble _ (take count (nibbles (take 8 (drop 1 octets)))) (sym (front_nibbles octets count within few))
     (All-take IsNibble count _ (front_all octets small))
 
+-- the lowest digits of the numbers of two addresses are the same exactly if their first digits are
+pub same_fronts : (all others : List ℕ) (count : ℕ) → All IsOctet all → All IsOctet others → count ≤ 16 → count ≤ length (digits all) → count ≤ length (digits others)
+    → (packed_digits all % 16 ^ count ≡ packed_digits others % 16 ^ count) ↔ (take count (digits all) ≡ take count (digits others))
+same_fronts all others count small smaller few within inside =
+    let mine = front_number all count small within few in
+    let theirs = front_number others count smaller inside few in
+    let lengths = length-take-le count (digits all) within ∙ sym (length-take-le count (digits others) inside) in (
+      λ same. same_from_packed _ _ lengths (front_small all count small within few) (front_small others count smaller inside few) (sym mine ∙ same ∙ theirs),
+      λ same. mine ∙ ap packed same ∙ sym theirs,
+    )
+
 -- a factor of both stays
 product-mod : (number most factor : ℕ) → 0 < most → 0 < factor → (number * factor) % (most * factor) ≡ number % most * factor
 product-mod number most factor some more =
@@ -163,7 +174,7 @@ pow-16 (suc count) =
     rw (more, pow-succ') (pow-add 2 4 (4 * count) ∙ ap (λ n. 16 * n) (pow-16 count))
 
 -- a shift leaves only the lowest digits
-shifted : (number count : ℕ) → count ≤ 16 → number * 2 ^ (64 - 4 * count) % 2 ^ 64 ≡ number % 16 ^ count * 2 ^ (64 - 4 * count)
+pub shifted : (number count : ℕ) → count ≤ 16 → number * 2 ^ (64 - 4 * count) % 2 ^ 64 ≡ number % 16 ^ count * 2 ^ (64 - 4 * count)
 shifted number count few =
     let places : 64 ≡ 4 * count + (64 - 4 * count) = omega arith in
     let whole : 2 ^ 64 ≡ 16 ^ count * 2 ^ (64 - 4 * count) =
@@ -176,10 +187,7 @@ pub same_shifted : (all others : List ℕ) (count : ℕ) → All IsOctet all →
 same_shifted all others count small smaller few within inside =
     let mine = shifted (packed_digits all) count few in
     let theirs = shifted (packed_digits others) count few in
-    let my_front = front_number all count small within few in
-    let their_front = front_number others count smaller inside few in
-    let lengths = length-take-le count (digits all) within ∙ sym (length-take-le count (digits others) inside) in (
-      λ same. same_from_packed _ _ lengths (front_small all count small within few) (front_small others count smaller inside few)
-          (sym my_front ∙ eq_of_mul-eq-mul_right (2 ^ (64 - 4 * count)) (one-le-pow (64 - 4 * count) 2 (omega arith)) _ _ (sym mine ∙ same ∙ theirs) ∙ their_front),
-      λ same. mine ∙ ap (λ n. n * 2 ^ (64 - 4 * count)) (my_front ∙ ap packed same ∙ sym their_front) ∙ sym theirs,
+    let told = same_fronts all others count small smaller few within inside in (
+      λ same. told.0 (eq_of_mul-eq-mul_right (2 ^ (64 - 4 * count)) (one-le-pow (64 - 4 * count) 2 (omega arith)) _ _ (sym mine ∙ same ∙ theirs)),
+      λ same. mine ∙ ap (λ n. n * 2 ^ (64 - 4 * count)) (told.1 same) ∙ sym theirs,
     )

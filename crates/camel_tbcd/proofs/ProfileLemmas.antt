@@ -1,10 +1,13 @@
 -- The test of two addresses says whether they agree.
-use Rattle.std.proofs.Common.{◌≡◌, ℕ, List, refl}
+use Rattle.std.proofs.Common.{◌≡◌, ℕ, ◌*◌, ◌/◌, ◌%◌, ◌↔◌, List, [], ◌∷◌, bit_and, bit_xor, slice_index, refl, sym, ap, ◌∙◌, arith}
 use Rattle.std.proofs.lemmas.Bool.{eq-eqb, eqb-true}
 use Rattle.std.proofs.lemmas.Bool.Decides.{Decides-and, Decides-eqb}
+use Rattle.std.proofs.lemmas.Nat.{and_mask, xor_mod, xor_shr}
+use Rattle.std.proofs.lemmas.Nat.Bits.{and_high}
 use Rattle.std.specs.Bool.{Decides}
+use Rattle.camel_tbcd.proofs.DifferenceLemmas.{no_bit_differs}
 use Rattle.camel_tbcd.specs.Nature.{nature_of, plan_of}
-use Rattle.camel_tbcd.specs.Profile.{Agree, agrees, plans_agree}
+use Rattle.camel_tbcd.specs.Profile.{Agree, agrees, compared_bits, plans_agree}
 use Rattle.camel_tbcd.specs.declared.profile.Profile.{Profile}
 use Rattle.camel_tbcd.specs.declared.profile.Profile.TheVariants.{One, Two}
 
@@ -18,3 +21,27 @@ agrees_decides profile first second =
       λ e. let both = told.0 e in record { nature = both.0; plan = both.1 },
       λ are. told.1 (are.nature, are.plan),
     )
+
+-- octets 1 that differ in none of the bits that the profile compares are those of addresses that agree
+pub agree_by_bits : (profile : Profile) (first other : ℕ) → (bit_and (bit_xor first other) (compared_bits profile) ≡ 0) ↔ Agree profile (first ∷ []) (other ∷ [])
+agree_by_bits One first other =
+    let masked : bit_and (bit_xor first other) 0x70 ≡ bit_xor first other / 16 % 8 * 16 = and_high (bit_xor first other) 3 4 in
+    let apart : bit_xor first other / 16 % 8 ≡ bit_xor (first / 16 % 8) (other / 16 % 8) = ap (λ n. n % 8) (xor_shr first other 4) ∙ xor_mod (first / 16) (other / 16) 3 in
+    let told = no_bit_differs (first / 16 % 8) (other / 16 % 8) in (
+      λ none. record { nature = told.0 (omega (arith, none)); plan = λ two. absurd (cc two) },
+      λ are. omega (arith, told.1 are.nature),
+    )
+agree_by_bits Two first other =
+    let apart : bit_and (bit_xor first other) 0x7f ≡ bit_xor (first % 128) (other % 128) = and_mask (bit_xor first other) 7 ∙ xor_mod first other 7 in
+    let told = no_bit_differs (first % 128) (other % 128) in (
+      λ none. let same = told.0 (sym apart ∙ none) in record { nature = omega (arith, same); plan = λ two. omega (arith, same) },
+      λ are. apart ∙ told.1 (omega (arith, are.nature, are.plan refl)),
+    )
+
+-- addresses agree exactly if those of their octets 1 alone do
+pub agree_by_firsts : (profile : Profile) (some others : List ℕ) (first other : ℕ) → first ≡ slice_index some 0 → other ≡ slice_index others 0
+    → Agree profile (first ∷ []) (other ∷ []) ↔ Agree profile some others
+agree_by_firsts profile some others first other mine theirs = (
+  λ are. record { nature = omega (arith, are.nature); plan = λ two. omega (arith, are.plan two) },
+  λ are. record { nature = omega (arith, are.nature); plan = λ two. omega (arith, are.plan two) },
+)

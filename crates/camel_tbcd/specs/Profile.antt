@@ -18,3 +18,8 @@ plans_agree Two first second = plan_of first == plan_of second
 -- two addresses agree, as a test
 abbrev pub agrees : Profile → List ℕ → List ℕ → Bool
 agrees profile first second = nature_of first == nature_of second && plans_agree profile first second
+
+-- the bits of octet 1 that a profile compares: 765, and under profile 2 also 4321
+abbrev pub compared_bits : Profile → ℕ
+compared_bits One = 0x70
+compared_bits Two = 0x7f

@@ -1,7 +1,8 @@
-ghost use Rattle.std.specs.Prelude.{◌≡◌, ◌≤◌, ◌<◌, ◌↔◌, length, IfOk, IsTrue, IsErrOf, OnOk};
+ghost use Rattle.std.specs.Prelude.{◌≡◌, ◌≤◌, ◌<◌, ◌↔◌, [], ◌∷◌, length, IfOk, IsTrue, IsErrOf, OnOk};
 ghost use Rattle.camel_tbcd.specs.Nature.{nature_of, plan_of};
 ghost use Rattle.camel_tbcd.specs.AddressFault.{address_fault_code};
 ghost use Rattle.camel_tbcd.specs.AddressLength.{IsAddress, max_address_length};
+ghost use Rattle.camel_tbcd.specs.Profile.{Agree, agrees, compared_bits};
 
 use crate::digits::Digits;
 use crate::profile::Profile;
@@ -58,7 +59,6 @@ impl<'a> Address<'a> {
     ghost use Rattle.camel_tbcd.specs.Address.{octets};
     ghost use Rattle.camel_tbcd.specs.DigitList.{digit_list};
     ghost use Rattle.camel_tbcd.specs.Digits.{digits};
-    ghost use Rattle.camel_tbcd.specs.Profile.{Agree, agrees, plans_agree};
 
     /// Borrows octets as an address.
     ///
@@ -106,16 +106,7 @@ impl<'a> Address<'a> {
         ensures tested { result ≡ agrees profile (octets self.now) (octets other.now) }
         ensures means { IsTrue result ↔ Agree profile (octets self.now) (octets other.now) }
     {
-        self.nature() == other.nature() && self.plan_agrees(other, profile)
-    }
-
-    fn plan_agrees(&self, other: &Address, profile: Profile) -> bool
-        ensures { result ≡ plans_agree profile (octets self.now) (octets other.now) }
-    {
-        match profile {
-            Profile::One => true,
-            Profile::Two => self.plan() == other.plan(),
-        }
+        differing_bits(self.bytes()[0], other.bytes()[0], profile) == 0
     }
 
     /// The octets that it was made of, 1 to 20.
@@ -132,6 +123,23 @@ impl<'a> Address<'a> {
         ensures { digit_list result ≡ digits (octets self.now) }
     {
         self.digits
+    }
+}
+
+// The bits in which two octets 1 differ of those that a profile compares: 0 exactly if their addresses agree.
+pub(crate) fn differing_bits(first: u8, other: u8, profile: Profile) -> u8
+    ensures { (result ≡ 0) ↔ Agree profile (first ∷ []) (other ∷ []) }
+{
+    (first ^ other) & compared_bits(profile)
+}
+
+// The bits of octet 1 that a profile compares: those of the nature of address, and of the numbering plan.
+fn compared_bits(profile: Profile) -> u8
+    ensures { result ≡ compared_bits profile }
+{
+    match profile {
+        Profile::One => 0x70,
+        Profile::Two => 0x7f,
     }
 }
 

@@ -53,6 +53,13 @@ impl<'a> Digits<'a> {
         self.bytes
     }
 
+    // The digits of octets 2 to 9 as one number.
+    pub(crate) fn number(&self) -> u64
+        ensures { result ≡ packed_digits self.now.bytes.now }
+    {
+        self.number
+    }
+
     /// How many digits there are.
     pub fn len(&self) -> usize
         ensures { result ≡ length (digit_list self.now) }

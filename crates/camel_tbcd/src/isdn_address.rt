@@ -1,12 +1,15 @@
-ghost use Rattle.std.specs.Prelude.{◌≡◌, ◌<◌, ◌↔◌, length, IfOk, IsErrOf};
+ghost use Rattle.std.specs.Prelude.{◌≡◌, ◌+◌, ◌<◌, ◌↔◌, ◌&&◌, length, nat_eq, IfOk, IsErrOf};
+ghost use Rattle.std.specs.List.{starts_with};
 ghost use Rattle.camel_tbcd.specs.Address.{octets};
 ghost use Rattle.camel_tbcd.specs.AddressLength.{IsAddress, max_isdn_address_length};
 ghost use Rattle.camel_tbcd.specs.DigitList.{digit_list};
 ghost use Rattle.camel_tbcd.specs.Digits.{digits};
 ghost use Rattle.camel_tbcd.specs.PackedDigits.{packed_digits};
+ghost use Rattle.camel_tbcd.specs.Profile.{agrees};
 
-use crate::address::{Address, AddressFault, check_length};
+use crate::address::{Address, AddressFault, check_length, differing_bits};
 use crate::digits::{Digits, digit_count};
+use crate::profile::Profile;
 use crate::short_list::ShortList;
 use std::marker::Model;
 use std::mem::size_of;
@@ -67,7 +70,7 @@ impl IsdnAddress {
         let fewer = MOST_DIGITS - digit_count(octets);
         IsdnAddress {
             room: *ShortList::<MAX_ISDN_ADDRESS_LENGTH>::from_slice(octets).room(),
-            counts: (COUNT_PLACE * fewer + octets.len()) as u8,
+            counts: COUNT_PLACE * fewer as u8 + octets.len() as u8,
         }
     }
 
@@ -86,14 +89,36 @@ impl IsdnAddress {
         self.read()
     }
 
+    /// Whether a destination begins with this number: both agree in what the profile compares of octet 1, and the digits
+    /// of this number are the first ones of the destination's. It does not branch, since nothing of this can be foreseen.
+    pub fn is_front_of(&self, destination: &Address, profile: Profile) -> bool
+        ensures { result ≡ (agrees profile self.now (octets destination.now) && starts_with nat_eq (digits (octets destination.now)) (digits self.now)) }
+    {
+        let front = self.read();
+        let digits = destination.digits();
+        let fewer = self.fewer();
+        // Half of the bits after the digits of this number: all of them can be too many for one shift.
+        let half = 2 * fewer;
+        let differing = (digits.number() ^ front.number()) << half << half;
+        let differing_first = differing_bits(self.room[0], destination.bytes()[0], profile);
+        (MOST_DIGITS.saturating_sub(digits.len()) <= fewer)
+            & (differing | u64::from(differing_first) == 0)
+    }
+
     // Its octets, with their digits.
     fn read(&self) -> Digits<'_>
         ensures octets { result.bytes.now ≡ self.now }
         ensures address { IsAddress max_isdn_address_length self.now }
     {
-        let counts = usize::from(self.counts);
-        let octets = &self.room[..counts % COUNT_PLACE];
-        Digits::of_counted(octets, MOST_DIGITS - counts / COUNT_PLACE, self.number())
+        let octets = &self.room[..usize::from(self.counts % COUNT_PLACE)];
+        Digits::of_counted(octets, MOST_DIGITS - self.fewer(), self.number())
+    }
+
+    // How many digits it has fewer than 16.
+    fn fewer(&self) -> usize
+        ensures { result + length (digits self.now) ≡ MOST_DIGITS }
+    {
+        usize::from(self.counts / COUNT_PLACE)
     }
 
     // The digits of octets 2 to 9 as one number: one read, since the room behind the octets is 0.
@@ -110,7 +135,7 @@ impl IsdnAddress {
 const _: () = prove!(size_of::<IsdnAddress>() == 10);
 
 // What a digit fewer than 16 adds to the counts: more than the count of octets, which is 1 to 9.
-const COUNT_PLACE: usize = 10;
+const COUNT_PLACE: u8 = 10;
 
 // The most digits that are in octets 2 to 9.
 const MOST_DIGITS: usize = 16;

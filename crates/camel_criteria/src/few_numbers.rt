@@ -1,0 +1,63 @@
+ghost use Rattle.std.specs.Prelude.{◌≡◌, take};
+ghost use Rattle.std.specs.List.{list_any};
+ghost use Rattle.camel_tbcd.specs.Address.{octets};
+ghost use Rattle.camel_criteria.specs.FewNumbers.{IsFew};
+ghost use Rattle.camel_criteria.specs.Met.{number_matches};
+
+use camel_tbcd::{Address, IsdnAddress, Profile};
+use std::marker::Model;
+
+// One to three listed numbers, kept in place. Contracts see them as a list.
+//
+// A place that is left holds the first number again. So a destination is compared with all three places, and how many
+// numbers there are, which cannot be foreseen, makes no branch.
+#[derive(Clone, Copy, Debug)]
+pub(crate) struct FewNumbers {
+    room: [IsdnAddress; MAX_IN_PLACE],
+    len: u8,
+}
+
+// How many numbers are kept in place: with as many a criterion takes 40 octets.
+const MAX_IN_PLACE: usize = 3;
+
+impl Model for FewNumbers {
+    ghost use Rattle.std.specs.Prelude.{ℕ, List, length, take};
+    ghost use Rattle.std.proofs.Common.{sym};
+    ghost use Rattle.camel_criteria.specs.FewNumbers.{IsFew, filled};
+
+    ghost Value = { List (List ℕ) };
+
+    ghost view = { λ a. take a.len a.room };
+
+    ghost invariant = { λ a. IsFew a.room a.len };
+
+    ghost inverse = { λ numbers. record { room = filled numbers; len = length numbers } };
+
+    ghost inverse_ok = { λ a h i. record { room = sym h.full i; len = sym h.counted i } };
+}
+
+impl FewNumbers {
+    // Keeps the first `len` numbers of a room that is filled.
+    pub(crate) fn of(room: [IsdnAddress; MAX_IN_PLACE], len: u8) -> FewNumbers
+        requires { IsFew room len }
+        ensures { result ≡ take len room }
+    {
+        FewNumbers { room, len }
+    }
+
+    // The numbers, in their order.
+    pub(crate) fn as_slice(&self) -> &[IsdnAddress]
+        ensures { result.now ≡ self.now }
+    {
+        &self.room[..usize::from(self.len)]
+    }
+
+    // Whether a destination begins with one of the numbers, under a profile.
+    pub(crate) fn has_front_of(&self, destination: &Address, profile: Profile) -> bool
+        ensures { result ≡ list_any (λ listed. number_matches profile listed (octets destination.now)) self.now }
+    {
+        self.room[0].is_front_of(destination, profile)
+            | self.room[1].is_front_of(destination, profile)
+            | self.room[2].is_front_of(destination, profile)
+    }
+}
