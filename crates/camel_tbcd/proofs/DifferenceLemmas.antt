@@ -1,13 +1,14 @@
 -- Where two numbers of digits do not differ, the first digits are the same.
-use Rattle.std.proofs.Common.{◌≡◌, ◌∙◌, ℕ, ◌+◌, ◌-◌, ◌*◌, ◌%◌, ◌<◌, ◌≤◌, ◌^◌, ◌↔◌, List, length, take, All, bit_xor, sym, ap, arith}
+use Rattle.std.proofs.Common.{◌≡◌, ◌∙◌, ℕ, ◌+◌, ◌-◌, ◌*◌, ◌%◌, ◌<◌, ◌≤◌, ◌^◌, ◌↔◌, List, length, take, All, get_or, bit_xor, sym, ap, arith, ⊎_elim}
 use Rattle.std.proofs.Math.Nat.{eq_of_mul-eq-mul_right, mul_assoc, one-le-pow}
-use Rattle.std.proofs.lemmas.List.{length-take, take_all}
+use Rattle.std.proofs.lemmas.Bool.{cases_lt}
+use Rattle.std.proofs.lemmas.List.{get_or-take, length-take, take_all}
 use Rattle.std.proofs.lemmas.Nat.{mul-mod_first, pow-add, xor_mod}
 use Rattle.std.proofs.lemmas.Nat.Bits.{bit_at-lt, bit_at-zero, bit_at_xor, same_from_bits}
 use Rattle.std.specs.Int.{bit_at}
 use Rattle.camel_tbcd.specs.Digits.{digits}
-use Rattle.camel_tbcd.specs.PackedDigits.{packed_digits}
-use Rattle.camel_tbcd.proofs.PackedDigitLemmas.{IsOctet, pow-16, same_fronts, shifted}
+use Rattle.camel_tbcd.specs.PackedDigits.{first_nibbles, packed_digits}
+use Rattle.camel_tbcd.proofs.PackedDigitLemmas.{IsOctet, filler_behind, first_digits, no_filler, pow-16, same_first, shifted}
 
 even_sum : (x y : ℕ) → x < 2 → y < 2 → (x + y) % 2 ≡ 0 → x ≡ y
 even_sum x y small smaller even = omega arith
@@ -46,23 +47,32 @@ same_lowest a b count =
     ap (λ n. bit_xor a b % n) (sym (pow-16 count)) ∙ xor_mod a b (4 * count) ∙ ap (λ n. bit_xor (a % n) (b % n)) (pow-16 count) in
     let told = no_bit_differs (a % 16 ^ count) (b % 16 ^ count) in (λ none. told.0 (sym apart ∙ none), λ same. apart ∙ told.1 same)
 
--- the first digits of two addresses are the same exactly if no bit of them differs
+-- the first nibbles of two addresses are the same exactly if no bit of them differs
 same_if_none_differs : (all others : List ℕ) (half count : ℕ) → All IsOctet all → All IsOctet others → count ≤ 16 → half + 2 * count ≡ 32
-    → count ≤ length (digits all) → count ≤ length (digits others)
-    → (bit_xor (packed_digits all) (packed_digits others) * 2 ^ half % 2 ^ 64 * 2 ^ half % 2 ^ 64 ≡ 0) ↔ (take count (digits all) ≡ take count (digits others))
-same_if_none_differs all others half count small smaller few is within inside =
+    → (bit_xor (packed_digits all) (packed_digits others) * 2 ^ half % 2 ^ 64 * 2 ^ half % 2 ^ 64 ≡ 0) ↔ (take count (first_nibbles all) ≡ take count (first_nibbles others))
+same_if_none_differs all others half count small smaller few is =
     let left = none_shifted (bit_xor (packed_digits all) (packed_digits others)) half count few is in
     let lowest = same_lowest (packed_digits all) (packed_digits others) count in
-    let told = same_fronts all others count small smaller few within inside in (λ none. told.0 (lowest.0 (left.0 none)), λ same. left.1 (lowest.1 (told.1 same)))
+    let told = same_first all others count small smaller few in (λ none. told.0 (lowest.0 (left.0 none)), λ same. left.1 (lowest.1 (told.1 same)))
 
--- at most 16 digits are the first ones exactly if there are no fewer others, and no bit of them differs
+-- digits are among the first nibbles only where there are as many digits: a filler is behind these
+as_many : (all front : List ℕ) → length (digits front) ≤ 16 → take (length (digits front)) (first_nibbles all) ≡ digits front → length (digits front) ≤ length (digits all)
+as_many all front few same =
+    ⊎_elim
+    (λ (fewer : length (digits all) < length (digits front)). absurd (no_filler front (length (digits all)) fewer
+    (ap (λ items. get_or items (length (digits all)) 0) (sym same)
+    ∙ get_or-take (length (digits front)) (first_nibbles all) (length (digits all)) 0 fewer ∙ filler_behind all (omega arith))))
+    (λ (enough : length (digits front) ≤ length (digits all)). enough)
+    (cases_lt (length (digits all)) (length (digits front)))
+
+-- at most 16 digits are the first ones of others exactly if no bit of them differs
 pub first_if_none_differs : (all front : List ℕ) (half : ℕ) → All IsOctet all → All IsOctet front → length (digits front) ≤ 16 → half + 2 * length (digits front) ≡ 32
-    → ((length (digits front) ≤ length (digits all)) × (bit_xor (packed_digits all) (packed_digits front) * 2 ^ half % 2 ^ 64 * 2 ^ half % 2 ^ 64 ≡ 0))
-    ↔ (digits front ≡ take (length (digits front)) (digits all))
+    → (bit_xor (packed_digits all) (packed_digits front) * 2 ^ half % 2 ^ 64 * 2 ^ half % 2 ^ 64 ≡ 0) ↔ (digits front ≡ take (length (digits front)) (digits all))
 first_if_none_differs all front half small smaller few is =
     let count : ℕ = length (digits front) in
-    let whole : take count (digits front) ≡ digits front = take_all count (digits front) (omega arith) in (
-      λ both. sym whole ∙ sym ((same_if_none_differs all front half count small smaller few is both.0 (omega arith)).0 both.1),
+    let whole : take count (first_nibbles front) ≡ digits front = first_digits front count (omega arith) few ∙ take_all count (digits front) (omega arith) in
+    let told = same_if_none_differs all front half count small smaller few is in (
+      λ none. let same : take count (first_nibbles all) ≡ digits front = told.0 none ∙ whole in sym same ∙ first_digits all count (as_many all front few same) few,
       λ same. let within : count ≤ length (digits all) = omega (arith, ap length same, length-take count (digits all)) in
-          (within, (same_if_none_differs all front half count small smaller few is within (omega arith)).1 (sym same ∙ sym whole)),
+          told.1 (first_digits all count within few ∙ sym same ∙ sym whole),
     )

@@ -11,7 +11,7 @@ use Rattle.std.specs.List.{position_or_len, starts_with}
 use mathlib.Core.List.{IsPrefix}
 use Rattle.camel_tbcd.specs.Digits.{digits, nibbles}
 
-length-nibbles : (octets : List ℕ) → length (nibbles octets) ≡ 2 * length octets
+pub length-nibbles : (octets : List ℕ) → length (nibbles octets) ≡ 2 * length octets
 length-nibbles [] = refl
 length-nibbles (octet ∷ octets) = omega (arith, length-nibbles octets)
 

@@ -1,6 +1,5 @@
 -- When a destination begins with a listed number.
-use Rattle.std.proofs.Common.{◌≡◌, ◌∙◌, ℕ, ◌+◌, ◌-◌, ◌*◌, ◌%◌, ◌==◌, ◌^◌, ◌↔◌, ◌&&◌, List, length, take, All, bit_or, bit_xor, leb, nat_eq, sym, ap, ap₂, arith}
-use Rattle.std.proofs.lemmas.Bool.{le-leb, leb-true}
+use Rattle.std.proofs.Common.{◌≡◌, ◌∙◌, ℕ, ◌+◌, ◌*◌, ◌%◌, ◌==◌, ◌^◌, ◌↔◌, ◌&&◌, List, length, take, All, bit_or, bit_xor, nat_eq, sym, ap, ap₂, arith}
 use Rattle.std.proofs.lemmas.Bool.Decides.{Decides-and, Decides-eqb, Decides-like, same_from_decides}
 use Rattle.std.proofs.lemmas.Nat.{le_or_l, le_or_r}
 use Rattle.std.specs.Cmp.Lexicographic.{bytes_decides}
@@ -20,13 +19,13 @@ no_bit_of_both a b = (
   λ both. ap₂ bit_or both.0 both.1,
 )
 
--- `fewer` is by how many digits the listed number has fewer than 16, and `least` how many fewer it has to have
-pub front_told : (profile : Profile) (listed destination called : List ℕ) (fewer least differing : ℕ)
+-- `fewer` is by how many digits the listed number has fewer than 16
+pub front_told : (profile : Profile) (listed destination called : List ℕ) (fewer differing : ℕ)
     → All IsOctet listed → All IsOctet called → digits called ≡ digits destination
-    → fewer + length (digits listed) ≡ 16 → least ≡ 16 - length (digits called) → ((differing ≡ 0) ↔ Agree profile listed destination)
-    → (leb least fewer && (bit_or (bit_xor (packed_digits called) (packed_digits listed) * 2 ^ (2 * fewer) % 2 ^ 64 * 2 ^ (2 * fewer) % 2 ^ 64) differing == 0))
+    → fewer + length (digits listed) ≡ 16 → ((differing ≡ 0) ↔ Agree profile listed destination)
+    → (bit_or (bit_xor (packed_digits called) (packed_digits listed) * 2 ^ (2 * fewer) % 2 ^ 64 * 2 ^ (2 * fewer) % 2 ^ 64) differing == 0)
     ≡ (agrees profile listed destination && starts_with nat_eq (digits destination) (digits listed))
-front_told profile listed destination called fewer least differing small smaller same fewer_is least_is agree =
+front_told profile listed destination called fewer differing small smaller same fewer_is agree =
     let count : ℕ = length (digits listed) in
     let shifted : ℕ = bit_xor (packed_digits called) (packed_digits listed) * 2 ^ (2 * fewer) % 2 ^ 64 * 2 ^ (2 * fewer) % 2 ^ 64 in
     let told = first_if_none_differs called listed (2 * fewer) smaller small (omega arith) (omega arith) in
@@ -34,7 +33,7 @@ front_told profile listed destination called fewer least differing small smaller
     let none = no_bit_of_both shifted differing in
     same_from_decides _ _
     (Decides-like _
-    (λ both. let apart = none.0 both.1 in (agree.0 apart.1, told.0 (omega (arith, both.0), apart.0) ∙ front))
-    (λ are. let first = told.1 (are.1 ∙ sym front) in (omega (arith, first.0), none.1 (first.1, agree.1 are.0)))
-    (Decides-and _ _ (leb-true least fewer, le-leb least fewer) (Decides-eqb _ _)))
+    (λ no_bit. let apart = none.0 no_bit in (agree.0 apart.1, told.0 apart.0 ∙ front))
+    (λ are. none.1 (told.1 (are.1 ∙ sym front), agree.1 are.0))
+    (Decides-eqb _ _))
     (Decides-and _ _ (agrees_decides profile listed destination) (bytes_decides (digits listed) (take count (digits destination))))

@@ -6,3 +6,4 @@ pub mod ImsiSlotLemmas
 pub mod PackedDigitLemmas
 pub mod PackedImsiLemmas
 pub mod ProfileLemmas
+pub mod RoomLemmas

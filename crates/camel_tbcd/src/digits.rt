@@ -4,8 +4,9 @@ ghost use Rattle.std.specs.List.{starts_with};
 ghost use mathlib.Core.List.{IsPrefix};
 ghost use Rattle.camel_tbcd.specs.AddressLength.{IsAddress, max_address_length};
 ghost use Rattle.camel_tbcd.specs.Digits.{digits, nibbles};
-ghost use Rattle.camel_tbcd.specs.PackedDigits.{packed_digits};
+ghost use Rattle.camel_tbcd.specs.PackedDigits.{packed, packed_digits};
 
+use crate::address::MAX_ADDRESS_LENGTH;
 use crate::short_list::ShortList;
 
 /// The digits of an address, read where its octets are: no list is made of them.
@@ -156,21 +157,26 @@ pub(crate) fn digit_count(bytes: &[u8]) -> usize
     2 * end
 }
 
-// The digits of octets 2 to 9 as one number, the first one lowest, with 0 for octets that there are not.
+// The digits of octets 2 to 9 as one number.
 fn packed_digits(bytes: &[u8]) -> u64
-    requires { 1 ≤ length bytes.now }
+    requires { IsAddress max_address_length bytes.now }
     ensures { result ≡ packed_digits bytes.now }
 {
-    let octets = &bytes[1..];
-    let few = &octets[..octets.len().min(PACKED_OCTETS)];
-    u64::from_le_bytes(*ShortList::<PACKED_OCTETS>::from_slice(few).room())
+    room_number(ShortList::<MAX_ADDRESS_LENGTH>::from_slice(bytes).room())
+}
+
+// The digits of octets 2 to 9 of a room as one number, the first one lowest: one read.
+pub(crate) fn room_number(room: &[u8]) -> u64
+    requires { 9 ≤ length room.now }
+    ensures { result ≡ packed (nibbles (take 8 (drop 1 room.now))) }
+{
+    u64::from_le_bytes([
+        room[1], room[2], room[3], room[4], room[5], room[6], room[7], room[8],
+    ])
 }
 
 // How many digits are compared as one number: as many as a u64 has room for.
 const PACKED_DIGITS: usize = 16;
-
-// How many octets hold these digits.
-const PACKED_OCTETS: usize = 8;
 
 /// The nibble that fills an odd count of digits, 1111 of TS 29.002.
 pub(crate) const FILLER: u8 = 15;

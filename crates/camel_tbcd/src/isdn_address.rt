@@ -8,7 +8,7 @@ ghost use Rattle.camel_tbcd.specs.PackedDigits.{packed_digits};
 ghost use Rattle.camel_tbcd.specs.Profile.{agrees};
 
 use crate::address::{Address, AddressFault, check_length, differing_bits};
-use crate::digits::{Digits, digit_count};
+use crate::digits::{Digits, digit_count, room_number};
 use crate::profile::Profile;
 use crate::short_list::ShortList;
 use std::marker::Model;
@@ -25,8 +25,8 @@ pub const MAX_ISDN_ADDRESS_LENGTH: usize = 9;
 /// The digits are counted when it is made, so that no comparison counts them.
 #[derive(Clone, Copy, Debug, PartialEq, Eq)]
 pub struct IsdnAddress {
-    // Octet 1, the digits in octets 2 to 9, and 0 after the last octet, so that the digits are read as one number and
-    // equal addresses have equal fields.
+    // Octet 1, the digits in octets 2 to 9, and fillers after the last octet, so that the digits are read as one number
+    // and equal addresses have equal fields.
     room: [u8; MAX_ISDN_ADDRESS_LENGTH],
     // The count of octets, and 10 for each digit that there are fewer than 16: a comparison shifts by these.
     counts: u8,
@@ -47,7 +47,7 @@ impl Model for IsdnAddress {
 
     ghost inverse = { λ octets. record { room = room_with max_isdn_address_length octets; counts = counts_of octets } };
 
-    ghost inverse_ok = { λ a h i. record { room = sym h.kept.zeros i; counts = sym h.counted i } };
+    ghost inverse_ok = { λ a h i. record { room = sym h.kept.fill i; counts = sym h.counted i } };
 }
 
 impl IsdnAddress {
@@ -96,13 +96,12 @@ impl IsdnAddress {
     {
         let front = self.read();
         let digits = destination.digits();
-        let fewer = self.fewer();
-        // Half of the bits after the digits of this number: all of them can be too many for one shift.
-        let half = 2 * fewer;
+        // Half of the bits after the digits of this number: all of them can be too many for one shift. A destination with
+        // fewer digits differs by the filler behind them.
+        let half = 2 * self.fewer();
         let differing = (digits.number() ^ front.number()) << half << half;
         let differing_first = differing_bits(self.room[0], destination.bytes()[0], profile);
-        (MOST_DIGITS.saturating_sub(digits.len()) <= fewer)
-            & (differing | u64::from(differing_first) == 0)
+        differing | u64::from(differing_first) == 0
     }
 
     // Its octets, with their digits.
@@ -121,14 +120,11 @@ impl IsdnAddress {
         usize::from(self.counts / COUNT_PLACE)
     }
 
-    // The digits of octets 2 to 9 as one number: one read, since the room behind the octets is 0.
+    // The digits of octets 2 to 9 as one number.
     fn number(&self) -> u64
         ensures { result ≡ packed_digits self.now }
     {
-        let room = &self.room;
-        u64::from_le_bytes([
-            room[1], room[2], room[3], room[4], room[5], room[6], room[7], room[8],
-        ])
+        room_number(&self.room)
     }
 }
 

@@ -8,7 +8,7 @@ ghost use Rattle.camel_tbcd.specs.Digits.{digits};
 ghost use Rattle.camel_tbcd.specs.PackedDigits.{packed_digits};
 
 use crate::address::Address;
-use crate::digits::{Digits, digit_count};
+use crate::digits::{Digits, digit_count, room_number};
 use crate::short_list::ShortList;
 use std::marker::Model;
 
@@ -70,15 +70,12 @@ impl<const MOST: usize> KeptOctets<MOST> {
         Digits::of_counted(self.octets.as_slice(), count, self.number())
     }
 
-    // The digits of octets 2 to 9 as one number: one read, since the room behind the octets is 0.
+    // The digits of octets 2 to 9 as one number.
     fn number(&self) -> u64
         requires { 9 ≤ MOST }
         ensures { result ≡ packed_digits self.now }
     {
-        let room = self.octets.room();
-        u64::from_le_bytes([
-            room[1], room[2], room[3], room[4], room[5], room[6], room[7], room[8],
-        ])
+        room_number(self.octets.room())
     }
 }
 

@@ -11,10 +11,13 @@ use std::marker::Model;
 // count takes one octet.
 #[derive(Clone, Copy, Debug)]
 pub(crate) struct ShortList<const MOST: usize> {
-    // The items, and 0 from `len` on, so that equal lists have equal fields.
+    // The items, and `FILL` from `len` on, so that equal lists have equal fields.
     room: [u8; MOST],
     len: u8,
 }
+
+// Two fillers of TBCD digits: so behind the digits of an address there is always one.
+const FILL: u8 = 255;
 
 impl<const MOST: usize> Model for ShortList<MOST> {
     ghost use Rattle.std.specs.Prelude.{ℕ, List, length, take};
@@ -29,7 +32,7 @@ impl<const MOST: usize> Model for ShortList<MOST> {
 
     ghost inverse = { λ items. record { room = room_with MOST items; len = length items } };
 
-    ghost inverse_ok = { λ a h i. record { room = sym h.zeros i; len = length-kept MOST a.room a.len h.full h.fits i } };
+    ghost inverse_ok = { λ a h i. record { room = sym h.fill i; len = length-kept MOST a.room a.len h.full h.fits i } };
 }
 
 impl<const MOST: usize> ShortList<MOST> {
@@ -39,7 +42,7 @@ impl<const MOST: usize> ShortList<MOST> {
         requires counted { MOST < 256 }
         ensures { result ≡ items.now }
     {
-        let mut room = [0; MOST];
+        let mut room = [FILL; MOST];
         room[..items.len()].copy_from_slice(items);
         ShortList {
             room,
@@ -54,7 +57,7 @@ impl<const MOST: usize> ShortList<MOST> {
         &self.room[..usize::from(self.len)]
     }
 
-    // The items, and 0 after them up to the end of the room.
+    // The items, and `FILL` after them up to the end of the room.
     pub(crate) fn room(&self) -> &[u8; MOST]
         ensures { result.now ≡ room_with MOST self.now }
     {

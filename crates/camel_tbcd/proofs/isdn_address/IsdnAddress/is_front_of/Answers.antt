@@ -1,7 +1,6 @@
-use Rattle.std.proofs.Common.{◌≡◌, ◌∙◌, ◌-◌, ◌%◌, ap, arith, get_or, length, sym}
+use Rattle.std.proofs.Common.{◌≡◌, ◌∙◌, ◌%◌, ap, arith, get_or, sym}
 use Rattle.std.proofs.lemmas.List.{get_or-take, length-take}
 use Rattle.camel_tbcd.specs.Address.{octets}
-use Rattle.camel_tbcd.specs.DigitList.{digit_list}
 use Rattle.camel_tbcd.specs.PackedDigits.{packed_digits}
 use Rattle.camel_tbcd.proofs.FrontLemmas.{front_told}
 use Rattle.camel_tbcd.proofs.ProfileLemmas.{agree_by_firsts}
@@ -20,7 +19,6 @@ returns c =
     let other : get_or c.bytes.result.now 0 0 ≡ get_or destination 0 0 = ap (λ octets. get_or octets 0 0) c.bytes.ensures.same in
     let bits = c.differing_bits-differing_first.ensures in
     let firsts = agree_by_firsts c.args.profile listed destination _ _ first other in
-    let least : c.saturating_sub.result ≡ 16 - length (digit_list called) = omega (arith, c.saturating_sub.ensures, c.len.ensures) in
     rw (c.number.ensures, c.number-2.ensures ∙ ap packed_digits same, c.from.ensures)
-    (front_told c.args.profile listed destination called.bytes.now c.fewer-fewer.result c.saturating_sub.result _ (rw same at c.read-front.result.octets) called.octets
-    c.digits-digits.ensures c.fewer-fewer.ensures least (λ none. firsts.0 (bits.0 none), λ are. bits.1 (firsts.1 are)))
+    (front_told c.args.profile listed destination called.bytes.now c.fewer-half.result _ (rw same at c.read-front.result.octets) called.octets
+    c.digits-digits.ensures c.fewer-half.ensures (λ none. firsts.0 (bits.0 none), λ are. bits.1 (firsts.1 are)))
