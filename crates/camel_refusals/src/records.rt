@@ -2,7 +2,9 @@
 
 use crate::attempts::{Refusals, again};
 use crate::failure::{Failure, Lost, check};
-use crate::values::{FOURTH, KNOWN, Kind, SECOND, STRANGER, SUBSCRIBERS, full_insert, update_of};
+use crate::values::{
+    FIFTH, FOURTH, KNOWN, Kind, SECOND, STRANGER, SUBSCRIBERS, full_insert, update_of,
+};
 use camel_criteria::Refusal;
 use camel_fixtures::{call_of, imsi_of, row_update};
 use camel_rows::{CallEvent, Outcome, Records, Subscriber, Update, decide_in};
@@ -13,10 +15,10 @@ fn applied(records: &mut Records, update: &Update) -> Result<(), Failure> {
     Ok(records.apply(update)?)
 }
 
-/// Records of the known subscriber with a row, of a stranger with all data, and of a third one without CSIs.
+/// Records of the known subscriber with a row, of a stranger with all data, and of two others without CSIs.
 fn set<R: AllocGlobal>(rt: &R, refusals: &mut Refusals) -> Result<Records, Failure> {
     let mut records = Records::new(rt.alloc());
-    for number in [KNOWN, STRANGER, FOURTH] {
+    for number in [KNOWN, STRANGER, FOURTH, FIFTH] {
         let imsi = imsi_of(number)?;
         again(
             &mut refusals.stage,

@@ -40,7 +40,7 @@ pub(crate) struct SubscriberShown {
 pub(crate) struct Shown {
     pub(crate) published: u64,
     pub(crate) pending: u64,
-    subscribers: [SubscriberShown; 5],
+    subscribers: [SubscriberShown; 6],
 }
 
 /// An empty store and its session.
@@ -117,7 +117,7 @@ impl<S: StoreName> Stage<S> {
     }
 
     pub(crate) fn shown(&mut self) -> Result<Shown, Failure> {
-        let [known, second, stranger, fourth, fifth] = SUBSCRIBERS;
+        let [known, second, stranger, fourth, fifth, sixth] = SUBSCRIBERS;
         let (published, pending) = self.counts();
         Ok(Shown {
             published,
@@ -128,6 +128,7 @@ impl<S: StoreName> Stage<S> {
                 self.subscriber_shown(stranger)?,
                 self.subscriber_shown(fourth)?,
                 self.subscriber_shown(fifth)?,
+                self.subscriber_shown(sixth)?,
             ],
         })
     }

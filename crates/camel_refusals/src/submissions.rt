@@ -3,7 +3,9 @@
 use crate::attempts::{Refusals, again};
 use crate::failure::{Failure, Lost, check};
 use crate::stage::{LIMIT, Stage, set};
-use crate::values::{FIFTH, FOURTH, KNOWN, Kind, SECOND, STRANGER, t_criteria_update, update_of};
+use crate::values::{
+    FIFTH, FOURTH, KNOWN, Kind, SECOND, SIXTH, STRANGER, t_criteria_update, update_of,
+};
 use camel_criteria::Refusal;
 use camel_fixtures::{entry_update, imsi_of, row_update};
 use camel_rows::Update;
@@ -11,7 +13,8 @@ use camel_vlr::StoreName;
 use std::alloc::Global;
 use std::sync::Wait;
 
-/// Submits an update after a published row of the known subscriber, and pending rows of it and of two others.
+/// Submits an update after a published row of the known subscriber, and pending registers of three others and rows of it
+/// and of one of these.
 pub(crate) fn submit<S: StoreName, R: AllocGlobal + Print + Wait>(
     rt: &R,
     refusals: &mut Refusals,
@@ -38,18 +41,19 @@ pub(crate) fn submit<S: StoreName, R: AllocGlobal + Print + Wait>(
     stage.print(rt)
 }
 
-// Submits so many updates that neither the list of what is pending nor the line of a table has room for one more.
+// Submits so many updates that neither the list of what is pending nor the bucket of a table has room for one more.
 fn submit_rows<S: StoreName>(refusals: &mut Refusals, stage: &mut Stage<S>) -> Result<(), Failure> {
-    for number in [FOURTH, FIFTH] {
+    for number in [FOURTH, FIFTH, SIXTH] {
         let imsi = imsi_of(number)?;
         again(
             &mut refusals.stage,
             || stage.submit(Update::Register { imsi }),
         )?;
+    }
+    for number in [FOURTH, KNOWN] {
+        let imsi = imsi_of(number)?;
         again(&mut refusals.stage, || stage.submit(row_update(imsi)?))?;
     }
-    let known = imsi_of(KNOWN)?;
-    again(&mut refusals.stage, || stage.submit(row_update(known)?))?;
     Ok(())
 }
 

@@ -8,8 +8,9 @@ use camel_tbcd::{Imsi, IsdnAddress};
 use std::alloc::Global;
 
 /// The subscribers of a stage: the first has data, and the second registers. In a run that submits updates, the third
-/// is never known, and the others come before the second, so that a table asks for a line more when that one registers.
-pub(crate) const SUBSCRIBERS: [u64; 5] = [KNOWN, SECOND, STRANGER, FOURTH, FIFTH];
+/// is never known, and the others come before the second, so that a table asks for a bucket more when that one
+/// registers.
+pub(crate) const SUBSCRIBERS: [u64; 6] = [KNOWN, SECOND, STRANGER, FOURTH, FIFTH, SIXTH];
 
 pub(crate) const KNOWN: u64 = 1;
 
@@ -20,6 +21,8 @@ pub(crate) const STRANGER: u64 = 3;
 pub(crate) const FOURTH: u64 = 4;
 
 pub(crate) const FIFTH: u64 = 5;
+
+pub(crate) const SIXTH: u64 = 6;
 
 /// The kinds of update.
 #[derive(Clone, Copy)]

@@ -1,8 +1,8 @@
 //! Addresses and IMSIs in the encodings of 3GPP TS 29.002.
 //!
-//! An address is borrowed as an [`Address`] or kept as an [`IsdnAddress`] or a [`CallAddress`], and an
-//! [`Imsi`] is kept as its digits, or in 8 octets as a [`PackedImsi`] or, where there may be none, an [`ImsiSlot`]. A [`Profile`] says whether the numbering plans
-//! of two addresses are compared. No call of this crate takes memory.
+//! An address is borrowed as an [`Address`] or kept as an [`IsdnAddress`] or a [`CallAddress`]. An [`Imsi`] is kept as
+//! its digits, or in 8 octets as a [`PackedImsi`] or, where there may be none, an [`ImsiSlot`]. A [`Profile`] says
+//! whether the numbering plans of two addresses are compared. No call of this crate takes memory.
 #![tactic(auto)]
 
 mod address;
