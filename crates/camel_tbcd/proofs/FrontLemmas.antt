@@ -9,7 +9,7 @@ use Rattle.camel_tbcd.specs.PackedDigits.{packed_digits}
 use Rattle.camel_tbcd.specs.Profile.{Agree, agrees}
 use Rattle.camel_tbcd.specs.declared.profile.Profile.{Profile}
 use Rattle.camel_tbcd.proofs.DifferenceLemmas.{first_if_none_differs}
-use Rattle.camel_tbcd.proofs.PackedDigitLemmas.{IsOctet}
+use Rattle.camel_tbcd.proofs.NibbleLemmas.{IsOctet}
 use Rattle.camel_tbcd.proofs.ProfileLemmas.{agrees_decides}
 
 -- two numbers have no bit together exactly if neither has one

@@ -1,9 +1,14 @@
+pub mod BitDifferenceLemmas
 pub mod DifferenceLemmas
 pub mod DigitLemmas
+pub mod FillLemmas
+pub mod FirstNibbleLemmas
 pub mod FrontLemmas
 pub mod ImsiOrderLemmas
 pub mod ImsiSlotLemmas
+pub mod NibbleLemmas
 pub mod PackedDigitLemmas
 pub mod PackedImsiLemmas
 pub mod ProfileLemmas
 pub mod RoomLemmas
+pub mod ShiftLemmas

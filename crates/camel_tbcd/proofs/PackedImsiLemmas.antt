@@ -7,7 +7,7 @@ use Rattle.std.proofs.lemmas.List.Elements.{All-head, All-tail}
 use Rattle.camel_tbcd.specs.Imsi.{IsImsi}
 use Rattle.camel_tbcd.specs.ImsiOrder.{order_number, with_places}
 use Rattle.camel_tbcd.specs.PackedImsi.{digit_before, digits_in_places, digits_of_number}
-use Rattle.camel_tbcd.proofs.PackedDigitLemmas.{pow-16}
+use Rattle.camel_tbcd.proofs.ShiftLemmas.{pow-16}
 
 abbrev IsDigit : ℕ → Type 0
 IsDigit digit = digit ≤ 9

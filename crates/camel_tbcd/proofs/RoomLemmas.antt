@@ -1,11 +1,12 @@
 -- The number that is read of a room is that of the digits of the address in it.
-use Rattle.std.proofs.Common.{◌≡◌, ◌∙◌, ℕ, zero, suc, ◌+◌, ◌-◌, ◌/◌, ◌%◌, ◌≤◌, List, [], ◌∷◌, ◌++◌, length, take, drop, replicate, get_or, refl, sym, ap, arith}
-use Rattle.std.proofs.lemmas.List.{drop-replicate, length-append, length-drop, length-replicate, take_all}
+use Rattle.std.proofs.Common.{◌≡◌, ◌∙◌, ℕ, ◌+◌, ◌-◌, ◌≤◌, List, [], ◌∷◌, ◌++◌, length, take, drop, replicate, get_or, refl, ap, arith}
+use Rattle.std.proofs.lemmas.List.{drop-replicate, length-append, length-drop, length-replicate}
 use Rattle.std.specs.Int.{from_le_bytes, w64}
 use Rattle.camel_tbcd.specs.Digits.{nibbles}
 use Rattle.camel_tbcd.specs.PackedDigits.{first_nibbles, packed, packed_digits}
 use Rattle.camel_tbcd.specs.ShortList.{room_with}
 use Rattle.camel_tbcd.proofs.DigitLemmas.{length-nibbles}
+use Rattle.camel_tbcd.proofs.FillLemmas.{nibbles-append, nibbles-fill, nibbles-take, take-fill}
 
 -- a room is full
 pub length-room : (most : ℕ) (octets : List ℕ) → length octets ≤ most → length (room_with most octets) ≡ most
@@ -26,33 +27,7 @@ pub from_le_bytes-room : (room : List ℕ) → 9 ≤ length room
 from_le_bytes-room (o ∷ a ∷ b ∷ c ∷ d ∷ e ∷ f ∷ g ∷ h ∷ rest) full = from_le_bytes-8 (a ∷ b ∷ c ∷ d ∷ e ∷ f ∷ g ∷ h ∷ []) refl
 from_le_bytes-room room full = absurd (omega arith)
 
--- the nibbles of the first octets are twice as many of the first nibbles
-nibbles-take : (count twice : ℕ) (octets : List ℕ) → twice ≡ count + count → nibbles (take count octets) ≡ take twice (nibbles octets)
-nibbles-take zero twice octets is = let none : twice ≡ 0 = omega arith in rw none refl
-nibbles-take (suc count) twice [] is = sym (take_all twice [] (omega arith))
-nibbles-take (suc count) twice (octet ∷ octets) is =
-    let more : twice ≡ suc (suc (count + count)) = omega arith in
-    rw more (ap (λ rest. octet % 16 ∷ octet / 16 ∷ rest) (nibbles-take count (count + count) octets refl))
-
-nibbles-append : (octets more : List ℕ) → nibbles (octets ++ more) ≡ nibbles octets ++ nibbles more
-nibbles-append [] more = refl
-nibbles-append (octet ∷ octets) more = ap (λ rest. octet % 16 ∷ octet / 16 ∷ rest) (nibbles-append octets more)
-
--- the octets of the fill are two fillers each
-nibbles-fill : (count twice : ℕ) → twice ≡ count + count → nibbles (replicate count 255) ≡ replicate twice 15
-nibbles-fill zero twice is = let none : twice ≡ 0 = omega arith in rw none refl
-nibbles-fill (suc count) twice is =
-    let more : twice ≡ suc (suc (count + count)) = omega arith in
-    rw more (ap (λ rest. 15 ∷ 15 ∷ rest) (nibbles-fill count (count + count) refl))
-
--- it does not matter how many of the same follow, if there are enough
-take-fill : (value count : ℕ) (items : List ℕ) (j k : ℕ) → count ≤ length items + j → count ≤ length items + k → take count (items ++ replicate j value) ≡ take count (items ++ replicate k value)
-take-fill value zero items j k enough more = refl
-take-fill value (suc count) (item ∷ items) j k enough more = ap (λ rest. item ∷ rest) (take-fill value count items j k (omega arith) (omega arith))
-take-fill value (suc count) [] (suc j) (suc k) enough more = ap (λ rest. value ∷ rest) (take-fill value count [] j k (omega arith) (omega arith))
-take-fill value (suc count) [] zero k enough more = absurd (omega arith)
-take-fill value (suc count) [] (suc j) zero enough more = absurd (omega arith)
-
+-- the nibbles of octets 2 to 9, with the fill
 room_nibbles : (octets : List ℕ) (count : ℕ) → 8 ≤ length octets + count → nibbles (take 8 (octets ++ replicate count 255)) ≡ take 16 (nibbles octets ++ replicate 16 15)
 room_nibbles octets count enough =
     nibbles-take 8 16 (octets ++ replicate count 255) refl
