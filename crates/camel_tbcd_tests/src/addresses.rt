@@ -177,13 +177,20 @@ fn compares_more_than_16_digits(rt: HostRuntime) -> Result<(), Fail> {
     check_compared(&rt, all, &longer[..20], false, false)
 }
 
-/// Checks how many digits a kept address of these octets has, and whether they are the first ones of 123456.
+/// Checks how many digits a kept address of these octets has, and whether the international number 123456 begins with it.
 fn check_kept(rt: &impl Abort, octets: &[u8], count: usize, begins: bool) -> Result<(), Fail> {
     let kept = IsdnAddress::from_bytes(octets)?;
     let digits = kept.digits();
-    let destination = Address::new(&[0x91, 0x21, 0x43, 0x65])?.digits();
+    let destination = Address::new(&[0x91, 0x21, 0x43, 0x65])?;
     assert!(rt; digits.len() == count, "of {octets:?}");
-    assert!(rt; destination.begins_with(&digits) == begins, "of {octets:?}");
+    assert!(rt;
+        destination.digits().begins_with(&digits) == begins,
+        "of {octets:?}"
+    );
+    assert!(rt;
+        kept.is_front_of(&destination, Profile::Two) == begins,
+        "of {octets:?}"
+    );
     assert!(rt; digits.same(&kept.lend().digits()), "of {octets:?}");
     Ok(())
 }
@@ -195,5 +202,6 @@ fn reads_the_digits_of_a_kept_isdn_address(rt: HostRuntime) -> Result<(), Fail> 
     check_kept(&rt, &[0x91, 0x21, 0x43], 4, true)?;
     check_kept(&rt, &[0x91, 0x21, 0xf3], 3, true)?;
     check_kept(&rt, &[0x91, 0x21, 0xf4], 3, false)?;
+    check_kept(&rt, &[0x91, 0x21, 0x43, 0x65, 0xf7], 7, false)?;
     check_kept(&rt, &distinct_octets()[..9], 16, false)
 }
