@@ -13,6 +13,7 @@ use Rattle.std.specs.declared.cmp.Ordering.TheVariants.{Less, Equal, Greater}
 use Rattle.std.proofs.lemmas.Bool.{ltb-false, ltb-true}
 use Rattle.std.proofs.lemmas.Map.Lookups.{exact_bytes}
 use Rattle.camel_table.specs.ByImsi.{ByImsi, is_same, map_of}
+use Rattle.camel_table.specs.Lending.{with_value_of}
 
 equal : (r : Ordering) → is_eq r ≡ true → r ≡ Equal
 equal Less p = absurd (subst T (sym p) tt)
@@ -111,6 +112,13 @@ module _ {V : Type 0} where
         | false ↦ λ p e. get-is es key ∙ none_at key es (ltb-false (place key es) (length es) p)
       ] refl is
 
+  pub some_position : (key : List ℕ) (es : Entries V) → is_some (map.get (map_of es) key) ≡ true → is_some (position (λ e. is_same key e.0) es) ≡ true
+  some_position key es some =
+      elim (position (λ e. is_same key e.0) es) as (λ o. position (λ e. is_same key e.0) es ≡ o → is_some o ≡ true) [
+        | None ↦ λ none. absurd (subst T (sym (sym (ap is_some (none_of_position key es none)) ∙ some)) tt)
+        | Some at ↦ λ is. refl
+      ] refl
+
   found-first : (key : List ℕ) (es : Entries V) (at : ℕ) (d : List ℕ × V) → IsFirst key at es → found key es ≡ Some (slice_index_or es at d).1
   found-first key [] at d first = absurd first
   found-first key (e ∷ es) zero d first = ap (λ b. cond b (Some e.1) (found key es)) first
@@ -118,24 +126,6 @@ module _ {V : Type 0} where
 
   pub get-first : (key : List ℕ) (es : Entries V) (at : ℕ) (e : List ℕ × V) → IsFirst key at es → e ≡ slice_index_or es at e → map.get (map_of es) key ≡ Some e.1
   get-first key es at e first is = get-is es key ∙ found-first key es at e first ∙ ap (λ (x : List ℕ × V). Some x.1) (sym is)
-
-  -- another value in the first entry of a key
-  found-set : (q key : List ℕ) (value : V) (es : Entries V) (at : ℕ) (d : List ℕ × V) → IsFirst key at es
-      → found q (slice_set es at ((slice_index_or es at d).0, value)) ≡ cond (is_same q key) (Some value) (found q es)
-  found-set q key value [] at d first = absurd first
-  found-set q key value (e ∷ es) zero d first =
-      shadowed (is_same q e.0) (Some value) (Some e.1) (found q es)
-      ∙ ap (λ k. cond (is_same q k) (Some value) (found q (e ∷ es))) (sym (same_are_equal key e.0 first))
-  found-set q key value (e ∷ es) (suc at) d first =
-      ap (cond (is_same q e.0) (Some e.1)) (found-set q key value es at d first.1)
-      ∙ exchanged (is_same q e.0) (is_same q key) (Some e.1) (Some value) (found q es) (apart q key e.0 first.0)
-
-  pub replaced : (key : List ℕ) (value : V) (es : Entries V) (at : ℕ) (e : List ℕ × V) → IsFirst key at es → e ≡ slice_index_or es at e
-      → map_of (slice_set es at (e.0, value)) ≡ map.insert (map_of es) key value
-  replaced key value es at e first is = same_when _ _ (λ q.
-      ap (λ (x : List ℕ × V). found q (slice_set es at (x.0, value))) is
-      ∙ found-set q key value es at e first
-      ∙ sym (map.get-insert nat_list_cmp_total (map_of es) key value q ∙ ap (cond (is_same q key) (Some value)) (get-is es q)))
 
   -- an entry more
   pub added : (key : List ℕ) (value : V) (es : Entries V) → map.get (map_of es) key ≡ None
@@ -197,10 +187,6 @@ module _ {V : Type 0} where
   earlier true value x y = refl
   earlier false value x y = refl
 
-  later : (b : Bool) (value : V) (x y : Option V) → (b ≡ true → x ≡ None) → option_or x (cond b (Some value) y) ≡ cond b (Some value) (option_or x y)
-  later true value x y none = ap (λ o. option_or o (Some value)) (none refl)
-  later false value x y none = refl
-
   -- a value that is put into the first list of two
   pub inserted_first : (key : List ℕ) (value : V) (xs others ys : Entries V) → map_of others ≡ map.insert (map_of xs) key value
       → map_of (others ++ ys) ≡ map.insert (map_of (xs ++ ys)) key value
@@ -209,17 +195,71 @@ module _ {V : Type 0} where
       ∙ earlier (is_same q key) value (found q xs) (found q ys)
       ∙ ap (cond (is_same q key) (Some value)) (sym (found-append q xs ys)))
 
-  -- a value that is put into the second list of two, of which the first has none
-  pub inserted_second : (key : List ℕ) (value : V) (xs ys others : Entries V) → map.get (map_of xs) key ≡ None → map_of others ≡ map.insert (map_of ys) key value
-      → map_of (xs ++ others) ≡ map.insert (map_of (xs ++ ys)) key value
-  inserted_second key value xs ys others none is = inserted key value (xs ++ ys) (xs ++ others) (λ q.
-      found-append q xs others ∙ ap (option_or (found q xs)) (found-inserted q key value ys others is)
-      ∙ later (is_same q key) value (found q xs) (found q ys) (λ same. ap (λ k. found k xs) (same_are_equal q key same) ∙ sym (get-is xs key) ∙ none)
-      ∙ ap (cond (is_same q key) (Some value)) (sym (found-append q xs ys)))
-
   none_of_either : (x y : Option V) → option_or x y ≡ None → (x ≡ None) × (y ≡ None)
   none_of_either None y none = (refl, none)
   none_of_either (Some value) y none = absurd (subst (λ o. T (is_some o)) none tt)
 
   pub none_in_first : (key : List ℕ) (xs ys : Entries V) → map.get (map_of (xs ++ ys)) key ≡ None → map.get (map_of xs) key ≡ None
   none_in_first key xs ys none = (none_of_either (map.get (map_of xs) key) (map.get (map_of ys) key) (sym (get-append key xs ys) ∙ none)).0
+
+  -- another value in the first entry of a key that is there
+  module _ (key : List ℕ) (value : V) where
+    found-with : (q : List ℕ) (es : Entries V) → is_some (found key es) ≡ true → found q (with_value_of key value es) ≡ cond (is_same q key) (Some value) (found q es)
+    found-with q [] some = absurd (subst T (sym some) tt)
+    found-with q (e ∷ es) some =
+        elim (is_same key e.0) as (λ b. is_same key e.0 ≡ b → is_some (cond b (Some e.1) (found key es)) ≡ true
+        → found q (cond b ((e.0, value) ∷ es) (e ∷ with_value_of key value es)) ≡ cond (is_same q key) (Some value) (found q (e ∷ es))) [
+          | true ↦ λ here some.
+              shadowed (is_same q e.0) (Some value) (Some e.1) (found q es)
+              ∙ ap (λ k. cond (is_same q k) (Some value) (found q (e ∷ es))) (sym (same_are_equal key e.0 here))
+          | false ↦ λ there some.
+              ap (cond (is_same q e.0) (Some e.1)) (found-with q es some)
+              ∙ exchanged (is_same q e.0) (is_same q key) (Some e.1) (Some value) (found q es) (apart q key e.0 there)
+        ] refl some
+
+    pub with_value : (es : Entries V) → is_some (map.get (map_of es) key) ≡ true → map_of (with_value_of key value es) ≡ map.insert (map_of es) key value
+    with_value es some = inserted key value es (with_value_of key value es) (λ q. found-with q es (ap is_some (sym (get-is es key)) ∙ some))
+
+    within-first : (xs ys : Entries V) → is_some (found key xs) ≡ true → with_value_of key value (xs ++ ys) ≡ with_value_of key value xs ++ ys
+    within-first [] ys some = absurd (subst T (sym some) tt)
+    within-first (e ∷ es) ys some =
+        elim (is_same key e.0) as (λ b. is_some (cond b (Some e.1) (found key es)) ≡ true
+        → cond b ((e.0, value) ∷ (es ++ ys)) (e ∷ with_value_of key value (es ++ ys)) ≡ cond b ((e.0, value) ∷ es) (e ∷ with_value_of key value es) ++ ys) [
+          | true ↦ λ some. refl
+          | false ↦ λ some. ap (λ rest. e ∷ rest) (within-first es ys some)
+        ] some
+
+    within-second : (xs ys : Entries V) → is_some (found key xs) ≡ false → with_value_of key value (xs ++ ys) ≡ xs ++ with_value_of key value ys
+    within-second [] ys none = refl
+    within-second (e ∷ es) ys none =
+        elim (is_same key e.0) as (λ b. is_some (cond b (Some e.1) (found key es)) ≡ false
+        → cond b ((e.0, value) ∷ (es ++ ys)) (e ∷ with_value_of key value (es ++ ys)) ≡ e ∷ (es ++ with_value_of key value ys)) [
+          | true ↦ λ none. absurd (subst T none tt)
+          | false ↦ λ none. ap (λ rest. e ∷ rest) (within-second es ys none)
+        ] none
+
+    -- of two lists, the value is in the first one if that has the key, and else in the second
+    pub with_first : (xs ys : Entries V) → is_some (map.get (map_of xs) key) ≡ true → with_value_of key value (xs ++ ys) ≡ with_value_of key value xs ++ ys
+    with_first xs ys some = within-first xs ys (ap is_some (sym (get-is xs key)) ∙ some)
+
+    pub with_second : (xs ys : Entries V) → is_some (map.get (map_of xs) key) ≡ false → with_value_of key value (xs ++ ys) ≡ xs ++ with_value_of key value ys
+    with_second xs ys none = within-second xs ys (ap is_some (sym (get-is xs key)) ∙ none)
+
+    pub with_set : (es : Entries V) (at : ℕ) (e : List ℕ × V) → IsFirst key at es → e ≡ slice_index_or es at e → slice_set es at (e.0, value) ≡ with_value_of key value es
+    with_set es at e first is = ap (λ (x : List ℕ × V). slice_set es at (x.0, value)) is ∙ set_first es at e first
+      where
+        set_first : (es : Entries V) (at : ℕ) (d : List ℕ × V) → IsFirst key at es → slice_set es at ((slice_index_or es at d).0, value) ≡ with_value_of key value es
+        set_first [] at d first = absurd first
+        set_first (e ∷ es) zero d first = sym (ap (λ b. cond b ((e.0, value) ∷ es) (e ∷ with_value_of key value es)) first)
+        set_first (e ∷ es) (suc at) d first =
+            ap (λ rest. e ∷ rest) (set_first es at d first.1) ∙ sym (ap (λ b. cond b ((e.0, value) ∷ es) (e ∷ with_value_of key value es)) first.0)
+
+  pub get_of_first : (key : List ℕ) (xs ys : Entries V) (v : V) → Some v ≡ map.get (map_of xs) key → Some v ≡ map.get (map_of (xs ++ ys)) key
+  get_of_first key xs ys v is = ap (λ o. option_or o (map.get (map_of ys) key)) is ∙ sym (get-append key xs ys)
+
+  none_before : (a b : Option V) → is_some a ≡ false → option_or a b ≡ b
+  none_before None b none = refl
+  none_before (Some v) b none = absurd (subst T none tt)
+
+  pub get_of_second : (key : List ℕ) (xs ys : Entries V) → is_some (map.get (map_of xs) key) ≡ false → map.get (map_of (xs ++ ys)) key ≡ map.get (map_of ys) key
+  get_of_second key xs ys none = get-append key xs ys ∙ none_before (map.get (map_of xs) key) (map.get (map_of ys) key) none

@@ -53,6 +53,10 @@ module _ {V : Type 0} (hash : List ℕ → ℕ) where
     pub nothing : count ≡ 0 → (key : List ℕ) → get (table_map buckets) key ≡ None
     nothing none key = ap (λ m. get m key) (empty_table none) ∙ get-empty (slice_cmp nat_cmp) key
 
+    -- a table with a value has buckets
+    pub has_buckets : (key : List ℕ) → is_some (get (table_map buckets) key) ≡ true → count ≡ 0 → ⊥
+    has_buckets key some none = subst T (sym (sym (ap is_some (nothing none key)) ∙ some)) tt
+
     pub nothing_removed : count ≡ 0 → (key : List ℕ) → remove (table_map buckets) key ≡ table_map buckets
     nothing_removed none key = same_map nat_list_cmp_total exact_bytes _ _ (λ q.
         get-remove nat_list_cmp_total (table_map buckets) key q ∙ either (is_same q key) (get (table_map buckets) q) (nothing none q) ∙ sym (nothing none q))

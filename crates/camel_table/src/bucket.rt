@@ -1,8 +1,10 @@
-ghost use Rattle.std.specs.Prelude.{◌≡◌, ◌≤◌, ◌==◌, ◌++◌, [], not, filter, find, vec_capacity, vec_len, IfOk, position, OnErr, OnOk, IfSome, IfNone, None};
+ghost use Rattle.std.specs.Prelude.{◌≡◌, ◌≤◌, ◌==◌, ◌++◌, [], not, filter, find, vec_capacity, vec_len, IfOk, position, OnErr, OnOk, IsSome, None, Some};
+ghost use Rattle.std.specs.Borrow.{sem};
 ghost use Rattle.std.specs.FinMap as map;
 ghost use Rattle.std.specs.Option.{option_copied, option_map};
 ghost use Rattle.camel_table.specs.ByImsi.{ListsEachOnceMore, is_same, map_of};
 ghost use Rattle.camel_table.specs.Addressing.{bucket_of};
+ghost use Rattle.camel_table.specs.Lending.{lends_value};
 
 use crate::addressing::Addressing;
 use crate::entry::Entry;
@@ -54,6 +56,22 @@ impl<V> Bucket<V> {
         find_value(&self.more, imsi)
     }
 
+    /// The value that an IMSI has, to be changed in its place.
+    pub(crate) fn value_mut(&mut self, imsi: &Imsi) -> &mut V
+        requires { IsSome (map.get self.old imsi.now) }
+        ensures* writes_back { sem 𝓛 (lends_value V.row self.entry imsi.now result) }
+        ensures value { Some result.now ≡ map.get self.old imsi.now }
+    {
+        if self.inline.get(imsi).is_some() {
+            let inline = &mut self.inline;
+            inline.value_mut(imsi)
+        } else {
+            let at = position(&self.more, imsi).unwrap();
+            let entry = &mut self.more[at];
+            &mut entry.value
+        }
+    }
+
     /// Lists each IMSI that has a value, after those that are listed. Fails with `AllocError` if memory is refused.
     pub(crate) fn push_imsis(&self, imsis: &mut Vec<Imsi>) -> Result<(), AllocError>
         ensures { OnOk result (ListsEachOnceMore imsis.old.items imsis.new.items self.now) }
@@ -71,22 +89,6 @@ impl<V> Bucket<V> {
             }
         }
         Ok(())
-    }
-
-    /// Puts a value in the place of the one that an IMSI has, which it returns. If it has none, nothing changes.
-    pub(crate) fn replace(&mut self, imsi: &Imsi, value: V) -> Option<V>
-    where
-        V: Drop,
-        ensures before { result ≡ map.get self.old imsi.now }
-        ensures replaced { IfSome result (λ _. self.new ≡ map.insert self.old imsi.now value) }
-        ensures unchanged { IfNone result (self.new ≡ self.old) }
-    {
-        let value = match self.inline.replace(imsi, value) {
-            Ok(before) => return Some(before),
-            Err(value) => value,
-        };
-        let at = position(&self.more, imsi)?;
-        Some(mem::replace(&mut self.more[at].value, value))
     }
 }
 
@@ -110,7 +112,7 @@ impl<V: Default + Drop> Bucket<V> {
         if self.get(imsi).is_none() {
             return self.add(imsi, value);
         }
-        self.replace(imsi, value);
+        *self.value_mut(imsi) = value;
         Ok(())
     }
 

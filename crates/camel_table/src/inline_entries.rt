@@ -1,9 +1,10 @@
-ghost use Rattle.std.specs.Prelude.{◌≡◌, ℕ, ◌≤◌, ◌<◌, ◌==◌, List, ◌++◌, [], ◌∷◌, not, filter, length, nat_lt, option_to_list, IfErr, IfOk, OnOk};
+ghost use Rattle.std.specs.Prelude.{◌≡◌, ℕ, ◌≤◌, ◌<◌, ◌==◌, List, ◌++◌, [], ◌∷◌, not, filter, length, nat_lt, option_to_list, IsSome, OnOk, Some};
+ghost use Rattle.std.specs.Borrow.{sem};
 ghost use Rattle.std.specs.FinMap as map;
 ghost use Rattle.std.specs.Option.{is_some, option_copied};
-ghost use Rattle.std.specs.Result.{result_ok};
 ghost use Rattle.camel_table.specs.Addressing.{bucket_of};
 ghost use Rattle.camel_table.specs.ByImsi.{ListsEachOnceMore, is_same, map_of};
+ghost use Rattle.camel_table.specs.Lending.{lends_inline};
 ghost use Rattle.camel_table.specs.Slots.{entries_before, entry_before};
 
 use crate::addressing::Addressing;
@@ -68,6 +69,24 @@ impl<V> InlineEntries<V> {
         self.third.get(imsi)
     }
 
+    /// The value that an IMSI has, to be changed in its place.
+    pub(crate) fn value_mut(&mut self, imsi: &Imsi) -> &mut V
+        requires { IsSome (map.get (map_of self.old) imsi.now) }
+        ensures* writes_back { sem 𝓛 (lends_inline V.row self.entry imsi.now result) }
+        ensures value { Some result.now ≡ map.get (map_of self.old) imsi.now }
+    {
+        if self.first.is(imsi) {
+            let slot = &mut self.first;
+            &mut slot.value
+        } else if self.second.is(imsi) {
+            let slot = &mut self.second;
+            &mut slot.value
+        } else {
+            let slot = &mut self.third;
+            &mut slot.value
+        }
+    }
+
     /// Lists each IMSI that has a value, after those that are listed. Fails with `AllocError` if memory is refused.
     pub(crate) fn push_imsis(&self, imsis: &mut Vec<Imsi>) -> Result<(), AllocError>
         ensures { OnOk result (ListsEachOnceMore imsis.old.items imsis.new.items (map_of self.now)) }
@@ -76,19 +95,6 @@ impl<V> InlineEntries<V> {
         push_imsi(Some(&self.first), None, &self.second, imsis)?;
         push_imsi(Some(&self.first), Some(&self.second), &self.third, imsis)?;
         Ok(())
-    }
-
-    /// Puts a value in the place of the one that an IMSI has, which it returns. If it has none, nothing changes, and
-    /// the new value is given back.
-    pub(crate) fn replace(&mut self, imsi: &Imsi, value: V) -> Result<V, V>
-        ensures before { result_ok result ≡ map.get (map_of self.old) imsi.now }
-        ensures replaced { IfOk result (λ _. map_of self.new ≡ map.insert (map_of self.old) imsi.now value) }
-        ensures unchanged { IfErr result (λ back. (back ≡ value) × (self.new ≡ self.old)) }
-    {
-        match self.first.replace(imsi, value) {
-            Ok(before) => Ok(before),
-            Err(value) => replace_in_two(&mut self.second, &mut self.third, imsi, value),
-        }
     }
 }
 
@@ -201,23 +207,5 @@ fn has<V>(slot: Option<&Slot<V>>, imsi: &Imsi) -> bool
     match slot {
         Some(slot) => slot.get(imsi).is_some(),
         None => false,
-    }
-}
-
-/// Puts a value in the place of the one that an IMSI has in two slots. If it has none, the new value is given back.
-fn replace_in_two<V>(
-    first: &mut Slot<V>,
-    second: &mut Slot<V>,
-    imsi: &Imsi,
-    value: V,
-) -> Result<V, V>
-    ensures before { result_ok result ≡ map.get (map_of (option_to_list first.old ++ option_to_list second.old)) imsi.now }
-    ensures replaced { IfOk result (λ _. map_of (option_to_list first.new ++ option_to_list second.new)
-        ≡ map.insert (map_of (option_to_list first.old ++ option_to_list second.old)) imsi.now value) }
-    ensures unchanged { IfErr result (λ back. (back ≡ value) × ((first.new ≡ first.old) × (second.new ≡ second.old))) }
-{
-    match first.replace(imsi, value) {
-        Ok(before) => Ok(before),
-        Err(value) => second.replace(imsi, value),
     }
 }

@@ -1,7 +1,6 @@
-ghost use Rattle.std.specs.Prelude.{◌≡◌, ◌≤◌, ◌==◌, None, Some, not, filter, option_to_list, IfErr, IfOk, IfSome};
+ghost use Rattle.std.specs.Prelude.{◌≡◌, ◌≤◌, ◌==◌, None, Some, not, filter, option_to_list, IfSome};
 ghost use Rattle.std.specs.FinMap as map;
-ghost use Rattle.std.specs.Option.{is_none, option_copied, option_map};
-ghost use Rattle.std.specs.Result.{result_ok};
+ghost use Rattle.std.specs.Option.{is_none, is_some, option_copied, option_map};
 ghost use Rattle.camel_table.specs.Addressing.{bucket_of};
 ghost use Rattle.camel_table.specs.ByImsi.{is_same, map_of};
 
@@ -20,7 +19,7 @@ use std::mem;
 pub(crate) struct Slot<V> {
     key: ImsiSlot,
     // Of a free slot, any value: an `Option` would take room for a tag beside the key.
-    value: V,
+    pub(crate) value: V,
 }
 
 impl<V> Model for Slot<V> {
@@ -57,6 +56,13 @@ impl<V> Slot<V> {
         Some(self.key.imsi()?.imsi())
     }
 
+    /// Whether it has an entry of this IMSI.
+    pub(crate) fn is(&self, imsi: &Imsi) -> bool
+        ensures { result ≡ is_some (map.get (map_of (option_to_list self.now)) imsi.now) }
+    {
+        self.key.is(imsi)
+    }
+
     /// The value of an IMSI, if its entry has this IMSI.
     pub(crate) fn get(&self, imsi: &Imsi) -> Option<&V>
         ensures { option_copied result ≡ map.get (map_of (option_to_list self.now)) imsi.now }
@@ -65,19 +71,6 @@ impl<V> Slot<V> {
             Some(&self.value)
         } else {
             None
-        }
-    }
-
-    /// Puts a value in the place of the one of an IMSI, if its entry has this IMSI. Else the new value is given back.
-    pub(crate) fn replace(&mut self, imsi: &Imsi, value: V) -> Result<V, V>
-        ensures before { result_ok result ≡ map.get (map_of (option_to_list self.old)) imsi.now }
-        ensures replaced { IfOk result (λ _. map_of (option_to_list self.new) ≡ map.insert (map_of (option_to_list self.old)) imsi.now value) }
-        ensures unchanged { IfErr result (λ back. (back ≡ value) × (self.new ≡ self.old)) }
-    {
-        if self.key.is(imsi) {
-            Ok(mem::replace(&mut self.value, value))
-        } else {
-            Err(value)
         }
     }
 

@@ -1,7 +1,9 @@
-ghost use Rattle.std.specs.Prelude.{◌≡◌, ◌⊎◌, ◌<◌, ◌≤◌, ◌^◌, ◌++◌, [], ◌∷◌, length, IfNone, IfOk, IfSome, OnErr, OnOk};
+ghost use Rattle.std.specs.Prelude.{◌≡◌, ◌⊎◌, ◌<◌, ◌≤◌, ◌^◌, ◌++◌, [], ◌∷◌, length, IfOk, IsSome, OnErr, OnOk, Some};
+ghost use Rattle.std.specs.Borrow.{Lends, sem};
 ghost use Rattle.std.specs.FinMap as map;
 ghost use Rattle.std.specs.Option.{option_copied};
 ghost use Rattle.camel_table.specs.ByImsi.{ListsEachOnce};
+ghost use Rattle.camel_table.specs.contracts.table.Table.{the_row};
 
 use crate::addressing::Addressing;
 use crate::bucket::Bucket;
@@ -108,18 +110,14 @@ impl<V: Default + Drop, S: BuildHasher + Copy> Table<V, S> {
         done
     }
 
-    /// Puts a value in the place of the one that an IMSI has, which it returns. If it has none, nothing changes. It
-    /// takes no memory.
-    pub fn replace(&mut self, imsi: &Imsi, value: V) -> Option<V>
-        ensures before { result ≡ map.get self.old imsi.now }
-        ensures replaced { IfSome result (λ _. self.new ≡ map.insert self.old imsi.now value) }
-        ensures unchanged { IfNone result (self.new ≡ self.old) }
+    /// The value that an IMSI has, to be changed in its place. It takes no memory.
+    pub fn value_mut(&mut self, imsi: &Imsi) -> &mut V
+        requires { IsSome (map.get self.old imsi.now) }
+        ensures* writes_back { sem 𝓛 (Lends (the_row V.row S.row S.Hasher.row S.BuildHasher S.Hasher.Hasher) V.row self.entry result (map.insert self.entry.now imsi.now)) }
+        ensures value { Some result.now ≡ map.get self.old imsi.now }
     {
-        if self.addressing.count == 0 {
-            return None;
-        }
         let bucket = self.buckets.get_mut(self.addressing.bucket(imsi.number()));
-        bucket.replace(imsi, value)
+        bucket.value_mut(imsi)
     }
 
     /// Takes the value of an IMSI out, if there is one. It takes no memory.

@@ -144,9 +144,7 @@ impl Admission {
         } }
     {
         match before {
-            Some(csis) => {
-                self.directory.replace(imsi, csis);
-            }
+            Some(csis) => *self.directory.value_mut(imsi) = csis,
             None => self.directory.remove(imsi),
         }
         self.accepted -= 1;

@@ -175,9 +175,7 @@ impl Records {
         requires { IsSome (map.get self.old imsi.now) }
         ensures { self.new ≡ with_value self.old imsi.now (option_map (with_changes o vt) (map.get self.old imsi.now)) }
     {
-        let mut subscriber = self.table.replace(imsi, Subscriber::new()).unwrap();
-        subscriber.change(o, vt);
-        self.table.replace(imsi, subscriber);
+        self.table.value_mut(imsi).change(o, vt);
     }
 
     /// Puts a record in the place of the one that is there.
