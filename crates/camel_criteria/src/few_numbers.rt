@@ -5,13 +5,14 @@ ghost use Rattle.camel_criteria.specs.FewNumbers.{IsFew};
 ghost use Rattle.camel_criteria.specs.Met.{number_matches};
 
 use camel_tbcd::{Address, IsdnAddress, Profile};
+use std::fmt;
 use std::marker::Model;
 
 // One to three listed numbers, kept in place. Contracts see them as a list.
 //
 // A place that is left holds the first number again. So a destination is compared with all three places, and how many
 // numbers there are, which cannot be foreseen, makes no branch.
-#[derive(Clone, Copy, Debug)]
+#[derive(Clone, Copy)]
 pub(crate) struct FewNumbers {
     room: [IsdnAddress; MAX_IN_PLACE],
     len: u8,
@@ -59,5 +60,11 @@ impl FewNumbers {
         self.room[0].is_front_of(destination, profile)
             | self.room[1].is_front_of(destination, profile)
             | self.room[2].is_front_of(destination, profile)
+    }
+}
+
+impl fmt::Debug for FewNumbers {
+    fn fmt<W: fmt::Write>(&self, f: &mut fmt::Formatter<W>) -> fmt::Result {
+        f.debug_list().entries(self.as_slice()).finish()
     }
 }

@@ -10,6 +10,7 @@ use crate::in_place::InPlace;
 use crate::number_criterion::NumberCriterion;
 use crate::refusal::Refusal;
 use std::alloc::AllocError;
+use std::fmt;
 use std::marker::Model;
 use std::mem::size_of;
 
@@ -17,7 +18,7 @@ use std::mem::size_of;
 /// number criterion, a basic service criterion, a call type criterion and a cause criterion, or none.
 ///
 /// It takes 64 octets, a line of the cache, and what a decision reads first is first.
-#[derive(Debug, Drop)]
+#[derive(Drop)]
 pub struct OCriteria {
     // A filler if there is none: the tag of an `Option` would take 8 octets here.
     number: NumberCriterion,
@@ -102,6 +103,18 @@ impl OCriteria {
         ensures { result.now ≡ self.now.causes }
     {
         self.causes.as_slice()
+    }
+}
+
+impl fmt::Debug for OCriteria {
+    fn fmt<W: fmt::Write>(&self, f: &mut fmt::Formatter<W>) -> fmt::Result {
+        f.debug_struct("OCriteria")
+            .field("dp", &self.dp)
+            .field("number", &self.number())
+            .field("call_type", &self.call_type)
+            .field("causes", &self.causes())
+            .field("basic", &self.basic())
+            .finish()
     }
 }
 
