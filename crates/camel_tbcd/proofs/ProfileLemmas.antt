@@ -38,7 +38,7 @@ agree_by_bits Two first other =
       λ are. apart ∙ told.1 (omega (arith, are.nature, are.plan refl)),
     )
 
--- addresses agree exactly if those of their octets 1 alone do
+-- addresses agree exactly if addresses of no more than their octets 1 do
 pub agree_by_firsts : (profile : Profile) (some others : List ℕ) (first other : ℕ) → first ≡ slice_index some 0 → other ≡ slice_index others 0
     → Agree profile (first ∷ []) (other ∷ []) ↔ Agree profile some others
 agree_by_firsts profile some others first other mine theirs = (
