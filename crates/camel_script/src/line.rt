@@ -1,6 +1,7 @@
 //! The lines of output. Their texts are put together piece by piece: `format!` takes twice the time for a line.
+//! Each piece goes right behind the last one, so that a line takes no memory of its own.
 
-ghost use Rattle.std.specs.Prelude.{◌≡◌, ◌++◌, IfErr, IfOk, OnErr, OnOk, codes, string_bytes};
+ghost use Rattle.std.specs.Prelude.{◌≡◌, ◌++◌, IfErr, OnErr, OnOk, codes, length, take};
 ghost use Rattle.std.specs.Fmt.{decimal};
 ghost use Rattle.hex.specs.Hex.{encode_lower};
 ghost use Rattle.camel_rows.specs.Outcome.{action_of};
@@ -8,12 +9,9 @@ ghost use Rattle.camel_script.specs.Line.{action_text, decided_text, line_text, 
 
 use camel_criteria::{Handling, Refusal};
 use camel_rows::{Answer, CallAction, Outcome, Reason, on_failure};
-use camel_tbcd::IsdnAddress;
+use camel_tbcd::{IsdnAddress, MAX_ISDN_ADDRESS_LENGTH};
 use itoa::Buffer;
 use std::alloc::{AllocError, Global};
-
-/// Room for any line without very great numbers, so that its text takes memory once.
-const LINE_ROOM: usize = 96;
 
 /// A line of output, in the texts of docs/SCRIPT.md.
 #[derive(Clone, Copy, Debug)]
@@ -39,147 +37,149 @@ pub enum Line {
 /// Appends the text of a line, with its line feed.
 ///
 /// Fails only with `OutOfMemory` (102); the bytes are then as before.
-pub fn push_line(alloc: Global, out: &mut Vec<u8>, line: &Line) -> Result<(), Refusal>
+pub fn push_line(_alloc: Global, out: &mut Vec<u8>, line: &Line) -> Result<(), Refusal>
     ensures appended { OnOk result (out.new.items ≡ out.old.items ++ line_text line.now) }
     ensures unchanged { OnErr result (out.new.items ≡ out.old.items) }
     ensures only { IfErr result (λ why. why ≡ Refusal.OutOfMemory) }
 {
-    let text = text_of(alloc, line)?;
-    out.extend_from_slice(&text)?;
-    Ok(())
+    let before = out.len();
+    match append_line(out, line) {
+        Ok(()) => Ok(()),
+        Err(_) => {
+            out.truncate(before);
+            Err(Refusal::OutOfMemory)
+        }
+    }
 }
 
-/// The text of a line.
-fn text_of(alloc: Global, line: &Line) -> Result<Vec<u8>, AllocError>
-    ensures { IfOk result (λ text. text.items ≡ line_text line.now) }
+/// Appends the text of a line. Out of memory, a part of it may be appended.
+fn append_line(out: &mut Vec<u8>, line: &Line) -> Result<(), AllocError>
+    ensures appended { OnOk result (out.new.items ≡ out.old.items ++ line_text line.now) }
+    ensures kept { take (length out.old.items) out.new.items ≡ out.old.items }
 {
     match line {
-        Line::Accepted(number) => numbered_text(alloc, "accepted ", *number),
-        Line::Refused(code) => numbered_text(alloc, "refused ", u64::from(*code)),
-        Line::Published(front) => numbered_text(alloc, "published ", *front),
-        Line::Decided(answer) => decided_text(alloc, answer),
+        Line::Accepted(number) => append_numbered(out, "accepted ", *number),
+        Line::Refused(code) => append_numbered(out, "refused ", u64::from(*code)),
+        Line::Published(front) => append_numbered(out, "published ", *front),
+        Line::Decided(answer) => append_decided(out, answer),
         Line::Served {
             session,
             call,
             answer,
-        } => served_text(alloc, *session, *call, answer),
-        Line::AuditOk => audit_text(alloc),
+        } => append_served(out, *session, *call, answer),
+        Line::AuditOk => append_text(out, "audit ok\n"),
     }
 }
 
-/// The text of a line of a word and a number.
-fn numbered_text(alloc: Global, word: &str, number: u64) -> Result<Vec<u8>, AllocError>
-    ensures { IfOk result (λ text. text.items ≡ word.now ++ decimal number ++ codes "\n") }
+/// Appends the text of a line of a word and a number.
+fn append_numbered(out: &mut Vec<u8>, word: &str, number: u64) -> Result<(), AllocError>
+    ensures appended { OnOk result (out.new.items ≡ out.old.items ++ word.now ++ decimal number ++ codes "\n") }
+    ensures kept { take (length out.old.items) out.new.items ≡ out.old.items }
 {
-    let mut text = Vec::with_capacity(alloc, LINE_ROOM)?;
-    push_text(&mut text, word)?;
-    push_decimal(&mut text, number)?;
-    push_text(&mut text, "\n")?;
-    Ok(text)
+    append_text(out, word)?;
+    append_decimal(out, number)?;
+    append_text(out, "\n")
 }
 
-/// The text of a call that a session decided.
-fn served_text(
-    alloc: Global,
+/// Appends the text of a call that a session decided.
+fn append_served(
+    out: &mut Vec<u8>,
     session: u64,
     call: u64,
     answer: &Answer,
-) -> Result<Vec<u8>, AllocError>
-    ensures { IfOk result (λ text. text.items ≡ served_text session call answer.now) }
+) -> Result<(), AllocError>
+    ensures appended { OnOk result (out.new.items ≡ out.old.items ++ served_text session call answer.now) }
+    ensures kept { take (length out.old.items) out.new.items ≡ out.old.items }
 {
-    let mut text = Vec::with_capacity(alloc, LINE_ROOM)?;
-    push_text(&mut text, "session ")?;
-    push_decimal(&mut text, session)?;
-    push_text(&mut text, " call ")?;
-    push_decimal(&mut text, call)?;
-    push_text(&mut text, " ")?;
-    text.extend_from_slice(&decided_text(alloc, answer)?)?;
-    Ok(text)
+    append_text(out, "session ")?;
+    append_decimal(out, session)?;
+    append_text(out, " call ")?;
+    append_decimal(out, call)?;
+    append_text(out, " ")?;
+    append_decided(out, answer)
 }
 
-/// The text of an audit that found no mistake.
-fn audit_text(alloc: Global) -> Result<Vec<u8>, AllocError>
-    ensures { IfOk result (λ text. text.items ≡ codes "audit ok\n") }
+/// Appends the text of a decided call.
+fn append_decided(out: &mut Vec<u8>, answer: &Answer) -> Result<(), AllocError>
+    ensures appended { OnOk result (out.new.items ≡ out.old.items ++ decided_text answer.now.front answer.now.outcome) }
+    ensures kept { take (length out.old.items) out.new.items ≡ out.old.items }
 {
-    let mut text = Vec::with_capacity(alloc, LINE_ROOM)?;
-    push_text(&mut text, "audit ok\n")?;
-    Ok(text)
-}
-
-/// The text of a decided call.
-fn decided_text(alloc: Global, answer: &Answer) -> Result<Vec<u8>, AllocError>
-    ensures { IfOk result (λ text. text.items ≡ decided_text answer.now.front answer.now.outcome) }
-{
-    match answer.outcome {
+    append_text(out, "front ")?;
+    append_decimal(out, answer.front)?;
+    match &answer.outcome {
         Outcome::Trigger {
             dp,
             key,
             scf,
             handling,
-        } => trigger_text(alloc, answer.front, dp, key, scf, handling),
-        Outcome::NoTrigger(reason) => no_trigger_text(alloc, answer.front, reason),
+        } => append_trigger(out, *dp, *key, scf, *handling),
+        Outcome::NoTrigger(reason) => append_reason(out, *reason),
     }
 }
 
-/// The text of a call that triggers a service.
-fn trigger_text(
-    alloc: Global,
-    front: u64,
+/// Appends what follows the front of a call that triggers a service.
+fn append_trigger(
+    out: &mut Vec<u8>,
     dp: u8,
     key: u32,
-    scf: IsdnAddress,
+    scf: &IsdnAddress,
     handling: Handling,
-) -> Result<Vec<u8>, AllocError>
-    ensures { IfOk result (λ text. text.items ≡ decided_text front (Outcome.Trigger dp key scf handling)) }
+) -> Result<(), AllocError>
+    ensures appended { OnOk result (out.new.items ≡ out.old.items
+        ++ codes " trigger " ++ decimal dp ++ codes " " ++ decimal key ++ codes " " ++ encode_lower scf.now
+        ++ codes " " ++ action_text (action_of handling) ++ codes "\n") }
+    ensures kept { take (length out.old.items) out.new.items ≡ out.old.items }
 {
-    let mut text = Vec::with_capacity(alloc, LINE_ROOM)?;
-    push_text(&mut text, "front ")?;
-    push_decimal(&mut text, front)?;
-    push_text(&mut text, " trigger ")?;
-    push_decimal(&mut text, u64::from(dp))?;
-    push_text(&mut text, " ")?;
-    push_decimal(&mut text, u64::from(key))?;
-    push_text(&mut text, " ")?;
-    push_text(&mut text, &address_text(alloc, &scf)?)?;
-    push_text(&mut text, " ")?;
-    push_text(&mut text, action_text(handling))?;
-    push_text(&mut text, "\n")?;
-    Ok(text)
+    append_text(out, " trigger ")?;
+    append_decimal(out, u64::from(dp))?;
+    append_text(out, " ")?;
+    append_decimal(out, u64::from(key))?;
+    append_text(out, " ")?;
+    append_address(out, scf)?;
+    append_text(out, " ")?;
+    append_text(out, action_text(handling))?;
+    append_text(out, "\n")
 }
 
-/// The octets of an address in lower-case hexadecimal.
-fn address_text(alloc: Global, address: &IsdnAddress) -> Result<String, AllocError>
-    ensures { IfOk result (λ text. string_bytes text ≡ encode_lower address.now) }
+/// Appends the octets of an address in lower-case hexadecimal.
+fn append_address(out: &mut Vec<u8>, address: &IsdnAddress) -> Result<(), AllocError>
+    ensures appended { OnOk result (out.new.items ≡ out.old.items ++ encode_lower address.now) }
+    ensures kept { take (length out.old.items) out.new.items ≡ out.old.items }
 {
-    hex::encode(alloc, address.lend().bytes())
+    let octets = address.lend().bytes();
+    let mut digits = [0; 2 * MAX_ISDN_ADDRESS_LENGTH];
+    let text = &mut digits[..2 * octets.len()];
+    match hex::encode_to_slice(octets, text) {
+        Ok(()) => out.extend_from_slice(text),
+        Err(_) => unreachable!(),
+    }
 }
 
-/// The text of a call that triggers no service.
-fn no_trigger_text(alloc: Global, front: u64, reason: Reason) -> Result<Vec<u8>, AllocError>
-    ensures { IfOk result (λ text. text.items ≡ decided_text front (Outcome.NoTrigger reason)) }
+/// Appends what follows the front of a call that triggers no service.
+fn append_reason(out: &mut Vec<u8>, reason: Reason) -> Result<(), AllocError>
+    ensures appended { OnOk result (out.new.items ≡ out.old.items ++ codes " none " ++ reason_text reason ++ codes "\n") }
+    ensures kept { take (length out.old.items) out.new.items ≡ out.old.items }
 {
-    let mut text = Vec::with_capacity(alloc, LINE_ROOM)?;
-    push_text(&mut text, "front ")?;
-    push_decimal(&mut text, front)?;
-    push_text(&mut text, " none ")?;
-    push_text(&mut text, reason_text(reason))?;
-    push_text(&mut text, "\n")?;
-    Ok(text)
+    append_text(out, " none ")?;
+    append_text(out, reason_text(reason))?;
+    append_text(out, "\n")
 }
 
 /// Appends a text.
-fn push_text(out: &mut Vec<u8>, text: &str) -> Result<(), AllocError>
-    ensures { OnOk result (out.new.items ≡ out.old.items ++ text.now) }
+fn append_text(out: &mut Vec<u8>, text: &str) -> Result<(), AllocError>
+    ensures appended { OnOk result (out.new.items ≡ out.old.items ++ text.now) }
+    ensures kept { take (length out.old.items) out.new.items ≡ out.old.items }
 {
     out.extend_from_slice(text.as_bytes())
 }
 
 /// Appends a number in decimal digits.
-fn push_decimal(out: &mut Vec<u8>, number: u64) -> Result<(), AllocError>
-    ensures { OnOk result (out.new.items ≡ out.old.items ++ decimal number) }
+fn append_decimal(out: &mut Vec<u8>, number: u64) -> Result<(), AllocError>
+    ensures appended { OnOk result (out.new.items ≡ out.old.items ++ decimal number) }
+    ensures kept { take (length out.old.items) out.new.items ≡ out.old.items }
 {
     let mut digits = Buffer::new();
-    push_text(out, digits.format(number))
+    append_text(out, digits.format(number))
 }
 
 /// What is done with the call if the dialogue with the gsmSCF fails.
