@@ -12,7 +12,9 @@ pub(crate) mod record_fault;
 
 use crate::text::record_fault::RecordFault;
 use camel_criteria::{BasicService, CallType, Cause, MatchType, Refusal};
-use camel_tbcd::{CallAddress, Imsi, IsdnAddress, MAX_IMSI_DIGITS, MIN_IMSI_DIGITS};
+use camel_tbcd::{
+    CallAddress, Imsi, IsdnAddress, MAX_ADDRESS_LENGTH, MAX_IMSI_DIGITS, MIN_IMSI_DIGITS,
+};
 use hex::FromHexError;
 use std::alloc::Global;
 use std::marker::Model;
@@ -68,15 +70,44 @@ pub(crate) fn parse_small_decimal(text: &[u8]) -> Result<u8, RecordFault>
 /// The octets of an address, whose number is not checked yet.
 #[derive(Drop)]
 pub(crate) struct Octets {
-    items: Vec<u8>,
+    held: HeldOctets,
+}
+
+/// Octets, of which no more than an address may have take no memory.
+#[derive(Drop)]
+enum HeldOctets {
+    Few {
+        octets: [u8; MAX_ADDRESS_LENGTH],
+        count: usize,
+    },
+    Many(Vec<u8>),
 }
 
 impl Model for Octets {
     ghost use Rattle.std.specs.Prelude.{ℕ, List};
+    ghost use Rattle.camel_script.specs.Octets.{held_octets};
 
     ghost Value = { List ℕ };
 
-    ghost view = { λ a. a.items.items };
+    ghost view = { λ a. held_octets a.held };
+}
+
+impl Octets {
+    fn as_slice(&self) -> &[u8]
+        ensures { result.now ≡ self.now }
+    {
+        match &self.held {
+            HeldOctets::Few { octets, count } => first_of(octets, *count),
+            HeldOctets::Many(octets) => octets.as_slice(),
+        }
+    }
+}
+
+/// The first octets, so many as are counted, and all if they are fewer.
+fn first_of(octets: &[u8], count: usize) -> &[u8]
+    ensures { result.now ≡ take count octets.now }
+{
+    &octets[..count.min(octets.len())]
 }
 
 /// Reads the octets of an address: an even number of hexadecimal digits of either case, possibly none.
@@ -84,8 +115,28 @@ impl Model for Octets {
 pub(crate) fn parse_octets(alloc: Global, text: &[u8]) -> Result<Octets, RecordFault>
     ensures { ReadsAs result (octets_of text.now) }
 {
+    let count = text.len() / 2;
+    if count > MAX_ADDRESS_LENGTH {
+        return parse_many_octets(alloc, text);
+    }
+    let mut octets = [0; MAX_ADDRESS_LENGTH];
+    match hex::decode_to_slice(text, &mut octets[..count]) {
+        Ok(()) => Ok(Octets {
+            held: HeldOctets::Few { octets, count },
+        }),
+        Err(_) => Err(RecordFault::Hexadecimal),
+    }
+}
+
+/// Reads more octets than an address may have, whose text still has to be hexadecimal.
+#[tactic(auto, unfolding(crate::specs::Texts::octets_of))]
+fn parse_many_octets(alloc: Global, text: &[u8]) -> Result<Octets, RecordFault>
+    ensures { ReadsAs result (octets_of text.now) }
+{
     match hex::decode(alloc, text) {
-        Ok(items) => Ok(Octets { items }),
+        Ok(octets) => Ok(Octets {
+            held: HeldOctets::Many(octets),
+        }),
         Err(FromHexError::OutOfMemory) => Err(RecordFault::OutOfMemory),
         Err(_) => Err(RecordFault::Hexadecimal),
     }
@@ -173,7 +224,7 @@ pub(crate) fn make_cause(value: u8) -> Result<Cause, RecordFault>
 pub(crate) fn make_isdn_address(octets: &Octets) -> Result<IsdnAddress, RecordFault>
     ensures { result ≡ isdn_address_of octets.now }
 {
-    match IsdnAddress::from_bytes(octets.items.as_slice()) {
+    match IsdnAddress::from_bytes(octets.as_slice()) {
         Ok(address) => Ok(address),
         Err(_) => Err(RecordFault::Refused(Refusal::UnexpectedDataValue)),
     }
@@ -184,7 +235,7 @@ pub(crate) fn make_isdn_address(octets: &Octets) -> Result<IsdnAddress, RecordFa
 pub(crate) fn make_call_address(octets: &Octets) -> Result<CallAddress, RecordFault>
     ensures { result ≡ call_address_of octets.now }
 {
-    match CallAddress::from_bytes(octets.items.as_slice()) {
+    match CallAddress::from_bytes(octets.as_slice()) {
         Ok(address) => Ok(address),
         Err(_) => Err(RecordFault::Refused(Refusal::UnexpectedDataValue)),
     }
