@@ -33,10 +33,17 @@ pub(crate) const BEARER_SERVICE: u8 = b'b';
 pub(crate) fn parse_imsi(text: &[u8]) -> Result<Imsi, RecordFault>
     ensures { result ≡ imsi_of_text text.now }
 {
-    if text.len() < MIN_IMSI_DIGITS || text.len() > MAX_IMSI_DIGITS || !is_digits(text) {
+    if text.len() < MIN_IMSI_DIGITS || text.len() > MAX_IMSI_DIGITS {
         return Err(RecordFault::Number);
     }
-    let values = digit_values(text);
+    let mut values = [0; MAX_IMSI_DIGITS];
+    for at in 0..text.len() {
+        let character = text[at];
+        if !character.is_ascii_digit() {
+            return Err(RecordFault::Number);
+        }
+        values[at] = character - b'0';
+    }
     match Imsi::from_digits(&values[..text.len()]) {
         Ok(imsi) => Ok(imsi),
         Err(_) => Err(RecordFault::Number),
@@ -246,19 +253,6 @@ fn is_digits(text: &[u8]) -> bool
     ensures { result ≡ is_digits text.now }
 {
     text.iter().all(|character| character.is_ascii_digit())
-}
-
-/// The values of the digits of an IMSI, and 0 behind them.
-fn digit_values(text: &[u8]) -> [u8; MAX_IMSI_DIGITS]
-    requires digits { IsTrue (is_digits text.now) }
-    requires few { length text.now ≤ 15 }
-    ensures { take (length text.now) result ≡ digit_values text.now }
-{
-    let mut values = [0; MAX_IMSI_DIGITS];
-    for at in 0..text.len() {
-        values[at] = text[at] - b'0';
-    }
-    values
 }
 
 /// The number that the digits stand for.
