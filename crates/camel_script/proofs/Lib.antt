@@ -1,5 +1,6 @@
 pub mod CsvRecords
 pub mod FieldLemmas
 pub mod InTurn
+pub mod PartsLemmas
 pub mod ReadRecord
 pub mod TextsLemmas

@@ -9,7 +9,7 @@ pub(crate) mod number;
 
 use crate::item::number::{make_number_criterion, parse_number_texts};
 use crate::text::lists::{parse_basic_services, parse_small_decimals};
-use crate::text::parts::{ITEM_SEPARATOR, part, part_count};
+use crate::text::parts::{ITEM_SEPARATOR, cut_part, part_count};
 use crate::text::record_fault::RecordFault;
 use crate::text::{
     make_isdn_address, parse_call_type, parse_decimal, parse_octets, parse_small_decimal,
@@ -65,7 +65,7 @@ impl Items {
         ensures taken { OnOk result (item_into self.old item.now ≡ Ok self.new) }
         ensures fails { IfErr result (λ fault. FailsAs fault (item_into self.old item.now)) }
     {
-        match item_part(item, 0) {
+        match cut_part(item, ITEM_SEPARATOR).0 {
             b"o" => push_row(alloc, &mut self.o, item),
             b"t" => push_row(alloc, &mut self.vt, item),
             b"oc" => push_o_entry(alloc, &mut self.o_criteria, item),
@@ -114,15 +114,49 @@ fn push_t_entry(alloc: Global, entries: &mut Vec<TCriteria>, item: &[u8]) -> Res
     Ok(())
 }
 
+/// The parts of an item behind its name; empty past the last.
+#[derive(Clone, Copy)]
+struct ItemParts<'a> {
+    first: &'a [u8],
+    second: &'a [u8],
+    third: &'a [u8],
+    fourth: &'a [u8],
+    fifth: &'a [u8],
+}
+
+/// Cuts an item into its parts.
+fn item_parts(item: &[u8]) -> ItemParts<'_>
+    ensures first { result.first.now ≡ item_part item.now 1 }
+    ensures second { result.second.now ≡ item_part item.now 2 }
+    ensures third { result.third.now ≡ item_part item.now 3 }
+    ensures fourth { result.fourth.now ≡ item_part item.now 4 }
+    ensures fifth { result.fifth.now ≡ item_part item.now 5 }
+{
+    let (_name, rest) = cut_part(item, ITEM_SEPARATOR);
+    let (first, rest) = cut_part(rest, ITEM_SEPARATOR);
+    let (second, rest) = cut_part(rest, ITEM_SEPARATOR);
+    let (third, rest) = cut_part(rest, ITEM_SEPARATOR);
+    let (fourth, rest) = cut_part(rest, ITEM_SEPARATOR);
+    let (fifth, _rest) = cut_part(rest, ITEM_SEPARATOR);
+    ItemParts {
+        first,
+        second,
+        third,
+        fourth,
+        fifth,
+    }
+}
+
 /// Reads a row. The texts of all its parts are read before its data are checked.
 #[tactic(auto, unfolding(crate::specs::Item::row_of_parts))]
 fn parse_row(alloc: Global, item: &[u8]) -> Result<TdpRow, RecordFault>
     ensures { ReadsAs result (row_of_parts item.now) }
 {
-    let dp = parse_small_decimal(item_part(item, 1))?;
-    let key = parse_decimal(item_part(item, 2), u32::MAX)?;
-    let octets = parse_octets(alloc, item_part(item, 3))?;
-    let received = parse_decimal(item_part(item, 4), u32::MAX)?;
+    let parts = item_parts(item);
+    let dp = parse_small_decimal(parts.first)?;
+    let key = parse_decimal(parts.second, u32::MAX)?;
+    let octets = parse_octets(alloc, parts.third)?;
+    let received = parse_decimal(parts.fourth, u32::MAX)?;
     let scf = make_isdn_address(&octets)?;
     Ok(TdpRow::new(dp, key, scf, Handling::of_received(received))?)
 }
@@ -132,11 +166,12 @@ fn parse_row(alloc: Global, item: &[u8]) -> Result<TdpRow, RecordFault>
 fn parse_o_entry(alloc: Global, item: &[u8]) -> Result<OCriteria, RecordFault>
     ensures { ReadsAs result (o_entry_of_parts item.now) }
 {
-    let dp = parse_small_decimal(item_part(item, 1))?;
-    let texts = parse_number_texts(alloc, item_part(item, 2))?;
-    let basic = parse_basic_services(alloc, item_part(item, 3))?;
-    let call_type = parse_call_type(item_part(item, 4))?;
-    let causes = parse_small_decimals(alloc, item_part(item, 5))?;
+    let parts = item_parts(item);
+    let dp = parse_small_decimal(parts.first)?;
+    let texts = parse_number_texts(alloc, parts.second)?;
+    let basic = parse_basic_services(alloc, parts.third)?;
+    let call_type = parse_call_type(parts.fourth)?;
+    let causes = parse_small_decimals(alloc, parts.fifth)?;
     let number = make_number_criterion(alloc, &texts)?;
     Ok(OCriteria::new(dp, number, &basic, call_type, &causes)?)
 }
@@ -146,15 +181,9 @@ fn parse_o_entry(alloc: Global, item: &[u8]) -> Result<OCriteria, RecordFault>
 fn parse_t_entry(alloc: Global, item: &[u8]) -> Result<TCriteria, RecordFault>
     ensures { ReadsAs result (t_entry_of_parts item.now) }
 {
-    let dp = parse_small_decimal(item_part(item, 1))?;
-    let basic = parse_basic_services(alloc, item_part(item, 2))?;
-    let causes = parse_small_decimals(alloc, item_part(item, 3))?;
+    let parts = item_parts(item);
+    let dp = parse_small_decimal(parts.first)?;
+    let basic = parse_basic_services(alloc, parts.second)?;
+    let causes = parse_small_decimals(alloc, parts.third)?;
     Ok(TCriteria::new(dp, &basic, &causes)?)
-}
-
-/// The part of an item at a place, from 0; empty past the last.
-fn item_part(item: &[u8], at: usize) -> &[u8]
-    ensures { result.now ≡ item_part item.now at }
-{
-    part(item, ITEM_SEPARATOR, at)
 }

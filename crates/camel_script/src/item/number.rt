@@ -4,7 +4,7 @@ ghost use Rattle.camel_script.specs.Item.{number_criterion_from, number_texts_of
 ghost use Rattle.camel_script.specs.Reading.{ReadsAs};
 
 use crate::text::lists::{make_isdn_addresses, parse_octets_list, parse_small_decimals};
-use crate::text::parts::{NUMBER_SEPARATOR, part, part_count};
+use crate::text::parts::{NUMBER_SEPARATOR, cut_part, part_count};
 use crate::text::record_fault::RecordFault;
 use crate::text::{Octets, parse_match_type};
 use camel_criteria::{MatchType, NumberCriterion};
@@ -48,10 +48,13 @@ fn parse_number_parts(alloc: Global, text: &[u8]) -> Result<NumberTexts, RecordF
     if part_count(text, NUMBER_SEPARATOR) != 3 {
         return Err(RecordFault::FieldCount);
     }
+    let (match_type, rest) = cut_part(text, NUMBER_SEPARATOR);
+    let (numbers, rest) = cut_part(rest, NUMBER_SEPARATOR);
+    let (lengths, _rest) = cut_part(rest, NUMBER_SEPARATOR);
     Ok(NumberTexts {
-        match_type: parse_match_type(part(text, NUMBER_SEPARATOR, 0))?,
-        numbers: parse_octets_list(alloc, part(text, NUMBER_SEPARATOR, 1))?,
-        lengths: parse_small_decimals(alloc, part(text, NUMBER_SEPARATOR, 2))?,
+        match_type: parse_match_type(match_type)?,
+        numbers: parse_octets_list(alloc, numbers)?,
+        lengths: parse_small_decimals(alloc, lengths)?,
     })
 }
 

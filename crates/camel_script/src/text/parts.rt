@@ -1,6 +1,4 @@
-ghost use Rattle.std.specs.Prelude.{◌≡◌, ◌==◌, IfOk, length, map, slice_get};
-ghost use Rattle.std.specs.List.{slice_split};
-ghost use Rattle.std.specs.Option.{option_map};
+ghost use Rattle.std.specs.Prelude.{◌≡◌, ◌+◌, ◌==◌, All, IfOk, IsNone, ℕ, false, length, map, position};
 ghost use Rattle.camel_script.specs.Parts.{part, parts_of};
 
 use std::alloc::{AllocError, Global};
@@ -18,24 +16,30 @@ pub(crate) const ELEMENT_SEPARATOR: u8 = b'+';
 pub(crate) fn part_count(text: &[u8], separator: u8) -> usize
     ensures { result ≡ length (parts_of separator text.now) }
 {
-    text.split(|character| *character == separator).count()
+    let mut separators = 0;
+    for character in text {
+        separators += usize::from(*character == separator);
+    }
+    separators + 1
 }
 
-/// The part of a text at a place, from 0; empty past the last.
-pub(crate) fn part(text: &[u8], separator: u8, at: usize) -> &[u8]
-    ensures { result.now ≡ part separator text.now at }
+/// The first part of a text, and what is behind its separator: empty where there is none.
+pub(crate) fn cut_part(text: &[u8], separator: u8) -> (&[u8], &[u8])
+    ensures first { result.0.now ≡ part separator text.now 0 }
+    ensures others { (at : ℕ) → part separator text.now (at + 1) ≡ part separator result.1.now at }
 {
-    match part_at(text, separator, at) {
-        Some(text) => text,
-        None => &[],
+    match separator_place(text, separator) {
+        Some(at) => (&text[..at], &text[at + 1..]),
+        None => (text, &[]),
     }
 }
 
-/// The part of a text at a place, from 0; None past the last.
-fn part_at(text: &[u8], separator: u8, at: usize) -> Option<&[u8]>
-    ensures { option_map (λ text. text.now) result ≡ slice_get (parts_of separator text.now) at }
+/// The place of the first separator.
+fn separator_place(text: &[u8], separator: u8) -> Option<usize>
+    ensures first { result ≡ position (λ character. character == separator) text.now }
+    ensures none { IsNone result → All (λ character. (character == separator) ≡ false) text.now }
 {
-    text.split(|character| *character == separator).nth(at)
+    text.iter().position(|character| *character == separator)
 }
 
 /// All parts of a text.

@@ -1,9 +1,9 @@
-use Rattle.std.proofs.Common.{◌==◌, rules, tests}
-use Rattle.std.proofs.lemmas.Iterator.Consumers.{count_from_yields_List}
-use Rattle.std.proofs.lemmas.Iterator.Splits.{YieldsList-from_slice_split}
+use Rattle.std.proofs.Common.{◌==◌, arith}
+use Rattle.std.proofs.lemmas.Grind.{common_steps}
+use Rattle.std.proofs.lemmas.List.Splits.{length-slice_split}
 use Rattle.camel_script.proofs.text.parts.part_count.Goals as goal
 
 pub returns : goal.returns
 returns c =
-    count_from_yields_List _ c.count.result c.count.ensures.ran
-    (YieldsList-from_slice_split _ (λ b. b == c.args.separator) c.args.text.now c.split.ensures.rest c.split.ensures.done c.split.ensures.closure (λ x b q k. search (rules, tests)))
+    let count = length-slice_split (λ character. character == c.args.separator) c.args.text.now in
+    grind (arith, common_steps, count)
