@@ -52,6 +52,11 @@ abbrev pub ReadsAs : {A : Type 0} → Result A RecordFault → Result A RecordFa
 ReadsAs (Ok value) reading = reading ≡ Ok value
 ReadsAs (Err fault) reading = FailsAs fault reading
 
+-- a function puts into its place what its text reads as, or is out of memory
+abbrev pub ReadsInto : {A : Type 0} → Result (Unit {0}) RecordFault → A → Result A RecordFault → Type 0
+ReadsInto (Ok done) value reading = reading ≡ Ok value
+ReadsInto (Err fault) value reading = FailsAs fault reading
+
 -- a function returns the list that its text reads as, or is out of memory
 abbrev pub ReadsList : {A G : Type 0} → Result (Vec A G) RecordFault → Result (List A) RecordFault → Type 0
 ReadsList (Ok values) reading = reading ≡ Ok values.items

@@ -1,6 +1,6 @@
 -- What the bytes of a script give: records, and then a fault or the end. Which CSV records the bytes hold
 -- is what the crate `csv` says of them, with its defaults and no header row.
-use Rattle.std.specs.Prelude.{ℕ, zero, suc, ◌≡◌, ◌⊎◌, ⊤, List, [], ◌∷◌, Option, Some, None, Result, Ok, Err}
+use Rattle.std.specs.Prelude.{ℕ, zero, suc, ◌≡◌, ◌⊎◌, ⊤, Bool, true, false, List, [], ◌∷◌, Option, Some, None, Result, Ok, Err}
 use Rattle.csv.specs.Reading.{default_config, records, strip_bom}
 use Rattle.camel_script.specs.Record.{record_of}
 use Rattle.camel_script.specs.declared.record.Record.{Record}
@@ -65,6 +65,11 @@ abbrev pub Gives : Option ScriptData → Option ScriptData → Option Record →
 Gives None new read = ⊤
 Gives (Some old) new None = old ≡ the_end
 Gives (Some old) new (Some read) = GivesFirst old new read
+
+-- what a call has read into a place, if it found a record
+abbrev pub read_if : Bool → Record → Option Record
+read_if true read = Some read
+read_if false read = None
 
 -- nothing was left but this fault
 abbrev pub IsOnlyFault : ScriptFault → Option ScriptData → Type 0

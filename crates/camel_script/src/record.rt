@@ -1,9 +1,9 @@
 //! The records of a script.
 
-ghost use Rattle.std.specs.Prelude.{◌≡◌, ◌⊎◌, IfErr, IfOk};
+ghost use Rattle.std.specs.Prelude.{◌≡◌, ◌≢◌, ◌⊎◌, IfErr, OnOk, length};
 ghost use Rattle.csv.specs.Records.{fields_of};
-ghost use Rattle.camel_script.specs.Reading.{ReadsAs};
-ghost use Rattle.camel_script.specs.Record.{cancel_of, imsi_alone_of, kind_of_word, reading_of, record_of, register_of, word_alone_of};
+ghost use Rattle.camel_script.specs.Reading.{ReadsInto};
+ghost use Rattle.camel_script.specs.Record.{cancel_of, clear_of, imsi_alone_of, kind_of_word, publish_of, reading_of, record_of, register_of};
 ghost use Rattle.camel_script.specs.ScriptFault.{IsRecordFault};
 
 pub(crate) mod call;
@@ -25,6 +25,8 @@ use csv::ByteRecord;
 use std::alloc::Global;
 
 /// A record of a script.
+///
+/// It is large, since an update is. So it is read into its place, and not moved there.
 #[derive(Debug, Drop)]
 pub enum Record {
     /// An update of the subscriber data.
@@ -53,15 +55,22 @@ enum RecordKind {
 /// Reads the record that the fields of a CSV record stand for. Fails with the first fault of their texts, or out of
 /// memory.
 #[tactic(auto, unfolding(crate::specs::Record::record_of))]
-pub(crate) fn parse_record(alloc: Global, fields: &ByteRecord) -> Result<Record, ScriptFault>
-    ensures record { IfOk result (λ read. record_of (fields_of fields.now) ≡ Ok read) }
+pub(crate) fn parse_record(
+    alloc: Global,
+    fields: &ByteRecord,
+    read: &mut Record,
+) -> Result<(), ScriptFault>
+    ensures record { OnOk result (record_of (fields_of fields.now) ≡ Ok read.new) }
     ensures fault { IfErr result (λ fault.
         (fault ≡ ScriptFault.OutOfMemory) ⊎ (record_of (fields_of fields.now) ≡ Err fault)) }
     ensures of_record { IfErr result IsRecordFault }
 {
-    match parse_fields(alloc, fields) {
-        Ok(read) => Ok(read),
-        Err(RecordFault::Refused(refusal)) => Ok(Record::Refused(refusal)),
+    match parse_fields(alloc, fields, read) {
+        Ok(()) => Ok(()),
+        Err(RecordFault::Refused(refusal)) => {
+            *read = Record::Refused(refusal);
+            Ok(())
+        }
         Err(RecordFault::OutOfMemory) => Err(ScriptFault::OutOfMemory),
         Err(RecordFault::Word) => Err(ScriptFault::Word),
         Err(RecordFault::FieldCount) => Err(ScriptFault::FieldCount),
@@ -72,17 +81,17 @@ pub(crate) fn parse_record(alloc: Global, fields: &ByteRecord) -> Result<Record,
 
 /// Reads a record by its word, the first field.
 #[tactic(auto, unfolding(crate::specs::Record::reading_of))]
-fn parse_fields(alloc: Global, fields: &ByteRecord) -> Result<Record, RecordFault>
-    ensures { ReadsAs result (reading_of (fields_of fields.now)) }
+fn parse_fields(alloc: Global, fields: &ByteRecord, read: &mut Record) -> Result<(), RecordFault>
+    ensures { ReadsInto result read.new (reading_of (fields_of fields.now)) }
 {
     match parse_kind(field(fields, 0))? {
-        RecordKind::Register => parse_register(fields),
-        RecordKind::Insert => parse_insert(alloc, fields),
-        RecordKind::Delete => parse_delete(fields),
-        RecordKind::Cancel => parse_cancel(fields),
-        RecordKind::Clear => parse_word_alone(fields, Record::Update(Update::ClearAll)),
-        RecordKind::Publish => parse_word_alone(fields, Record::Publish),
-        RecordKind::Call => parse_call(alloc, fields),
+        RecordKind::Register => parse_register(fields, read),
+        RecordKind::Insert => parse_insert(alloc, fields, read),
+        RecordKind::Delete => parse_delete(fields, read),
+        RecordKind::Cancel => parse_cancel(fields, read),
+        RecordKind::Clear => parse_clear(fields, read),
+        RecordKind::Publish => parse_publish(fields, read),
+        RecordKind::Call => parse_call(alloc, fields, read),
     }
 }
 
@@ -114,27 +123,51 @@ fn parse_imsi_alone(fields: &ByteRecord) -> Result<Imsi, RecordFault>
     parse_imsi(field(fields, 1))
 }
 
-fn parse_register(fields: &ByteRecord) -> Result<Record, RecordFault>
-    ensures { result ≡ register_of (fields_of fields.now) }
+#[inline(never)]
+fn parse_register(fields: &ByteRecord, read: &mut Record) -> Result<(), RecordFault>
+    ensures { ReadsInto result read.new (register_of (fields_of fields.now)) }
 {
     let imsi = parse_imsi_alone(fields)?;
-    Ok(Record::Update(Update::Register { imsi }))
+    *read = Record::Update(Update::Register { imsi });
+    Ok(())
 }
 
-fn parse_cancel(fields: &ByteRecord) -> Result<Record, RecordFault>
-    ensures { result ≡ cancel_of (fields_of fields.now) }
+#[inline(never)]
+fn parse_cancel(fields: &ByteRecord, read: &mut Record) -> Result<(), RecordFault>
+    ensures { ReadsInto result read.new (cancel_of (fields_of fields.now)) }
 {
     let imsi = parse_imsi_alone(fields)?;
-    Ok(Record::Update(Update::Cancel { imsi }))
+    *read = Record::Update(Update::Cancel { imsi });
+    Ok(())
 }
 
-/// Reads a record that has only a word, and so no texts.
+#[inline(never)]
 #[tactic(auto, unfolding(crate::specs::Record::word_alone_of))]
-fn parse_word_alone(fields: &ByteRecord, read: Record) -> Result<Record, RecordFault>
-    ensures { result ≡ word_alone_of (fields_of fields.now) read }
+fn parse_clear(fields: &ByteRecord, read: &mut Record) -> Result<(), RecordFault>
+    ensures { ReadsInto result read.new (clear_of (fields_of fields.now)) }
+{
+    check_word_alone(fields)?;
+    *read = Record::Update(Update::ClearAll);
+    Ok(())
+}
+
+#[inline(never)]
+#[tactic(auto, unfolding(crate::specs::Record::word_alone_of))]
+fn parse_publish(fields: &ByteRecord, read: &mut Record) -> Result<(), RecordFault>
+    ensures { ReadsInto result read.new (publish_of (fields_of fields.now)) }
+{
+    check_word_alone(fields)?;
+    *read = Record::Publish;
+    Ok(())
+}
+
+/// Counts the fields of a record that has only a word, and so no texts.
+fn check_word_alone(fields: &ByteRecord) -> Result<(), RecordFault>
+    ensures alone { OnOk result (length (fields_of fields.now) ≡ 1) }
+    ensures more { IfErr result (λ fault. (fault ≡ RecordFault.FieldCount) × (length (fields_of fields.now) ≢ 1)) }
 {
     if fields.len() != 1 {
         return Err(RecordFault::FieldCount);
     }
-    Ok(read)
+    Ok(())
 }

@@ -1,7 +1,7 @@
-ghost use Rattle.std.specs.Prelude.{◌≡◌, ◌≢◌, ◌+◌, Ok, Err, None, IfErr, IfOk, IfSome, IsOk, IsTrue, OnErr, option_map};
+ghost use Rattle.std.specs.Prelude.{◌≡◌, ◌≢◌, ◌+◌, Ok, Err, None, IfErr, IfOk, IfSome, IsOk, IsTrue, OnErr, false, option_map, true};
 ghost use Rattle.csv.specs.Reading.{error_kind, is_io};
 ghost use Rattle.camel_script.specs.Csv.{IsMemoryOrIo};
-ghost use Rattle.camel_script.specs.Script.{Ended, Failed, FaultsAs, Gives, IsMemoryOrReadFault, Unread, records_left, script, still_gives};
+ghost use Rattle.camel_script.specs.Script.{Ended, Failed, FaultsAs, Gives, IsMemoryOrReadFault, Unread, read_if, records_left, script, still_gives};
 
 use crate::record::{Record, parse_record};
 use crate::script_fault::ScriptFault;
@@ -86,9 +86,34 @@ impl<R: Read> Script<R> {
         ensures ends { result ≡ Ok None → self.new ≡ Ended }
         ensures ended { self.old ≡ Ended → result ≡ Ok None }
     {
+        let mut record = Record::Publish;
+        match self.read_into(&mut record) {
+            Ok(true) => Ok(Some(record)),
+            Ok(false) => Ok(None),
+            Err(fault) => Err(fault),
+        }
+    }
+
+    /// Reads the next record into its place, and returns whether there is one. At the end of the script, and after a
+    /// fault, what the place holds is not specified.
+    ///
+    /// It is for a loop over records: `read_record` moves each, and a record is large. Its faults are the same.
+    pub fn read_into(&mut self, read: &mut Record) -> Result<bool, ScriptFault>
+        ensures gives { IfOk result (λ found. Gives (still_gives self.old) (still_gives self.new) (read_if found read.new)) }
+        ensures faults { IfErr result (λ fault. FaultsAs fault (still_gives self.old)) }
+        ensures counts { result ≡ Ok true → records_left self.old ≡ records_left self.new + 1 }
+
+        // As of `read_record`.
+        ensures fails { OnErr result (self.new ≡ Failed) }
+        ensures failed { self.old ≡ Failed → result ≡ Err ScriptFault.Failed }
+        ensures failed_only { result ≡ Err ScriptFault.Failed → self.old ≡ Failed }
+        ensures reads_on { result ≡ Ok true → self.new ≢ Failed }
+        ensures ends { result ≡ Ok false → self.new ≡ Ended }
+        ensures ended { self.old ≡ Ended → result ≡ Ok false }
+    {
         match self.phase {
             Phase::Failed => return Err(ScriptFault::Failed),
-            Phase::Ended => return Ok(None),
+            Phase::Ended => return Ok(false),
             Phase::Reading => {}
         }
         let found = match self.reader.read_byte_record(&mut self.fields) {
@@ -100,16 +125,16 @@ impl<R: Read> Script<R> {
         };
         if !found {
             self.phase = Phase::Ended;
-            return Ok(None);
+            return Ok(false);
         }
         if self.records_left == 0 {
             self.phase = Phase::Failed;
             return Err(ScriptFault::TooManyRecords);
         }
-        match parse_record(self.alloc, &self.fields) {
-            Ok(read) => {
+        match parse_record(self.alloc, &self.fields, read) {
+            Ok(()) => {
                 self.records_left -= 1;
-                Ok(Some(read))
+                Ok(true)
             }
             Err(fault) => {
                 self.phase = Phase::Failed;

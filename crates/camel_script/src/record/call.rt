@@ -1,7 +1,7 @@
 ghost use Rattle.std.specs.Prelude.{◌≡◌};
 ghost use Rattle.csv.specs.Records.{fields_of};
 ghost use Rattle.camel_script.specs.Call.{busy_of, call_of, collected_info_of, event_of, no_answer_of, route_select_failure_of, terminating_attempt_of, with_fields};
-ghost use Rattle.camel_script.specs.Reading.{ReadsAs};
+ghost use Rattle.camel_script.specs.Reading.{ReadsAs, ReadsInto};
 
 use crate::record::Record;
 use crate::record::field::field;
@@ -15,10 +15,15 @@ use csv::ByteRecord;
 use std::alloc::Global;
 
 /// Reads a call at a trigger detection point.
-pub(crate) fn parse_call(alloc: Global, fields: &ByteRecord) -> Result<Record, RecordFault>
-    ensures { ReadsAs result (call_of (fields_of fields.now)) }
+pub(crate) fn parse_call(
+    alloc: Global,
+    fields: &ByteRecord,
+    read: &mut Record,
+) -> Result<(), RecordFault>
+    ensures { ReadsInto result read.new (call_of (fields_of fields.now)) }
 {
-    Ok(Record::Call(parse_by_detection_point(alloc, fields)?))
+    *read = Record::Call(parse_by_detection_point(alloc, fields)?);
+    Ok(())
 }
 
 /// Reads a call by its detection point, which says how many fields there are.

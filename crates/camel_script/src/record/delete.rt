@@ -1,6 +1,6 @@
 ghost use Rattle.std.specs.Prelude.{◌≡◌, drop};
 ghost use Rattle.csv.specs.Records.{fields_of};
-ghost use Rattle.camel_script.specs.Reading.{in_turn};
+ghost use Rattle.camel_script.specs.Reading.{ReadsInto, in_turn};
 ghost use Rattle.camel_script.specs.Record.{delete_of, no_withdrawal, withdrawal_with};
 
 use crate::record::Record;
@@ -12,15 +12,17 @@ use csv::ByteRecord;
 
 /// Reads a delete with what it names.
 #[tactic(auto, unfolding(crate::specs::Record::delete_of))]
-pub(crate) fn parse_delete(fields: &ByteRecord) -> Result<Record, RecordFault>
-    ensures { result ≡ delete_of (fields_of fields.now) }
+#[inline(never)]
+pub(crate) fn parse_delete(fields: &ByteRecord, read: &mut Record) -> Result<(), RecordFault>
+    ensures { ReadsInto result read.new (delete_of (fields_of fields.now)) }
 {
     if fields.len() < 3 {
         return Err(RecordFault::FieldCount);
     }
     let imsi = parse_imsi(field(fields, 1))?;
     let what = parse_withdrawal(fields)?;
-    Ok(Record::Update(Update::Delete { imsi, what }))
+    *read = Record::Update(Update::Delete { imsi, what });
+    Ok(())
 }
 
 /// Reads what a delete names, from its third field on.

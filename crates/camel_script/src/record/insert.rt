@@ -2,7 +2,7 @@ ghost use Rattle.std.specs.Prelude.{◌≡◌, drop};
 ghost use Rattle.csv.specs.Records.{fields_of};
 ghost use Rattle.camel_rows.specs.Received.{o_criteria_set_of, o_csi_of, t_criteria_set_of, vt_csi_of};
 ghost use Rattle.camel_script.specs.Item.{items_of};
-ghost use Rattle.camel_script.specs.Reading.{ReadsAs};
+ghost use Rattle.camel_script.specs.Reading.{ReadsAs, ReadsInto};
 ghost use Rattle.camel_script.specs.Record.{insert_of, insert_of_items, received_list};
 
 use crate::item::Items;
@@ -18,14 +18,19 @@ use std::alloc::Global;
 
 /// Reads an insert with its items, if any.
 #[tactic(auto, unfolding(crate::specs::Record::insert_of))]
-pub(crate) fn parse_insert(alloc: Global, fields: &ByteRecord) -> Result<Record, RecordFault>
-    ensures { ReadsAs result (insert_of (fields_of fields.now)) }
+#[inline(never)]
+pub(crate) fn parse_insert(
+    alloc: Global,
+    fields: &ByteRecord,
+    read: &mut Record,
+) -> Result<(), RecordFault>
+    ensures { ReadsInto result read.new (insert_of (fields_of fields.now)) }
 {
     if fields.len() < 2 {
         return Err(RecordFault::FieldCount);
     }
     let imsi = parse_imsi(field(fields, 1))?;
-    make_insert(imsi, parse_items(alloc, fields)?)
+    make_insert(imsi, parse_items(alloc, fields)?, read)
 }
 
 /// Reads the items of an insert, from its third field on.
@@ -40,20 +45,21 @@ fn parse_items(alloc: Global, fields: &ByteRecord) -> Result<Items, RecordFault>
 }
 
 #[tactic(auto, unfolding(crate::specs::Record::insert_of_items))]
-fn make_insert(imsi: Imsi, items: Items) -> Result<Record, RecordFault>
-    ensures { ReadsAs result (insert_of_items imsi items) }
+fn make_insert(imsi: Imsi, items: Items, read: &mut Record) -> Result<(), RecordFault>
+    ensures { ReadsInto result read.new (insert_of_items imsi items) }
 {
     let o = make_o_csi(&items.o)?;
     let o_criteria = make_o_criteria_set(items.o_criteria)?;
     let vt = make_vt_csi(&items.vt)?;
     let t_criteria = make_t_criteria_set(items.t_criteria)?;
-    Ok(Record::Update(Update::Insert {
+    *read = Record::Update(Update::Insert {
         imsi,
         o,
         o_criteria,
         vt,
         t_criteria,
-    }))
+    });
+    Ok(())
 }
 
 fn make_o_csi(rows: &[TdpRow]) -> Result<Option<OCsi>, RecordFault>

@@ -2,7 +2,7 @@ use Rattle.std.proofs.Common.{◌-◌, arith}
 use Rattle.csv.specs.Reading.{source_of}
 use Rattle.csv.specs.Records.{fields_of}
 use Rattle.camel_script.proofs.ReadRecord.{fault_in_record, gives_record, read_none, read_one, too_many}
-use Rattle.camel_script.proofs.script.Script.read_record.Goals as goal
+use Rattle.camel_script.proofs.script.Script.read_into.Goals as goal
 
 pub returns-then-not-found-clause-gives : goal.returns-then-not-found-clause-gives
 returns-then-not-found-clause-gives g c =
@@ -34,7 +34,7 @@ returns-in-Ok-parse_record-clause-gives g c =
     let set_up = rw c.in-Reading.is at c.self.invariant in
     let reads = rw c.if-not-found.false at (c.in-Ok.ensures.reads set_up.trim set_up.ready) in
     rw (← c.self.view_is, c.in-Reading.is)
-    (gives_record (source_of remaining old) (source_of remaining new) old.state new.state fields most (most - 1) c.in-Ok-parse_record.read (omega arith) c.in-Ok-parse_record.ensures.record (read_one remaining old new fields set_up reads))
+    (gives_record (source_of remaining old) (source_of remaining new) old.state new.state fields most (most - 1) c.parse_record.new.read (omega arith) c.in-Ok-parse_record.ensures.record (read_one remaining old new fields set_up reads))
 
 pub returns-in-Err-parse_record-clause-faults : goal.returns-in-Err-parse_record-clause-faults
 returns-in-Err-parse_record-clause-faults g c =
