@@ -97,13 +97,14 @@ fn answer_all<R: Read + Drop, W: Write>(
 {
     let mut number = 1;
     let mut text = Vec::new(alloc);
+    let mut script_record = Record::Publish;
     'records: loop {
-        let script_record = match script.read_record() {
-            Ok(Some(script_record)) => script_record,
-            Ok(None) => break,
+        match script.read_into(&mut script_record) {
+            Ok(true) => {}
+            Ok(false) => break,
             Err(fault) => return Err(fault_at(number, fault.code())),
-        };
-        match answer(alloc, store, writer, &mut text, script_record) {
+        }
+        match answer(alloc, store, writer, &mut text, &mut script_record) {
             Ok(()) => number += 1,
             Err(code) => return Err(fault_at(number, code)),
         }
@@ -125,22 +126,22 @@ pub(crate) fn fault_at(number: u64, code: u16) -> ReplayFault
 
 /// Answers a record, and writes its line. If memory is refused, nothing of the line is written.
 ///
-/// `text` is room for the line: what it holds is cleared.
+/// `text` is room for the line: what it holds is cleared. An update leaves its place, where another record is put.
 fn answer<W: Write>(
     alloc: Global,
     store: &mut Store,
     writer: &mut W,
     text: &mut Vec<u8>,
-    script_record: Record,
+    script_record: &mut Record,
 ) -> Result<(), u16>
     ensures line { OnOk result (Appends (W.contents writer.old) (W.contents writer.new)
-        (line_text (line_of store.old.profile store.old.limit store.old.updates script_record))) }
-    ensures after { OnOk result (store.new ≡ store_after store.old script_record) }
+        (line_text (line_of store.old.profile store.old.limit store.old.updates script_record.old))) }
+    ensures after { OnOk result (store.new ≡ store_after store.old script_record.old) }
     ensures stopped { IfErr result (λ code. ((code ≡ 102) × Keeps (W.contents writer.old) (W.contents writer.new))
         ⊎ ((code ≡ 208) × AppendsProperPart (W.contents writer.old) (W.contents writer.new)
-        (line_text (line_of store.old.profile store.old.limit store.old.updates script_record)))) }
+        (line_text (line_of store.old.profile store.old.limit store.old.updates script_record.old)))) }
 {
-    let line = match store.answer(script_record) {
+    let line = match store.answer_from(script_record) {
         Ok(line) => line,
         Err(refusal) => return Err(refusal.code()),
     };

@@ -11,6 +11,7 @@ use camel_tbcd::Profile;
 use std::alloc::Global;
 use std::collections::VecDeque;
 use std::marker::Model;
+use std::mem;
 use std::snapshot::Snapshot;
 
 /// The subscriber data of one thread: what is published, and the accepted updates that are pending.
@@ -70,6 +71,18 @@ impl Store {
             Record::Publish => Ok(Line::Published(self.publish()?)),
             Record::Call(event) => Ok(Line::Decided(self.decide(&event))),
             Record::Refused(refusal) => Ok(Line::Refused(refusal.code())),
+        }
+    }
+
+    /// As `answer`, of a record in its place. Only an update leaves it, since a call is decided where it is.
+    pub(crate) fn answer_from(&mut self, script_record: &mut Record) -> Result<Line, Refusal>
+        ensures line { IfOk result (λ line. line ≡ line_of self.old.profile self.old.limit self.old.updates script_record.old) }
+        ensures after { OnOk result (self.new ≡ store_after self.old script_record.old) }
+        ensures only { IfErr result (λ why. why ≡ Refusal.OutOfMemory) }
+    {
+        match script_record {
+            Record::Call(event) => Ok(Line::Decided(self.decide(event))),
+            _ => self.answer(mem::replace(script_record, Record::Publish)),
         }
     }
 

@@ -27,45 +27,45 @@ pub records-preserved : goal.records-preserved
 records-preserved g c =
     let held = g.W.Write.contents in
     let known = still_gives c.args.script.now in
-    let gives = rw c.in-Ok-Some.field-0-is at c.in-Ok-Some.ensures.gives in
-    let counts = rw c.in-Ok-Some.field-0-is at c.in-Ok-Some.ensures.counts in
+    let gives = rw c.in-Ok-true.field-0-test at c.in-Ok-true.ensures.gives in
+    let counts = (rw c.in-Ok-true.field-0-test at c.in-Ok-true.ensures.counts) refl in
     record {
-      reads = rw c.in-Ok-Some.field-0-is at c.in-Ok-Some.ensures.reads_on;
+      reads = (rw c.in-Ok-true.field-0-test at c.in-Ok-true.ensures.reads_on) refl;
       place = omega arith;
       room = omega (arith, counts);
       so_far = rw c.in-Ok.ensures.after (progress_by_one (held c.args.writer.now) (held c.records.writer)
           (held c.answer.new.writer) known (still_gives c.records.script)
-          (still_gives c.read_record.new.self) c.args.store.now.profile c.args.store.now.limit c.records.number c.records.store
-          c.in-Ok-Some.script_record c.records.invariant.so_far gives c.in-Ok.ensures.line);
+          (still_gives c.read_into.new.self) c.args.store.now.profile c.args.store.now.limit c.records.number c.records.store
+          c.read_into.new.read c.records.invariant.so_far gives c.in-Ok.ensures.line);
     }
 
 pub returns-in-Err-answer-clause-stopped : goal.returns-in-Err-answer-clause-stopped
 returns-in-Err-answer-clause-stopped g c =
     let held = g.W.Write.contents in
-    let gives = rw c.in-Ok-Some.field-0-is at c.in-Ok-Some.ensures.gives in
+    let gives = rw c.in-Ok-true.field-0-test at c.in-Ok-true.ensures.gives in
     stopped_in_record (still_gives c.args.script.now) (held c.args.writer.now) (held c.records.writer)
     (held c.answer.new.writer) (still_gives c.records.script)
-    (still_gives c.read_record.new.self) c.args.store.now.profile c.args.store.now.limit c.records.number c.records.store
-    c.in-Ok-Some.script_record c.fault_at-in-Err-answer.result
+    (still_gives c.read_into.new.self) c.args.store.now.profile c.args.store.now.limit c.records.number c.records.store
+    c.read_into.new.read c.fault_at-in-Err-answer.result
     c.records.invariant.so_far gives (rw c.fault_at-in-Err-answer.ensures c.in-Err-answer.ensures.stopped)
     (rw c.fault_at-in-Err-answer.ensures refl)
 
 pub returns-in-Ok-flush-clause-whole : goal.returns-in-Ok-flush-clause-whole
 returns-in-Ok-flush-clause-whole g c =
     let held = g.W.Write.contents in
-    let gives = rw c.in-Ok-None.field-0-is at c.in-Ok-None.ensures.gives in
+    let gives = rw c.in-Ok-false.field-0-test at c.in-Ok-false.ensures.gives in
     wrote_all (still_gives c.args.script.now) (held c.args.writer.now) (held c.records.writer) (held c.flush.new.self)
-    (still_gives c.records.script) (still_gives c.read_record.new.self) c.args.store.now.profile c.args.store.now.limit c.records.number
+    (still_gives c.records.script) (still_gives c.read_into.new.self) c.args.store.now.profile c.args.store.now.limit c.records.number
     c.records.store c.records.invariant.so_far
     gives c.flush.ensures.bytes
 
 pub returns-clause-stopped : goal.returns-clause-stopped
 returns-clause-stopped g c =
     let held = g.W.Write.contents in
-    let gives = rw c.in-Ok-None.field-0-is at c.in-Ok-None.ensures.gives in
+    let gives = rw c.in-Ok-false.field-0-test at c.in-Ok-false.ensures.gives in
     stopped_at_flush (still_gives c.args.script.now) (held c.args.writer.now) (held c.records.writer)
     (held c.flush.new.self) (still_gives c.records.script)
-    (still_gives c.read_record.new.self) c.args.store.now.profile c.args.store.now.limit c.records.number c.records.store
+    (still_gives c.read_into.new.self) c.args.store.now.profile c.args.store.now.limit c.records.number c.records.store
     c.fault_at-in-Err-flush.result c.records.invariant.so_far
     gives c.flush.ensures.bytes c.fault_at-in-Err-flush.ensures
 
