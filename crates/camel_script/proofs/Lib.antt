@@ -1,4 +1,5 @@
 pub mod CsvRecords
+pub mod Elements
 pub mod FieldLemmas
 pub mod InTurn
 pub mod PartsLemmas

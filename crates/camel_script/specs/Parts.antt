@@ -1,5 +1,5 @@
 -- The parts of an item, and the elements of a list.
-use Rattle.std.specs.Prelude.{ℕ, ◌==◌, List, [], ◌∷◌, unwrap_or, slice_get}
+use Rattle.std.specs.Prelude.{ℕ, ◌==◌, List, [], ◌∷◌, Option, Some, None, unwrap_or, slice_get}
 use Rattle.std.specs.List.{slice_split}
 
 -- the parts of an item are separated by `:`
@@ -17,6 +17,11 @@ element_separator = 43
 -- the parts of a text, as a separator parts it
 abbrev pub parts_of : ℕ → List ℕ → List (List ℕ)
 parts_of separator text = slice_split (λ character. character == separator) text
+
+-- the parts of what is behind a separator; none if there is no separator
+abbrev pub parts_behind : ℕ → Option (List ℕ) → List (List ℕ)
+parts_behind separator None = []
+parts_behind separator (Some rest) = parts_of separator rest
 
 -- the part of a text at a place, from 0; empty past the last
 abbrev pub part : ℕ → List ℕ → ℕ → List ℕ

@@ -1,10 +1,9 @@
-ghost use Rattle.std.specs.Prelude.{◌≡◌, IfErr, IfOk, Result, map};
+ghost use Rattle.std.specs.Prelude.{List, Result, ℕ};
 ghost use Rattle.std.specs.Fn.{FnReturnsAt};
 ghost use Rattle.camel_script.specs.Reading.{AnswersAs, ReadsList, each_of, elements_as};
-ghost use Rattle.camel_script.specs.Parts.{elements_of};
 ghost use Rattle.camel_script.specs.Texts.{basic_service_of, decimal_of, isdn_address_of, octets_of};
 
-use crate::text::parts::{ELEMENT_SEPARATOR, parts};
+use crate::text::parts::{ELEMENT_SEPARATOR, split_part};
 use crate::text::record_fault::RecordFault;
 use crate::text::{
     Octets, make_isdn_address, parse_basic_service, parse_octets, parse_small_decimal,
@@ -17,16 +16,14 @@ use std::alloc::Global;
 pub(crate) fn parse_octets_list(alloc: Global, text: &[u8]) -> Result<Vec<Octets>, RecordFault>
     ensures { ReadsList result (elements_as octets_of text.now) }
 {
-    let texts = elements(alloc, text)?;
-    read_each(alloc, &texts, |text| parse_octets(alloc, text))
+    read_elements(alloc, text, |element| parse_octets(alloc, element))
 }
 
 /// Reads decimals of value 0 to 255.
 pub(crate) fn parse_small_decimals(alloc: Global, text: &[u8]) -> Result<Vec<u8>, RecordFault>
     ensures { ReadsList result (elements_as (decimal_of 255) text.now) }
 {
-    let texts = elements(alloc, text)?;
-    read_each(alloc, &texts, |text| parse_small_decimal(text))
+    read_elements(alloc, text, |element| parse_small_decimal(element))
 }
 
 /// Reads basic services.
@@ -36,8 +33,7 @@ pub(crate) fn parse_basic_services(
 ) -> Result<Vec<BasicService>, RecordFault>
     ensures { ReadsList result (elements_as basic_service_of text.now) }
 {
-    let texts = elements(alloc, text)?;
-    read_each(alloc, &texts, |text| parse_basic_service(text))
+    read_elements(alloc, text, |element| parse_basic_service(element))
 }
 
 /// The listed numbers of these octets.
@@ -50,15 +46,24 @@ pub(crate) fn make_isdn_addresses(
     read_each(alloc, numbers, |octets| make_isdn_address(octets))
 }
 
-/// The elements of a list; an empty text has none.
-fn elements(alloc: Global, text: &[u8]) -> Result<Vec<&[u8]>, RecordFault>
-    ensures elements { IfOk result (λ texts. map (λ text. text.now) texts.items ≡ elements_of text.now) }
-    ensures only { IfErr result (λ fault. fault ≡ RecordFault.OutOfMemory) }
+/// What `read` returns for each element of a list, in their order, or the first fault. An empty text has no element.
+fn read_elements<T: Drop, F: Fn(&[u8]) -> Result<T, RecordFault>>(
+    alloc: Global,
+    text: &[u8],
+    read: F,
+) -> Result<Vec<T>, RecordFault>
+    requires { F.IsAlwaysCallable read }
+    ensures { (value_of : List ℕ → Result T RecordFault)
+        → AnswersAs (FnReturnsAt F.Fn read) value_of → ReadsList result (elements_as value_of text.now) }
 {
-    if text.is_empty() {
-        return Ok(Vec::new(alloc));
+    let mut values = Vec::new(alloc);
+    let mut left = if text.is_empty() { None } else { Some(text) };
+    'elements: while let Some(rest) = left {
+        let (element, behind) = split_part(rest, ELEMENT_SEPARATOR);
+        values.push(read(element)?)?;
+        left = behind;
     }
-    Ok(parts(alloc, text, ELEMENT_SEPARATOR)?)
+    Ok(values)
 }
 
 /// What `read` returns for each source, in their order, or the first fault.

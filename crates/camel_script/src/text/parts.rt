@@ -1,7 +1,6 @@
-ghost use Rattle.std.specs.Prelude.{◌≡◌, ◌+◌, ◌==◌, All, IfOk, IsNone, ℕ, false, length, map, position};
-ghost use Rattle.camel_script.specs.Parts.{part, parts_of};
-
-use std::alloc::{AllocError, Global};
+ghost use Rattle.std.specs.Prelude.{◌≡◌, ◌+◌, ◌<◌, ◌==◌, ◌∷◌, All, IfSome, IsNone, ℕ, false, length, position};
+ghost use Rattle.std.specs.Option.{option_map};
+ghost use Rattle.camel_script.specs.Parts.{part, parts_behind, parts_of};
 
 /// The separator of the parts of an item.
 pub(crate) const ITEM_SEPARATOR: u8 = b':';
@@ -34,18 +33,22 @@ pub(crate) fn cut_part(text: &[u8], separator: u8) -> (&[u8], &[u8])
     }
 }
 
+/// The first part of a text, and what is behind its separator, if there is one.
+pub(crate) fn split_part(text: &[u8], separator: u8) -> (&[u8], Option<&[u8]>)
+    ensures parts { parts_of separator text.now
+        ≡ result.0.now ∷ parts_behind separator (option_map (λ rest. rest.now) result.1) }
+    ensures less { IfSome result.1 (λ rest. length rest.now < length text.now) }
+{
+    match separator_place(text, separator) {
+        Some(at) => (&text[..at], Some(&text[at + 1..])),
+        None => (text, None),
+    }
+}
+
 /// The place of the first separator.
 fn separator_place(text: &[u8], separator: u8) -> Option<usize>
     ensures first { result ≡ position (λ character. character == separator) text.now }
     ensures none { IsNone result → All (λ character. (character == separator) ≡ false) text.now }
 {
     text.iter().position(|character| *character == separator)
-}
-
-/// All parts of a text.
-pub(crate) fn parts(alloc: Global, text: &[u8], separator: u8) -> Result<Vec<&[u8]>, AllocError>
-    ensures { IfOk result (λ texts. map (λ text. text.now) texts.items ≡ parts_of separator text.now) }
-{
-    text.split(|character| *character == separator)
-        .collect(alloc)
 }

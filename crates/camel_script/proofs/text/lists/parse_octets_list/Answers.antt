@@ -1,12 +1,6 @@
-use Rattle.std.proofs.Common.{◌≡◌, ℕ, List, Bor, map, rules}
-use Rattle.camel_script.proofs.InTurn.{each_of-texts}
-use Rattle.camel_script.specs.Parts.{elements_of}
+use Rattle.std.proofs.Common.{rules}
 use Rattle.camel_script.specs.Texts.{octets_of}
 use Rattle.camel_script.proofs.text.lists.parse_octets_list.Goals as goal
 
 pub returns : goal.returns
-returns c =
-    let elements = c.deref.result.now in
-    let are : map (λ (element : Bor (List ℕ)). element.now) elements ≡ elements_of c.args.text.now = search rules in
-    each_of-texts octets_of c.read_each.result elements c.args.text.now are
-    (c.read_each.ensures (λ text. octets_of text.now) (λ text answer says. search rules))
+returns c = c.read_elements.ensures octets_of (λ element answer says. search rules)

@@ -1,0 +1,16 @@
+use Rattle.std.proofs.Common.{◌≡◌}
+use Rattle.std.specs.Fn.{FnReturnsAt}
+use Rattle.camel_script.proofs.Elements.{length_left, text_left}
+use Rattle.camel_script.specs.Parts.{element_separator, parts_behind}
+use Rattle.camel_script.specs.Reading.{AnswersAs, elements_as, in_turn, with_value}
+use Rattle.camel_script.proofs.text.lists.read_elements.Given as goal
+
+-- the values so far, with the elements that are left, are those of all elements
+abbrev pub invariant-elements : goal.invariant-elements
+invariant-elements g l =
+    (value_of : _) → AnswersAs (FnReturnsAt g.F.Fn l.read) value_of
+    → in_turn (with_value value_of) l.values.items (parts_behind element_separator (text_left l.left))
+    ≡ elements_as value_of l.text
+
+abbrev pub decreases-elements : goal.decreases-elements
+decreases-elements g l = length_left l.left
