@@ -1,8 +1,7 @@
 -- Sources in turn, as a loop takes them.
-use Rattle.std.proofs.Common.{◌≡◌, ◌∙◌, ℕ, suc, ◌+◌, ◌<◌, ◌≤◌, List, [], ◌∷◌, ◌++◌, length, drop, map, get_or, Bor, Result, Ok, Err, inl, inr, refl, sym, ap, add-one, drop-cons, Vec}
+use Rattle.std.proofs.Common.{◌≡◌, ◌∙◌, ℕ, suc, ◌+◌, ◌<◌, ◌≤◌, List, [], ◌∷◌, ◌++◌, length, drop, get_or, Result, Ok, Err, inl, inr, refl, sym, ap, add-one, drop-cons}
 use Rattle.std.proofs.lemmas.List.{drop_all}
-use Rattle.camel_script.specs.Parts.{elements_of}
-use Rattle.camel_script.specs.Reading.{◌>>=◌, FailsAs, ReadsAs, ReadsList, each_of, elements_as, in_turn, with_value}
+use Rattle.camel_script.specs.Reading.{FailsAs, ReadsAs, in_turn, with_value}
 use Rattle.camel_script.specs.declared.text.record_fault.RecordFault.{RecordFault}
 
 -- the sources from a place on begin with the one there
@@ -44,32 +43,6 @@ module _ {A S : Type 0} (take_source : A → S → Result A RecordFault) where
   is_done sources at made total le so_far =
       let one : in_turn take_source made (drop at sources) ≡ Ok made = rw (drop_all at sources le) refl in
       sym so_far ∙ one
-
--- a step, and equal ones after it
-after_step : {A : Type 0} (step : Result A RecordFault) (one other : A → Result A RecordFault)
-    → ((next : A) → one next ≡ other next) → (step >>= one) ≡ (step >>= other)
-after_step (Ok next) one other same = same next
-after_step (Err fault) one other same = refl
-
--- sources in turn, each seen as another thing
-in_turn-map : {A S B : Type 0} (take_source : A → S → Result A RecordFault) (seen : B → S) (made : A)
-    (sources : List B) → in_turn take_source made (map seen sources)
-    ≡ in_turn (λ before source. take_source before (seen source)) made sources
-unfolding in_turn
-in_turn-map take_source seen made [] = refl
-in_turn-map take_source seen made (source ∷ more) =
-    after_step (take_source made (seen source)) (λ next. in_turn take_source next (map seen more))
-    (λ next. in_turn (λ before source. take_source before (seen source)) next more)
-    (λ next. in_turn-map take_source seen next more)
-
--- a list that reads as each of the texts behind references is the one of the elements
-pub each_of-texts : {A G : Type 0} (value_of : List ℕ → Result A RecordFault) (answer : Result (Vec A G) RecordFault)
-    (texts : List (Bor (List ℕ))) (text : List ℕ)
-    → map (λ (element : Bor (List ℕ)). element.now) texts ≡ elements_of text
-    → ReadsList answer (each_of (λ (element : Bor (List ℕ)). value_of element.now) texts)
-    → ReadsList answer (elements_as value_of text)
-each_of-texts value_of answer texts text are reads =
-    rw (← are, in_turn-map (with_value value_of) (λ (element : Bor (List ℕ)). element.now) [] texts) reads
 
 -- a function that returns just what its source reads as
 pub reads_exactly : {A : Type 0} (answer reading : Result A RecordFault) → answer ≡ reading → ReadsAs answer reading
