@@ -6,3 +6,4 @@ pub mod PrefixLemmas
 pub mod PublicationLemmas
 pub mod RuleLemmas
 pub mod RunLemmas
+pub mod SeatLemmas

@@ -8,13 +8,14 @@ pub(crate) mod answers;
 pub(crate) mod look;
 pub(crate) mod seat;
 
-use crate::history::rule::{Known, Looking, PublicationRule};
+use crate::history::rule::{Known, PublicationRule};
 use crate::history::told::Told;
 use crate::published_copy::PublishedCopy;
 use crate::receipt::Receipt;
 use crate::session::look::{Look, NoLook};
 use crate::session::seat::Seat;
 use camel_tbcd::Profile;
+use core::mem::replace_with;
 use left_right::reader::Reader;
 use std::marker::Model;
 use std::mem;
@@ -129,24 +130,12 @@ impl Session {
         ensures yes { result ≡ true → Sees self.old self.new }
         ensures no { result ≡ false → LeavesLook self.old self.new }
     {
-        let reader = mem::replace(&mut self.seat, Seat::Taken).into_reader();
-        match reader.enter_as::<Looking>() {
-            Ok(reading) => {
-                let front = reading.get().receipt();
-                if self.longest.is_prefix_of(&front) {
-                    self.seen = front;
-                    self.seat = Seat::Reading(reading);
-                    true
-                } else {
-                    // No run comes here: docs/DECISIONS.md says why it stands.
-                    self.seat = Seat::Idle(reading.leave());
-                    false
-                }
+        match replace_with(&mut self.seat, &self.longest, Seat::take_copy) {
+            Some(front) => {
+                self.seen = front;
+                true
             }
-            Err(reader) => {
-                self.seat = Seat::Idle(reader);
-                false
-            }
+            None => false,
         }
     }
 
@@ -154,8 +143,7 @@ impl Session {
     pub(crate) fn leave(&mut self)
         ensures { LeavesLook self.old self.new }
     {
-        let reader = mem::replace(&mut self.seat, Seat::Taken).into_reader();
-        self.seat = Seat::Idle(reader);
+        replace_with(&mut self.seat, (), Seat::give_back);
     }
 
     /// The copy of the look.
@@ -167,7 +155,7 @@ impl Session {
     {
         match &self.seat {
             Seat::Reading(reading) => reading.get(),
-            _ => unreachable!(),
+            Seat::Idle(_) => unreachable!(),
         }
     }
 }
