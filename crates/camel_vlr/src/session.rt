@@ -112,6 +112,7 @@ impl Session {
     ///
     /// It fails with [`NoLook`] if the store has ended, or, which no run meets, if the published copy is older than
     /// what the session was told of. Then the session keeps what it had seen and learnt.
+    #[inline]
     pub fn look(&mut self) -> Result<Look<'_>, NoLook>
         ensures* refused { sem 𝓛 (RestsIfErr the_row self.entry (λ l. l.session.ghost_name) result (LeavesLook self.old)) }
         ensures same_session { IfOk result (λ l. l.session.ghost_name ≡ self.entry.ghost_name) }
