@@ -12,7 +12,7 @@ use Rattle.camel_vlr.specs.declared.writer.operation.Operation.TheVariants as op
 
 pub updates_among-append : (first second : List Operation) → updates_among (first ++ second) ≡ updates_among first ++ updates_among second
 updates_among-append [] second = refl
-updates_among-append (operation.Update update ∷ first) second = ap (λ updates. update ∷ updates) (updates_among-append first second)
+updates_among-append (operation.Update update ∷ first) second = ap (λ updates. update.value ∷ updates) (updates_among-append first second)
 updates_among-append (operation.Front front ∷ first) second = updates_among-append first second
 
 -- the front of a publication is no update

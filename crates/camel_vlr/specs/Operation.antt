@@ -15,13 +15,13 @@ CopyData = RecordsData × ℕ × PrefixData
 
 -- an update changes the data, and counts; the count stays at the greatest u64, which no front reaches
 abbrev pub copy_after : CopyData → Operation → CopyData
-copy_after copy (operation.Update update) = (records_after copy.0 update, min (copy.1 + 1) (2 ^ 64 - 1), copy.2)
+copy_after copy (operation.Update update) = (records_after copy.0 update.value, min (copy.1 + 1) (2 ^ 64 - 1), copy.2)
 copy_after copy (operation.Front front) = (copy.0, copy.1, front)
 
 -- the updates among operations
 abbrev pub updates_among : List Operation → List Update
 updates_among [] = []
-updates_among (operation.Update update ∷ operations) = update ∷ updates_among operations
+updates_among (operation.Update update ∷ operations) = update.value ∷ updates_among operations
 updates_among (operation.Front front ∷ operations) = updates_among operations
 
 -- the operations that are pending

@@ -47,6 +47,8 @@ pub struct Vlr {
     admission: Admission,
     /// The profile of its sessions.
     profile: Profile,
+    /// Where the pending updates are.
+    alloc: Global,
 }
 
 impl Model for Vlr {
@@ -149,6 +151,7 @@ impl Vlr {
                 history,
                 admission: Admission::seeded(alloc, terms.limit, seed),
                 profile: terms.profile,
+                alloc,
             }),
             Err(_) => {
                 drop(writer.take(rt));
@@ -181,7 +184,13 @@ impl Vlr {
         ensures unchanged { OnErr result (self.new ≡ self.old) }
     {
         let csis = self.admission.check(&update)?;
-        accept(&mut self.writer, &mut self.admission, update, csis)?;
+        accept(
+            &mut self.writer,
+            &mut self.admission,
+            self.alloc,
+            update,
+            csis,
+        )?;
         Ok(self.admission.accepted())
     }
 
@@ -242,6 +251,7 @@ impl Vlr {
             history: _history,
             admission: _admission,
             profile: _profile,
+            alloc: _alloc,
         } = self;
         drop(writer.take(rt));
     }

@@ -1,33 +1,35 @@
 ghost use Rattle.std.specs.Prelude.{◌≡◌, ◌<◌, [], ◌∷◌, ◌++◌, Some, None, MatchResult, OnErr, OnOk};
 ghost use Rattle.camel_rows.specs.Admission.{with_admission};
 ghost use Rattle.camel_rows.specs.Update.{update_imsi};
-ghost use Rattle.camel_vlr.specs.Operation.{pending_operations};
+ghost use Rattle.camel_vlr.specs.Operation.{pending_operations, updates_among};
 ghost use Rattle.camel_vlr.specs.declared.writer.operation.Operation.TheVariants as operation;
 
 use crate::writer::operation::Operation;
 use crate::writer::publication::{StoreWriter, append};
 use camel_rows::{Admission, CsisPresent, Update};
 use camel_tbcd::Imsi;
-use std::alloc::AllocError;
+use std::alloc::{AllocError, Global};
 
 /// Puts an update behind what is pending, and accepts it with the CSIs that it leaves in the record of its IMSI, if it
 /// leaves one. If memory is refused, both are as before.
 pub(crate) fn accept(
     writer: &mut StoreWriter,
     admission: &mut Admission,
+    alloc: Global,
     update: Update,
     csis: Option<CsisPresent>,
 ) -> Result<(), AllocError>
     requires { admission.old.accepted < admission.old.limit }
     ensures desk { writer.new.desk ≡ writer.old.desk }
-    ensures pending { MatchResult result
-        (λ _. pending_operations writer.new
-        ≡ pending_operations writer.old ++ operation.Update update ∷ [])
-        (λ _. pending_operations writer.new ≡ pending_operations writer.old) }
+    ensures pending { OnOk result (updates_among (pending_operations writer.new)
+        ≡ updates_among (pending_operations writer.old) ++ update ∷ []) }
+    ensures none { OnErr result (pending_operations writer.new ≡ pending_operations writer.old) }
     ensures accepted { OnOk result (admission.new ≡ with_admission admission.old (update_imsi update) csis) }
     ensures unchanged { OnErr result (admission.new ≡ admission.old) }
 {
-    match (update.imsi(), csis) {
+    let imsi = update.imsi();
+    let update = Box::new(alloc, update)?;
+    match (imsi, csis) {
         (Some(imsi), Some(csis)) => accept_record(writer, admission, update, imsi, csis),
         (imsi, _) => accept_removal(writer, admission, update, imsi),
     }
@@ -37,7 +39,7 @@ pub(crate) fn accept(
 fn accept_record(
     writer: &mut StoreWriter,
     admission: &mut Admission,
-    update: Update,
+    update: Box<Update>,
     imsi: Imsi,
     csis: CsisPresent,
 ) -> Result<(), AllocError>
@@ -64,7 +66,7 @@ fn accept_record(
 fn accept_removal(
     writer: &mut StoreWriter,
     admission: &mut Admission,
-    update: Update,
+    update: Box<Update>,
     imsi: Option<Imsi>,
 ) -> Result<(), AllocError>
     requires { admission.old.accepted < admission.old.limit }

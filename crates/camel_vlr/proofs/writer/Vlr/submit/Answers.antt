@@ -8,11 +8,9 @@ use Rattle.camel_rows.specs.CsisPresent.{csis_after}
 use Rattle.camel_rows.specs.Store.{store_refusal, with_update}
 use Rattle.camel_rows.specs.Update.{update_imsi}
 use Rattle.camel_rows.specs.declared.subscriber.update.Update.{Update}
-use Rattle.camel_vlr.proofs.OperationLemmas.{updates_among-append}
 use Rattle.camel_vlr.specs.Operation.{pending_operations, updates_among}
 use Rattle.camel_vlr.specs.Store.{StoreData}
 use Rattle.camel_vlr.specs.StoreFields.{IsStore, limit_in, pending_in, published_in, store_of, updates_in}
-use Rattle.camel_vlr.specs.declared.writer.operation.Operation.TheVariants as operation
 use Rattle.camel_vlr.specs.declared.writer.Vlr.TheInside.{Inside}
 use Rattle.camel_vlr.proofs.writer.Vlr.submit.Goals.{In_err-csis, In_ok-csis, In_ok-accept}
 use Rattle.camel_vlr.proofs.writer.Vlr.submit.Goals as goal
@@ -30,7 +28,7 @@ not_refused c = refuses c.self.inside c.args.update None c.self.invariant c.in_o
 
 -- the update stands behind what was pending, and is admitted
 pending : (c : In_ok-accept) → updates_among (pending_operations c.accept.new.writer) ≡ pending_in c.self.inside ++ c.args.update ∷ []
-pending c = ap updates_among c.in_ok-accept.ensures.pending ∙ updates_among-append (pending_operations c.self.inside.writer) (operation.Update c.args.update ∷ [])
+pending c = c.in_ok-accept.ensures.pending
 
 admitted : (c : In_ok-accept) → c.accept.new.admission ≡ with_admission c.self.inside.admission (update_imsi c.args.update) (csis_after (value_of c.self.inside.admission.directory (update_imsi c.args.update)) c.args.update)
 admitted c = c.in_ok-accept.ensures.accepted ∙ ap (with_admission c.self.inside.admission (update_imsi c.args.update)) c.in_ok-csis.ensures.csis

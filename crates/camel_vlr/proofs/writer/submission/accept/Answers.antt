@@ -1,0 +1,23 @@
+use Rattle.std.proofs.Common.{◌≡◌, ◌∙◌, [], ◌∷◌, ◌++◌, ap}
+use Rattle.std.proofs.lemmas.Result.{MatchResult-weaker}
+use Rattle.camel_vlr.proofs.OperationLemmas.{updates_among-append}
+use Rattle.camel_vlr.specs.Operation.{pending_operations, updates_among}
+use Rattle.camel_vlr.specs.declared.writer.operation.Operation.TheVariants as operation
+use Rattle.camel_vlr.proofs.writer.submission.accept.Goals.{In_ok-update}
+use Rattle.camel_vlr.proofs.writer.submission.accept.Goals as goal
+
+-- the updates behind which the boxed one stands
+appended : (c : In_ok-update) → updates_among (pending_operations c.args.writer.now ++ operation.Update c.in_ok-update.update ∷ []) ≡ updates_among (pending_operations c.args.writer.now) ++ c.args.update ∷ []
+appended c =
+    let old = pending_operations c.args.writer.now in
+    updates_among-append old (operation.Update c.in_ok-update.update ∷ []) ∙ ap (λ update. updates_among old ++ update ∷ []) c.in_ok-update.ensures.ok
+
+pub returns-in-Some-Some-clause-pending : goal.returns-in-Some-Some-clause-pending
+returns-in-Some-Some-clause-pending c =
+    let at = (goal.at.returns-in-Some-Some-clause-pending c).In_ok-update in
+    MatchResult-weaker c.accept_record.result c.accept_record.ensures.pending (λ _ all. ap updates_among all ∙ appended at) (λ _ _. tt)
+
+pub returns-in_default-clause-pending : goal.returns-in_default-clause-pending
+returns-in_default-clause-pending c =
+    let at = (goal.at.returns-in_default-clause-pending c).In_ok-update in
+    MatchResult-weaker c.accept_removal.result c.accept_removal.ensures.pending (λ _ all. ap updates_among all ∙ appended at) (λ _ _. tt)
