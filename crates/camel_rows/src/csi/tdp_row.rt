@@ -14,11 +14,14 @@ pub const MAX_SERVICE_KEY: u32 = 2_147_483_647;
 /// (O-BcsmCamelTDPData and T-BcsmCamelTDPData of TS 29.002).
 #[derive(Clone, Copy, Debug)]
 pub struct TdpRow {
-    dp: u8,
+    // The widest field comes first, so that no room is lost between the fields or behind them.
     key: u32,
     scf: IsdnAddress,
+    dp: u8,
     handling: Handling,
 }
+
+const _: () = prove!(size_of::<TdpRow>() == 16);
 
 impl Model for TdpRow {
     ghost use Rattle.std.specs.Prelude.{◌≤◌};
@@ -45,9 +48,9 @@ impl TdpRow {
             return Err(Refusal::UnexpectedDataValue);
         }
         Ok(TdpRow {
-            dp,
             key,
             scf,
+            dp,
             handling,
         })
     }
