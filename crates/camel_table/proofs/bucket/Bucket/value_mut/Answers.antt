@@ -1,4 +1,4 @@
-use Rattle.std.proofs.Common.{◌≡◌, ◌∙◌, ◌++◌, Some, position, slice_set, refl, sym, ap}
+use Rattle.std.proofs.Common.{◌∙◌, ◌++◌, Some, position, slice_set, refl, sym, ap}
 use Rattle.std.specs.FinMap as map
 use Rattle.std.specs.Option.{is_some}
 use Rattle.camel_table.specs.ByImsi.{is_same, map_of}

@@ -1,4 +1,4 @@
-use Rattle.std.proofs.Common.{◌≡◌, ◌∙◌, ◌++◌, IsSome, refl, sym, ap, option_to_list, subst}
+use Rattle.std.proofs.Common.{◌∙◌, ◌++◌, refl, sym, ap, option_to_list}
 use Rattle.std.specs.FinMap as map
 use Rattle.std.specs.Option.{is_some}
 use Rattle.camel_table.specs.ByImsi.{map_of}

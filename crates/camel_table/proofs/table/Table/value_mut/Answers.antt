@@ -1,4 +1,4 @@
-use Rattle.std.proofs.Common.{◌≡◌, ◌∙◌, ◌<◌, length, refl, sym, ap, subst}
+use Rattle.std.proofs.Common.{◌∙◌, ◌<◌, length, refl, sym, ap, subst}
 use Rattle.std.specs.FinMap as map
 use Rattle.std.specs.Option.{is_some}
 use Rattle.camel_table.proofs.Hashing.{imsi_hash, place_is}
