@@ -4,7 +4,8 @@ use Rattle.std.proofs.lemmas.Bool.{cases_lt}
 use Rattle.std.proofs.lemmas.List.{get_or-take, length-take, take_all}
 use Rattle.camel_tbcd.specs.Digits.{digits}
 use Rattle.camel_tbcd.specs.PackedDigits.{first_nibbles, packed_digits}
-use Rattle.camel_tbcd.proofs.FirstNibbleLemmas.{filler_behind, first_digits, no_filler, same_first}
+use Rattle.camel_tbcd.proofs.FirstNibbleLemmas.{filler_behind, first_digits, no_filler}
+use Rattle.camel_tbcd.proofs.FirstNumberLemmas.{same_first}
 use Rattle.camel_tbcd.proofs.NibbleLemmas.{IsOctet}
 use Rattle.camel_tbcd.proofs.BitDifferenceLemmas.{none_shifted, same_lowest}
 

@@ -10,17 +10,6 @@ use Rattle.camel_tbcd.specs.PackedDigits.{first_nibbles, packed, packed_digits}
 use Rattle.camel_tbcd.proofs.DigitLemmas.{get-digits}
 use Rattle.camel_tbcd.proofs.NibbleLemmas.{All-nibbles, IsNibble, IsOctet, packed-mod, same_from_packed}
 
--- octets 2 to 9 hold 16 nibbles, or fillers
-length-first : (octets : List ℕ) → length (first_nibbles octets) ≡ 16
-unfolding first_nibbles
-length-first octets = length-take-le 16 _ (omega (arith, length-append (nibbles (drop 1 octets)) (replicate 16 15), length-replicate {A = ℕ} 16 15))
-
-first_small : (octets : List ℕ) → All IsOctet octets → All IsNibble (first_nibbles octets)
-unfolding first_nibbles
-first_small octets small =
-    All-take IsNibble 16 _
-    (All-append IsNibble (nibbles (drop 1 octets)) (replicate 16 15) (All-nibbles (drop 1 octets) (All-drop IsOctet 1 octets small)) (All-replicate IsNibble 16 15 (omega arith)))
-
 -- the first 16 digits are in octets 2 to 9
 pub first_digits : (octets : List ℕ) (count : ℕ) → count ≤ length (digits octets) → count ≤ 16 → take count (first_nibbles octets) ≡ take count (digits octets)
 unfolding first_nibbles
@@ -52,14 +41,3 @@ no_filler octets at within is =
     let end : ℕ = position_or_len (λ nibble. nibble == 15) all in
     let room : length (take end all) ≡ min end (length all) = length-take end all in
     eqb-false _ _ (fails_before_first (λ nibble. nibble == 15) all at 0 (omega arith)) (sym (get-digits octets at within) ∙ is)
-
--- the lowest digits of the numbers of two addresses are the same exactly if their first nibbles are
-pub same_first : (all others : List ℕ) (count : ℕ) → All IsOctet all → All IsOctet others → count ≤ 16
-    → (packed_digits all % 16 ^ count ≡ packed_digits others % 16 ^ count) ↔ (take count (first_nibbles all) ≡ take count (first_nibbles others))
-same_first all others count small smaller few =
-    let mine = packed-mod (first_nibbles all) count (first_small all small) in
-    let theirs = packed-mod (first_nibbles others) count (first_small others smaller) in
-    let lengths = length-take-le count (first_nibbles all) (omega (arith, length-first all)) ∙ sym (length-take-le count (first_nibbles others) (omega (arith, length-first others))) in (
-      λ same. same_from_packed _ _ lengths (All-take IsNibble count _ (first_small all small)) (All-take IsNibble count _ (first_small others smaller)) (sym mine ∙ same ∙ theirs),
-      λ same. mine ∙ ap packed same ∙ sym theirs,
-    )

@@ -3,6 +3,7 @@ pub mod DifferenceLemmas
 pub mod DigitLemmas
 pub mod FillLemmas
 pub mod FirstNibbleLemmas
+pub mod FirstNumberLemmas
 pub mod FrontLemmas
 pub mod ImsiOrderLemmas
 pub mod ImsiSlotLemmas

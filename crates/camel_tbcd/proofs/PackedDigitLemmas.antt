@@ -3,7 +3,8 @@ use Rattle.std.proofs.Common.{◌≡◌, ◌∙◌, ℕ, ◌-◌, ◌*◌, ◌%�
 use Rattle.std.proofs.Math.Nat.{eq_of_mul-eq-mul_right, one-le-pow}
 use Rattle.camel_tbcd.specs.Digits.{digits}
 use Rattle.camel_tbcd.specs.PackedDigits.{packed_digits}
-use Rattle.camel_tbcd.proofs.FirstNibbleLemmas.{first_digits, same_first}
+use Rattle.camel_tbcd.proofs.FirstNibbleLemmas.{first_digits}
+use Rattle.camel_tbcd.proofs.FirstNumberLemmas.{same_first}
 use Rattle.camel_tbcd.proofs.NibbleLemmas.{IsOctet}
 use Rattle.camel_tbcd.proofs.ShiftLemmas.{shifted}
 

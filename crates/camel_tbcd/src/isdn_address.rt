@@ -1,4 +1,6 @@
 ghost use Rattle.std.specs.Prelude.{◌≡◌, ◌+◌, ◌<◌, ◌↔◌, ◌&&◌, length, nat_eq, IfOk, IsErrOf};
+ghost use Rattle.std.specs.Cmp.{partial_equiv_from_equiv};
+ghost use Rattle.std.specs.Cmp.Lexicographic.{nat_list_eq_equiv, pointwise};
 ghost use Rattle.std.specs.List.{starts_with};
 ghost use Rattle.camel_tbcd.specs.Address.{octets};
 ghost use Rattle.camel_tbcd.specs.AddressLength.{IsAddress, max_isdn_address_length};
@@ -23,7 +25,7 @@ pub const MAX_ISDN_ADDRESS_LENGTH: usize = 9;
 ///
 /// It takes 10 octets, of which a record of a subscriber holds many: the room, and both counts in the octet after it.
 /// The digits are counted when it is made, so that no comparison counts them.
-#[derive(Clone, Copy, Debug, PartialEq, Eq)]
+#[derive(Clone, Copy, Debug)]
 pub struct IsdnAddress {
     // Octet 1, the digits in octets 2 to 9, and fillers after the last octet, so that the digits are read as one number
     // and equal addresses have equal fields.
@@ -109,8 +111,15 @@ impl IsdnAddress {
         ensures octets { result.bytes.now ≡ self.now }
         ensures address { IsAddress max_isdn_address_length self.now }
     {
-        let octets = &self.room[..usize::from(self.counts % COUNT_PLACE)];
-        Digits::of_counted(octets, MOST_DIGITS - self.fewer(), self.number())
+        Digits::of_counted(self.octets(), MOST_DIGITS - self.fewer(), self.number())
+    }
+
+    // Its octets.
+    fn octets(&self) -> &[u8]
+        ensures octets { result.now ≡ self.now }
+        ensures address { IsAddress max_isdn_address_length self.now }
+    {
+        &self.room[..usize::from(self.counts % COUNT_PLACE)]
     }
 
     // How many digits it has fewer than 16.
@@ -126,6 +135,20 @@ impl IsdnAddress {
     {
         room_number(&self.room)
     }
+}
+
+impl PartialEq for IsdnAddress {
+    ghost eq = { pointwise nat_eq };
+
+    ghost laws = { partial_equiv_from_equiv nat_list_eq_equiv };
+
+    fn eq(&self, other: &IsdnAddress) -> bool {
+        self.octets() == other.octets()
+    }
+}
+
+impl Eq for IsdnAddress {
+    ghost laws = { nat_list_eq_equiv };
 }
 
 const _: () = prove!(size_of::<IsdnAddress>() == 10);
