@@ -1,11 +1,12 @@
 pub mod BasicService
 pub mod Cause
 pub mod Criteria
+pub mod CriterionLists
 pub mod DetectionPoint
 pub mod Event
 pub mod FewNumbers
 pub mod Handling
-pub mod ListedNumbers
+pub mod HeldCriteria
 pub mod Means
 pub mod Met
 pub mod Refusal

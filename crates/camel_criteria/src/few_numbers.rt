@@ -1,4 +1,4 @@
-ghost use Rattle.std.specs.Prelude.{◌≡◌, take};
+ghost use Rattle.std.specs.Prelude.{◌≡◌, IfSome, take};
 ghost use Rattle.std.specs.List.{list_any};
 ghost use Rattle.camel_tbcd.specs.Address.{octets};
 ghost use Rattle.camel_criteria.specs.FewNumbers.{IsFew};
@@ -18,7 +18,7 @@ pub(crate) struct FewNumbers {
     len: u8,
 }
 
-// How many numbers are kept in place: with as many a criterion takes 40 octets.
+// How many numbers are kept in place: with as many a criterion takes 32 octets.
 const MAX_IN_PLACE: usize = 3;
 
 impl Model for FewNumbers {
@@ -38,8 +38,20 @@ impl Model for FewNumbers {
 }
 
 impl FewNumbers {
+    // Keeps one to three numbers; None for another count.
+    pub(crate) fn from_slice(numbers: &[IsdnAddress]) -> Option<FewNumbers>
+        ensures { IfSome result (λ few. few ≡ numbers.now) }
+    {
+        match *numbers {
+            [first] => Some(FewNumbers::of([first, first, first], 1)),
+            [first, second] => Some(FewNumbers::of([first, second, first], 2)),
+            [first, second, third] => Some(FewNumbers::of([first, second, third], 3)),
+            _ => None,
+        }
+    }
+
     // Keeps the first `len` numbers of a room that is filled.
-    pub(crate) fn of(room: [IsdnAddress; MAX_IN_PLACE], len: u8) -> FewNumbers
+    fn of(room: [IsdnAddress; MAX_IN_PLACE], len: u8) -> FewNumbers
         requires { IsFew room len }
         ensures { result ≡ take len room }
     {

@@ -1,19 +1,21 @@
 //! The triggering criteria of CAMEL phase 3 (3GPP TS 23.078), whether an event meets them, and the numbers of
-//! the product's refusals. Only a criterion of more than three numbers, and its copies, take memory.
+//! the product's refusals. Most criteria take no memory: lists of more than three numbers or with lengths do, criteria of
+//! the O-CSI of other kinds than the number do, and so do copies of these.
 #![tactic(auto)]
 
 mod basic_service;
 mod cause;
 mod criteria;
 mod criteria_entry;
+mod criterion_lists;
 mod detection_point;
 mod entry_limits;
 mod event;
 mod few_numbers;
 mod handling;
+mod held_criteria;
 mod in_place;
 mod laws;
-mod listed_numbers;
 mod met;
 mod number_criterion;
 mod o_criteria;

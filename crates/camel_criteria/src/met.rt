@@ -1,9 +1,8 @@
-ghost use Rattle.std.specs.Prelude.{◌≡◌, ◌==◌, ◌&&◌, ◌↔◌, IsTrue};
+ghost use Rattle.std.specs.Prelude.{◌≡◌, ◌==◌, ◌&&◌};
 ghost use Rattle.std.specs.List.{list_any};
 ghost use Rattle.std.specs.Option.{option_copied};
 ghost use Rattle.camel_tbcd.specs.Address.{octets};
 ghost use Rattle.camel_criteria.specs.BasicService.{covers};
-ghost use Rattle.camel_criteria.specs.Criteria.{HoldsNoOther};
 ghost use Rattle.camel_criteria.specs.Event.{o_event_data};
 ghost use Rattle.camel_criteria.specs.Met.{basic_met, cause_met, held_number_met, is_listed, number_met, o_met, t_met, type_met};
 
@@ -23,14 +22,7 @@ pub fn o_met(entry: &OCriteria, event: &OEvent, profile: Profile) -> bool
     ensures { result ≡ o_met profile entry.now (o_event_data event.now) }
 {
     held_number_met(entry.number(), &event.destination, profile)
-        & (holds_no_other(entry) || others_met(entry, event))
-}
-
-// Whether an entry holds no criterion but that of the number, as most do: one test in place of three.
-fn holds_no_other(entry: &OCriteria) -> bool
-    ensures { IsTrue result ↔ HoldsNoOther entry.now }
-{
-    entry.basic().is_empty() & entry.call_type().is_none() & entry.causes().is_empty()
+        && (entry.holds_no_other() || others_met(entry, event))
 }
 
 // Whether an event meets each criterion of an entry but that of the number.

@@ -7,12 +7,13 @@ ghost use Rattle.camel_criteria.specs.Met.{number_matches};
 ghost use Rattle.camel_criteria.specs.Refusal.{MakesOf};
 
 use crate::criteria::MatchType;
-use crate::in_place::InPlace;
-use crate::listed_numbers::ListedNumbers;
+use crate::criterion_lists::CriterionLists;
 use crate::refusal::Refusal;
 use camel_tbcd::{Address, IsdnAddress, Profile};
 use std::alloc::{AllocError, Global};
+use std::fmt;
 use std::marker::Model;
+use std::mem::size_of;
 
 /// The greatest number of numbers of a destination number criterion (TS 29.002).
 pub const MAX_NUMBERS: usize = 10;
@@ -22,20 +23,22 @@ pub const MAX_LENGTHS: usize = 3;
 
 /// A destination number criterion (DestinationNumberCriteria of TS 29.002): a match type, listed numbers and
 /// listed lengths.
-#[derive(Debug, Drop)]
+///
+/// It takes 32 octets, and no memory apart from them if it lists one to three numbers and no length.
+#[derive(Drop)]
 pub struct NumberCriterion {
-    match_type: MatchType,
-    lengths: InPlace<u8, MAX_LENGTHS>,
-    numbers: ListedNumbers,
+    lists: CriterionLists,
 }
+
+const _: () = prove!(size_of::<NumberCriterion>() == 32);
 
 impl Model for NumberCriterion {
     ghost use Rattle.camel_criteria.specs.Criteria.{NumberCriterionData};
-    ghost use Rattle.camel_criteria.specs.ListedNumbers.{numbers_of};
+    ghost use Rattle.camel_criteria.specs.CriterionLists.{criterion_of};
 
     ghost Value = { NumberCriterionData };
 
-    ghost view = { λ a. record { match_type = a.match_type; numbers = numbers_of a.numbers; lengths = a.lengths } };
+    ghost view = { λ a. criterion_of a.lists };
 }
 
 impl NumberCriterion {
@@ -60,42 +63,29 @@ impl NumberCriterion {
             return Err(Refusal::UnexpectedDataValue);
         }
         Ok(NumberCriterion {
-            match_type,
-            lengths: InPlace::from_slice(lengths, 0),
-            numbers: ListedNumbers::from_slice(alloc, numbers)?,
+            lists: CriterionLists::from_slices(alloc, match_type, numbers, lengths)?,
         })
-    }
-
-    // What stands in the place of a criterion that there is not: it holds nothing, and takes no memory.
-    pub(crate) fn absent() -> NumberCriterion
-        ensures { result ≡ record { match_type = MatchType.Enabling; numbers = []; lengths = [] } }
-    {
-        NumberCriterion {
-            match_type: MatchType::Enabling,
-            lengths: InPlace::from_slice(&[], 0),
-            numbers: ListedNumbers::Absent,
-        }
     }
 
     /// Whether the destination is to be listed or not.
     pub fn match_type(&self) -> MatchType
         ensures { result ≡ self.now.match_type }
     {
-        self.match_type
+        self.lists.match_type()
     }
 
     /// The listed numbers, in the order received.
     pub fn numbers(&self) -> &[IsdnAddress]
         ensures { result.now ≡ self.now.numbers }
     {
-        self.numbers.as_slice()
+        self.lists.numbers()
     }
 
     /// The listed number at a place, from 0, borrowed; None from their count on.
     pub fn number(&self, at: usize) -> Option<Address<'_>>
         ensures { option_map octets result ≡ slice_get self.now.numbers at }
     {
-        match self.numbers.as_slice().get(at) {
+        match self.lists.numbers().get(at) {
             Some(number) => Some(number.lend()),
             None => None,
         }
@@ -105,14 +95,14 @@ impl NumberCriterion {
     pub(crate) fn lists_front_of(&self, destination: &Address, profile: Profile) -> bool
         ensures { result ≡ list_any (λ listed. number_matches profile listed (octets destination.now)) self.now.numbers }
     {
-        self.numbers.has_front_of(destination, profile)
+        self.lists.has_front_of(destination, profile)
     }
 
     /// The listed lengths, in digits, in the order received.
     pub fn lengths(&self) -> &[u8]
         ensures { result.now ≡ self.now.lengths }
     {
-        self.lengths.as_slice()
+        self.lists.lengths()
     }
 }
 
@@ -129,9 +119,17 @@ impl Clone for NumberCriterion {
 
     fn clone(&self) -> Result<NumberCriterion, AllocError> {
         Ok(NumberCriterion {
-            match_type: self.match_type,
-            lengths: self.lengths.copy(),
-            numbers: self.numbers.copy()?,
+            lists: self.lists.copy()?,
         })
+    }
+}
+
+impl fmt::Debug for NumberCriterion {
+    fn fmt<W: fmt::Write>(&self, f: &mut fmt::Formatter<W>) -> fmt::Result {
+        f.debug_struct("NumberCriterion")
+            .field("match_type", &self.match_type())
+            .field("numbers", &self.numbers())
+            .field("lengths", &self.lengths())
+            .finish()
     }
 }

@@ -1,15 +1,17 @@
-ghost use Rattle.std.specs.Prelude.{◌≡◌};
+ghost use Rattle.std.specs.Prelude.{◌≡◌, IfErr, IsTrue};
 ghost use Rattle.std.specs.Option.{option_copied};
-ghost use Rattle.camel_criteria.specs.Criteria.{o_criteria_of};
+ghost use Rattle.camel_criteria.specs.Criteria.{HoldsNoOther, o_criteria_of};
+ghost use Rattle.camel_criteria.specs.Refusal.{MakesOf};
 
 use crate::basic_service::{BLANK, BasicService};
 use crate::criteria::CallType;
 use crate::detection_point::COLLECTED_INFO;
 use crate::entry_limits::{MAX_BASIC_SERVICES, MAX_CAUSES, are_causes_at};
+use crate::held_criteria::{CriteriaApart, HeldCriteria};
 use crate::in_place::InPlace;
 use crate::number_criterion::NumberCriterion;
 use crate::refusal::Refusal;
-use std::alloc::AllocError;
+use std::alloc::{AllocError, Global};
 use std::fmt;
 use std::marker::Model;
 use std::mem::size_of;
@@ -17,52 +19,60 @@ use std::mem::size_of;
 /// The criteria of a detection point of the O-CSI (O-BcsmCamelTDP-Criteria of TS 29.002): any of a destination
 /// number criterion, a basic service criterion, a call type criterion and a cause criterion, or none.
 ///
-/// It takes 64 octets, a line of the cache, and what a decision reads first is first.
+/// It takes 40 octets, and no memory apart from them and the number criterion's if it holds no other criterion.
 #[derive(Drop)]
 pub struct OCriteria {
-    // A filler if there is none: the tag of an `Option` would take 8 octets here.
-    number: NumberCriterion,
-    has_number: bool,
-    dp: u8,
-    call_type: Option<CallType>,
-    causes: InPlace<u8, MAX_CAUSES>,
-    basic: InPlace<BasicService, MAX_BASIC_SERVICES>,
+    held: HeldCriteria,
 }
 
-const _: () = prove!(size_of::<OCriteria>() == 64);
+const _: () = prove!(size_of::<OCriteria>() == 40);
 
 impl Model for OCriteria {
-    ghost use Rattle.camel_criteria.specs.Criteria.{OCriteriaData, held_criterion};
+    ghost use Rattle.camel_criteria.specs.Criteria.{OCriteriaData};
+    ghost use Rattle.camel_criteria.specs.HeldCriteria.{entry_of};
 
     ghost Value = { OCriteriaData };
 
-    ghost view = { λ a. record { dp = a.dp; number = held_criterion a.has_number a.number; basic = a.basic; call_type = a.call_type; causes = a.causes } };
+    ghost view = { λ a. entry_of a.held };
 }
 
 impl OCriteria {
-    /// The criteria of a detection point. An empty slice is an absent criterion. It takes no memory.
+    /// The criteria of a detection point. An empty slice is an absent criterion. It takes memory if there is another
+    /// criterion than that of the number.
     ///
     /// Fails with `UnexpectedDataValue` (36) for more than 5 codes, more than 5 causes, a cause over 127, or any cause
-    /// at detection point 2. The number criterion is dropped then.
+    /// at detection point 2, and with `OutOfMemory` (102) if memory is refused. The number criterion is dropped then.
     pub fn new(
+        alloc: Global,
         dp: u8,
         number: Option<NumberCriterion>,
         basic: &[BasicService],
         call_type: Option<CallType>,
         causes: &[u8],
     ) -> Result<OCriteria, Refusal>
-        ensures { result ≡ o_criteria_of dp number basic.now call_type causes.now }
+        ensures made { MakesOf result (o_criteria_of dp number basic.now call_type causes.now) }
+        ensures refused { IfErr (o_criteria_of dp number basic.now call_type causes.now) (λ why. result ≡ Err why) }
     {
         if basic.len() > MAX_BASIC_SERVICES || !are_causes_at(COLLECTED_INFO, dp, causes) {
             return Err(Refusal::UnexpectedDataValue);
         }
+        if !basic.is_empty() || call_type.is_some() || !causes.is_empty() {
+            let criteria = CriteriaApart {
+                number,
+                basic: InPlace::from_slice(basic, BLANK),
+                call_type,
+                causes: InPlace::from_slice(causes, 0),
+            };
+            let criteria = Box::new(alloc, criteria)?;
+            return Ok(OCriteria {
+                held: HeldCriteria::Apart { dp, criteria },
+            });
+        }
         Ok(OCriteria {
-            has_number: number.is_some(),
-            number: number.unwrap_or(NumberCriterion::absent()),
-            dp,
-            call_type,
-            causes: InPlace::from_slice(causes, 0),
-            basic: InPlace::from_slice(basic, BLANK),
+            held: match number {
+                Some(number) => HeldCriteria::Number { dp, number },
+                None => HeldCriteria::Nothing { dp },
+            },
         })
     }
 
@@ -70,50 +80,54 @@ impl OCriteria {
     pub fn dp(&self) -> u8
         ensures { result ≡ self.now.dp }
     {
-        self.dp
+        self.held.dp()
     }
 
     /// The destination number criterion, if there is one.
     pub fn number(&self) -> Option<&NumberCriterion>
         ensures { option_copied result ≡ self.now.number }
     {
-        if self.has_number {
-            Some(&self.number)
-        } else {
-            None
-        }
+        self.held.number()
     }
 
     /// The codes of the basic service criterion, in the order received; none if it is absent.
     pub fn basic(&self) -> &[BasicService]
         ensures { result.now ≡ self.now.basic }
     {
-        self.basic.as_slice()
+        self.held.basic()
     }
 
     /// The call type criterion, if there is one.
     pub fn call_type(&self) -> Option<CallType>
         ensures { result ≡ self.now.call_type }
     {
-        self.call_type
+        self.held.call_type()
     }
 
     /// The causes of the cause criterion, in the order received; none if it is absent.
     pub fn causes(&self) -> &[u8]
         ensures { result.now ≡ self.now.causes }
     {
-        self.causes.as_slice()
+        self.held.causes()
+    }
+
+    // Whether it holds no other criterion than that of the number, as most do. The answer takes one test, and if other
+    // criteria were kept apart and are none, it is no.
+    pub(crate) fn holds_no_other(&self) -> bool
+        ensures { IsTrue result → HoldsNoOther self.now }
+    {
+        self.held.holds_no_other()
     }
 }
 
 impl fmt::Debug for OCriteria {
     fn fmt<W: fmt::Write>(&self, f: &mut fmt::Formatter<W>) -> fmt::Result {
         f.debug_struct("OCriteria")
-            .field("dp", &self.dp)
+            .field("dp", &self.dp())
             .field("number", &self.number())
-            .field("call_type", &self.call_type)
-            .field("causes", &self.causes())
             .field("basic", &self.basic())
+            .field("call_type", &self.call_type())
+            .field("causes", &self.causes())
             .finish()
     }
 }
@@ -125,12 +139,7 @@ impl Clone for OCriteria {
 
     fn clone(&self) -> Result<OCriteria, AllocError> {
         Ok(OCriteria {
-            number: self.number.clone()?,
-            has_number: self.has_number,
-            dp: self.dp,
-            call_type: self.call_type,
-            causes: self.causes.copy(),
-            basic: self.basic.copy(),
+            held: self.held.copy()?,
         })
     }
 }

@@ -57,6 +57,7 @@ const CODES: [BasicService; 2] = [BasicService::Tele(0x10), BasicService::Bearer
 fn o_entry(alloc: Global) -> Result<OCriteria, Refusal> {
     let number = number_criterion(alloc, 3)?;
     OCriteria::new(
+        alloc,
         4,
         Some(number),
         &CODES,

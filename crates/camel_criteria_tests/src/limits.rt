@@ -38,7 +38,7 @@ fn check_counts(
 #[test]
 fn takes_a_cause_where_a_call_is_released(rt: HostRuntime) {
     for (dp, wanted) in [(4, None), (2, Some(UNEXPECTED))] {
-        let made = OCriteria::new(dp, None, &[], None, &[17]);
+        let made = OCriteria::new(rt.alloc(), dp, None, &[], None, &[17]);
         assert_eq!(rt; made.err(), wanted, "at {dp}");
     }
     for (dp, wanted) in [(13, None), (12, Some(UNEXPECTED))] {

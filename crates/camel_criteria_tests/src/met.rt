@@ -56,7 +56,7 @@ fn number_entry(
 ) -> Result<OCriteria, Fail> {
     let numbers = numbers_of(alloc, listed)?;
     let number = NumberCriterion::new(alloc, match_type, &numbers, lengths)?;
-    Ok(OCriteria::new(2, Some(number), &[], None, &[])?)
+    Ok(OCriteria::new(alloc, 2, Some(number), &[], None, &[])?)
 }
 
 fn check_numbers(
@@ -156,7 +156,7 @@ const O_CASES: [OCase; 11] = [
     (SPEECH, FORWARDED, &[17], 0x11, true, Some(18), false),
 ];
 
-fn check_o_entries(rt: &impl Abort, cases: &[OCase]) -> Result<(), Fail> {
+fn check_o_entries(rt: &impl Abort, alloc: Global, cases: &[OCase]) -> Result<(), Fail> {
     for (codes, call_type, causes, code, forwarded, cause, wanted) in cases {
         let event = OEvent {
             destination: Address::new(&DESTINATION)?,
@@ -164,7 +164,7 @@ fn check_o_entries(rt: &impl Abort, cases: &[OCase]) -> Result<(), Fail> {
             forwarded: *forwarded,
             cause: cause.and_then(Cause::new),
         };
-        let entry = OCriteria::new(4, None, codes, *call_type, causes)?;
+        let entry = OCriteria::new(alloc, 4, None, codes, *call_type, causes)?;
         let met = o_met(&entry, &event, Profile::One);
         assert_eq!(rt; met, *wanted, "{entry:?} and {event:?}");
     }
@@ -174,7 +174,7 @@ fn check_o_entries(rt: &impl Abort, cases: &[OCase]) -> Result<(), Fail> {
 /// By TS 23.078 an event meets an entry if it meets each criterion of it.
 #[test]
 fn meets_an_entry_of_the_o_csi_by_each_criterion(rt: HostRuntime) -> Result<(), Fail> {
-    check_o_entries(&rt, &O_CASES)
+    check_o_entries(&rt, rt.alloc(), &O_CASES)
 }
 
 const FACSIMILE: &[BasicService] = &[BasicService::Tele(0x60)];

@@ -40,7 +40,7 @@ pub fn triggered() -> Result<Outcome, Refusal> {
 pub fn one_entry(alloc: Global) -> Result<OCriteriaSet, Refusal> {
     let number = number_of(&[0x91, 0x21, 0xf3])?;
     let criterion = NumberCriterion::new(alloc, MatchType::Enabling, &[number], &[])?;
-    let entry = OCriteria::new(2, Some(criterion), &[], None, &[])?;
+    let entry = OCriteria::new(alloc, 2, Some(criterion), &[], None, &[])?;
     let mut entries = Vec::new(alloc);
     entries.push(entry)?;
     OCriteriaSet::new(entries)

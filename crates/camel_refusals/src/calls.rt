@@ -17,6 +17,7 @@ pub(crate) enum Call {
     FewNumbers,
     ManyNumbers,
     Entries,
+    OtherCriteria,
     Lists,
     CopyUpdate,
     Apply(Kind),
@@ -37,7 +38,7 @@ pub(crate) enum Call {
 }
 
 /// Each call, whether it takes memory, and its name.
-pub(crate) const CALLS: [(Call, bool, &str); 40] = [
+pub(crate) const CALLS: [(Call, bool, &str); 41] = [
     (Call::Addresses, false, "all calls of `camel_tbcd`"),
     (
         Call::FewNumbers,
@@ -49,7 +50,16 @@ pub(crate) const CALLS: [(Call, bool, &str); 40] = [
         true,
         "`NumberCriterion::new`, ten numbers",
     ),
-    (Call::Entries, false, "`OCriteria::new`, `TCriteria::new`"),
+    (
+        Call::Entries,
+        false,
+        "`OCriteria::new`, of numbers only; `TCriteria::new`",
+    ),
+    (
+        Call::OtherCriteria,
+        true,
+        "`OCriteria::new`, with other criteria",
+    ),
     (
         Call::Lists,
         false,
@@ -186,7 +196,8 @@ pub(crate) fn make<R: AllocGlobal + Print + RandomSource + Threads + Wait + Sync
         Call::Addresses => criteria::addresses(rt),
         Call::FewNumbers => criteria::few_numbers(rt),
         Call::ManyNumbers => criteria::many_numbers(rt, refusals),
-        Call::Entries => criteria::entries(rt, refusals),
+        Call::Entries => criteria::entries(rt),
+        Call::OtherCriteria => criteria::other_criteria(rt, refusals),
         Call::Lists => criteria::lists(rt, refusals),
         Call::CopyUpdate => records::copy_update(rt, refusals),
         Call::Apply(kind) => records::apply(rt, refusals, kind),

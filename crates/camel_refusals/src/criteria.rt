@@ -5,9 +5,10 @@ use crate::failure::{Failure, Lost, check};
 use crate::values::{
     o_csi, o_entries, o_entry, t_entries, t_entry, ten_listed, ten_numbers, vt_csi,
 };
-use camel_criteria::{MatchType, NumberCriterion};
+use camel_criteria::{MatchType, NumberCriterion, OCriteria};
 use camel_rows::{OCriteriaSet, TCriteriaSet};
 use camel_tbcd::{Address, CallAddress, Imsi, IsdnAddress, PackedImsi, Profile};
+use std::alloc::Global;
 
 const DIGITS: [u8; 15] = [2, 6, 2, 0, 1, 0, 0, 0, 0, 0, 0, 0, 0, 0, 7];
 
@@ -57,11 +58,16 @@ fn imsis(rt: &impl Print) -> Result<(), Failure> {
 
 /// Makes a criterion that keeps its numbers in place.
 pub(crate) fn few_numbers(rt: &(impl AllocGlobal + Print)) -> Result<(), Failure> {
-    let [first, second, third, ..] = ten_numbers()?;
-    let numbers = [first, second, third];
-    let made = NumberCriterion::new(rt.alloc(), MatchType::Inhibiting, &numbers, &[1, 15])?;
+    let made = few_listed(rt.alloc())?;
     println!(rt; "{made:?}")?;
     Ok(())
+}
+
+/// A criterion of three numbers and no length.
+fn few_listed(alloc: Global) -> Result<NumberCriterion, Failure> {
+    let [first, second, third, ..] = ten_numbers()?;
+    let numbers = [first, second, third];
+    Ok(NumberCriterion::new(alloc, MatchType::Inhibiting, &numbers, &[])?)
 }
 
 /// Makes a criterion that keeps its numbers apart.
@@ -74,14 +80,23 @@ pub(crate) fn many_numbers<R: AllocGlobal + Print>(
     Ok(())
 }
 
-/// Makes entries of criteria.
-pub(crate) fn entries<R: AllocGlobal + Print>(
+/// Makes entries of which that of the O-CSI holds a number criterion only.
+pub(crate) fn entries(rt: &(impl AllocGlobal + Print)) -> Result<(), Failure> {
+    let number = few_listed(rt.alloc())?;
+    let o = OCriteria::new(rt.alloc(), 4, Some(number), &[], None, &[])?;
+    println!(rt; "{o:?} {:?}", t_entry(13)?)?;
+    Ok(())
+}
+
+/// Makes an entry of the O-CSI that holds other criteria too.
+pub(crate) fn other_criteria<R: AllocGlobal + Print>(
     rt: &R,
     refusals: &mut Refusals,
 ) -> Result<(), Failure> {
-    let number = again(&mut refusals.stage, || ten_listed(rt.alloc()))?;
-    let (o, t) = (o_entry(number, 4)?, t_entry(13)?);
-    println!(rt; "{o:?} {t:?}")?;
+    let made = again(&mut refusals.call, || {
+        o_entry(rt.alloc(), few_listed(rt.alloc())?, 4)
+    })?;
+    println!(rt; "{made:?}")?;
     Ok(())
 }
 

@@ -69,15 +69,19 @@ pub(crate) fn ten_listed(alloc: Global) -> Result<NumberCriterion, Failure> {
 pub(crate) fn o_entries(alloc: Global) -> Result<Vec<OCriteria>, Failure> {
     let mut entries = Vec::new(alloc);
     for dp in [2, 4] {
-        entries.push(o_entry(ten_listed(alloc)?, dp)?)?;
+        entries.push(o_entry(alloc, ten_listed(alloc)?, dp)?)?;
     }
     Ok(entries)
 }
 
 /// An entry of a detection point of the O-CSI.
-pub(crate) fn o_entry(number: NumberCriterion, dp: u8) -> Result<OCriteria, Failure> {
+pub(crate) fn o_entry(
+    alloc: Global,
+    number: NumberCriterion,
+    dp: u8,
+) -> Result<OCriteria, Failure> {
     let call_type = Some(CallType::NotForwarded);
-    Ok(OCriteria::new(dp, Some(number), &[TELEPHONY], call_type, &[])?)
+    Ok(OCriteria::new(alloc, dp, Some(number), &[TELEPHONY], call_type, &[])?)
 }
 
 /// Entries of detection points 12, 13 and 14.

@@ -42,6 +42,15 @@ module _ {X : Type 0} where
   value_of-same m n None imsi own same = refl
   value_of-same m n (Some key) imsi own same = subst (λ (at : List ℕ). get m at ≡ get n at) (sym ((bytes_eq-Decides key imsi).0 own)) same
 
+  -- what a key has changes nothing if it is put there again
+  pub insert_same : (m : ByImsi X) (key : List ℕ) (value : X) → get m key ≡ Some value → insert m key value ≡ m
+  insert_same m key value held = same_map nat_list_cmp_total exact_bytes _ _ (λ q.
+      get-insert nat_list_cmp_total m key value q ∙ either q (eq_by_cmp (slice_cmp nat_cmp) q key) refl)
+    where
+      either : (q : List ℕ) (b : Bool) → eq_by_cmp (slice_cmp nat_cmp) q key ≡ b → cond b (Some value) (get m q) ≡ get m q
+      either q true is = sym held ∙ ap (get m) (sym (tells_apart exact_bytes q key is))
+      either q false is = refl
+
   -- of two values at one key the later one stays
   pub insert_twice : (m : ByImsi X) (key : List ℕ) (first second : X) → insert (insert m key first) key second ≡ insert m key second
   insert_twice m key first second = same_map nat_list_cmp_total exact_bytes _ _ (λ q.

@@ -1,8 +1,6 @@
 pub mod AdmissionLemmas
-pub mod ArrayLemmas
 pub mod ByImsiLemmas
 pub mod DirectoryLemmas
-pub mod PlacesLemmas
 pub mod ReceivedLemmas
 pub mod StandardLemmas
 pub mod StoreLemmas

@@ -1,5 +1,6 @@
--- The rows that are kept are few enough for the places of a CSI.
-use Rattle.std.proofs.Common.{◌≡◌, ◌≤◌, ◌+◌, ◌==◌, ℕ, Bool, true, false, List, [], ◌∷◌, length, count_by, None, refl, arith}
+-- The rows that are kept are few enough for the room of a CSI.
+use Rattle.std.proofs.Common.{◌≡◌, ◌≤◌, ◌<◌, ◌+◌, ◌==◌, ℕ, zero, suc, Bool, true, false, List, [], ◌∷◌, length, take, slice_get, count_by, Some, None, refl, arith}
+use Rattle.camel_criteria.specs.DetectionPoint.{is_among}
 use Rattle.std.proofs.lemmas.Bool.Decides.{nat_tests}
 use Rattle.std.proofs.lemmas.Grind.{common_steps}
 use Rattle.camel_rows.specs.Received.{has_no_two, items_at, list_refusal}
@@ -29,3 +30,12 @@ module _ {Item : Type 0} (dp_of : Item → ℕ) where
   pub few-from_taken : (points : List ℕ) (items : List Item) → list_refusal (length items) (has_no_two dp_of points items) ≡ None
       → length (items_at dp_of points items) ≤ length points
   few-from_taken points items taken = few_at points items (single-from_taken (length items) _ taken)
+
+  -- an item that is kept finds room among all that are
+  pub room_left : (points : List ℕ) (items : List Item) (at : ℕ) (item : Item) → slice_get items at ≡ Some item → is_among points (dp_of item) ≡ true
+      → length (items_at dp_of points (take at items)) < length (items_at dp_of points items)
+  room_left points [] at item there kept = absurd (cc)
+  room_left points (first ∷ items) zero item there kept = grind (arith, common_steps, nat_tests)
+  room_left points (first ∷ items) (suc at) item there kept =
+      let rest = room_left points items at item there kept in
+      grind (arith, common_steps, nat_tests)

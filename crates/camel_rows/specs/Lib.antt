@@ -2,8 +2,6 @@ pub mod Admission
 pub mod AdmissionCode
 pub mod Answer
 pub mod ByImsi
-pub mod StoredCsis
-pub mod CsiChange
 pub mod CsisPresent
 pub mod Decision
 pub mod Directory
@@ -11,11 +9,12 @@ pub mod Entries
 pub mod Event
 pub mod Front
 pub mod Outcome
-pub mod Places
 pub mod Received
 pub mod Records
+pub mod RowRoom
 pub mod Standard
 pub mod Store
+pub mod StoredCsi
 pub mod Subscriber
 pub mod TdpRow
 pub mod Update

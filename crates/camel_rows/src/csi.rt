@@ -1,6 +1,6 @@
 //! What the HLR sends: TDP rows, CSIs and the entries of their criteria.
 
-ghost use Rattle.std.specs.Prelude.{◌≡◌, ◌≤◌, ◌↔◌, [], IsTrue, length, slice_get};
+ghost use Rattle.std.specs.Prelude.{◌≡◌, ◌<◌, ◌≤◌, ◌++◌, ◌↔◌, [], ◌∷◌, IsTrue, length, slice_get};
 ghost use Rattle.std.specs.Option.{option_copied};
 ghost use Rattle.camel_rows.specs.Received.{kept_of, o_csi_of, vt_csi_of};
 ghost use Rattle.camel_rows.specs.Subscriber.{item_among};
@@ -10,21 +10,25 @@ pub(crate) mod entries;
 pub(crate) mod received;
 pub(crate) mod tdp_row;
 
-use crate::csi::received::{check_list, has_no_two, kept_row};
+use crate::csi::received::{check_list, has_no_two};
 use crate::csi::tdp_row::TdpRow;
-use camel_criteria::{O_DETECTION_POINTS, Refusal, VT_DETECTION_POINTS};
-use std::array;
+use camel_criteria::{O_DETECTION_POINTS, Refusal, VT_DETECTION_POINTS, is_among};
+use std::fmt;
 use std::marker::Model;
+use std::mem::size_of;
 
 /// The TDP rows of a CSI (TS 23.078), in the order received, without the ignored ones. `MOST` is the number of the
 /// detection points that are tested against it.
 ///
 /// Contracts see it as the list of its rows. It may hold none. It takes no memory.
-#[derive(Clone, Copy, Debug)]
+#[derive(Clone, Copy)]
 pub struct Csi<const MOST: usize> {
-    // Filled from the first place on.
-    places: [Option<TdpRow>; MOST],
+    // The rows, and fillers from `len` on, so that equal lists have equal fields.
+    room: [TdpRow; MOST],
+    len: u8,
 }
+
+const _: () = prove!(size_of::<OCsi>() == 36);
 
 /// The O-CSI, whose rows are of detection points 2 and 4.
 pub type OCsi = Csi<2>;
@@ -33,20 +37,20 @@ pub type OCsi = Csi<2>;
 pub type VtCsi = Csi<3>;
 
 impl<const MOST: usize> Model for Csi<MOST> {
-    ghost use Rattle.std.specs.Prelude.{◌≡◌, List};
+    ghost use Rattle.std.specs.Prelude.{List, length, take};
     ghost use Rattle.std.proofs.Common.{sym};
-    ghost use Rattle.camel_rows.specs.Places.{items_in, places_of};
+    ghost use Rattle.camel_rows.specs.RowRoom.{IsKept, room_with};
     ghost use Rattle.camel_rows.specs.TdpRow.{TdpRowData};
 
     ghost Value = { List TdpRowData };
 
-    ghost view = { λ a. items_in a.places };
+    ghost view = { λ a. take a.len a.room };
 
-    ghost invariant = { λ a. a.places ≡ places_of MOST (items_in a.places) };
+    ghost invariant = { λ a. IsKept MOST a.room a.len };
 
-    ghost inverse = { λ rows. record { places = places_of MOST rows } };
+    ghost inverse = { λ rows. record { room = room_with MOST rows; len = length rows } };
 
-    ghost inverse_ok = { λ a h i. record { places = sym h i } };
+    ghost inverse_ok = { λ a h i. record { room = sym h.fill i; len = sym h.counted i } };
 }
 
 impl Csi<2> {
@@ -78,13 +82,43 @@ impl Csi<3> {
 impl<const MOST: usize> Csi<MOST> {
     /// Keeps the rows of these detection points.
     fn from_received(received: &[TdpRow], points: &[u8]) -> Result<Csi<MOST>, Refusal>
-        requires { length points.now ≡ MOST }
+        requires few { MOST ≤ 3 }
+        requires points { length points.now ≡ MOST }
         ensures { result ≡ kept_of points.now (λ row. row.dp) received.now }
     {
         check_list(received.len(), has_no_two(received, points))?;
-        Ok(Csi {
-            places: array::from_fn(|place| kept_row(received, points, place)),
-        })
+        let mut csi = Csi::without_rows();
+        for row in received {
+            if is_among(points, row.dp()) {
+                csi.push(*row);
+            }
+        }
+        Ok(csi)
+    }
+
+    fn without_rows() -> Csi<MOST>
+        requires { MOST ≤ 3 }
+        ensures { result ≡ [] }
+    {
+        Csi {
+            room: [TdpRow::filler(); MOST],
+            len: 0,
+        }
+    }
+
+    fn push(&mut self, row: TdpRow)
+        requires { length self.old < MOST }
+        ensures { self.new ≡ self.old ++ row ∷ [] }
+    {
+        self.room[usize::from(self.len)] = row;
+        self.len += 1;
+    }
+
+    fn as_slice(&self) -> &[TdpRow]
+        ensures rows { result.now ≡ self.now }
+        ensures few { length self.now ≤ MOST }
+    {
+        &self.room[..usize::from(self.len)]
     }
 
     /// Whether it holds no row.
@@ -99,26 +133,26 @@ impl<const MOST: usize> Csi<MOST> {
         ensures len { result ≡ length self.now }
         ensures range { result ≤ MOST }
     {
-        self.places.iter().filter(|place| place.is_some()).count()
+        self.as_slice().len()
     }
 
     /// The row at a place, from 0; None from `len` on.
     pub fn get(&self, at: usize) -> Option<&TdpRow>
         ensures { option_copied result ≡ slice_get self.now at }
     {
-        self.places.get(at)?.as_ref()
+        self.as_slice().get(at)
     }
 
     /// The row of a detection point, if it is armed.
     pub fn row(&self, dp: u8) -> Option<&TdpRow>
         ensures { option_copied result ≡ item_among (λ row. row.dp) dp self.now }
     {
-        for place in &self.places {
-            let row = place.as_ref()?;
-            if row.dp() == dp {
-                return Some(row);
-            }
-        }
-        None
+        self.as_slice().iter().find(|row| row.dp() == dp)
+    }
+}
+
+impl<const MOST: usize> fmt::Debug for Csi<MOST> {
+    fn fmt<W: fmt::Write>(&self, f: &mut fmt::Formatter<W>) -> fmt::Result {
+        f.debug_list().entries(self.as_slice()).finish()
     }
 }

@@ -1,38 +1,35 @@
 //! What is stored: the record of a subscriber, the records of all, and the updates that change them.
 
-ghost use Rattle.std.specs.Prelude.{◌≡◌, IfErr, IfOk, IsTrue, None, Some};
-ghost use Rattle.std.specs.Option.{option_copied, option_map};
-ghost use Rattle.camel_rows.specs.CsiChange.{changed_by, with_changes};
+ghost use Rattle.std.specs.Prelude.{◌≡◌, IfErr, IfOk, IsTrue, None, OnErr, OnOk, Some};
+ghost use Rattle.std.specs.Option.{option_and_then, option_copied, option_map};
+ghost use Rattle.camel_rows.specs.StoredCsi.{stored_in};
 ghost use Rattle.camel_rows.specs.CsisPresent.{csis_of, csis_refusal};
 ghost use Rattle.camel_rows.specs.Subscriber.{empty_record, entry_at, entry_data, row_at, rows_of};
-ghost use Rattle.camel_rows.specs.Update.{csi_after, is_insert, record_after, update_imsi};
+ghost use Rattle.camel_rows.specs.Update.{is_insert, record_after, record_with_insert, record_without, update_imsi};
 
 pub(crate) mod admission;
-pub(crate) mod csi_change;
 pub(crate) mod csis_present;
 pub(crate) mod laws;
 pub(crate) mod lent;
 pub(crate) mod one_block;
 pub(crate) mod records;
 pub(crate) mod stored_csi;
-pub(crate) mod stored_csis;
 pub(crate) mod update;
 
 use crate::csi::criteria_set::{OCriteriaSet, TCriteriaSet};
 use crate::csi::tdp_row::TdpRow;
 use crate::csi::{OCsi, VtCsi};
-use crate::subscriber::csi_change::CsiChange;
 use crate::subscriber::csis_present::CsisPresent;
 use crate::subscriber::lent::Lent;
 use crate::subscriber::one_block::OneBlock;
 use crate::subscriber::stored_csi::StoredCsi;
-use crate::subscriber::stored_csis::StoredCsis;
-use crate::subscriber::update::Update;
+use crate::subscriber::update::{Update, Withdrawal};
 use camel_criteria::{OCriteria, Refusal, TCriteria, is_o_detection_point, is_vt_detection_point};
 use camel_tbcd::Imsi;
 use std::alloc::{AllocError, Global};
+use std::fmt;
 use std::marker::Model;
-use std::{fmt, mem};
+use std::mem::size_of;
 
 /// A stored O-CSI with its criteria.
 pub(crate) type StoredOCsi = StoredCsi<2, OCriteria>;
@@ -45,16 +42,22 @@ pub(crate) type StoredVtCsi = StoredCsi<3, TCriteria>;
 /// Contracts see the two, each none or the list of its rows with the list of its criteria entries.
 #[derive(Drop)]
 pub struct Subscriber {
-    csis: StoredCsis,
+    // In place, so that a decision at detection point 2 or 4 reads it where it finds the subscriber.
+    o: StoredOCsi,
+    // In a block of its own, so that it takes little room if it is not stored.
+    vt: Option<OneBlock<StoredVtCsi>>,
 }
 
+const _: () = prove!(size_of::<Subscriber>() == 96);
+
 impl Model for Subscriber {
-    ghost use Rattle.camel_rows.specs.StoredCsis.{o_in, vt_in};
+    ghost use Rattle.std.specs.Option.{option_and_then};
+    ghost use Rattle.camel_rows.specs.StoredCsi.{stored_in};
     ghost use Rattle.camel_rows.specs.Subscriber.{SubscriberData};
 
     ghost Value = { SubscriberData };
 
-    ghost view = { λ a. record { o = o_in a.csis; vt = vt_in a.csis } };
+    ghost view = { λ a. record { o = stored_in a.o; vt = option_and_then stored_in a.vt } };
 }
 
 impl Subscriber {
@@ -63,7 +66,8 @@ impl Subscriber {
         ensures { result ≡ empty_record }
     {
         Subscriber {
-            csis: StoredCsis::Neither,
+            o: StoredCsi::NotStored,
+            vt: None,
         }
     }
 
@@ -71,14 +75,14 @@ impl Subscriber {
     pub fn o(&self) -> Option<&OCsi>
         ensures { option_copied result ≡ option_map rows_of self.now.o }
     {
-        Some(self.stored_o()?.csi())
+        self.o.csi()
     }
 
     /// The VT-CSI, if it is stored.
     pub fn vt(&self) -> Option<&VtCsi>
         ensures { option_copied result ≡ option_map rows_of self.now.vt }
     {
-        Some(self.stored_vt()?.csi())
+        self.stored_vt()?.csi()
     }
 
     /// The TDP row of a detection point, if it is armed.
@@ -100,7 +104,7 @@ impl Subscriber {
         ensures { option_map entry_data result ≡ entry_at dp self.now }
     {
         if is_o_detection_point(dp) {
-            Some(Lent::O(self.stored_o()?.entry(dp)?))
+            Some(Lent::O(self.o.entry(dp)?))
         } else if is_vt_detection_point(dp) {
             Some(Lent::T(self.stored_vt()?.entry(dp)?))
         } else {
@@ -120,9 +124,12 @@ impl Subscriber {
         Ok(Update::Insert {
             imsi,
             o: self.o().copied(),
-            o_criteria: self.stored_o().map(StoredCsi::criteria).cloned()?,
+            o_criteria: self.o.clone()?.into_criteria(),
             vt: self.vt().copied(),
-            t_criteria: self.stored_vt().map(StoredCsi::criteria).cloned()?,
+            t_criteria: match self.stored_vt() {
+                Some(vt) => vt.clone()?.into_criteria(),
+                None => None,
+            },
         })
     }
 
@@ -135,18 +142,18 @@ impl Subscriber {
         Ok(self.clone()?)
     }
 
-    /// The O-CSI with its criteria, if it is stored.
-    pub(crate) fn stored_o(&self) -> Option<&StoredOCsi>
-        ensures { option_copied result ≡ self.now.o }
+    /// What is stored of the O-CSI.
+    pub(crate) fn stored_o(&self) -> &StoredOCsi
+        ensures { stored_in result.now ≡ self.now.o }
     {
-        self.csis.o()
+        &self.o
     }
 
-    /// The VT-CSI with its criteria, if it is stored.
+    /// What is stored of the VT-CSI; None if nothing is.
     pub(crate) fn stored_vt(&self) -> Option<&StoredVtCsi>
-        ensures { option_copied result ≡ self.now.vt }
+        ensures { option_and_then stored_in (option_copied result) ≡ self.now.vt }
     {
-        self.csis.vt()
+        Some(self.vt.as_ref()?.get())
     }
 
     /// Which CSIs are stored.
@@ -154,44 +161,60 @@ impl Subscriber {
         ensures { result ≡ csis_of self.now }
     {
         CsisPresent {
-            o: self.csis.o().is_some(),
-            vt: self.csis.vt().is_some(),
+            o: self.o.is_stored(),
+            vt: self.vt().is_some(),
         }
     }
 
-    /// What an Insert makes of the O-CSI.
-    pub(crate) fn o_after_insert(
-        &self,
+    /// Stores what an Insert brings. Fails with `AllocError` if memory is refused; then nothing changes.
+    pub(crate) fn insert(
+        &mut self,
         alloc: Global,
-        csi: Option<OCsi>,
-        criteria: &Option<OCriteriaSet>,
-    ) -> Result<CsiChange<StoredOCsi>, AllocError>
-        ensures { IfOk result (λ change. changed_by change self.now.o ≡ csi_after self.now.o csi criteria.now) }
+        o: Option<OCsi>,
+        o_criteria: &Option<OCriteriaSet>,
+        vt: Option<VtCsi>,
+        t_criteria: &Option<TCriteriaSet>,
+    ) -> Result<(), AllocError>
+        ensures inserted { OnOk result (self.new ≡ record_with_insert o o_criteria.now vt t_criteria.now self.old) }
+        ensures unchanged { OnErr result (self.new ≡ self.old) }
     {
-        StoredCsi::after_insert(alloc, self.stored_o(), csi, criteria)
+        let o = self.o.after_insert(o, o_criteria)?;
+        let vt = match self.stored_vt() {
+            Some(stored) => stored.after_insert(vt, t_criteria)?,
+            None => StoredCsi::NotStored.after_insert(vt, t_criteria)?,
+        };
+        if let Some(vt) = vt {
+            self.store_vt(alloc, vt)?;
+        }
+        if let Some(o) = o {
+            self.o = o;
+        }
+        Ok(())
     }
 
-    /// What an Insert makes of the VT-CSI.
-    pub(crate) fn vt_after_insert(
-        &self,
-        alloc: Global,
-        csi: Option<VtCsi>,
-        criteria: &Option<TCriteriaSet>,
-    ) -> Result<CsiChange<OneBlock<StoredVtCsi>>, AllocError>
-        ensures { IfOk result (λ change. changed_by change self.now.vt ≡ csi_after self.now.vt csi criteria.now) }
+    /// Stores a VT-CSI in the place of the one that is stored, or of none. Fails with `AllocError` if memory is refused;
+    /// then nothing changes.
+    fn store_vt(&mut self, alloc: Global, vt: StoredVtCsi) -> Result<(), AllocError>
+        ensures stored { OnOk result (self.new ≡ record self.old { vt = stored_in vt }) }
+        ensures unchanged { OnErr result (self.new ≡ self.old) }
     {
-        StoredCsi::after_insert(alloc, self.stored_vt(), csi, criteria)?.in_one_block(alloc)
+        match &mut self.vt {
+            Some(block) => block.replace(vt),
+            None => self.vt = Some(OneBlock::new(alloc, vt)?),
+        }
+        Ok(())
     }
 
-    /// Changes both CSIs.
-    pub(crate) fn change(&mut self, o: CsiChange<StoredOCsi>, vt: CsiChange<OneBlock<StoredVtCsi>>)
-        ensures { self.new ≡ with_changes o vt self.old }
+    /// Removes what a Delete names.
+    pub(crate) fn withdraw(&mut self, what: Withdrawal)
+        ensures { self.new ≡ record_without what self.old }
     {
-        let csis = mem::replace(&mut self.csis, StoredCsis::Neither);
-        let (mut stored_o, mut stored_vt) = csis.into_parts();
-        o.apply(&mut stored_o);
-        vt.apply(&mut stored_vt);
-        self.csis = StoredCsis::of(stored_o, stored_vt);
+        if what.removes_o() {
+            self.o = StoredCsi::NotStored;
+        }
+        if what.removes_vt() {
+            self.vt = None;
+        }
     }
 }
 
@@ -213,7 +236,8 @@ impl Clone for Subscriber {
 
     fn clone(&self) -> Result<Subscriber, AllocError> {
         Ok(Subscriber {
-            csis: self.csis.copy()?,
+            o: self.o.clone()?,
+            vt: self.vt.clone()?,
         })
     }
 }
@@ -222,9 +246,9 @@ impl fmt::Debug for Subscriber {
     fn fmt<W: fmt::Write>(&self, f: &mut fmt::Formatter<W>) -> fmt::Result {
         f.debug_struct("Subscriber")
             .field("o", &self.o())
-            .field("o_criteria", &self.stored_o().map(StoredCsi::criteria))
+            .field("o_criteria", &self.o.entries())
             .field("vt", &self.vt())
-            .field("t_criteria", &self.stored_vt().map(StoredCsi::criteria))
+            .field("t_criteria", &self.stored_vt().and_then(StoredCsi::entries))
             .finish()
     }
 }

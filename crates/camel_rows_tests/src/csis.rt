@@ -59,7 +59,7 @@ fn a_set_of_criteria_keeps_its_entries_in_order(rt: HostRuntime) -> Result<(), F
     assert_eq!(rt; OCriteriaSet::new(Vec::new(rt.alloc())).err(), MISSING);
     assert_eq!(rt; TCriteriaSet::new(Vec::new(rt.alloc())).err(), MISSING);
     for dp in [14, 4, 12, 2] {
-        o.push(OCriteria::new(dp, None, &[], None, &[])?)?;
+        o.push(OCriteria::new(rt.alloc(), dp, None, &[], None, &[])?)?;
         t.push(TCriteria::new(dp, &[], &[])?)?;
     }
     let (o, t) = (OCriteriaSet::new(o)?, TCriteriaSet::new(t)?);

@@ -73,7 +73,7 @@ fn marked_o_criteria(alloc: Global, mark: Option<u8>) -> Result<Option<OCriteria
     };
     let basic = [BasicService::Tele(mark)];
     let mut entries = Vec::new(alloc);
-    entries.push(OCriteria::new(point_of(mark, 2), None, &basic, None, &[])?)?;
+    entries.push(OCriteria::new(alloc, point_of(mark, 2), None, &basic, None, &[])?)?;
     Ok(Some(OCriteriaSet::new(entries)?))
 }
 

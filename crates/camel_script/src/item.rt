@@ -173,7 +173,7 @@ fn parse_o_entry(alloc: Global, item: &[u8]) -> Result<OCriteria, RecordFault>
     let call_type = parse_call_type(parts.fourth)?;
     let causes = parse_small_decimals(alloc, parts.fifth)?;
     let number = make_number_criterion(alloc, &texts)?;
-    Ok(OCriteria::new(dp, number, &basic, call_type, &causes)?)
+    Ok(OCriteria::new(alloc, dp, number, &basic, call_type, &causes)?)
 }
 
 /// Reads an entry of the criteria of the VT-CSI. The texts of all its parts are read before its data are checked.

@@ -83,7 +83,7 @@ fn o_entry_of(alloc: Global, data: &OCriteriaData) -> Result<OCriteria, MapFault
     let dp = detection_point_of(data.detection_point);
     let basic = services_of(alloc, &data.basic)?;
     let causes = causes_of(alloc, &data.causes)?;
-    Ok(OCriteria::new(dp, number, &basic, call_type, &causes)?)
+    Ok(OCriteria::new(alloc, dp, number, &basic, call_type, &causes)?)
 }
 
 fn t_entries_of(alloc: Global, list: &[TCriteriaData]) -> Result<Vec<TCriteria>, MapFault> {

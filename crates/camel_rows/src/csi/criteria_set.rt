@@ -1,12 +1,13 @@
 ghost use Rattle.std.specs.Prelude.{◌≡◌, ◌↔◌, [], IsTrue, length, slice_get};
 ghost use Rattle.std.specs.Option.{option_copied};
+ghost use Rattle.camel_rows.specs.Entries.{entries_of};
 ghost use Rattle.camel_rows.specs.Received.{items_at, kept_of};
 ghost use Rattle.camel_rows.specs.Subscriber.{item_among};
 
-use crate::csi::entries::Entries;
+use crate::csi::entries::{Entries, find_entry};
 use crate::csi::received::{check_list, has_no_two};
 use camel_criteria::{CriteriaEntry, OCriteria, Refusal, TCriteria, is_among};
-use std::alloc::{AllocError, Global};
+use std::alloc::AllocError;
 use std::marker::Model;
 
 /// The criteria entries of a CSI, in the order received, without the ignored ones.
@@ -48,13 +49,18 @@ impl<E: CriteriaEntry> CriteriaSet<E> {
         })
     }
 
-    /// The set without entries. It takes no memory.
-    pub(crate) fn without_entries(alloc: Global) -> CriteriaSet<E>
-        ensures { result ≡ [] }
+    /// The set of these entries.
+    pub(crate) fn of(entries: Entries<E>) -> CriteriaSet<E>
+        ensures { result ≡ entries_of entries }
     {
-        CriteriaSet {
-            entries: Entries::Apart(Vec::new(alloc)),
-        }
+        CriteriaSet { entries }
+    }
+
+    /// Its entries.
+    pub(crate) fn into_entries(self) -> Entries<E>
+        ensures { entries_of result ≡ self }
+    {
+        self.entries
     }
 
     /// Whether it holds no entry.
@@ -82,10 +88,7 @@ impl<E: CriteriaEntry> CriteriaSet<E> {
     pub fn entry(&self, dp: u8) -> Option<&E>
         ensures { option_copied result ≡ item_among E.dp_of dp self.now }
     {
-        self.entries
-            .as_slice()
-            .iter()
-            .find(|entry| entry.detection_point() == dp)
+        find_entry(self.entries.as_slice(), dp)
     }
 }
 

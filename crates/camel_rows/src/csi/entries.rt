@@ -1,13 +1,15 @@
 ghost use Rattle.std.specs.Prelude.{◌≡◌, IfOk};
+ghost use Rattle.std.specs.Option.{option_copied};
 ghost use Rattle.camel_rows.specs.Entries.{entries_of};
+ghost use Rattle.camel_rows.specs.Subscriber.{item_among};
 
 use camel_criteria::CriteriaEntry;
 use std::alloc::AllocError;
 
-// The entries of a set. A single one, as most sets have, is kept in place, so that it is read with the rows of its CSI;
-// others are kept apart.
+// The entries of a set. A single one, as most sets have, is kept in place; several are kept apart.
 #[derive(Debug, Drop)]
 pub(crate) enum Entries<E> {
+    Empty,
     One([E; 1]),
     Apart(Vec<E>),
 }
@@ -16,6 +18,9 @@ impl<E: CriteriaEntry> Entries<E> {
     pub(crate) fn of(entries: Vec<E>) -> Entries<E>
         ensures { entries_of result ≡ entries.items }
     {
+        if entries.is_empty() {
+            return Entries::Empty;
+        }
         match entries.try_into() {
             Ok(one) => Entries::One(one),
             Err(entries) => Entries::Apart(entries),
@@ -26,6 +31,7 @@ impl<E: CriteriaEntry> Entries<E> {
         ensures { result.now ≡ entries_of self.now }
     {
         match self {
+            Entries::Empty => &[],
             Entries::One(entries) => entries,
             Entries::Apart(entries) => entries,
         }
@@ -35,8 +41,16 @@ impl<E: CriteriaEntry> Entries<E> {
         ensures { IfOk result (λ copied. entries_of copied ≡ entries_of self.now) }
     {
         Ok(match self {
+            Entries::Empty => Entries::Empty,
             Entries::One(entries) => Entries::One(entries.clone()?),
             Entries::Apart(entries) => Entries::Apart(entries.clone()?),
         })
     }
+}
+
+/// The entry of a detection point, if there is one.
+pub(crate) fn find_entry<E: CriteriaEntry>(entries: &[E], dp: u8) -> Option<&E>
+    ensures { option_copied result ≡ item_among E.dp_of dp entries.now }
+{
+    entries.iter().find(|entry| entry.detection_point() == dp)
 }

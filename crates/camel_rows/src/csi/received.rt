@@ -1,8 +1,7 @@
-ghost use Rattle.std.specs.Prelude.{◌≡◌, Some, None, IfErr, OnOk, slice_get};
-ghost use Rattle.camel_rows.specs.Received.{has_no_two, is_single, items_at, list_refusal};
+ghost use Rattle.std.specs.Prelude.{◌≡◌, Some, None, IfErr, OnOk};
+ghost use Rattle.camel_rows.specs.Received.{has_no_two, is_single, list_refusal};
 
-use crate::csi::tdp_row::TdpRow;
-use camel_criteria::{AtDetectionPoint, Refusal, is_among};
+use camel_criteria::{AtDetectionPoint, Refusal};
 
 /// The greatest number of TDP rows that a CSI is sent with: maxNumOfCamelTDPData of TS 29.002. The same limit for
 /// criteria entries is this product's own.
@@ -35,20 +34,4 @@ fn is_single<T: AtDetectionPoint>(received: &[T], dp: u8) -> bool
         .filter(|item| item.detection_point() == dp)
         .count()
         <= 1
-}
-
-/// The row at a place among those of these detection points.
-pub(crate) fn kept_row(received: &[TdpRow], points: &[u8], place: usize) -> Option<TdpRow>
-    ensures { result ≡ slice_get (items_at (λ row. row.dp) points.now received.now) place }
-{
-    let mut left = place;
-    for row in received {
-        if is_among(points, row.dp()) {
-            if left == 0 {
-                return Some(*row);
-            }
-            left -= 1;
-        }
-    }
-    None
 }

@@ -1,6 +1,7 @@
 ghost use Rattle.std.specs.Prelude.{◌≡◌, ◌<◌, ◌≤◌, ◌↔◌, IsErr};
 ghost use Rattle.camel_tbcd.specs.Address.{octets};
 ghost use Rattle.camel_tbcd.specs.AddressLength.{IsAddress, max_isdn_address_length};
+ghost use Rattle.camel_rows.specs.RowRoom.{no_row};
 ghost use Rattle.camel_rows.specs.TdpRow.{max_service_key, tdp_row_of};
 
 use camel_criteria::{AtDetectionPoint, Handling, Refusal};
@@ -53,6 +54,18 @@ impl TdpRow {
             dp,
             handling,
         })
+    }
+
+    /// What stands in a place for a row that holds none.
+    pub(crate) fn filler() -> TdpRow
+        ensures { result ≡ no_row }
+    {
+        TdpRow {
+            key: 0,
+            scf: IsdnAddress::from_bytes(&[0]).unwrap(),
+            dp: 0,
+            handling: Handling::Continue,
+        }
     }
 
     /// The trigger detection point.

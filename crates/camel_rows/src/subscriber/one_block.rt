@@ -23,6 +23,13 @@ impl<T: Drop> OneBlock<T> {
             block: Box::new(alloc, value)?,
         })
     }
+
+    /// Puts another value in the place of the one that is there.
+    pub(crate) fn replace(&mut self, value: T)
+        ensures { self.new ≡ value }
+    {
+        *self.block = value;
+    }
 }
 
 impl<T> OneBlock<T> {

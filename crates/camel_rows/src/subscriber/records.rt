@@ -3,18 +3,15 @@ ghost use Rattle.std.specs.FinMap as map;
 ghost use Rattle.std.specs.Option.{option_copied, option_map};
 ghost use Rattle.camel_table.specs.ByImsi.{ListsEachOnce};
 ghost use Rattle.camel_rows.specs.ByImsi.{value_of, with_value};
-ghost use Rattle.camel_rows.specs.CsiChange.{with_changes};
 ghost use Rattle.camel_rows.specs.CsisPresent.{csis_of};
 ghost use Rattle.camel_rows.specs.Records.{no_records};
 ghost use Rattle.camel_rows.specs.Update.{records_after, record_with_insert, record_without, refusal, update_imsi};
 
 use crate::csi::criteria_set::{OCriteriaSet, TCriteriaSet};
 use crate::csi::{OCsi, VtCsi};
-use crate::subscriber::csi_change::CsiChange;
+use crate::subscriber::Subscriber;
 use crate::subscriber::csis_present::{CsisPresent, check_update};
-use crate::subscriber::one_block::OneBlock;
 use crate::subscriber::update::{Update, Withdrawal};
-use crate::subscriber::{StoredOCsi, StoredVtCsi, Subscriber};
 use camel_criteria::Refusal;
 use camel_table::{Seed, Table};
 use camel_tbcd::Imsi;
@@ -134,7 +131,7 @@ impl Records {
         Ok(self.clone()?)
     }
 
-    /// Puts what an Insert brings into the record of its IMSI.
+    /// Puts what an Insert brings into the record of its IMSI, in its place.
     fn insert(
         &mut self,
         imsi: &Imsi,
@@ -148,11 +145,9 @@ impl Records {
             (option_map (record_with_insert o o_criteria.now vt t_criteria.now) (map.get self.old imsi.now))) }
         ensures unchanged { OnErr result (self.new ≡ self.old) }
     {
-        let subscriber = self.get(imsi).unwrap();
-        let o = subscriber.o_after_insert(self.alloc, o, o_criteria)?;
-        let vt = subscriber.vt_after_insert(self.alloc, vt, t_criteria)?;
-        self.change(imsi, o, vt);
-        Ok(())
+        let alloc = self.alloc;
+        let subscriber = self.table.value_mut(imsi);
+        subscriber.insert(alloc, o, o_criteria, vt, t_criteria)
     }
 
     /// Removes what a Delete names from the record of its IMSI.
@@ -160,22 +155,7 @@ impl Records {
         requires { IsSome (map.get self.old imsi.now) }
         ensures { self.new ≡ with_value self.old imsi.now (option_map (record_without what) (map.get self.old imsi.now)) }
     {
-        let o = CsiChange::removal_if(what.removes_o());
-        let vt = CsiChange::removal_if(what.removes_vt());
-        self.change(imsi, o, vt);
-    }
-
-    /// Changes the record of an IMSI in its place.
-    fn change(
-        &mut self,
-        imsi: &Imsi,
-        o: CsiChange<StoredOCsi>,
-        vt: CsiChange<OneBlock<StoredVtCsi>>,
-    )
-        requires { IsSome (map.get self.old imsi.now) }
-        ensures { self.new ≡ with_value self.old imsi.now (option_map (with_changes o vt) (map.get self.old imsi.now)) }
-    {
-        self.table.value_mut(imsi).change(o, vt);
+        self.table.value_mut(imsi).withdraw(what);
     }
 
     /// Puts a record in the place of the one that is there.

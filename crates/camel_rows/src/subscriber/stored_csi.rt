@@ -1,96 +1,119 @@
-ghost use Rattle.std.specs.Prelude.{◌≡◌, ◌≤◌, IfOk};
-ghost use Rattle.std.specs.Option.{option_copied};
-ghost use Rattle.camel_rows.specs.CsiChange.{changed_by};
-ghost use Rattle.camel_rows.specs.Subscriber.{item_among};
+ghost use Rattle.std.specs.Prelude.{◌≡◌, IfOk, Some, is_some};
+ghost use Rattle.std.specs.Option.{option_and_then, option_copied, option_map};
+ghost use Rattle.camel_rows.specs.StoredCsi.{replaced_by, stored_in};
+ghost use Rattle.camel_rows.specs.Subscriber.{entry_of, rows_of};
 ghost use Rattle.camel_rows.specs.Update.{csi_after};
 
 use crate::csi::Csi;
 use crate::csi::criteria_set::CriteriaSet;
-use crate::csi::tdp_row::TdpRow;
-use crate::subscriber::csi_change::CsiChange;
+use crate::csi::entries::{Entries, find_entry};
 use camel_criteria::CriteriaEntry;
-use std::alloc::{AllocError, Global};
-use std::marker::Model;
+use std::alloc::AllocError;
 
-/// A CSI that is stored, with the entries of its criteria, if it has some.
+/// What is stored of a CSI: nothing, or its rows with the entries of its criteria. One entry, as most CSIs have, lies in
+/// place, so that it is read with the rows; several lie apart.
 #[derive(Drop)]
-pub(crate) struct StoredCsi<const MOST: usize, E> {
-    csi: Csi<MOST>,
-    criteria: CriteriaSet<E>,
-}
-
-impl<const MOST: usize, E> Model for StoredCsi<MOST, E> {
-    ghost use Rattle.std.specs.Prelude.{◌≤◌};
-    ghost use Rattle.camel_rows.specs.Subscriber.{StoredCsiData};
-
-    ghost Value = { StoredCsiData E };
-
-    ghost view = { λ a. record { rows = a.csi; entries = a.criteria } };
-
-    // At most 3 places, so that a CSI is known to fit into memory.
-    ghost invariant = { λ a. MOST ≤ 3 };
+pub(crate) enum StoredCsi<const MOST: usize, E> {
+    NotStored,
+    WithoutEntries(Csi<MOST>),
+    WithEntry(Csi<MOST>, [E; 1]),
+    WithEntries(Csi<MOST>, Vec<E>),
 }
 
 impl<const MOST: usize, E: CriteriaEntry> StoredCsi<MOST, E> {
-    /// What an Insert of this CSI and these criteria, if any, makes of a stored CSI.
+    /// What an Insert of this CSI and these criteria, if any, stores in the place of this one; None if this one stays.
     pub(crate) fn after_insert(
-        alloc: Global,
-        stored: Option<&StoredCsi<MOST, E>>,
+        &self,
         csi: Option<Csi<MOST>>,
         criteria: &Option<CriteriaSet<E>>,
-    ) -> Result<CsiChange<StoredCsi<MOST, E>>, AllocError>
-        requires { MOST ≤ 3 }
-        ensures { IfOk result (λ change.
-            changed_by change (option_copied stored.entry) ≡ csi_after (option_copied stored.entry) csi.entry criteria.now) }
+    ) -> Result<Option<StoredCsi<MOST, E>>, AllocError>
+        ensures { IfOk result (λ after. replaced_by after (stored_in self.now) ≡ csi_after (stored_in self.now) csi.entry criteria.now) }
     {
-        let csi = match (csi, stored, criteria) {
+        let csi = match (csi, self.csi(), criteria) {
             (Some(csi), _, _) => csi,
-            (None, Some(stored), Some(_)) => stored.csi,
-            _ => return Ok(CsiChange::Keep),
+            (None, Some(csi), Some(_)) => *csi,
+            _ => return Ok(None),
         };
-        let criteria = match criteria {
-            Some(criteria) => criteria.clone()?,
-            None => CriteriaSet::without_entries(alloc),
-        };
-        Ok(CsiChange::Replace(StoredCsi { csi, criteria }))
+        Ok(Some(match criteria {
+            Some(criteria) => StoredCsi::of(csi, criteria.clone()?),
+            None => StoredCsi::WithoutEntries(csi),
+        }))
     }
 
-    pub(crate) fn csi(&self) -> &Csi<MOST>
-        ensures { result.now ≡ self.now.rows }
+    fn of(csi: Csi<MOST>, criteria: CriteriaSet<E>) -> StoredCsi<MOST, E>
+        ensures { stored_in result ≡ Some (record { rows = csi.entry; entries = criteria }) }
     {
-        &self.csi
+        match criteria.into_entries() {
+            Entries::Empty => StoredCsi::WithoutEntries(csi),
+            Entries::One(entry) => StoredCsi::WithEntry(csi, entry),
+            Entries::Apart(entries) => StoredCsi::WithEntries(csi, entries),
+        }
     }
 
-    pub(crate) fn criteria(&self) -> &CriteriaSet<E>
-        ensures { result.now ≡ self.now.entries }
+    /// Whether a CSI is stored.
+    pub(crate) fn is_stored(&self) -> bool
+        ensures { result ≡ is_some (stored_in self.now) }
     {
-        &self.criteria
+        !matches!(self, StoredCsi::NotStored)
     }
 
-    /// The row of a detection point, if it is armed.
-    pub(crate) fn row(&self, dp: u8) -> Option<&TdpRow>
-        ensures { option_copied result ≡ item_among (λ row. row.dp) dp self.now.rows }
+    /// The rows of the CSI, if it is stored.
+    pub(crate) fn csi(&self) -> Option<&Csi<MOST>>
+        ensures { option_copied result ≡ option_map rows_of (stored_in self.now) }
     {
-        self.csi.row(dp)
+        match self {
+            StoredCsi::NotStored => None,
+            StoredCsi::WithoutEntries(csi)
+            | StoredCsi::WithEntry(csi, _)
+            | StoredCsi::WithEntries(csi, _) => Some(csi),
+        }
     }
 
-    /// The entry of a detection point, if there is one.
+    /// The entries of the CSI, if it is stored.
+    pub(crate) fn entries(&self) -> Option<&[E]>
+        ensures { option_copied result ≡ option_map (λ csi. csi.entries) (stored_in self.now) }
+    {
+        match self {
+            StoredCsi::NotStored => None,
+            StoredCsi::WithoutEntries(_) => Some(&[]),
+            StoredCsi::WithEntry(_, entry) => Some(entry),
+            StoredCsi::WithEntries(_, entries) => Some(entries),
+        }
+    }
+
+    /// The entry of a detection point, if the CSI is stored and has one.
     pub(crate) fn entry(&self, dp: u8) -> Option<&E>
-        ensures { option_copied result ≡ item_among E.dp_of dp self.now.entries }
+        ensures { option_copied result ≡ option_and_then (entry_of E.dp_of dp) (stored_in self.now) }
     {
-        self.criteria.entry(dp)
+        find_entry(self.entries()?, dp)
+    }
+
+    /// The criteria of the CSI, if it is stored.
+    pub(crate) fn into_criteria(self) -> Option<CriteriaSet<E>>
+        ensures { result ≡ option_map (λ csi. csi.entries) (stored_in self) }
+    {
+        let entries = match self {
+            StoredCsi::NotStored => return None,
+            StoredCsi::WithoutEntries(_) => Entries::Empty,
+            StoredCsi::WithEntry(_, entry) => Entries::One(entry),
+            StoredCsi::WithEntries(_, entries) => Entries::Apart(entries),
+        };
+        Some(CriteriaSet::of(entries))
     }
 }
 
 impl<const MOST: usize, E: CriteriaEntry> Clone for StoredCsi<MOST, E> {
     ghost use Rattle.std.specs.Prelude.{◌≡◌};
+    ghost use Rattle.camel_rows.specs.StoredCsi.{stored_in};
 
-    ghost is_clone = { λ old new. new ≡ old };
+    ghost is_clone = { λ old new. stored_in new ≡ stored_in old };
 
     fn clone(&self) -> Result<StoredCsi<MOST, E>, AllocError> {
-        Ok(StoredCsi {
-            csi: self.csi,
-            criteria: self.criteria.clone()?,
+        Ok(match self {
+            StoredCsi::NotStored => StoredCsi::NotStored,
+            StoredCsi::WithoutEntries(csi) => StoredCsi::WithoutEntries(*csi),
+            StoredCsi::WithEntry(csi, entry) => StoredCsi::WithEntry(*csi, entry.clone()?),
+            StoredCsi::WithEntries(csi, entries) => StoredCsi::WithEntries(*csi, entries.clone()?),
         })
     }
 }

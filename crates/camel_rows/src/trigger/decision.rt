@@ -1,12 +1,12 @@
 ghost use Rattle.std.specs.Prelude.{◌≡◌, Bool, Some};
 ghost use Rattle.std.specs.FinMap as map;
-ghost use Rattle.std.specs.Option.{option_copied};
 ghost use Rattle.camel_tbcd.specs.declared.profile.Profile.{Profile};
 ghost use Rattle.camel_criteria.specs.Event.{o_event_data};
 ghost use Rattle.camel_criteria.specs.Met.{o_met, t_met};
 ghost use Rattle.camel_rows.specs.Decision.{by_csi, by_record, decision, decision_data};
 ghost use Rattle.camel_rows.specs.Event.{event_data, event_imsi};
 ghost use Rattle.camel_rows.specs.Records.{RecordsData};
+ghost use Rattle.camel_rows.specs.StoredCsi.{stored_in};
 ghost use Rattle.camel_rows.specs.Subscriber.{EntryData, O, T, entry_data};
 
 use crate::csi::tdp_row::TdpRow;
@@ -69,22 +69,25 @@ impl Subscriber {
     {
         match event.show() {
             Shown::O(shown) => decide_by(self.stored_o(), event, &shown, profile),
-            Shown::T(shown) => decide_by(self.stored_vt(), event, &shown, profile),
+            Shown::T(shown) => match self.stored_vt() {
+                Some(stored) => decide_by(stored, event, &shown, profile),
+                None => Decision::NoTrigger(Reason::NoCsi),
+            },
         }
     }
 }
 
 /// Decides an event by the CSI that it is tested against, to whose criteria it shows `shown`.
 fn decide_by<'r, const MOST: usize, E: CriteriaEntry, S: ShownTo<E>>(
-    csi: Option<&'r StoredCsi<MOST, E>>,
+    stored: &'r StoredCsi<MOST, E>,
     event: &Event,
     shown: &S,
     profile: Profile,
 ) -> Decision<'r>
     ensures { decision_data result
-        ≡ by_csi E.dp_of (S.is_met profile shown.now) S.entry_as (event_data event.now) (option_copied csi.entry) }
+        ≡ by_csi E.dp_of (S.is_met profile shown.now) S.entry_as (event_data event.now) (stored_in stored.now) }
 {
-    let Some(csi) = csi else {
+    let Some(csi) = stored.csi() else {
         return Decision::NoTrigger(Reason::NoCsi);
     };
     let dp = event.dp();
@@ -94,7 +97,7 @@ fn decide_by<'r, const MOST: usize, E: CriteriaEntry, S: ShownTo<E>>(
     if event.basic().is_emergency() {
         return Decision::NoTrigger(Reason::Emergency);
     }
-    match csi.entry(dp) {
+    match stored.entry(dp) {
         None => Decision::Trigger {
             row,
             criteria: None,

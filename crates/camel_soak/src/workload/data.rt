@@ -109,6 +109,7 @@ fn draw_o_entry(
         _ => None,
     };
     OCriteria::new(
+        alloc,
         dp,
         number,
         draws.some_of(&LISTED_SERVICES),

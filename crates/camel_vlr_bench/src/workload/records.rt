@@ -104,7 +104,7 @@ fn o_criteria(alloc: Global, subscriber: u64) -> Result<Option<OCriteriaSet>> {
         listed[2].to_isdn()?,
     ];
     let criterion = NumberCriterion::new(alloc, MatchType::Enabling, &numbers, &[])?;
-    let entry = OCriteria::new(COLLECTED_INFO, Some(criterion), &[], None, &[])?;
+    let entry = OCriteria::new(alloc, COLLECTED_INFO, Some(criterion), &[], None, &[])?;
     let mut entries = Vec::new(alloc);
     entries.push(entry)?;
     Ok(Some(OCriteriaSet::new(entries)?))
