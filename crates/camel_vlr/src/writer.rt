@@ -183,13 +183,13 @@ impl Vlr {
         ensures number { IfOk result (λ number. number ≡ length (accepted_updates self.new.updates)) }
         ensures unchanged { OnErr result (self.new ≡ self.old) }
     {
-        let csis = self.admission.check(&update)?;
+        let change = self.admission.change(&update)?;
         accept(
             &mut self.writer,
             &mut self.admission,
             self.alloc,
             update,
-            csis,
+            change,
         )?;
         Ok(self.admission.accepted())
     }

@@ -5,7 +5,7 @@ ghost use Rattle.camel_rows.specs.ByImsi.{value_of, with_value};
 ghost use Rattle.camel_rows.specs.CsisPresent.{csis_after};
 ghost use Rattle.camel_rows.specs.Update.{update_imsi};
 
-use crate::subscriber::csis_present::{CsisPresent, check_update, csis_after};
+use crate::subscriber::csis_present::{CsisChange, CsisPresent, check_update, csis_after};
 use crate::subscriber::update::Update;
 use camel_criteria::Refusal;
 use camel_table::{Seed, Table};
@@ -78,12 +78,29 @@ impl Admission {
         ensures room { OnOk result (self.now.accepted < self.now.limit) }
         ensures csis { IfOk result (λ csis. csis ≡ csis_after (value_of self.now.directory (update_imsi update.now)) update.now) }
     {
-        let csis = self.csis_before(update);
-        check_update(csis, update)?;
+        Ok(self.change(update)?.after)
+    }
+
+    /// What an update changes of the CSIs in the record of its IMSI, if it may be accepted. Nothing changes yet, and the
+    /// table is asked once for both.
+    ///
+    /// Fails as [`Admission::check`] does.
+    pub fn change(&self, update: &Update) -> Result<CsisChange, Refusal>
+        ensures refused { IfErr result (λ why. admission_refusal self.now update.now ≡ Some why) }
+        ensures taken { OnOk result (admission_refusal self.now update.now ≡ None) }
+        ensures room { OnOk result (self.now.accepted < self.now.limit) }
+        ensures before { IfOk result (λ change. change.before ≡ value_of self.now.directory (update_imsi update.now)) }
+        ensures after { IfOk result (λ change. change.after ≡ csis_after change.before update.now) }
+    {
+        let before = self.csis_before(update);
+        check_update(before, update)?;
         if self.accepted == self.limit {
             return Err(Refusal::HistoryFull);
         }
-        Ok(csis_after(csis, update))
+        Ok(CsisChange {
+            before,
+            after: csis_after(before, update),
+        })
     }
 
     /// The CSIs in the record of the subscriber whom an update concerns; None if there is no record, or if it concerns
@@ -122,6 +139,23 @@ impl Admission {
         Ok(())
     }
 
+    /// Accepts an update of this subscriber, or of all of them, that makes this change and no record where there was none.
+    /// It takes no memory, and leaves the table alone if the same CSIs are stored afterwards.
+    pub fn accept_in_place(&mut self, imsi: Option<Imsi>, change: CsisChange)
+        requires room { self.old.accepted < self.old.limit }
+        requires before { change.before ≡ value_of self.old.directory imsi }
+        requires in_place { change.before ≡ None → change.after ≡ None }
+        ensures { self.new ≡ with_admission self.old imsi change.after }
+    {
+        match (imsi, change.before, change.after) {
+            (Some(imsi), Some(before), Some(after)) => {
+                replace_csis(&mut self.directory, &imsi, before, after);
+                self.accepted += 1;
+            }
+            (imsi, _, _) => self.accept_removal(imsi),
+        }
+    }
+
     /// Accepts an update of this subscriber, or of all of them, that leaves no record. It takes no memory.
     pub fn accept_removal(&mut self, imsi: Option<Imsi>)
         requires { self.old.accepted < self.old.limit }
@@ -148,5 +182,20 @@ impl Admission {
             None => self.directory.remove(imsi),
         }
         self.accepted -= 1;
+    }
+}
+
+/// Puts the CSIs after an update in the place of those before it, unless they are the same.
+fn replace_csis(
+    directory: &mut Table<CsisPresent, Seed>,
+    imsi: &Imsi,
+    before: CsisPresent,
+    after: CsisPresent,
+)
+    requires { map.get directory.old imsi.now ≡ Some before }
+    ensures { directory.new ≡ map.insert directory.old imsi.now after }
+{
+    if before.o != after.o || before.vt != after.vt {
+        *directory.value_mut(imsi) = after;
     }
 }

@@ -15,6 +15,16 @@ pub struct CsisPresent {
     pub vt: bool,
 }
 
+/// The CSIs in the record of the subscriber whom an update concerns, before the update and after it. Each is None if
+/// there is no record, or if the update concerns all subscribers.
+#[derive(Clone, Copy, Debug)]
+pub struct CsisChange {
+    /// Before the update.
+    pub before: Option<CsisPresent>,
+    /// After it.
+    pub after: Option<CsisPresent>,
+}
+
 /// Whether an update may be applied to a record with these CSIs, or to none.
 ///
 /// Fails with `UnidentifiedSubscriber` (5) for an Insert or a Delete if there is no record, and with `DataMissing` (35)

@@ -1,7 +1,7 @@
 use Rattle.std.proofs.Common.{◌∙◌, Some, rules}
 use Rattle.camel_rows.proofs.AdmissionLemmas.{taken_back}
 use Rattle.camel_rows.proofs.ByImsiLemmas.{get-with_value_there}
-use Rattle.camel_vlr.proofs.writer.submission.accept_record.Goals as goal
+use Rattle.camel_vlr.proofs.writer.submission.accept_new.Goals as goal
 
 pub take_back-requires-clause-there : goal.take_back-requires-clause-there
 take_back-requires-clause-there c =
@@ -11,4 +11,4 @@ take_back-requires-clause-there c =
 pub returns-in-Err-clause-unchanged : goal.returns-in-Err-clause-unchanged
 returns-in-Err-clause-unchanged c =
     let d = c.args.admission.now in
-    c.take_back.ensures ∙ rw (c.in_ok-accept.ensures.accepted, c.csis-before.ensures) (taken_back d c.args.imsi c.args.csis)
+    c.take_back.ensures ∙ rw (c.in_ok-accept.ensures.accepted, c.requires.new) (taken_back d c.args.imsi c.args.csis)
