@@ -144,7 +144,7 @@ impl Admission {
     pub fn accept_in_place(&mut self, imsi: Option<Imsi>, change: CsisChange)
         requires room { self.old.accepted < self.old.limit }
         requires before { change.before ≡ value_of self.old.directory imsi }
-        requires in_place { change.before ≡ None → change.after ≡ None }
+        requires in_place { IsSome imsi → change.before ≡ None → change.after ≡ None }
         ensures { self.new ≡ with_admission self.old imsi change.after }
     {
         match (imsi, change.before, change.after) {

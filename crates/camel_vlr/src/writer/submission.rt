@@ -31,14 +31,12 @@ pub(crate) fn accept(
 {
     let imsi = update.imsi();
     let update = Box::new(alloc, update)?;
-    match (imsi, change.before, change.after) {
-        (Some(imsi), None, Some(csis)) => accept_new(writer, admission, update, imsi, csis),
-        _ => {
-            append(writer, Operation::Update(update))?;
-            admission.accept_in_place(imsi, change);
-            Ok(())
-        }
+    if let (Some(imsi), None, Some(csis)) = (imsi, change.before, change.after) {
+        return accept_new(writer, admission, update, imsi, csis);
     }
+    append(writer, Operation::Update(update))?;
+    admission.accept_in_place(imsi, change);
+    Ok(())
 }
 
 /// Accepts an update that leaves a record where there was none. The admission is first, since to take it back takes no

@@ -12,7 +12,7 @@ use Rattle.camel_vlr.specs.Operation.{pending_operations, updates_among}
 use Rattle.camel_vlr.specs.Store.{StoreData}
 use Rattle.camel_vlr.specs.StoreFields.{IsStore, limit_in, pending_in, published_in, store_of, updates_in}
 use Rattle.camel_vlr.specs.declared.writer.Vlr.TheInside.{Inside}
-use Rattle.camel_vlr.proofs.writer.Vlr.submit.Goals.{In_err-csis, In_ok-csis, In_ok-accept}
+use Rattle.camel_vlr.proofs.writer.Vlr.submit.Goals.{In_err-change, In_ok-change, In_ok-accept}
 use Rattle.camel_vlr.proofs.writer.Vlr.submit.Goals as goal
 
 -- the admission of a store refuses what the store refuses
@@ -20,25 +20,25 @@ refuses : (a : Inside) (update : Update) (why : Option Refusal) → IsStore a �
     → store_refusal (limit_in a) (updates_in a) update ≡ why
 refuses a update why i refused = sym (admits a.admission (limit_in a) (updates_in a) update i.admits) ∙ refused
 
-refused : (c : In_err-csis) → store_refusal (limit_in c.self.inside) (updates_in c.self.inside) c.args.update ≡ Some c.in_err-csis.field-0.0
-refused c = refuses c.self.inside c.args.update _ c.self.invariant c.in_err-csis.ensures.refused
+refused : (c : In_err-change) → store_refusal (limit_in c.self.inside) (updates_in c.self.inside) c.args.update ≡ Some c.in_err-change.field-0.0
+refused c = refuses c.self.inside c.args.update _ c.self.invariant c.in_err-change.ensures.refused
 
-not_refused : (c : In_ok-csis) → store_refusal (limit_in c.self.inside) (updates_in c.self.inside) c.args.update ≡ None
-not_refused c = refuses c.self.inside c.args.update None c.self.invariant c.in_ok-csis.ensures.taken
+not_refused : (c : In_ok-change) → store_refusal (limit_in c.self.inside) (updates_in c.self.inside) c.args.update ≡ None
+not_refused c = refuses c.self.inside c.args.update None c.self.invariant c.in_ok-change.ensures.taken
 
 -- the update stands behind what was pending, and is admitted
 pending : (c : In_ok-accept) → updates_among (pending_operations c.accept.new.writer) ≡ pending_in c.self.inside ++ c.args.update ∷ []
 pending c = c.in_ok-accept.ensures.pending
 
 admitted : (c : In_ok-accept) → c.accept.new.admission ≡ with_admission c.self.inside.admission (update_imsi c.args.update) (csis_after (value_of c.self.inside.admission.directory (update_imsi c.args.update)) c.args.update)
-admitted c = c.in_ok-accept.ensures.accepted ∙ ap (with_admission c.self.inside.admission (update_imsi c.args.update)) c.in_ok-csis.ensures.csis
+admitted c = c.in_ok-accept.ensures.accepted ∙ ap (with_admission c.self.inside.admission (update_imsi c.args.update)) (c.in_ok-change.ensures.after ∙ ap (λ before. csis_after before c.args.update) c.in_ok-change.ensures.before)
 
 pub invariant_of-self-2 : goal.invariant_of-self-2
 invariant_of-self-2 c =
     let a = c.self.inside in let i = c.self.invariant in let desk = c.in_ok-accept.ensures.desk in let update = c.args.update in
     let p = published_in a in let q = pending_in a in
     let at = (goal.at.invariant_of-self-2 c).In_ok-accept in
-    let taken = not_refused (goal.at.invariant_of-self-2 c).In_ok-csis in record {
+    let taken = not_refused (goal.at.invariant_of-self-2 c).In_ok-change in record {
       shown = rw desk i.shown;
       all = rw (desk, pending at) (IsFront-with_update (limit_in a) (updates_in a) update i.all taken);
       admits = rw (desk, pending at, admitted at) (IsAdmissionOf-with_update a.admission (limit_in a) (updates_in a) update i.admits taken);
@@ -61,17 +61,17 @@ pub returns-clause-number : goal.returns-clause-number
 returns-clause-number c =
     let a = c.self.inside in
     let at = (goal.at.returns-clause-number c).In_ok-accept in
-    let admits = IsAdmissionOf-with_update a.admission (limit_in a) (updates_in a) c.args.update c.self.invariant.admits (not_refused (goal.at.returns-clause-number c).In_ok-csis) in
+    let admits = IsAdmissionOf-with_update a.admission (limit_in a) (updates_in a) c.args.update c.self.invariant.admits (not_refused (goal.at.returns-clause-number c).In_ok-change) in
     rw (c.in_ok-accept.ensures.desk, pending at) (c.accepted.ensures ∙ ap (λ admission. admission.accepted) (admitted at) ∙ admits.same_count)
 
-pub returns-in_err-csis-clause-refused : goal.returns-in_err-csis-clause-refused
-returns-in_err-csis-clause-refused c = rw (← c.self.view_is) (search (rules, refused (goal.at.returns-in_err-csis-clause-refused c).In_err-csis))
+pub returns-in_err-change-clause-refused : goal.returns-in_err-change-clause-refused
+returns-in_err-change-clause-refused c = rw (← c.self.view_is) (search (rules, refused (goal.at.returns-in_err-change-clause-refused c).In_err-change))
 
-pub returns-in_err-csis-clause-only : goal.returns-in_err-csis-clause-only
-returns-in_err-csis-clause-only c = rw (← c.self.view_is) (search (rules, refused (goal.at.returns-in_err-csis-clause-only c).In_err-csis))
+pub returns-in_err-change-clause-only : goal.returns-in_err-change-clause-only
+returns-in_err-change-clause-only c = rw (← c.self.view_is) (search (rules, refused (goal.at.returns-in_err-change-clause-only c).In_err-change))
 
 pub returns-in_err-accept-clause-refused : goal.returns-in_err-accept-clause-refused
-returns-in_err-accept-clause-refused c = rw (← c.self.view_is) (search (rules, not_refused (goal.at.returns-in_err-accept-clause-refused c).In_ok-csis))
+returns-in_err-accept-clause-refused c = rw (← c.self.view_is) (search (rules, not_refused (goal.at.returns-in_err-accept-clause-refused c).In_ok-change))
 
 pub returns-clause-refused : goal.returns-clause-refused
-returns-clause-refused c = rw (← c.self.view_is) (search (rules, not_refused (goal.at.returns-clause-refused c).In_ok-csis))
+returns-clause-refused c = rw (← c.self.view_is) (search (rules, not_refused (goal.at.returns-clause-refused c).In_ok-change))

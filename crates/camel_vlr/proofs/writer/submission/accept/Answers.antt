@@ -12,12 +12,10 @@ appended c =
     let old = pending_operations c.args.writer.now in
     updates_among-append old (operation.Update c.in_ok-update.update ∷ []) ∙ ap (λ update. updates_among old ++ update ∷ []) c.in_ok-update.ensures.ok
 
-pub returns-in-Some-Some-clause-pending : goal.returns-in-Some-Some-clause-pending
-returns-in-Some-Some-clause-pending c =
-    let at = (goal.at.returns-in-Some-Some-clause-pending c).In_ok-update in
-    MatchResult-weaker c.accept_record.result c.accept_record.ensures.pending (λ _ all. ap updates_among all ∙ appended at) (λ _ _. tt)
+pub returns-in-Some-None-Some-clause-pending : goal.returns-in-Some-None-Some-clause-pending
+returns-in-Some-None-Some-clause-pending c =
+    let at = (goal.at.returns-in-Some-None-Some-clause-pending c).In_ok-update in
+    MatchResult-weaker c.accept_new.result c.accept_new.ensures.pending (λ _ all. ap updates_among all ∙ appended at) (λ _ _. tt)
 
-pub returns-in_default-clause-pending : goal.returns-in_default-clause-pending
-returns-in_default-clause-pending c =
-    let at = (goal.at.returns-in_default-clause-pending c).In_ok-update in
-    MatchResult-weaker c.accept_removal.result c.accept_removal.ensures.pending (λ _ all. ap updates_among all ∙ appended at) (λ _ _. tt)
+pub returns-clause-pending : goal.returns-clause-pending
+returns-clause-pending c = ap updates_among c.in_ok-append.ensures.pending ∙ appended (goal.at.returns-clause-pending c).In_ok-update
