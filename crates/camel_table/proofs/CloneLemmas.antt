@@ -1,5 +1,5 @@
 -- What a clone of entries, segments or buckets keeps.
-use Rattle.std.proofs.Common.{◌≡◌, ◌∙◌, ℕ, zero, suc, ◌≤◌, ◌^◌, Bool, true, false, cond, List, [], ◌∷◌, ◌++◌, Some, length, slice_index_or, inl, inr, refl, sym, ap, subst, arith}
+use Rattle.std.proofs.Common.{◌≡◌, ◌∙◌, ℕ, zero, suc, ◌≤◌, ◌^◌, Bool, true, false, cond, List, [], ◌∷◌, ◌++◌, Option, Some, None, length, slice_index_or, inl, inr, refl, sym, ap, subst, arith}
 use Rattle.std.specs.Cmp.Lexicographic.{slice_cmp, nat_list_cmp_total}
 use Rattle.std.specs.FinMap.{empty, find, get-from_entries}
 use Rattle.std.specs.Global.{Vec}
@@ -10,6 +10,7 @@ use Rattle.std.proofs.lemmas.Slice.Zip.{AllZip-long}
 use Rattle.camel_table.specs.ByImsi.{ByImsi, HasSameKeys, is_same, map_of}
 use Rattle.camel_table.specs.Buckets.{IsTable}
 use Rattle.camel_table.specs.Segments.{AreFull, joined}
+use Rattle.camel_table.specs.Slots.{in_slot}
 
 -- lists that are the same place by place are the same
 pub same_list : {A : Type 0} (R : A → A → Type 0) → ((x y : A) → R x y → y ≡ x) → (xs ys : List A) → AllZip R xs ys → ys ≡ xs
@@ -23,6 +24,14 @@ both_lists R [] [] more others all rest = rest
 both_lists R [] (y ∷ ys) more others all rest = absurd all
 both_lists R (x ∷ xs) [] more others all rest = absurd all
 both_lists R (x ∷ xs) (y ∷ ys) more others all rest = (all.0, both_lists R xs ys more others all.1 rest)
+
+-- a slot with the same key, and a clone of its value
+pub slot_clone : {V : Type 0} (C : V → V → Type 0) (key copied : Option (List ℕ)) (x y : V) → copied ≡ key → C x y → AllZip (λ e f. (f.0 ≡ e.0) × C e.1 f.1) (in_slot key x) (in_slot copied y)
+slot_clone C key copied x y is same = subst (λ k. AllZip (λ e f. (f.0 ≡ e.0) × C e.1 f.1) (in_slot key x) (in_slot k y)) (sym is) (of_key key)
+  where
+    of_key : (k : Option (List ℕ)) → AllZip (λ e f. (f.0 ≡ e.0) × C e.1 f.1) (in_slot k x) (in_slot k y)
+    of_key None = tt
+    of_key (Some imsi) = ((refl, same), tt)
 
 module _ {A : Type 0} (R : A → A → Type 0) (C : Vec A → Vec A → Type 0) (items : (v w : Vec A) → C v w → AllZip R v.items w.items) where
   pub full_clone : (segments clones : List (Vec A)) → AllZip C segments clones → AreFull segments → AreFull clones

@@ -6,4 +6,5 @@ pub mod Hashing
 pub mod InlineLemmas
 pub mod ListedLemmas
 pub mod SegmentsLemmas
+pub mod SlotsLemmas
 pub mod TableLemmas

@@ -2,7 +2,7 @@
 use Rattle.std.proofs.Common.{◌≡◌, ◌∙◌, ℕ, zero, suc, ◌+◌, ◌<◌, ◌≤◌, Bool, true, false, cond, T, List, [], ◌∷◌, ◌++◌, Option, Some, None, Bor, IsSome, length, nat_lt, take, inl, inr, refl, sym, ap, subst, arith}
 use Rattle.std.specs.Cmp.Lexicographic.{slice_cmp, nat_list_cmp_total}
 use Rattle.std.specs.FinMap.{empty, find, get, get-empty, get-from_entries}
-use Rattle.std.specs.Option.{is_some, option_copied, option_map, option_to_list, unwrap_or}
+use Rattle.std.specs.Option.{is_some, option_copied}
 use Rattle.std.specs.Ordering.{nat_cmp}
 use Rattle.std.proofs.Math.Nat.{add-zero, add_assoc, zero-add}
 use Rattle.std.proofs.lemmas.Bool.{ltb-false, ltb-true}
@@ -75,21 +75,6 @@ module _ {V : Type 0} where
       either true same s p = refl
       either false true s p = sym s ∙ ap (λ key. is_some (get (map_of es) key)) (same_are_equal q e.0 p) ∙ further
       either false false s p = refl
-
-  -- the entry in a slot, if there is one, whose IMSI is listed or passed over
-  pub slot_listed : (before imsis : List (List ℕ)) (es : Entries V) (slot : Option (List ℕ × V)) (imsi : List ℕ) → option_map (λ e. e.0) slot ≡ Some imsi
-      → is_some (get (map_of es) imsi) ≡ false → ListsEachOnceMore before imsis (map_of es) → ListsEachOnceMore before (imsis ++ imsi ∷ []) (map_of (es ++ option_to_list slot))
-  slot_listed before imsis es None imsi is first so_far = absurd (subst (λ o. T (is_some o)) (sym is) tt)
-  slot_listed before imsis es (Some e) imsi is first so_far =
-      let own : e.0 ≡ imsi = ap (λ o. unwrap_or o imsi) is in
-      subst (λ q. ListsEachOnceMore before (imsis ++ q ∷ []) (map_of (es ++ e ∷ []))) own
-      (first_listed before imsis es e (ap (λ q. is_some (get (map_of es) q)) own ∙ first) so_far)
-
-  pub slot_passed : (before imsis : List (List ℕ)) (es : Entries V) (slot : Option (List ℕ × V)) (imsi : List ℕ) → option_map (λ e. e.0) slot ≡ Some imsi
-      → is_some (get (map_of es) imsi) ≡ true → ListsEachOnceMore before imsis (map_of es) → ListsEachOnceMore before imsis (map_of (es ++ option_to_list slot))
-  slot_passed before imsis es None imsi is further so_far = absurd (subst (λ o. T (is_some o)) (sym is) tt)
-  slot_passed before imsis es (Some e) imsi is further so_far =
-      further_passed before imsis es e (ap (λ q. is_some (get (map_of es) q)) (ap (λ o. unwrap_or o imsi) is) ∙ further) so_far
 
   -- of the first buckets, there are those before their end
   bucket_within : (n at : ℕ) (buckets : List (ByImsi V)) → at < n → bucket_at (take n buckets) at ≡ bucket_at buckets at

@@ -20,10 +20,11 @@ use std::mem;
 /// Contracts see it as a finite map from the lists of their digits.
 #[derive(Debug, Drop)]
 pub(crate) struct Bucket<V> {
+    // The further entries. There may be some while there is room for more of the first ones. The list stands before
+    // those, so that mostly one cache line says where all entries lie.
+    more: Vec<Entry<V>>,
     // The first entries. They lie in the bucket itself, so that most look-ups do not wait for a further block of memory.
     inline: InlineEntries<V>,
-    // The others. There may be some while there is room for more of the first ones.
-    more: Vec<Entry<V>>,
 }
 
 impl<V> Model for Bucket<V> {

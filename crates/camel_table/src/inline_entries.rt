@@ -1,19 +1,19 @@
-ghost use Rattle.std.specs.Prelude.{◌≡◌, ℕ, ◌≤◌, ◌<◌, ◌==◌, List, ◌++◌, [], ◌∷◌, not, filter, length, nat_lt, option_to_list, IsSome, OnOk, Some};
+ghost use Rattle.std.specs.Prelude.{◌≡◌, ◌≤◌, ◌<◌, ◌==◌, ◌++◌, [], ◌∷◌, if◌then◌else◌, not, filter, length, nat_lt, option_to_list, IsSome, OnOk, Some};
 ghost use Rattle.std.specs.Borrow.{sem};
 ghost use Rattle.std.specs.FinMap as map;
-ghost use Rattle.std.specs.Option.{is_some, option_copied};
+ghost use Rattle.std.specs.Option.{option_copied};
 ghost use Rattle.camel_table.specs.Addressing.{bucket_of};
 ghost use Rattle.camel_table.specs.ByImsi.{ListsEachOnceMore, is_same, map_of};
 ghost use Rattle.camel_table.specs.Lending.{lends_inline};
-ghost use Rattle.camel_table.specs.Slots.{entries_before, entry_before};
 
 use crate::addressing::Addressing;
 use crate::entry::Entry;
-use crate::slot::Slot;
-use camel_tbcd::Imsi;
+use crate::slot;
+use camel_tbcd::{Imsi, ImsiSlot};
 use std::alloc::AllocError;
 use std::hash::BuildHasher;
 use std::marker::Model;
+use std::mem;
 
 /// Up to three entries, each in a slot that is read without following a pointer. A slot may be free while one after it
 /// is not.
@@ -21,17 +21,23 @@ use std::marker::Model;
 /// Contracts see it as the list of the entries.
 #[derive(Debug, Drop)]
 pub(crate) struct InlineEntries<V> {
-    first: Slot<V>,
-    second: Slot<V>,
-    third: Slot<V>,
+    // The keys lie beside each other, so that mostly one cache line says which value is to be read.
+    first_key: ImsiSlot,
+    second_key: ImsiSlot,
+    third_key: ImsiSlot,
+    // Of a free slot, any value: an `Option` would take room for a tag.
+    first: V,
+    second: V,
+    third: V,
 }
 
 impl<V> Model for InlineEntries<V> {
-    ghost use Rattle.std.specs.Prelude.{ℕ, List, ◌++◌, option_to_list};
+    ghost use Rattle.std.specs.Prelude.{ℕ, List, ◌++◌};
+    ghost use Rattle.camel_table.specs.Slots.{in_slot};
 
     ghost Value = { List (List ℕ × V) };
 
-    ghost view = { λ a. option_to_list a.first ++ (option_to_list a.second ++ option_to_list a.third) };
+    ghost view = { λ a. in_slot a.first_key a.first ++ (in_slot a.second_key a.second ++ in_slot a.third_key a.third) };
 }
 
 impl<V> InlineEntries<V> {
@@ -40,9 +46,9 @@ impl<V> InlineEntries<V> {
         ensures count { result ≡ length self.now }
         ensures most { result ≤ 3 }
     {
-        usize::from(!self.first.is_free())
-            + usize::from(!self.second.is_free())
-            + usize::from(!self.third.is_free())
+        usize::from(!slot::is_free(&self.first_key))
+            + usize::from(!slot::is_free(&self.second_key))
+            + usize::from(!slot::is_free(&self.third_key))
     }
 
     /// Whether there is room for an entry more.
@@ -56,17 +62,17 @@ impl<V> InlineEntries<V> {
     pub(crate) fn get(&self, imsi: &Imsi) -> Option<&V>
         ensures { option_copied result ≡ map.get (map_of self.now) imsi.now }
     {
-        // A slot is not read before it is known whether the one before it has the IMSI: a processor goes on with the
-        // value of the one that it expects, and else waits for the memory of all.
-        let value = self.first.get(imsi);
-        if value.is_some() {
-            return value;
+        // Branches, and no place that is computed from the keys: a processor reads the value that it expects before it
+        // has the keys.
+        if self.first_key.is(imsi) {
+            Some(&self.first)
+        } else if self.second_key.is(imsi) {
+            Some(&self.second)
+        } else if self.third_key.is(imsi) {
+            Some(&self.third)
+        } else {
+            None
         }
-        let value = self.second.get(imsi);
-        if value.is_some() {
-            return value;
-        }
-        self.third.get(imsi)
     }
 
     /// The value that an IMSI has, to be changed in its place.
@@ -75,15 +81,12 @@ impl<V> InlineEntries<V> {
         ensures* writes_back { sem 𝓛 (lends_inline V.row self.entry imsi.now result) }
         ensures value { Some result.now ≡ map.get (map_of self.old) imsi.now }
     {
-        if self.first.is(imsi) {
-            let slot = &mut self.first;
-            &mut slot.value
-        } else if self.second.is(imsi) {
-            let slot = &mut self.second;
-            &mut slot.value
+        if self.first_key.is(imsi) {
+            &mut self.first
+        } else if self.second_key.is(imsi) {
+            &mut self.second
         } else {
-            let slot = &mut self.third;
-            &mut slot.value
+            &mut self.third
         }
     }
 
@@ -91,9 +94,13 @@ impl<V> InlineEntries<V> {
     pub(crate) fn push_imsis(&self, imsis: &mut Vec<Imsi>) -> Result<(), AllocError>
         ensures { OnOk result (ListsEachOnceMore imsis.old.items imsis.new.items (map_of self.now)) }
     {
-        push_imsi(None, None, &self.first, imsis)?;
-        push_imsi(Some(&self.first), None, &self.second, imsis)?;
-        push_imsi(Some(&self.first), Some(&self.second), &self.third, imsis)?;
+        // Only the first entry of an IMSI counts, and no invariant says that there is no other one.
+        let is_second_listed = slot::has_imsi_of(&self.first_key, &self.second_key);
+        let is_third_listed = slot::has_imsi_of(&self.first_key, &self.third_key)
+            || slot::has_imsi_of(&self.second_key, &self.third_key);
+        push_imsi(&self.first_key, false, imsis)?;
+        push_imsi(&self.second_key, is_second_listed, imsis)?;
+        push_imsi(&self.third_key, is_third_listed, imsis)?;
         Ok(())
     }
 }
@@ -104,9 +111,12 @@ impl<V: Default + Drop> InlineEntries<V> {
         ensures { result ≡ [] }
     {
         InlineEntries {
-            first: Slot::free(),
-            second: Slot::free(),
-            third: Slot::free(),
+            first_key: ImsiSlot::free(),
+            second_key: ImsiSlot::free(),
+            third_key: ImsiSlot::free(),
+            first: V::default(),
+            second: V::default(),
+            third: V::default(),
         }
     }
 
@@ -115,19 +125,24 @@ impl<V: Default + Drop> InlineEntries<V> {
         requires { length self.old < 3 }
         ensures { self.new ≡ self.old ++ entry ∷ [] }
     {
-        if !self.third.is_free() {
-            if !self.second.is_free() {
-                self.first = self.second.take();
+        if !slot::is_free(&self.third_key) {
+            if !slot::is_free(&self.second_key) {
+                mem::swap(&mut self.first_key, &mut self.second_key);
+                mem::swap(&mut self.first, &mut self.second);
             }
-            self.second = self.third.take();
+            mem::swap(&mut self.second_key, &mut self.third_key);
+            mem::swap(&mut self.second, &mut self.third);
         }
         // The first slots are used first, since they are looked at first.
-        if !self.second.is_free() {
-            self.third = Slot::of(entry);
-        } else if !self.first.is_free() {
-            self.second = Slot::of(entry);
+        if !slot::is_free(&self.second_key) {
+            self.third_key = ImsiSlot::of(entry.key);
+            self.third = entry.value;
+        } else if !slot::is_free(&self.first_key) {
+            self.second_key = ImsiSlot::of(entry.key);
+            self.second = entry.value;
         } else {
-            self.first = Slot::of(entry);
+            self.first_key = ImsiSlot::of(entry.key);
+            self.first = entry.value;
         }
     }
 
@@ -135,9 +150,9 @@ impl<V: Default + Drop> InlineEntries<V> {
     pub(crate) fn remove(&mut self, imsi: &Imsi)
         ensures { self.new ≡ filter (λ entry. not (is_same imsi.now entry.0)) self.old }
     {
-        self.first.remove(imsi);
-        self.second.remove(imsi);
-        self.third.remove(imsi);
+        slot::remove(&mut self.first_key, &mut self.first, imsi);
+        slot::remove(&mut self.second_key, &mut self.second, imsi);
+        slot::remove(&mut self.third_key, &mut self.third, imsi);
     }
 
     /// Splits the entries: those with this bucket stay, and the others are returned.
@@ -152,10 +167,21 @@ impl<V: Default + Drop> InlineEntries<V> {
         ensures leave { result ≡ filter (λ entry.
             not (bucket_of S.Hasher.finish S.Hasher.write (S.build_hasher addressing.now.hashes) addressing.now.level addressing.now.count entry.0 == at)) self.old }
     {
+        let (first_key, first) = slot::split(&mut self.first_key, &mut self.first, addressing, at);
+        let (second_key, second) = slot::split(
+            &mut self.second_key,
+            &mut self.second,
+            addressing,
+            at,
+        );
+        let (third_key, third) = slot::split(&mut self.third_key, &mut self.third, addressing, at);
         InlineEntries {
-            first: self.first.split(addressing, at),
-            second: self.second.split(addressing, at),
-            third: self.third.split(addressing, at),
+            first_key,
+            second_key,
+            third_key,
+            first,
+            second,
+            third,
         }
     }
 }
@@ -168,6 +194,9 @@ impl<V: Clone> Clone for InlineEntries<V> {
 
     fn clone(&self) -> Result<InlineEntries<V>, AllocError> {
         Ok(InlineEntries {
+            first_key: self.first_key.copy(),
+            second_key: self.second_key.copy(),
+            third_key: self.third_key.copy(),
             first: self.first.clone()?,
             second: self.second.clone()?,
             third: self.third.clone()?,
@@ -175,37 +204,13 @@ impl<V: Clone> Clone for InlineEntries<V> {
     }
 }
 
-/// Lists the IMSI of the entry in a slot, unless the entry in one of two slots before has it too.
-fn push_imsi<V>(
-    first: Option<&Slot<V>>,
-    second: Option<&Slot<V>>,
-    slot: &Slot<V>,
-    imsis: &mut Vec<Imsi>,
-) -> Result<(), AllocError>
-    ensures { OnOk result ((listed : List (List ℕ)) → ListsEachOnceMore listed imsis.old.items (map_of (entries_before (option_copied first.entry) (option_copied second.entry)))
-        → ListsEachOnceMore listed imsis.new.items (map_of (entries_before (option_copied first.entry) (option_copied second.entry) ++ option_to_list slot.now))) }
+/// Lists the IMSI of the entry in a slot, if there is one, unless it is listed already.
+fn push_imsi(key: &ImsiSlot, is_listed: bool, imsis: &mut Vec<Imsi>) -> Result<(), AllocError>
+    ensures { OnOk result (imsis.new.items ≡ imsis.old.items ++ (if is_listed then [] else option_to_list key.now)) }
 {
-    let Some(imsi) = slot.imsi() else {
-        return Ok(());
-    };
-    // Only the first entry of an IMSI counts, and no invariant says that there is no other one.
-    if !has_either(first, second, &imsi) {
-        imsis.push(imsi)?;
+    match key.imsi() {
+        Some(imsi) if !is_listed => imsis.push(imsi.imsi())?,
+        _ => {}
     }
     Ok(())
-}
-
-fn has_either<V>(first: Option<&Slot<V>>, second: Option<&Slot<V>>, imsi: &Imsi) -> bool
-    ensures { result ≡ is_some (map.get (map_of (entries_before (option_copied first.entry) (option_copied second.entry))) imsi.now) }
-{
-    has(first, imsi) || has(second, imsi)
-}
-
-fn has<V>(slot: Option<&Slot<V>>, imsi: &Imsi) -> bool
-    ensures { result ≡ is_some (map.get (map_of (entry_before (option_copied slot.entry))) imsi.now) }
-{
-    match slot {
-        Some(slot) => slot.get(imsi).is_some(),
-        None => false,
-    }
 }
