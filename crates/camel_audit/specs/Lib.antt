@@ -1,2 +1,3 @@
 pub mod Audit
 pub mod AuditFault
+pub mod OnePass

@@ -3,6 +3,7 @@ ghost use Rattle.camel_audit.specs.Audit.{AreExplained, IsBadHistory, IsFault, I
 ghost use Rattle.camel_rows.specs.Update.{Accepted, records_from};
 
 use crate::audit_fault::AuditFault;
+use crate::one_pass::passes_in_one_pass;
 use crate::transcript::Transcript;
 use camel_criteria::Refusal;
 use camel_rows::{Outcome, Records, Update};
@@ -15,6 +16,9 @@ use std::alloc::Global;
 /// Fails with the first fault: of the updates, with `BadHistory` (304); then session by session and entry by entry,
 /// with `FrontTooLong` (301), `FrontWentBack` (302) or `AnswerDiffers` (303). Fails with `OutOfMemory` (102) if memory
 /// is refused.
+///
+/// It takes one pass over the updates if they explain all, and else one more, and one for each transcript up to the
+/// fault.
 pub fn audit(
     alloc: Global,
     updates: &[Update],
@@ -24,6 +28,9 @@ pub fn audit(
     ensures passes { OnOk result (Passes profile updates.now transcripts.now) }
     ensures fault { IfErr result (λ fault. IsFault profile updates.now transcripts.now fault) }
 {
+    if passes_in_one_pass(alloc, updates, transcripts, profile)? {
+        return Ok(());
+    }
     check_updates(alloc, updates)?;
     for (session, transcript) in transcripts.iter().enumerate() {
         check_transcript(alloc, updates, transcript, session as u64, profile)?;
@@ -82,7 +89,7 @@ fn check_transcript(
 }
 
 /// Whether two outcomes are the same. Of gsmSCF addresses the octets are compared.
-fn are_same(one: &Outcome, other: &Outcome) -> bool
+pub(crate) fn are_same(one: &Outcome, other: &Outcome) -> bool
     ensures yes { result ≡ true → one.now ≡ other.now }
     ensures no { result ≡ false → one.now ≢ other.now }
 {

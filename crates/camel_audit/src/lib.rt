@@ -7,6 +7,7 @@
 
 mod audit_fault;
 mod checks;
+mod one_pass;
 mod transcript;
 
 pub use audit_fault::AuditFault;

@@ -1,0 +1,5 @@
+use Rattle.camel_audit.specs.OnePass.{AreExplainedTo}
+use Rattle.camel_audit.proofs.one_pass.move_all.Given as goal
+
+abbrev pub invariant-loop-session : goal.invariant-loop-session
+invariant-loop-session l = AreExplainedTo l.profile l.front l.transcripts l.places

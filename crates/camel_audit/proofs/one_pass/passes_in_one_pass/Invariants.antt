@@ -1,0 +1,12 @@
+use Rattle.std.proofs.Common.{◌≡◌, take}
+use Rattle.camel_audit.specs.OnePass.{AreExplainedTo}
+use Rattle.camel_rows.specs.Update.{Accepted, records_of}
+use Rattle.camel_audit.proofs.one_pass.passes_in_one_pass.Given as goal
+
+-- the updates so far are accepted, have left these records, and explain the entries before the places
+abbrev pub invariant-loop-at : goal.invariant-loop-at
+invariant-loop-at l = record {
+  accepted : Accepted (take l.at l.updates);
+  records : l.records ≡ records_of (take l.at l.updates);
+  places : AreExplainedTo l.profile (take l.at l.updates) l.transcripts l.places.items;
+}
