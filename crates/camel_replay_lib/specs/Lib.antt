@@ -8,6 +8,7 @@ pub mod ReplayFault
 pub mod Round
 pub mod Rounds
 pub mod Segments
+pub mod SessionLines
 pub mod Store
 pub mod StoreCode
 pub mod ThreadsOutput

@@ -13,25 +13,25 @@ ghost use Rattle.camel_replay_lib.specs.ThreadsWritten.{ThreadsStop, WritesThrea
 ghost use Rattle.camel_replay_lib.specs.Written.{AppendsPart};
 
 mod open_store;
-mod output;
 mod read;
 mod round;
 mod seat;
 mod segment;
+mod session_lines;
 mod threads_fault;
 mod writer;
 
 use crate::script_replay::write::{WriteFault, write_all};
 use crate::script_replay::{ReplayFault, WRITE_FAULT};
 use crate::threaded_replay::open_store::OpenStore;
-use crate::threaded_replay::output::push_sessions;
 use crate::threaded_replay::read::read_script;
 use crate::threaded_replay::round::run_round;
 use crate::threaded_replay::seat::Seat;
 use crate::threaded_replay::segment::cut_segment;
+use crate::threaded_replay::session_lines::audit_beside_lines;
 use crate::threaded_replay::threads_fault::ThreadsFault;
 use crate::threaded_replay::writer::Writer;
-use camel_audit::{Transcript, audit};
+use camel_audit::Transcript;
 use camel_script::{Line, Record, push_line};
 use camel_table::Seed;
 use camel_tbcd::Profile;
@@ -143,25 +143,16 @@ fn answer_script<G: Gate, R: Threads + Wait>(
     let seats = seats_of(alloc, sessions)?;
     let (writer, seats) = run_rounds(rt, alloc, writer, seats, records, gate)?;
     let transcripts = transcripts_of(alloc, seats)?;
-    audit(alloc, writer.published(), &transcripts, profile)?;
-    finish_output(alloc, writer, &transcripts)
+    let (published, output) = writer.end();
+    let output = audit_beside_lines(rt, alloc, &published, &transcripts, profile, output)?;
+    finish_output(alloc, output)
 }
 
-/// The output after an audit without a fault: the writer's lines, the lines of the sessions, and the audit's line.
-fn finish_output<W: Wait + Drop>(
-    alloc: Global,
-    writer: Writer<W>,
-    transcripts: &[Transcript],
-) -> Result<Vec<u8>, ThreadsFault>
-    ensures text { IfOk result (λ output. output.items ≡ writer.output ++ sessions_text 0 transcripts.now ++ line_text Line.AuditOk) }
-    ensures only { IfErr result (λ fault. fault ≡ ThreadsFault.OutOfMemory) }
+/// The output with the line of an audit without a fault at its end.
+fn finish_output(alloc: Global, output: Vec<u8>) -> Result<Vec<u8>, ThreadsFault>
+    ensures { IfOk result (λ text. text.items ≡ output.items ++ line_text Line.AuditOk) }
 {
-    let Writer {
-        store: _store,
-        accepted: _accepted,
-        mut output,
-    } = writer;
-    push_sessions(alloc, &mut output, transcripts)?;
+    let mut output = output;
     push_line(alloc, &mut output, &Line::AuditOk)?;
     Ok(output)
 }

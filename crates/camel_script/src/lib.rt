@@ -1,6 +1,7 @@
 //! Scripts of subscriber data updates and calls, read record by record, and the lines that answer them.
 #![tactic(auto)]
 
+mod boxed_update;
 mod item;
 mod line;
 mod record;
@@ -8,6 +9,7 @@ mod script;
 mod script_fault;
 mod text;
 
+pub use boxed_update::BoxedUpdate;
 pub use line::{Line, push_line};
 pub use record::Record;
 pub use script::Script;

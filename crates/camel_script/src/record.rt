@@ -11,6 +11,7 @@ pub(crate) mod delete;
 pub(crate) mod field;
 pub(crate) mod insert;
 
+use crate::boxed_update::BoxedUpdate;
 use crate::record::call::parse_call;
 use crate::record::delete::parse_delete;
 use crate::record::field::field;
@@ -26,11 +27,12 @@ use std::alloc::Global;
 
 /// A record of a script.
 ///
-/// It is large, since an update is. So it is read into its place, and not moved there.
+/// An update is large, so it lies in a block of its own: a list of records takes the room of calls. A record is read
+/// into its place, and not moved there.
 #[derive(Debug, Drop)]
 pub enum Record {
     /// An update of the subscriber data.
-    Update(Update),
+    Update(BoxedUpdate),
     /// The pending updates are published.
     Publish,
     /// A call at a trigger detection point.
@@ -85,11 +87,11 @@ fn parse_fields(alloc: Global, fields: &ByteRecord, read: &mut Record) -> Result
     ensures { ReadsInto result read.new (reading_of (fields_of fields.now)) }
 {
     match parse_kind(field(fields, 0))? {
-        RecordKind::Register => parse_register(fields, read),
+        RecordKind::Register => parse_register(alloc, fields, read),
         RecordKind::Insert => parse_insert(alloc, fields, read),
-        RecordKind::Delete => parse_delete(fields, read),
-        RecordKind::Cancel => parse_cancel(fields, read),
-        RecordKind::Clear => parse_clear(fields, read),
+        RecordKind::Delete => parse_delete(alloc, fields, read),
+        RecordKind::Cancel => parse_cancel(alloc, fields, read),
+        RecordKind::Clear => parse_clear(alloc, fields, read),
         RecordKind::Publish => parse_publish(fields, read),
         RecordKind::Call => parse_call(alloc, fields, read),
     }
@@ -124,30 +126,30 @@ fn parse_imsi_alone(fields: &ByteRecord) -> Result<Imsi, RecordFault>
 }
 
 #[inline(never)]
-fn parse_register(fields: &ByteRecord, read: &mut Record) -> Result<(), RecordFault>
+fn parse_register(alloc: Global, fields: &ByteRecord, read: &mut Record) -> Result<(), RecordFault>
     ensures { ReadsInto result read.new (register_of (fields_of fields.now)) }
 {
     let imsi = parse_imsi_alone(fields)?;
-    *read = Record::Update(Update::Register { imsi });
+    *read = Record::Update(BoxedUpdate::new(alloc, Update::Register { imsi })?);
     Ok(())
 }
 
 #[inline(never)]
-fn parse_cancel(fields: &ByteRecord, read: &mut Record) -> Result<(), RecordFault>
+fn parse_cancel(alloc: Global, fields: &ByteRecord, read: &mut Record) -> Result<(), RecordFault>
     ensures { ReadsInto result read.new (cancel_of (fields_of fields.now)) }
 {
     let imsi = parse_imsi_alone(fields)?;
-    *read = Record::Update(Update::Cancel { imsi });
+    *read = Record::Update(BoxedUpdate::new(alloc, Update::Cancel { imsi })?);
     Ok(())
 }
 
 #[inline(never)]
 #[tactic(auto, unfolding(crate::specs::Record::word_alone_of))]
-fn parse_clear(fields: &ByteRecord, read: &mut Record) -> Result<(), RecordFault>
+fn parse_clear(alloc: Global, fields: &ByteRecord, read: &mut Record) -> Result<(), RecordFault>
     ensures { ReadsInto result read.new (clear_of (fields_of fields.now)) }
 {
     check_word_alone(fields)?;
-    *read = Record::Update(Update::ClearAll);
+    *read = Record::Update(BoxedUpdate::new(alloc, Update::ClearAll)?);
     Ok(())
 }
 

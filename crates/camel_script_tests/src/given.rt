@@ -32,14 +32,20 @@ pub(crate) fn next<R: Read>(script: &mut Script<R>) -> Given {
 
 fn kind_of(record: &Record) -> Given {
     match record {
-        Record::Update(Update::Register { .. }) => Given::Register,
-        Record::Update(Update::Insert { .. }) => Given::Insert,
-        Record::Update(Update::Delete { .. }) => Given::Delete,
-        Record::Update(Update::Cancel { .. }) => Given::Cancel,
-        Record::Update(Update::ClearAll) => Given::Clear,
+        Record::Update(update) => kind_of_update(update.get()),
         Record::Publish => Given::Publish,
         Record::Call(_) => Given::Call,
         Record::Refused(refusal) => Given::Refused(refusal.code()),
+    }
+}
+
+fn kind_of_update(update: &Update) -> Given {
+    match update {
+        Update::Register { .. } => Given::Register,
+        Update::Insert { .. } => Given::Insert,
+        Update::Delete { .. } => Given::Delete,
+        Update::Cancel { .. } => Given::Cancel,
+        Update::ClearAll => Given::Clear,
     }
 }
 
@@ -54,7 +60,7 @@ pub(crate) fn check_next<R: Read>(rt: &impl Abort, script: &mut Script<R>, wante
 pub(crate) fn update_of(alloc: Global, text: &str) -> Result<Update, Fail> {
     let mut script = Script::new(alloc, text.as_bytes(), 1)?;
     match script.read_record()? {
-        Some(Record::Update(update)) => Ok(update),
+        Some(Record::Update(update)) => Ok(update.into_update()),
         _ => Err(Fail::new("no update")),
     }
 }

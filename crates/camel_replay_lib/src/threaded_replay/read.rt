@@ -9,6 +9,7 @@ use camel_script::{Record, Script};
 use std::alloc::Global;
 use std::collections::VecDeque;
 use std::io::Read;
+use std::mem;
 
 /// Reads a script whole. A fault names the record that was being read.
 pub(crate) fn read_script<I: Read + Drop>(
@@ -39,17 +40,18 @@ fn read_all<I: Read + Drop>(
 {
     let mut number = 1;
     let mut records = VecDeque::new(alloc);
+    let mut next = Record::Publish;
     'records: loop {
-        match script.read_record() {
-            Ok(Some(next)) => {
-                let Ok(()) = records.push_back(next) else {
-                    return Err(fault_at(number, OUT_OF_MEMORY));
-                };
-                number += 1;
-            }
-            Ok(None) => return Ok(records),
+        match script.read_into(&mut next) {
+            Ok(true) => {}
+            Ok(false) => return Ok(records),
             Err(fault) => return Err(fault_at(number, fault.code())),
         }
+        let read = mem::replace(&mut next, Record::Publish);
+        let Ok(()) = records.push_back(read) else {
+            return Err(fault_at(number, OUT_OF_MEMORY));
+        };
+        number += 1;
     }
 }
 

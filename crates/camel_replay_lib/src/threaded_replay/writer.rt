@@ -91,7 +91,13 @@ impl<W: Wait + Drop> Writer<W> {
         ensures only { IfErr result (λ fault. (fault ≡ ThreadsFault.OutOfMemory) ⊎ (fault ≡ ThreadsFault.Stopped)) }
     {
         match next {
-            Record::Update(update) => submit(&mut self.store.vlr, &mut self.accepted, update),
+            Record::Update(update) => {
+                submit(
+                    &mut self.store.vlr,
+                    &mut self.accepted,
+                    update.into_update(),
+                )
+            }
             Record::Publish => self.publish(rt, gate),
             Record::Refused(refusal) => Ok(Line::Refused(refusal.code())),
             Record::Call(_) => unreachable!(),
@@ -129,11 +135,19 @@ impl<W: Wait + Drop> Writer<W> {
         self.store.vlr.published()
     }
 
-    /// The updates that are published.
-    pub(crate) fn published(&self) -> &[Update]
-        ensures { result.now ≡ self.now.store.updates.published }
+    /// The updates that are published, and the text of the lines. The store is ended.
+    pub(crate) fn end(self) -> (Vec<Update>, Vec<u8>)
+        ensures published { result.0.items ≡ self.store.updates.published }
+        ensures output { result.1.items ≡ self.output }
     {
-        &self.accepted[..self.front() as usize]
+        let front = self.front() as usize;
+        let Writer {
+            store: _store,
+            mut accepted,
+            output,
+        } = self;
+        accepted.truncate(front);
+        (accepted, output)
     }
 }
 

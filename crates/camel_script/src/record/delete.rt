@@ -3,17 +3,23 @@ ghost use Rattle.csv.specs.Records.{fields_of};
 ghost use Rattle.camel_script.specs.Reading.{ReadsInto, in_turn};
 ghost use Rattle.camel_script.specs.Record.{delete_of, no_withdrawal, withdrawal_with};
 
+use crate::boxed_update::BoxedUpdate;
 use crate::record::Record;
 use crate::record::field::field;
 use crate::text::parse_imsi;
 use crate::text::record_fault::RecordFault;
 use camel_rows::{Update, Withdrawal};
 use csv::ByteRecord;
+use std::alloc::Global;
 
 /// Reads a delete with what it names.
 #[tactic(auto, unfolding(crate::specs::Record::delete_of))]
 #[inline(never)]
-pub(crate) fn parse_delete(fields: &ByteRecord, read: &mut Record) -> Result<(), RecordFault>
+pub(crate) fn parse_delete(
+    alloc: Global,
+    fields: &ByteRecord,
+    read: &mut Record,
+) -> Result<(), RecordFault>
     ensures { ReadsInto result read.new (delete_of (fields_of fields.now)) }
 {
     if fields.len() < 3 {
@@ -21,7 +27,7 @@ pub(crate) fn parse_delete(fields: &ByteRecord, read: &mut Record) -> Result<(),
     }
     let imsi = parse_imsi(field(fields, 1))?;
     let what = parse_withdrawal(fields)?;
-    *read = Record::Update(Update::Delete { imsi, what });
+    *read = Record::Update(BoxedUpdate::new(alloc, Update::Delete { imsi, what })?);
     Ok(())
 }
 

@@ -5,6 +5,7 @@ ghost use Rattle.camel_script.specs.Item.{items_of};
 ghost use Rattle.camel_script.specs.Reading.{ReadsAs, ReadsInto};
 ghost use Rattle.camel_script.specs.Record.{insert_of, insert_of_items, received_list};
 
+use crate::boxed_update::BoxedUpdate;
 use crate::item::Items;
 use crate::record::Record;
 use crate::record::field::field;
@@ -30,7 +31,7 @@ pub(crate) fn parse_insert(
         return Err(RecordFault::FieldCount);
     }
     let imsi = parse_imsi(field(fields, 1))?;
-    make_insert(imsi, parse_items(alloc, fields)?, read)
+    make_insert(alloc, imsi, parse_items(alloc, fields)?, read)
 }
 
 /// Reads the items of an insert, from its third field on.
@@ -45,20 +46,26 @@ fn parse_items(alloc: Global, fields: &ByteRecord) -> Result<Items, RecordFault>
 }
 
 #[tactic(auto, unfolding(crate::specs::Record::insert_of_items))]
-fn make_insert(imsi: Imsi, items: Items, read: &mut Record) -> Result<(), RecordFault>
+fn make_insert(
+    alloc: Global,
+    imsi: Imsi,
+    items: Items,
+    read: &mut Record,
+) -> Result<(), RecordFault>
     ensures { ReadsInto result read.new (insert_of_items imsi items) }
 {
     let o = make_o_csi(&items.o)?;
     let o_criteria = make_o_criteria_set(items.o_criteria)?;
     let vt = make_vt_csi(&items.vt)?;
     let t_criteria = make_t_criteria_set(items.t_criteria)?;
-    *read = Record::Update(Update::Insert {
+    let update = Update::Insert {
         imsi,
         o,
         o_criteria,
         vt,
         t_criteria,
-    });
+    };
+    *read = Record::Update(BoxedUpdate::new(alloc, update)?);
     Ok(())
 }
 

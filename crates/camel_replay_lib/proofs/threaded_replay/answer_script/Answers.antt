@@ -7,9 +7,11 @@ use Rattle.camel_rows.specs.declared.subscriber.update.Update.{Update}
 use Rattle.camel_script.specs.Line.{line_text}
 use Rattle.camel_script.specs.declared.line.Line.TheVariants as line
 use Rattle.camel_replay_lib.proofs.RoundLemmas.{IfOk-gives, IsOf-fresh, SessionsAnswer-numbered}
+use Rattle.std.specs.List.{filter}
 use Rattle.camel_replay_lib.specs.Fronts.{published_after}
+use Rattle.camel_replay_lib.specs.Output.{output}
 use Rattle.camel_replay_lib.specs.Rounds.{HasAnswered, WritesScript, entries_in, session_in}
-use Rattle.camel_replay_lib.specs.ThreadsOutput.{SessionsAnswer, script_calls, sessions_text}
+use Rattle.camel_replay_lib.specs.ThreadsOutput.{SessionsAnswer, is_no_call, script_calls, sessions_text}
 use Rattle.camel_replay_lib.proofs.threaded_replay.answer_script.Goals as goal
 
 pub run_rounds-requires-clause-same_store : goal.run_rounds-requires-clause-same_store
@@ -38,15 +40,19 @@ returns g c =
     let each : SessionsAnswer threads 0 (script_calls limit records) transcripts =
     rw c.in_ok-transcripts.ensures (SessionsAnswer-numbered threads 0 (script_calls limit records) seats done.numbered answered) in
     let all : length transcripts ≡ threads = ap length c.in_ok-transcripts.ensures ∙ length-map seats entries_in ∙ done.count ∙ count in
-    let published : writer.store.updates.published ≡ published_after limit records = ap (λ (u : Updates). u.published) written.updates in
+    let text = output profile limit (filter is_no_call records) in
+    let published : c.end-published.result.0.items ≡ published_after limit records = c.end-published.ensures.published ∙ ap (λ (u : Updates). u.published) written.updates in
     let passes : Passes profile (published_after limit records) transcripts =
-    subst (λ (ts : List (List Entry)). Passes profile (published_after limit records) ts) c.deref.ensures.value
-    (subst (λ (us : List Update). Passes profile us c.deref.result.now) (c.published.ensures ∙ published) c.in_ok-audit.ensures.passes) in
+    subst (λ (ts : List (List Entry)). Passes profile (published_after limit records) ts) c.deref-2.ensures.value
+    (subst (λ (us : List Update). Passes profile us c.deref-2.result.now) (c.deref.ensures.value ∙ published) c.in_ok-output.ensures.passes) in
+    let lines : c.in_ok-output.output.items ≡ text ++ sessions_text 0 transcripts =
+    c.in_ok-output.ensures.lines ∙ ap (λ (ts : List (List Entry)). c.end-published.result.1.items ++ sessions_text 0 ts) c.deref-2.ensures.value
+    ∙ ap (λ out. out ++ sessions_text 0 transcripts) (c.end-published.ensures.output ∙ written.output_written) in
+    let last = line_text line.AuditOk in
     IfOk-gives _ _ c.finish_output.result
-    (λ output text. record {
+    (λ whole is. record {
       transcripts = transcripts;
       answer = record { count = all; each = each; passes = passes };
-      text = text ∙ ap (λ (ts : List (List Entry)). writer.output ++ sessions_text 0 ts ++ line_text line.AuditOk) c.deref-2.ensures.value
-          ∙ ap (λ lines. lines ++ sessions_text 0 transcripts ++ line_text line.AuditOk) written.output_written;
+      text = is ∙ ap (λ out. out ++ last) lines;
     })
-    c.finish_output.ensures.text
+    c.finish_output.ensures
