@@ -58,6 +58,8 @@ pub(crate) fn jobs_for(
     // The check of a loop that appends jobs needs this type named.
     let _: Option<CallEvent> = None;
     let mut jobs = Vec::new(alloc);
+    // The calls are numbered one after the other, so a session answers its part of them, or one more.
+    jobs.reserve((calls.len() / threads as usize).saturating_add(1))?;
     for job in calls {
         if job.call % threads == session {
             jobs.push(*job)?;
