@@ -33,11 +33,10 @@ impl Promise<Result<Vec<u8>, Refusal>> for TextOf {
     ghost kept_by = { λ p made. IfOk made (λ text. text.items ≡ session_text p.session p.transcript.value) };
 }
 
-/// The lines of a session, which a thread makes, or which are made since no thread was started.
+/// The lines of a session, which a thread makes.
 #[derive(Drop)]
-enum SessionLines {
-    Started(PromisedHandle<Result<Vec<u8>, Refusal>, TextOf>),
-    Made(Vec<u8>),
+struct SessionLines {
+    handle: PromisedHandle<Result<Vec<u8>, Refusal>, TextOf>,
 }
 
 /// Audits what the sessions answered, and appends their lines, which threads make meanwhile. A fault of the audit comes
@@ -101,13 +100,13 @@ fn start_all<'s, E>(
     Ok(started)
 }
 
-/// Starts a thread for the lines of a session. If no thread is started, they are made at once.
+/// Starts a thread for the lines of a session. Fails with `NoWorker` (106) if none is started.
 fn start<'s, E>(
     scope: &Scope<'s, E>,
     alloc: Global,
     session: u64,
     transcript: &'s Transcript,
-) -> Result<SessionLines, Refusal>
+) -> Result<SessionLines, ThreadsFault>
     ensures { IfOk result (λ lines. text_of lines ≡ session_text session transcript.now) }
 {
     let promise = TextOf {
@@ -115,8 +114,8 @@ fn start<'s, E>(
         transcript: Snapshot::of(transcript),
     };
     match scope.spawn_with(promise, move || make_lines(alloc, session, transcript)) {
-        Ok(handle) => Ok(SessionLines::Started(handle)),
-        Err(_) => Ok(SessionLines::Made(make_lines(alloc, session, transcript)?)),
+        Ok(handle) => Ok(SessionLines { handle }),
+        Err(_) => Err(ThreadsFault::NoWorker),
     }
 }
 
@@ -156,8 +155,5 @@ fn join_all<R: Threads>(
 fn join<R: Threads>(rt: &R, lines: SessionLines) -> Result<Vec<u8>, Refusal>
     ensures { IfOk result (λ text. text.items ≡ text_of lines) }
 {
-    match lines {
-        SessionLines::Started(handle) => handle.join(rt),
-        SessionLines::Made(text) => Ok(text),
-    }
+    lines.handle.join(rt)
 }
