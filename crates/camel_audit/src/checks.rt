@@ -88,34 +88,12 @@ fn check_transcript(
     Ok(())
 }
 
-/// Whether two outcomes are the same. Of gsmSCF addresses the octets are compared.
+/// Whether two outcomes are the same.
 pub(crate) fn are_same(one: &Outcome, other: &Outcome) -> bool
     ensures yes { result ≡ true → one.now ≡ other.now }
     ensures no { result ≡ false → one.now ≢ other.now }
 {
-    match (one, other) {
-        (
-            Outcome::Trigger {
-                dp,
-                key,
-                scf,
-                handling,
-            },
-            Outcome::Trigger {
-                dp: other_dp,
-                key: other_key,
-                scf: other_scf,
-                handling: other_handling,
-            },
-        ) => {
-            *dp == *other_dp
-                && *key == *other_key
-                && scf.lend().bytes() == other_scf.lend().bytes()
-                && *handling == *other_handling
-        }
-        (Outcome::NoTrigger(reason), Outcome::NoTrigger(other_reason)) => *reason == *other_reason,
-        _ => false,
-    }
+    one == other
 }
 
 /// Applies updates, of which those that the records refuse change nothing.
