@@ -15,7 +15,7 @@ use std::marker::Model;
 
 /// A bucket that gets more entries than this asks for a bucket more. Three lie in the bucket itself. Fewer would leave
 /// fewer to be sought in a list, but more room unused.
-const MOST_IN_BUCKET: usize = 4;
+const MOST_IN_BUCKET: usize = 5;
 
 /// There are never more buckets than this. Further entries make the buckets longer.
 const MOST_BUCKETS: usize = 1 << 32;

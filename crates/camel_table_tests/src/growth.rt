@@ -68,12 +68,12 @@ fn in_order_of_hashes(alloc: Global) -> Result<Vec<Option<Imsi>>, Fail> {
     Ok(found)
 }
 
-// In this order one bucket after the other gets its fifth entry, and is split. So there is never a longer bucket than of
-// five entries, nor a shorter one than of two.
-const LONGEST: u64 = 5;
+// In this order one bucket after the other gets its sixth entry, and is split. So there is never a longer bucket than of
+// six entries, nor a shorter one than of three.
+const LONGEST: u64 = 6;
 
 // A value that is inserted is hashed once, and with it the entries of the bucket that is split. Two buckets would have
-// seven entries or more.
+// nine entries or more.
 #[test]
 fn an_insertion_moves_the_entries_of_one_bucket_at_most(rt: HostRuntime) -> Result<(), Fail> {
     let made = Cell::new(0);
@@ -85,7 +85,8 @@ fn an_insertion_moves_the_entries_of_one_bucket_at_most(rt: HostRuntime) -> Resu
         assert!(rt; hashes <= 1 + LONGEST, "{imsi:?}");
         splits = splits.wrapping_add(usize::from(hashes > 1));
     }
-    // The buckets become twice as many with each doubling of the entries, from one bucket to one for each four entries.
+    // The buckets become twice as many with each doubling of the entries: the 1,024 that 3,072 entries ask for are enough
+    // up to 5,120.
     assert!(rt; splits == ORDERED / 4 - 1);
     Ok(())
 }
