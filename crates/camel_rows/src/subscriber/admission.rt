@@ -139,8 +139,8 @@ impl Admission {
         Ok(())
     }
 
-    /// Accepts an update of this subscriber, or of all of them, that makes this change and no record where there was none.
-    /// It takes no memory, and leaves the table alone if the same CSIs are stored afterwards.
+    /// Accepts an update of this subscriber, or of all of them, that makes this change, and no record where there was
+    /// none. It takes no memory, and leaves the table as it is if the same CSIs are stored afterwards.
     pub fn accept_in_place(&mut self, imsi: Option<Imsi>, change: CsisChange)
         requires room { self.old.accepted < self.old.limit }
         requires before { change.before ≡ value_of self.old.directory imsi }
