@@ -17,8 +17,8 @@ returns-in-Err-clause-unchanged c =
     let imsi = c.args.imsi in
     let csis = c.args.csis in
     let back = subst
-        (λ before. record (with_admission d (Some imsi) (Some csis)) {
-          accepted = d.accepted + 1 - 1;
-          directory = with_value (map.insert d.directory imsi csis) imsi before;
-        } ≡ d) c.requires.new (taken_back d imsi csis) in
+    (λ before. record (with_admission d (Some imsi) (Some csis)) {
+      accepted = d.accepted + 1 - 1;
+      directory = with_value (map.insert d.directory imsi csis) imsi before;
+    } ≡ d) c.requires.new (taken_back d imsi csis) in
     c.take_back.ensures ∙ rw (c.in_ok-accept.ensures.accepted) back
