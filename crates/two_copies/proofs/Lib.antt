@@ -1,0 +1,9 @@
+pub mod Dividing
+pub mod Entering
+pub mod Leaving
+pub mod LogLemmas
+pub mod Reclaiming
+pub mod Reporting
+pub mod Showing
+pub mod SlotLemmas
+pub mod Views

@@ -1,0 +1,11 @@
+use Rattle.std.proofs.Common.{rules}
+use Rattle.two_copies.proofs.places.prepare_all.Goals as goal
+
+pub loop-next-preserved : goal.loop-next-preserved
+loop-next-preserved g c = record {
+  bound = search rules;
+  len = search rules;
+  free = search rules;
+  ready = search rules;
+  shown = λ shown before. let all = c.loop-next.invariant.shown shown before in search rules;
+}

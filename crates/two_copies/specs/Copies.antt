@@ -1,0 +1,24 @@
+-- What clauses see of the writer.
+use Rattle.std.specs.Prelude.{ℕ, List, All, length}
+use Rattle.std.specs.Arc.{arc_value}
+use Rattle.two_copies.specs.Log.{pending_in}
+use Rattle.two_copies.specs.WriterEnd.{IsFreeAt}
+use Rattle.two_copies.specs.declared.apply.Apply.{Ghosts}
+use Rattle.two_copies.specs.declared.copies.Copies.{Copies}
+
+module _ {T O F S : Type 0} {g : Ghosts T O S} where
+  -- the value that is shown
+  abbrev pub shown_by : Copies T O F S g → T
+  shown_by copies = arc_value copies.shown
+
+  -- the operations that are not published yet
+  abbrev pub pending_of : Copies T O F S g → List O
+  pending_of copies = pending_in copies.log
+
+  -- how many places there are
+  abbrev pub reader_count : Copies T O F S g → ℕ
+  reader_count copies = length copies.places.items
+
+  -- the writer has the slot for the next copy of each place
+  abbrev pub IsFree : Copies T O F S g → Type 0
+  IsFree copies = All IsFreeAt copies.places.items

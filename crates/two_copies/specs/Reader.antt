@@ -1,0 +1,16 @@
+-- What clauses see of a reader and of a look.
+use Rattle.std.specs.declared.option.Option.{Option}
+use Rattle.std.specs.Arc.{arc_value}
+use Rattle.two_copies.specs.Place.{known_of}
+use Rattle.two_copies.specs.Slot.{value_in}
+use Rattle.two_copies.specs.declared.reader.Look.{Look}
+use Rattle.two_copies.specs.declared.reader.Reader.{Reader}
+
+module _ {T F : Type 0} where
+  -- the value that the reader saw last, or none after the end
+  abbrev pub seen_by : Reader T F → Option T
+  seen_by reader = value_in (known_of reader.seat.me.0)
+
+  -- the value that the look shows
+  abbrev pub shown_in : Look T F → T
+  shown_in look = arc_value look.shown

@@ -1,0 +1,35 @@
+-- What clauses see of the writer's end of a place.
+use Rattle.std.specs.Prelude.{◌≡◌, Some, true, IsSomeAnd}
+use Rattle.std.specs.declared.alloc.Global.{Global}
+use Rattle.std.specs.declared.option.Option.{Option}
+use Rattle.std.specs.declared.sync.Arc.{Arc}
+use Rattle.std.specs.Arc.{arc_value}
+use Rattle.two_copies.specs.Place.{known_of}
+use Rattle.two_copies.specs.Slot.{value_in}
+use Rattle.two_copies.specs.declared.place.writer_end.WriterEnd.{WriterEnd}
+
+module _ {T F : Type 0} where
+  -- the newest slot
+  abbrev pub slot_at : WriterEnd T F → Option (Arc T Global)
+  slot_at end = known_of end.seat.me.0
+
+  -- the value that is shown at the place
+  abbrev pub shown_at : WriterEnd T F → Option T
+  shown_at end = value_in (slot_at end)
+
+  -- the place shows this
+  abbrev pub ShowsAt : T → WriterEnd T F → Type 0
+  ShowsAt shown end = shown_at end ≡ Some shown
+
+  -- the writer has the slot for the next copy
+  abbrev pub IsFreeAt : WriterEnd T F → Type 0
+  IsFreeAt end = end.has_other ≡ true
+
+  -- the copy that is to be shown next has this value
+  abbrev pub IsNextAt : T → WriterEnd T F → Type 0
+  IsNextAt next end = IsSomeAnd end.next (λ copy. arc_value copy ≡ next)
+
+  -- the place shows nothing, and the writer has both slots
+  pub record IsClosedAt (end : WriterEnd T F) : Type 0 where
+    pub closed : end.is_closed ≡ true
+    pub other : end.has_other ≡ true

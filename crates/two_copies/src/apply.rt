@@ -1,0 +1,21 @@
+//! Operations on a copy.
+ghost use Rattle.std.specs.Prelude.{◌≡◌, MatchResult};
+
+use std::alloc::AllocError;
+
+/// A value that operations change. Each operation is applied to both copies, one after the other.
+pub trait Apply<O> {
+    /// What two copies have in common if the same operations were applied to both. No value of it is made.
+    type State;
+
+    ghost state: { Self → Self.State };
+
+    /// The state that an operation leaves.
+    ghost applied: { Self.State → O → Self.State };
+
+    /// Applies an operation. If memory is refused, the state is as before.
+    fn apply(&mut self, operation: &O) -> Result<(), AllocError>
+        ensures { MatchResult result
+            (λ _. state self.new ≡ applied (state self.old) operation.now)
+            (λ _. state self.new ≡ state self.old) };
+}

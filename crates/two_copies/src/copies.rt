@@ -1,0 +1,227 @@
+//! The writer.
+ghost use Rattle.std.specs.Prelude.{◌≡◌, ◌≢◌, ◌<◌, ◌≤◌, ◌↔◌, [], ◌∷◌, ◌++◌, fold, length, true, All, IsTrue, MatchResult, OnErr, OnOk, IfOk, Err, Some};
+ghost use Rattle.std.specs.Arc.{arc_value};
+ghost use Rattle.two_copies.specs.Log.{missing_in, pending_in};
+ghost use Rattle.two_copies.specs.Reader.{seen_by};
+ghost use Rattle.two_copies.specs.WriterEnd.{IsFreeAt, IsNextAt, ShowsAt};
+ghost use Rattle.two_copies.specs.declared.copies.TheConstants.{MAX_READERS};
+
+use crate::apply::Apply;
+use crate::ending::Ending;
+use crate::log::Log;
+use crate::place::writer_end::WriterEnd;
+use crate::places::{Places, add, prepare_all, reclaim_all, remove_left, show_all};
+use crate::reader::Reader;
+use crate::rule::CopyRule;
+use std::alloc::{AllocError, Global};
+use std::mem;
+use std::sync::Arc;
+
+/// The most readers at a time.
+pub const MAX_READERS: usize = 64;
+
+/// Nothing was published, and all is pending as before.
+#[derive(Clone, Copy, Debug)]
+pub enum Unpublished {
+    /// A look keeps the copy that is to be changed. No memory was asked for.
+    Held,
+    /// Memory was refused. The next try goes on where this one stopped.
+    OutOfMemory,
+}
+
+impl From<AllocError> for Unpublished {
+    ghost use Rattle.two_copies.specs.declared.copies.Unpublished.TheVariants.{OutOfMemory};
+
+    ghost from_gives = { λ _ why. why ≡ OutOfMemory };
+
+    fn from(_error: AllocError) -> Unpublished {
+        Unpublished::OutOfMemory
+    }
+}
+
+/// There is no further reader.
+#[derive(Clone, Copy, Debug)]
+pub enum NoReader {
+    /// [`MAX_READERS`] readers are there.
+    NoPlace,
+    OutOfMemory,
+}
+
+impl From<AllocError> for NoReader {
+    ghost use Rattle.two_copies.specs.declared.copies.NoReader.TheVariants.{OutOfMemory};
+
+    ghost from_gives = { λ _ why. why ≡ OutOfMemory };
+
+    fn from(_error: AllocError) -> NoReader {
+        NoReader::OutOfMemory
+    }
+}
+
+/// The writer of two copies.
+///
+/// Contracts see the value that is shown (`shown_by`), the operations that are pending (`pending_of`), and whether each
+/// place is known to be free for a publication (`IsFree`). It can't be dropped: [`Copies::end`] ends it.
+pub struct Copies<T: Drop + Apply<O>, O: Drop, F: CopyRule<T>> {
+    alloc: Global,
+    shown: Arc<T, Global>,
+    spare: Arc<T, Global>,
+    places: Places<T, F>,
+    log: Log<O>,
+    ghost bounded: { length places.items ≤ MAX_READERS },
+    ghost shows: { ∥ All (ShowsAt (arc_value shown)) places.items ∥₁ },
+    ghost alike: { ∥ fold T.applied (T.state (arc_value spare)) (missing_in log)
+        ≡ fold T.applied (T.state (arc_value shown)) (pending_in log) ∥₁ },
+}
+
+impl<T: Drop + Apply<O>, O: Drop, F: CopyRule<T>> Copies<T, O, F> {
+    ghost use Rattle.two_copies.specs.Copies.{IsFree, pending_of, reader_count, shown_by};
+    ghost use Rattle.two_copies.specs.declared.copies.NoReader.TheVariants.{NoPlace};
+    ghost use Rattle.two_copies.specs.declared.copies.Unpublished.TheVariants.{Held};
+    ghost use Rattle.two_copies.specs.Ending.{value_of};
+
+    /// Two copies that are alike, of which the first is shown, with no reader yet. It asks for memory for each; if that
+    /// is refused, both are dropped.
+    pub fn new(alloc: Global, first: T, second: T) -> Result<Copies<T, O, F>, AllocError>
+        requires { T.state first ≡ T.state second }
+        ensures shown { IfOk result (λ copies. shown_by copies ≡ first) }
+        ensures pending { IfOk result (λ copies. pending_of copies ≡ []) }
+    {
+        let shown = Arc::new(alloc, first)?;
+        let spare = Arc::new(alloc, second)?;
+        Ok(Copies {
+            alloc,
+            shown,
+            spare,
+            places: Vec::new(alloc),
+            log: Log::new(alloc),
+        })
+    }
+
+    /// A further reader of what is shown, with a place of some 700 octets. It fails with `NoPlace` if
+    /// [`MAX_READERS`] readers are there; one that was dropped no longer counts. If memory is refused, all is as before.
+    pub fn reader(&mut self) -> Result<Reader<T, F>, NoReader>
+        requires { F.holds (shown_by self.old) }
+        ensures seen { IfOk result (λ reader. seen_by reader ≡ Some (shown_by self.old)) }
+        ensures no_place { result ≡ Err NoPlace → reader_count self.old ≡ MAX_READERS }
+        ensures same { (shown_by self.new ≡ shown_by self.old) × (pending_of self.new ≡ pending_of self.old) }
+    {
+        remove_left(&mut self.places);
+        if self.places.len() >= MAX_READERS {
+            return Err(NoReader::NoPlace);
+        }
+        Ok(self.add_place()?)
+    }
+
+    fn add_place(&mut self) -> Result<Reader<T, F>, AllocError>
+        requires holds { F.holds (shown_by self.old) }
+        requires room { reader_count self.old < MAX_READERS }
+        ensures seen { IfOk result (λ reader. seen_by reader ≡ Some (shown_by self.old)) }
+        ensures same { (shown_by self.new ≡ shown_by self.old) × (pending_of self.new ≡ pending_of self.old) }
+    {
+        let share = Arc::try_clone(&self.shown)?;
+        let (end, reader) = WriterEnd::new(self.alloc, share)?;
+        add(&mut self.places, end)?;
+        Ok(reader)
+    }
+
+    /// The value that is shown. It costs nothing.
+    pub fn shown(&self) -> &T
+        ensures { result.now ≡ shown_by self.now }
+    {
+        &self.shown
+    }
+
+    /// Puts an operation behind those that are pending. It asks for memory as a `Vec` does; if that is refused, the
+    /// operation is dropped.
+    pub fn push(&mut self, operation: O) -> Result<(), AllocError>
+        ensures shown { shown_by self.new ≡ shown_by self.old }
+        ensures pending { MatchResult result
+            (λ _. pending_of self.new ≡ pending_of self.old ++ operation ∷ [])
+            (λ _. pending_of self.new ≡ pending_of self.old) }
+        ensures free { IsFree self.old → IsFree self.new }
+    {
+        self.log.push(operation)
+    }
+
+    /// Whether no look keeps the copy that is to be changed: then a publication is not `Held`, whatever readers do
+    /// meanwhile. It takes a step at each place, up to the first that is held, and no memory.
+    pub fn is_free(&mut self) -> bool
+        ensures free { IsTrue result ↔ IsFree self.new }
+        ensures keeps { IsFree self.old → result ≡ true }
+        ensures same { (shown_by self.new ≡ shown_by self.old) × (pending_of self.new ≡ pending_of self.old) }
+    {
+        reclaim_all(&mut self.places)
+    }
+
+    /// Publishes all that is pending, at once for each reader, and for all of them when it returns. It does not wait.
+    ///
+    /// It applies the operations of the last publication and then the pending ones to the copy that is not shown, and
+    /// takes a few steps at each place. What memory it needs is what the operations ask for.
+    ///
+    /// It fails with `Held` if a look keeps the copy that is to be changed, before any memory is asked for, and with
+    /// `OutOfMemory` if memory was refused. Either way nothing is published, all is pending as before, and it may be
+    /// tried again.
+    pub fn publish(&mut self) -> Result<(), Unpublished>
+        requires { (next : T) → T.state next ≡ fold T.applied (T.state (shown_by self.old)) (pending_of self.old)
+            → F.holds next × F.follows (shown_by self.old) next }
+        ensures published { OnOk result (T.state (shown_by self.new)
+            ≡ fold T.applied (T.state (shown_by self.old)) (pending_of self.old)) }
+        ensures none { OnOk result (pending_of self.new ≡ []) }
+        ensures unchanged { OnErr result ((shown_by self.new ≡ shown_by self.old) × (pending_of self.new ≡ pending_of self.old)) }
+        ensures free { IsFree self.old → result ≢ Err Held }
+    {
+        if !self.is_free() {
+            return Err(Unpublished::Held);
+        }
+        self.prepare()?;
+        self.show_next();
+        Ok(())
+    }
+
+    /// Brings the spare copy to all that is pending, and makes a share of it for each place.
+    fn prepare(&mut self) -> Result<(), AllocError>
+        requires { IsFree self.old }
+        ensures same { (shown_by self.new ≡ shown_by self.old) × (pending_of self.new ≡ pending_of self.old) }
+        ensures all { OnOk result (missing_in self.new.log ≡ []) }
+        ensures free { IsFree self.new }
+        ensures next { OnOk result (All (IsNextAt (arc_value self.new.spare)) self.new.places.items) }
+    {
+        // No run fails here: the writer has each share of the spare copy that was at a place, and has dropped it.
+        let Some(copy) = Arc::get_mut(&mut self.spare) else {
+            return Err(AllocError);
+        };
+        self.log.bring_up(copy)?;
+        prepare_all(&mut self.places, &self.spare)
+    }
+
+    /// Shows the spare copy, which has all that is pending.
+    fn show_next(&mut self)
+        requires all { missing_in self.old.log ≡ [] }
+        requires free { IsFree self.old }
+        requires next { All (IsNextAt (arc_value self.old.spare)) self.old.places.items }
+        requires holds { F.holds (arc_value self.old.spare) }
+        requires follows { F.follows (shown_by self.old) (arc_value self.old.spare) }
+        ensures published { T.state (shown_by self.new) ≡ fold T.applied (T.state (shown_by self.old)) (pending_of self.old) }
+        ensures none { pending_of self.new ≡ [] }
+    {
+        show_all(&mut self.places, &self.shown, &self.spare);
+        mem::swap(&mut self.shown, &mut self.spare);
+        self.log.turn();
+    }
+
+    /// Ends the copies, and returns the one that is shown. What is pending is dropped. It does not wait: a look that is
+    /// held holds the end up, and [`Ending::end`] is to be tried again. Readers that do not look find the end meanwhile.
+    /// The other copy is dropped with it, so no reader frees one.
+    pub fn end(self) -> Result<T, Ending<T, F>>
+        ensures { MatchResult result (λ value. value ≡ shown_by self) (λ ending. value_of ending ≡ shown_by self) }
+    {
+        let Copies {
+            alloc: _alloc,
+            shown,
+            spare,
+            places,
+            log: _log,
+        } = self;
+        Ending::new(shown, spare, places).end()
+    }
+}

@@ -1,0 +1,87 @@
+//! The operations that are pending, and those that the copy which is not shown lacks.
+ghost use Rattle.std.specs.Prelude.{◌≡◌, ◌≤◌, [], ◌∷◌, ◌++◌, drop, fold, length, MatchResult, OnOk};
+
+use crate::apply::Apply;
+use std::alloc::{AllocError, Global};
+use std::mem;
+
+/// The operations of the last publication, which the shown copy has, and the pending ones, with how many of each the
+/// other copy has.
+#[derive(Drop)]
+pub(crate) struct Log<O: Drop> {
+    last: Vec<O, Global>,
+    last_done: usize,
+    pending: Vec<O, Global>,
+    pending_done: usize,
+    ghost bounds: { (last_done ≤ length last.items) × (pending_done ≤ length pending.items) },
+}
+
+impl<O: Drop> Log<O> {
+    ghost use Rattle.two_copies.specs.Log.{missing_in, pending_in};
+
+    pub(crate) fn new(alloc: Global) -> Log<O>
+        ensures pending { pending_in result ≡ [] }
+        ensures missing { missing_in result ≡ [] }
+    {
+        Log {
+            last: Vec::new(alloc),
+            last_done: 0,
+            pending: Vec::new(alloc),
+            pending_done: 0,
+        }
+    }
+
+    /// Puts an operation behind the pending ones.
+    pub(crate) fn push(&mut self, operation: O) -> Result<(), AllocError>
+        ensures pending { MatchResult result
+            (λ _. pending_in self.new ≡ pending_in self.old ++ operation ∷ [])
+            (λ _. pending_in self.new ≡ pending_in self.old) }
+        ensures missing { MatchResult result
+            (λ _. missing_in self.new ≡ missing_in self.old ++ operation ∷ [])
+            (λ _. missing_in self.new ≡ missing_in self.old) }
+    {
+        self.pending.push(operation)?;
+        Ok(())
+    }
+
+    /// Applies what the copy lacks, as far as memory lasts. A later call goes on from there.
+    pub(crate) fn bring_up<T: Apply<O>>(&mut self, copy: &mut T) -> Result<(), AllocError>
+        ensures pending { pending_in self.new ≡ pending_in self.old }
+        ensures alike { fold T.applied (T.state copy.new) (missing_in self.new)
+            ≡ fold T.applied (T.state copy.old) (missing_in self.old) }
+        ensures all { OnOk result (missing_in self.new ≡ []) }
+    {
+        apply_from(copy, &self.last, &mut self.last_done)?;
+        apply_from(copy, &self.pending, &mut self.pending_done)
+    }
+
+    /// The copies change their parts, and the one that is no longer shown lacks what was pending.
+    pub(crate) fn turn(&mut self)
+        ensures pending { pending_in self.new ≡ [] }
+        ensures missing { missing_in self.new ≡ pending_in self.old }
+    {
+        mem::swap(&mut self.last, &mut self.pending);
+        self.pending.clear();
+        self.last_done = 0;
+        self.pending_done = 0;
+    }
+}
+
+/// Applies the operations behind the first `done`, and counts them.
+fn apply_from<T: Apply<O>, O>(
+    copy: &mut T,
+    operations: &[O],
+    done: &mut usize,
+) -> Result<(), AllocError>
+    requires { done.old ≤ length operations.now }
+    ensures bound { done.new ≤ length operations.now }
+    ensures all { OnOk result (done.new ≡ length operations.now) }
+    ensures alike { fold T.applied (T.state copy.new) (drop done.new operations.now)
+        ≡ fold T.applied (T.state copy.old) (drop done.old operations.now) }
+{
+    while *done < operations.len() {
+        copy.apply(&operations[*done])?;
+        *done += 1;
+    }
+    Ok(())
+}

@@ -1,0 +1,118 @@
+//! The writer's end of a place.
+ghost use Rattle.std.specs.Prelude.{◌≡◌, true, is_none, Some, None, IfOk};
+ghost use Rattle.std.specs.Arc.{arc_value};
+ghost use Rattle.two_copies.specs.Place.{known_of, writing};
+ghost use Rattle.two_copies.specs.Reader.{seen_by};
+ghost use Rattle.two_copies.specs.Seated.{IsSeated};
+ghost use Rattle.two_copies.specs.Slot.{Follows, Holds};
+
+use crate::place::board::lay;
+use crate::place::steps::{divide, reclaim, show};
+use crate::place::{Board, PlaceSeat, Slot};
+use crate::reader::Reader;
+use crate::rule::CopyRule;
+use std::alloc::{AllocError, Global};
+use std::mem;
+use std::sync::Arc;
+
+/// The writer's end.
+#[derive(Drop)]
+pub(crate) struct WriterEnd<T: Drop, F: CopyRule<T>> {
+    board: Arc<Board<T, F>, Global>,
+    seat: PlaceSeat<T>,
+    newest: bool,
+    /// Whether the writer has the slot that is not the newest.
+    has_other: bool,
+    /// What is to be shown next. Nothing, unless a publication is about to go through.
+    next: Slot<T>,
+    /// Whether nothing is shown, since the copies end.
+    is_closed: bool,
+    ghost seated: { IsSeated seat.table_id (arc_value board).shared.table_id },
+    ghost writes: { seat.me ≡ writing newest has_other (known_of seat.me.0) },
+    ghost closed: { is_closed ≡ is_none (known_of seat.me.0) },
+}
+
+impl<T: Drop, F: CopyRule<T>> WriterEnd<T, F> {
+    ghost use Rattle.two_copies.specs.WriterEnd.{IsClosedAt, shown_at, slot_at};
+
+    /// A place that shows this copy, and its reader.
+    pub(crate) fn new(
+        alloc: Global,
+        first: Arc<T, Global>,
+    ) -> Result<(WriterEnd<T, F>, Reader<T, F>), AllocError>
+        requires { F.holds (arc_value first) }
+        ensures shown { IfOk result (λ r. shown_at r.0 ≡ Some (arc_value first)) }
+        ensures seen { IfOk result (λ r. seen_by r.1 ≡ Some (arc_value first)) }
+    {
+        let (board, mut seat) = lay(alloc, first)?;
+        let theirs = divide(&board, &mut seat);
+        let reader = Reader::new(Arc::try_clone(&board)?, theirs);
+        let end = WriterEnd {
+            board,
+            seat,
+            newest: false,
+            has_other: false,
+            next: None,
+            is_closed: false,
+        };
+        Ok((end, reader))
+    }
+
+    /// Takes the slot that is not the newest, if the reader does not have it, and drops what was to be shown next.
+    /// Returns whether the writer has the slot.
+    pub(crate) fn reclaim(&mut self) -> bool
+        ensures has { self.new.has_other ≡ result }
+        ensures keeps { self.old.has_other ≡ true → result ≡ true }
+        ensures next { self.new.next ≡ None }
+        ensures shown { slot_at self.new ≡ slot_at self.old }
+        ensures closed { self.new.is_closed ≡ self.old.is_closed }
+    {
+        self.next = None;
+        if !self.has_other {
+            self.has_other = reclaim(&self.board, &mut self.seat, self.newest);
+        }
+        self.has_other
+    }
+
+    /// Keeps what is to be shown next.
+    pub(crate) fn prepare(&mut self, next: Arc<T, Global>)
+        ensures next { self.new.next ≡ Some next }
+        ensures has { self.new.has_other ≡ self.old.has_other }
+        ensures shown { slot_at self.new ≡ slot_at self.old }
+    {
+        self.next = Some(next);
+    }
+
+    /// Shows what was to be shown next, and if that is nothing, looks find that the copies have ended.
+    pub(crate) fn show(&mut self)
+        requires has { self.old.has_other ≡ true }
+        requires holds { Holds F.holds self.old.next }
+        requires follows { Follows F.follows (slot_at self.old) self.old.next }
+        ensures shown { slot_at self.new ≡ self.old.next }
+        ensures closed { self.new.is_closed ≡ is_none self.old.next }
+    {
+        let next = mem::replace(&mut self.next, None);
+        self.is_closed = next.is_none();
+        self.has_other = show(&self.board, &mut self.seat, self.newest, next);
+        self.newest = !self.newest;
+    }
+
+    /// Shows nothing any more, and takes both slots. Returns whether the writer has them: it does not while the reader
+    /// looks.
+    pub(crate) fn close(&mut self) -> bool
+        ensures { result ≡ true → IsClosedAt self.new }
+    {
+        if !self.is_closed {
+            if !self.reclaim() {
+                return false;
+            }
+            self.show();
+        }
+        self.reclaim()
+    }
+
+    /// Whether its reader was dropped.
+    pub(crate) fn is_left(&self) -> bool {
+        Arc::strong_count(&self.board) == 1
+    }
+}

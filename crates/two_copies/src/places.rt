@@ -1,0 +1,105 @@
+//! What the writer does at each place in turn.
+ghost use Rattle.std.specs.Prelude.{◌≡◌, ◌+◌, ◌≤◌, ◌↔◌, true, length, All, IsTrue, OnOk};
+ghost use Rattle.std.specs.Arc.{arc_value};
+ghost use Rattle.two_copies.specs.WriterEnd.{IsClosedAt, IsFreeAt, IsNextAt, ShowsAt};
+
+use crate::place::writer_end::WriterEnd;
+use crate::rule::CopyRule;
+use std::alloc::{AllocError, Global};
+use std::sync::Arc;
+
+pub(crate) type Places<T, F> = Vec<WriterEnd<T, F>, Global>;
+
+/// Puts a place behind the others.
+pub(crate) fn add<T: Drop, F: CopyRule<T>>(
+    places: &mut Places<T, F>,
+    end: WriterEnd<T, F>,
+) -> Result<(), AllocError>
+    ensures len { length places.new.items ≤ length places.old.items + 1 }
+    ensures shown { (shown : T) → ShowsAt shown end → All (ShowsAt shown) places.old.items → All (ShowsAt shown) places.new.items }
+{
+    places.reserve(1)?;
+    places.push_reserved(end);
+    Ok(())
+}
+
+/// Takes the slot for the next copy from each place, until a reader has one. Returns whether it has all.
+pub(crate) fn reclaim_all<T: Drop, F: CopyRule<T>>(places: &mut Places<T, F>) -> bool
+    ensures free { IsTrue result ↔ All IsFreeAt places.new.items }
+    ensures keeps { All IsFreeAt places.old.items → result ≡ true }
+    ensures len { length places.new.items ≡ length places.old.items }
+    ensures shown { (shown : T) → All (ShowsAt shown) places.old.items → All (ShowsAt shown) places.new.items }
+{
+    let mut next: usize = 0;
+    while next < places.len() {
+        if !places[next].reclaim() {
+            return false;
+        }
+        next += 1;
+    }
+    true
+}
+
+/// Makes a share of this copy for each place, to be shown there next.
+pub(crate) fn prepare_all<T: Drop, F: CopyRule<T>>(
+    places: &mut Places<T, F>,
+    copy: &Arc<T, Global>,
+) -> Result<(), AllocError>
+    requires { All IsFreeAt places.old.items }
+    ensures free { All IsFreeAt places.new.items }
+    ensures next { OnOk result (All (IsNextAt (arc_value copy.now)) places.new.items) }
+    ensures len { length places.new.items ≡ length places.old.items }
+    ensures shown { (shown : T) → All (ShowsAt shown) places.old.items → All (ShowsAt shown) places.new.items }
+{
+    let mut next: usize = 0;
+    while next < places.len() {
+        let share = Arc::try_clone(copy)?;
+        places[next].prepare(share);
+        next += 1;
+    }
+    Ok(())
+}
+
+/// Shows the copy of this value at each place, where a share of it is ready.
+pub(crate) fn show_all<T: Drop, F: CopyRule<T>>(
+    places: &mut Places<T, F>,
+    shown: &Arc<T, Global>,
+    copy: &Arc<T, Global>,
+)
+    requires free { All IsFreeAt places.old.items }
+    requires next { All (IsNextAt (arc_value copy.now)) places.old.items }
+    requires shown { All (ShowsAt (arc_value shown.now)) places.old.items }
+    requires holds { F.holds (arc_value copy.now) }
+    requires follows { F.follows (arc_value shown.now) (arc_value copy.now) }
+    ensures shown { All (ShowsAt (arc_value copy.now)) places.new.items }
+    ensures len { length places.new.items ≡ length places.old.items }
+{
+    let mut next: usize = 0;
+    while next < places.len() {
+        places[next].show();
+        next += 1;
+    }
+}
+
+/// Removes the places whose readers were dropped.
+pub(crate) fn remove_left<T: Drop, F: CopyRule<T>>(places: &mut Places<T, F>)
+    ensures len { length places.new.items ≤ length places.old.items }
+    ensures shown { (shown : T) → All (ShowsAt shown) places.old.items → All (ShowsAt shown) places.new.items }
+{
+    places.retain(|place| !place.is_left());
+}
+
+/// Closes each place. Returns whether the writer has all that was there.
+pub(crate) fn close_all<T: Drop, F: CopyRule<T>>(places: &mut Places<T, F>) -> bool
+    ensures { result ≡ true → All IsClosedAt places.new.items }
+{
+    let mut are_closed = true;
+    let mut next: usize = 0;
+    while next < places.len() {
+        if !places[next].close() {
+            are_closed = false;
+        }
+        next += 1;
+    }
+    are_closed
+}

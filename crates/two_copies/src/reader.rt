@@ -1,0 +1,108 @@
+//! A reader and its looks.
+ghost use Rattle.std.specs.Prelude.{◌≡◌, [], ◌∷◌, Some, None, IfErr, IfOk, IsSomeAnd};
+ghost use Rattle.std.specs.Arc.{arc_value};
+ghost use Rattle.two_copies.specs.Place.{index_of, known_of};
+ghost use Rattle.two_copies.specs.Seated.{IsSeated};
+ghost use Rattle.two_copies.specs.declared.place.Part.TheVariants.{Idle, Looking};
+
+use crate::place::steps::{enter, leave};
+use crate::place::{Board, PlaceSeat};
+use crate::rule::CopyRule;
+use std::alloc::Global;
+use std::sync::Arc;
+
+/// A reader, which looks at nothing. It has a place of its own, and may move to another thread.
+///
+/// Contracts see what it saw last (`seen_by`): what was shown when it was made, or what its last look found; nothing
+/// once it found that the copies have ended.
+#[derive(Drop)]
+pub struct Reader<T: Drop, F: CopyRule<T>> {
+    board: Arc<Board<T, F>, Global>,
+    seat: PlaceSeat<T>,
+    ghost seated: { IsSeated seat.table_id (arc_value board).shared.table_id },
+    ghost idle: { seat.me ≡ (Idle (known_of seat.me.0), []) },
+}
+
+/// A look at the copy that was shown when it began. It shows the same value as long as it is held, lets the next
+/// publication go through, and holds up the one after it. A look that is dropped leaves too, and one that is forgotten
+/// holds publications up for good.
+pub struct Look<T: Drop, F: CopyRule<T>> {
+    board: Arc<Board<T, F>, Global>,
+    seat: PlaceSeat<T>,
+    slot: bool,
+    shown: Arc<T, Global>,
+    ghost seated: { IsSeated seat.table_id (arc_value board).shared.table_id },
+    ghost looks: { seat.me ≡ (Looking slot (Some shown), (index_of slot, None) ∷ []) },
+}
+
+impl<T: Drop, F: CopyRule<T>> Reader<T, F> {
+    ghost use Rattle.two_copies.specs.Reader.{seen_by, shown_in};
+
+    pub(crate) fn new(board: Arc<Board<T, F>, Global>, seat: PlaceSeat<T>) -> Reader<T, F>
+        requires seated { IsSeated seat.table_id (arc_value board).shared.table_id }
+        requires idle { seat.me ≡ (Idle (known_of seat.me.0), []) }
+        ensures { result.seat ≡ seat }
+    {
+        Reader { board, seat }
+    }
+
+    /// A look at the copy that is shown. It takes no lock and no memory, does not wait, and has no loop: one step on
+    /// the word of its place.
+    ///
+    /// If the copies have ended, or are ending, the reader comes back; then so it does from each later look.
+    #[inline]
+    pub fn look(self) -> Result<Look<T, F>, Reader<T, F>>
+        ensures holds { IfOk result (λ look. F.holds (shown_in look)) }
+        ensures follows { IfOk result (λ look. IsSomeAnd (seen_by self) (λ seen. F.follows seen (shown_in look))) }
+        ensures ended { IfErr result (λ reader. seen_by reader ≡ None) }
+    {
+        let Reader { board, mut seat } = self;
+        let (slot, shown) = enter(&board, &mut seat);
+        match shown {
+            Some(shown) => Ok(Look {
+                board,
+                seat,
+                slot,
+                shown,
+            }),
+            None => {
+                leave(&board, &mut seat, slot, None);
+                Err(Reader { board, seat })
+            }
+        }
+    }
+}
+
+impl<T: Drop, F: CopyRule<T>> Look<T, F> {
+    ghost use Rattle.two_copies.specs.Reader.{seen_by, shown_in};
+
+    /// The value. It costs nothing.
+    #[inline]
+    pub fn get(&self) -> &T
+        ensures { result.now ≡ shown_in self.now }
+    {
+        &self.shown
+    }
+
+    /// Ends the look. It takes no lock and no memory, does not wait, and has no loop: one step on the word of its
+    /// place, and a second one if a publication went through meanwhile.
+    #[inline]
+    pub fn leave(self) -> Reader<T, F>
+        ensures { seen_by result ≡ Some (shown_in self) }
+    {
+        let Look {
+            board,
+            mut seat,
+            slot,
+            shown,
+        } = self;
+        leave(&board, &mut seat, slot, Some(shown));
+        Reader { board, seat }
+    }
+}
+
+impl<T: Drop, F: CopyRule<T>> Drop for Look<T, F> {
+    fn drop(self) {
+        drop(self.leave());
+    }
+}

@@ -1,0 +1,30 @@
+use crate::sum::{Sums, end, look_once, publish, sums};
+use std::test::Fail;
+use two_copies::Unpublished;
+
+// Publications of 1, 2 and 3, the first of which are refused memory: what is shown after each try.
+fn goes_on_after_refusals(copies: &mut Sums) -> Option<[u64; 4]> {
+    let reader = copies.reader().ok()?;
+    for operation in 1..4u64 {
+        copies.push(operation).ok()?;
+    }
+    let mut shown = [0; 4];
+    for try_of in 0..3usize {
+        let refused = publish(copies);
+        if matches!(refused, Err(Unpublished::Held)) {
+            return None;
+        }
+        shown[try_of] = copies.shown().total();
+    }
+    shown[3] = look_once(reader)?;
+    Some(shown)
+}
+
+#[test]
+fn refused_memory_leaves_all_as_it_was(rt: HostRuntime) -> Result<(), Fail> {
+    let mut copies = sums(rt.alloc(), 10, 2)?;
+    let shown = goes_on_after_refusals(&mut copies);
+    assert_eq!(rt; end(&rt, copies), 16);
+    assert!(rt; shown == Some([10, 10, 16, 16]));
+    Ok(())
+}

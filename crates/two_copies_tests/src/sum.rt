@@ -1,0 +1,120 @@
+//! A sum that only rises, to try the copies with.
+ghost use Rattle.std.specs.Prelude.{◌≡◌, ◌+◌, ◌-◌, ◌^◌, ◌≤◌, min, IfOk};
+ghost use Rattle.two_copies.specs.Reader.{seen_by, shown_in};
+
+use std::alloc::{AllocError, Global};
+use std::process::Abort;
+use two_copies::{Apply, Copies, CopyRule, Look, Reader, Unpublished};
+
+/// The sum. It is written twice, one after the other, so that it can say whether it is whole, and it may be told to
+/// refuse some operations as if memory was refused.
+#[derive(Drop)]
+pub struct Sum {
+    total: u64,
+    again: u64,
+    refusals: u64,
+}
+
+impl Sum {
+    /// A sum that refuses so often before it takes an operation.
+    pub fn new(total: u64, refusals: u64) -> Sum
+        ensures { result.total ≡ total }
+    {
+        Sum {
+            total,
+            again: total,
+            refusals,
+        }
+    }
+
+    pub fn total(&self) -> u64
+        ensures { result ≡ self.now.total }
+    {
+        self.total
+    }
+
+    pub fn is_whole(&self) -> bool {
+        self.total == self.again
+    }
+}
+
+impl Apply<u64> for Sum {
+    ghost use Rattle.two_copies_tests.specs.Sum.{added};
+
+    type State = u64;
+
+    ghost state = { λ sum. sum.total };
+
+    ghost applied = { added };
+
+    fn apply(&mut self, operation: &u64) -> Result<(), AllocError> {
+        if self.refusals > 0 {
+            self.refusals -= 1;
+            return Err(AllocError);
+        }
+        self.total = self.total.saturating_add(*operation);
+        self.again = self.again.saturating_add(*operation);
+        Ok(())
+    }
+}
+
+/// A sum is shown after one that is no greater.
+pub struct Rises;
+
+impl CopyRule<Sum> for Rises {
+    ghost use Rattle.std.specs.Prelude.{◌≤◌};
+    ghost use Rattle.std.proofs.Common.{arith};
+
+    ghost holds = { λ _. Unit {0} };
+
+    ghost follows = { λ earlier later. earlier.total ≤ later.total };
+
+    ghost follows_itself = { λ x. Prim.omega arith };
+
+    ghost follows_through = { λ x y z first second. Prim.omega (arith, first, second) };
+}
+
+pub type Sums = Copies<Sum, u64, Rises>;
+
+pub type SumReader = Reader<Sum, Rises>;
+
+pub type SumLook = Look<Sum, Rises>;
+
+/// Two equal sums, which refuse so often.
+pub fn sums(alloc: Global, total: u64, refusals: u64) -> Result<Sums, AllocError> {
+    Sums::new(alloc, Sum::new(total, 0), Sum::new(total, refusals))
+}
+
+/// Publishes what is pending.
+pub fn publish(sums: &mut Sums) -> Result<(), Unpublished> {
+    sums.publish()
+}
+
+/// Whether a publication is held.
+pub fn is_held(sums: &mut Sums) -> bool {
+    matches!(publish(sums), Err(Unpublished::Held))
+}
+
+/// Ends the copies, which no look may hold up, and returns the last sum.
+pub fn end<R: Abort>(rt: &R, sums: Sums) -> u64 {
+    match sums.end() {
+        Ok(sum) => sum.total(),
+        Err(_ending) => panic!(rt; "a look holds up the end"),
+    }
+}
+
+/// Looks once.
+pub fn look_once(reader: SumReader) -> Option<u64> {
+    Some(reader.look().ok()?.get().total())
+}
+
+/// Looks twice, and returns both sums. The second is no less than the first, in every schedule.
+pub fn look_twice(reader: SumReader) -> Result<(u64, u64, SumReader), SumReader>
+    ensures { IfOk result (λ r. r.0 ≤ r.1) }
+{
+    let look = reader.look()?;
+    let first = look.get().total();
+    let look = look.leave().look()?;
+    let second = look.get().total();
+    Ok((first, second, look.leave()))
+}
