@@ -1,6 +1,6 @@
 -- The triggering criteria of a detection point (TS 23.078), as clauses see them: O-BcsmCamelTDP-Criteria
 -- and T-BCSM-CAMEL-TDP-Criteria of TS 29.002. An empty list of codes or causes is no criterion.
-use Rattle.std.specs.Prelude.{◌≡◌, ℕ, Bool, not, ◌==◌, ◌&&◌, ◌||◌, nat_le, List, [], length, Option, Some, None, Result, Ok, Err, if◌then◌else◌}
+use Rattle.std.specs.Prelude.{◌≡◌, ℕ, Bool, not, ◌==◌, ◌&&◌, ◌||◌, nat_le, List, [], length, Option, None, Result, Ok, Err, if◌then◌else◌}
 use Rattle.std.specs.List.{list_all}
 use Rattle.camel_criteria.specs.Cause.{max_cause}
 use Rattle.camel_criteria.specs.declared.basic_service.BasicService.{BasicService}

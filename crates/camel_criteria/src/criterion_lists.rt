@@ -1,4 +1,4 @@
-ghost use Rattle.std.specs.Prelude.{◌≡◌, ◌≤◌, [], IfOk, length};
+ghost use Rattle.std.specs.Prelude.{◌≡◌, ◌<◌, ◌≤◌, [], IfOk, length};
 ghost use Rattle.std.specs.List.{list_any};
 ghost use Rattle.camel_tbcd.specs.Address.{octets};
 ghost use Rattle.camel_criteria.specs.CriterionLists.{criterion_of};
@@ -7,34 +7,75 @@ ghost use Rattle.camel_criteria.specs.Met.{number_matches};
 use crate::criteria::MatchType;
 use crate::few_numbers::FewNumbers;
 use crate::in_place::InPlace;
-use crate::number_criterion::MAX_LENGTHS;
+use crate::number_criterion::{MAX_LENGTHS, MAX_NUMBERS};
 use camel_tbcd::{Address, IsdnAddress, Profile};
 use std::alloc::{AllocError, Global};
 use std::marker::Model;
 
-// The lists of a destination number criterion, with its match type. One to three numbers and no length, as most criteria
-// list, are kept in place, so that they are read with the criterion; other lists are kept apart from it.
+// The lists of a destination number criterion, with its match type. Lists that are short are kept in place, so that they
+// are read with the criterion: one to three numbers and no length, as most criteria list, or up to two numbers with
+// lengths. Others are kept apart from it, in one block.
 #[derive(Drop)]
 pub(crate) enum CriterionLists {
     FewEnabling(FewNumbers),
     FewInhibiting(FewNumbers),
-    Apart(Box<ListsApart>),
+    Short(Lists<MOST_WITH_LENGTHS>),
+    Apart(Box<Lists<MAX_NUMBERS>>),
 }
 
-// A criterion of any lists.
+// How many numbers are kept in place beside lengths: with as many a criterion takes 32 octets.
+const MOST_WITH_LENGTHS: usize = 2;
+
+// The lists of a criterion of at most `MOST` numbers.
 #[derive(Drop)]
-pub(crate) struct ListsApart {
+pub(crate) struct Lists<const MOST: usize> {
     match_type: MatchType,
-    numbers: Vec<IsdnAddress>,
+    numbers: InPlace<IsdnAddress, MOST>,
     lengths: InPlace<u8, MAX_LENGTHS>,
 }
 
-impl Model for ListsApart {
+impl<const MOST: usize> Model for Lists<MOST> {
     ghost use Rattle.camel_criteria.specs.Criteria.{NumberCriterionData};
 
     ghost Value = { NumberCriterionData };
 
-    ghost view = { λ a. record { match_type = a.match_type; numbers = a.numbers.items; lengths = a.lengths } };
+    ghost view = { λ a. record { match_type = a.match_type; numbers = a.numbers; lengths = a.lengths } };
+}
+
+impl<const MOST: usize> Lists<MOST> {
+    // Keeps the lists.
+    fn from_slices(match_type: MatchType, numbers: &[IsdnAddress], lengths: &[u8]) -> Self
+        requires numbers { length numbers.now ≤ MOST }
+        requires lengths { length lengths.now ≤ MAX_LENGTHS }
+        requires counted { MOST < 256 }
+        ensures { result ≡ record { match_type = match_type; numbers = numbers.now; lengths = lengths.now } }
+    {
+        Lists {
+            match_type,
+            numbers: InPlace::from_slice(numbers, IsdnAddress::from_bytes(&[0]).unwrap()),
+            lengths: InPlace::from_slice(lengths, 0),
+        }
+    }
+
+    fn copy(&self) -> Self
+        ensures { result ≡ self.now }
+    {
+        Lists {
+            match_type: self.match_type,
+            numbers: self.numbers.copy(),
+            lengths: self.lengths.copy(),
+        }
+    }
+}
+
+impl<const MOST: usize> Clone for Lists<MOST> {
+    ghost use Rattle.std.specs.Prelude.{◌≡◌};
+
+    ghost is_clone = { λ old new. new ≡ old };
+
+    fn clone(&self) -> Result<Self, AllocError> {
+        Ok(self.copy())
+    }
 }
 
 impl CriterionLists {
@@ -45,20 +86,20 @@ impl CriterionLists {
         numbers: &[IsdnAddress],
         lengths: &[u8],
     ) -> Result<CriterionLists, AllocError>
-        requires { length lengths.now ≤ MAX_LENGTHS }
+        requires numbers { length numbers.now ≤ MAX_NUMBERS }
+        requires lengths { length lengths.now ≤ MAX_LENGTHS }
         ensures { IfOk result (λ lists. criterion_of lists ≡ record { match_type = match_type; numbers = numbers.now; lengths = lengths.now }) }
     {
-        match FewNumbers::from_slice(numbers) {
-            Some(numbers) if lengths.is_empty() => Ok(CriterionLists::few(match_type, numbers)),
-            _ => CriterionLists::apart(
-                alloc,
-                ListsApart {
-                    match_type,
-                    numbers: Vec::from_slice(alloc, numbers)?,
-                    lengths: InPlace::from_slice(lengths, 0),
-                },
-            ),
-        }
+        Ok(match FewNumbers::from_slice(numbers) {
+            Some(few) if lengths.is_empty() => CriterionLists::few(match_type, few),
+            _ if numbers.len() <= MOST_WITH_LENGTHS => {
+                CriterionLists::Short(Lists::from_slices(match_type, numbers, lengths))
+            }
+            _ => {
+                let lists = Lists::from_slices(match_type, numbers, lengths);
+                CriterionLists::Apart(Box::new(alloc, lists)?)
+            }
+        })
     }
 
     fn few(match_type: MatchType, numbers: FewNumbers) -> CriterionLists
@@ -70,18 +111,13 @@ impl CriterionLists {
         }
     }
 
-    fn apart(alloc: Global, lists: ListsApart) -> Result<CriterionLists, AllocError>
-        ensures { IfOk result (λ kept. criterion_of kept ≡ lists) }
-    {
-        Ok(CriterionLists::Apart(Box::new(alloc, lists)?))
-    }
-
     pub(crate) fn match_type(&self) -> MatchType
         ensures { result ≡ (criterion_of self.now).match_type }
     {
         match self {
             CriterionLists::FewEnabling(_) => MatchType::Enabling,
             CriterionLists::FewInhibiting(_) => MatchType::Inhibiting,
+            CriterionLists::Short(lists) => lists.match_type,
             CriterionLists::Apart(lists) => lists.match_type,
         }
     }
@@ -93,7 +129,8 @@ impl CriterionLists {
             CriterionLists::FewEnabling(numbers) | CriterionLists::FewInhibiting(numbers) => {
                 numbers.as_slice()
             }
-            CriterionLists::Apart(lists) => &lists.numbers,
+            CriterionLists::Short(lists) => lists.numbers.as_slice(),
+            CriterionLists::Apart(lists) => lists.numbers.as_slice(),
         }
     }
 
@@ -102,6 +139,7 @@ impl CriterionLists {
     {
         match self {
             CriterionLists::FewEnabling(_) | CriterionLists::FewInhibiting(_) => &[],
+            CriterionLists::Short(lists) => lists.lengths.as_slice(),
             CriterionLists::Apart(lists) => lists.lengths.as_slice(),
         }
     }
@@ -114,7 +152,9 @@ impl CriterionLists {
             CriterionLists::FewEnabling(numbers) | CriterionLists::FewInhibiting(numbers) => {
                 numbers.has_front_of(destination, profile)
             }
-            CriterionLists::Apart(lists) => has_front_of(&lists.numbers, destination, profile),
+            CriterionLists::Short(_) | CriterionLists::Apart(_) => {
+                has_front_of(self.numbers(), destination, profile)
+            }
         }
     }
 
@@ -124,21 +164,8 @@ impl CriterionLists {
         Ok(match self {
             CriterionLists::FewEnabling(numbers) => CriterionLists::FewEnabling(*numbers),
             CriterionLists::FewInhibiting(numbers) => CriterionLists::FewInhibiting(*numbers),
+            CriterionLists::Short(lists) => CriterionLists::Short(lists.copy()),
             CriterionLists::Apart(lists) => CriterionLists::Apart(lists.clone()?),
-        })
-    }
-}
-
-impl Clone for ListsApart {
-    ghost use Rattle.std.specs.Prelude.{◌≡◌};
-
-    ghost is_clone = { λ old new. new ≡ old };
-
-    fn clone(&self) -> Result<ListsApart, AllocError> {
-        Ok(ListsApart {
-            match_type: self.match_type,
-            numbers: self.numbers.clone()?,
-            lengths: self.lengths.copy(),
         })
     }
 }

@@ -1,6 +1,6 @@
 //! The triggering criteria of CAMEL phase 3 (3GPP TS 23.078), whether an event meets them, and the numbers of
-//! the product's refusals. Most criteria take no memory: lists of more than three numbers or with lengths do, criteria of
-//! the O-CSI of other kinds than the number do, and so do copies of these.
+//! the product's refusals. Most criteria take no memory: lists of more than three numbers do, and of more than two with
+//! lengths; criteria of the O-CSI of other kinds than the number do, and so do copies of these.
 #![tactic(auto)]
 
 mod basic_service;
