@@ -1,8 +1,8 @@
-ghost use Rattle.std.specs.Prelude.{◌≡◌, ◌<◌, ◌≤◌, [], IfOk, length};
+ghost use Rattle.std.specs.Prelude.{◌≡◌, ◌==◌, ◌<◌, ◌≤◌, [], IfOk, length};
 ghost use Rattle.std.specs.List.{list_any};
 ghost use Rattle.camel_tbcd.specs.Address.{octets};
 ghost use Rattle.camel_criteria.specs.CriterionLists.{criterion_of};
-ghost use Rattle.camel_criteria.specs.Met.{number_matches};
+ghost use Rattle.camel_criteria.specs.Met.{number_matches, number_met};
 
 use crate::criteria::MatchType;
 use crate::few_numbers::FewNumbers;
@@ -54,6 +54,18 @@ impl<const MOST: usize> Lists<MOST> {
             match_type,
             numbers: InPlace::from_slice(numbers, IsdnAddress::from_bytes(&[0]).unwrap()),
             lengths: InPlace::from_slice(lengths, 0),
+        }
+    }
+
+    // Whether a destination meets the criterion of these lists, under a profile.
+    fn is_met_by(&self, destination: &Address, profile: Profile) -> bool
+        ensures { result ≡ number_met profile self.now (octets destination.now) }
+    {
+        let is_listed = has_front_of(self.numbers.as_slice(), destination, profile)
+            | has_length(self.lengths.as_slice(), destination.digits().len());
+        match self.match_type {
+            MatchType::Enabling => is_listed,
+            MatchType::Inhibiting => !is_listed,
         }
     }
 
@@ -144,17 +156,16 @@ impl CriterionLists {
         }
     }
 
-    // Whether a destination begins with one of the numbers, under a profile.
-    pub(crate) fn has_front_of(&self, destination: &Address, profile: Profile) -> bool
-        ensures { result ≡ list_any (λ listed. number_matches profile listed (octets destination.now)) (criterion_of self.now).numbers }
+    // Whether a destination meets the criterion of these lists, under a profile. Each way of keeping them has its own
+    // comparison, so that the most frequent one has no test of the others.
+    pub(crate) fn is_met_by(&self, destination: &Address, profile: Profile) -> bool
+        ensures { result ≡ number_met profile (criterion_of self.now) (octets destination.now) }
     {
         match self {
-            CriterionLists::FewEnabling(numbers) | CriterionLists::FewInhibiting(numbers) => {
-                numbers.has_front_of(destination, profile)
-            }
-            CriterionLists::Short(_) | CriterionLists::Apart(_) => {
-                has_front_of(self.numbers(), destination, profile)
-            }
+            CriterionLists::FewEnabling(numbers) => numbers.has_front_of(destination, profile),
+            CriterionLists::FewInhibiting(numbers) => !numbers.has_front_of(destination, profile),
+            CriterionLists::Short(lists) => lists.is_met_by(destination, profile),
+            CriterionLists::Apart(lists) => lists.is_met_by(destination, profile),
         }
     }
 
@@ -170,10 +181,18 @@ impl CriterionLists {
     }
 }
 
+// Whether a destination begins with one of the numbers, under a profile.
 fn has_front_of(numbers: &[IsdnAddress], destination: &Address, profile: Profile) -> bool
     ensures { result ≡ list_any (λ listed. number_matches profile listed (octets destination.now)) numbers.now }
 {
     numbers
         .iter()
         .any(|listed| listed.is_front_of(destination, profile))
+}
+
+// Whether the count is one of the lengths.
+fn has_length(lengths: &[u8], count: usize) -> bool
+    ensures { result ≡ list_any (λ listed. listed == count) lengths.now }
+{
+    lengths.iter().any(|length| usize::from(*length) == count)
 }

@@ -4,11 +4,11 @@ ghost use Rattle.std.specs.Option.{option_copied};
 ghost use Rattle.camel_tbcd.specs.Address.{octets};
 ghost use Rattle.camel_criteria.specs.BasicService.{covers};
 ghost use Rattle.camel_criteria.specs.Event.{o_event_data};
-ghost use Rattle.camel_criteria.specs.Met.{basic_met, cause_met, held_number_met, is_listed, number_met, o_met, t_met, type_met};
+ghost use Rattle.camel_criteria.specs.Met.{basic_met, cause_met, held_number_met, o_met, t_met, type_met};
 
 use crate::basic_service::{BasicService, covers};
 use crate::cause::Cause;
-use crate::criteria::{CallType, MatchType};
+use crate::criteria::CallType;
 use crate::event::{OEvent, TEvent};
 use crate::number_criterion::NumberCriterion;
 use crate::o_criteria::OCriteria;
@@ -50,32 +50,9 @@ fn held_number_met(
     ensures { result ≡ held_number_met profile (option_copied criterion.entry) (octets destination.now) }
 {
     match criterion {
-        Some(criterion) => number_met(criterion, destination, profile),
+        Some(criterion) => criterion.is_met_by(destination, profile),
         None => true,
     }
-}
-
-fn number_met(criterion: &NumberCriterion, destination: &Address, profile: Profile) -> bool
-    ensures { result ≡ number_met profile criterion.now (octets destination.now) }
-{
-    let listed = is_listed(criterion, destination, profile);
-    match criterion.match_type() {
-        MatchType::Enabling => listed,
-        MatchType::Inhibiting => !listed,
-    }
-}
-
-fn is_listed(criterion: &NumberCriterion, destination: &Address, profile: Profile) -> bool
-    ensures { result ≡ is_listed profile criterion.now (octets destination.now) }
-{
-    criterion.lists_front_of(destination, profile)
-        | has_length(criterion.lengths(), destination.digits().len())
-}
-
-fn has_length(lengths: &[u8], count: usize) -> bool
-    ensures { result ≡ list_any (λ listed. listed == count) lengths.now }
-{
-    lengths.iter().any(|listed| usize::from(*listed) == count)
 }
 
 fn basic_met(listed: &[BasicService], call: BasicService) -> bool

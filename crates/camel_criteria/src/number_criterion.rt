@@ -1,9 +1,9 @@
 ghost use Rattle.std.specs.Prelude.{◌≡◌, [], IfErr, slice_get};
-ghost use Rattle.std.specs.List.{list_all, list_any};
+ghost use Rattle.std.specs.List.{list_all};
 ghost use Rattle.std.specs.Option.{option_map};
 ghost use Rattle.camel_tbcd.specs.Address.{octets};
 ghost use Rattle.camel_criteria.specs.Criteria.{is_length, number_criterion_of};
-ghost use Rattle.camel_criteria.specs.Met.{number_matches};
+ghost use Rattle.camel_criteria.specs.Met.{number_met};
 ghost use Rattle.camel_criteria.specs.Refusal.{MakesOf};
 
 use crate::criteria::MatchType;
@@ -92,11 +92,11 @@ impl NumberCriterion {
         }
     }
 
-    // Whether a destination begins with a listed number, under a profile.
-    pub(crate) fn lists_front_of(&self, destination: &Address, profile: Profile) -> bool
-        ensures { result ≡ list_any (λ listed. number_matches profile listed (octets destination.now)) self.now.numbers }
+    // Whether a destination meets it, under a profile.
+    pub(crate) fn is_met_by(&self, destination: &Address, profile: Profile) -> bool
+        ensures { result ≡ number_met profile self.now (octets destination.now) }
     {
-        self.lists.has_front_of(destination, profile)
+        self.lists.is_met_by(destination, profile)
     }
 
     /// The listed lengths, in digits, in the order received.

@@ -3,7 +3,7 @@
 use crate::attempts::{Refusals, again};
 use crate::failure::{Failure, Lost, check};
 use crate::values::{
-    FIFTH, FOURTH, KNOWN, Kind, SECOND, STRANGER, SUBSCRIBERS, full_insert, update_of,
+    FIFTH, FOURTH, KNOWN, Kind, SECOND, SIXTH, STRANGER, SUBSCRIBERS, full_insert, update_of,
 };
 use camel_criteria::Refusal;
 use camel_fixtures::{call_of, imsi_of, row_update};
@@ -15,10 +15,10 @@ fn applied(records: &mut Records, update: &Update) -> Result<(), Failure> {
     Ok(records.apply(update)?)
 }
 
-/// Records of the known subscriber with a row, of a stranger with all data, and of two others without CSIs.
+/// Records of the known subscriber with a row, of a stranger with all data, and of three others without CSIs.
 fn set<R: AllocGlobal>(rt: &R, refusals: &mut Refusals) -> Result<Records, Failure> {
     let mut records = Records::new(rt.alloc());
-    for number in [KNOWN, STRANGER, FOURTH, FIFTH] {
+    for number in [KNOWN, STRANGER, FOURTH, FIFTH, SIXTH] {
         let imsi = imsi_of(number)?;
         again(
             &mut refusals.stage,

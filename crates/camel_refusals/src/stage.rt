@@ -40,7 +40,7 @@ pub(crate) struct SubscriberShown {
 pub(crate) struct Shown {
     pub(crate) published: u64,
     pub(crate) pending: u64,
-    subscribers: [SubscriberShown; 6],
+    subscribers: [SubscriberShown; 7],
 }
 
 /// An empty store and its session.
@@ -117,7 +117,7 @@ impl<S: StoreName> Stage<S> {
     }
 
     pub(crate) fn shown(&mut self) -> Result<Shown, Failure> {
-        let [known, second, stranger, fourth, fifth, sixth] = SUBSCRIBERS;
+        let [known, second, stranger, fourth, fifth, sixth, seventh] = SUBSCRIBERS;
         let (published, pending) = self.counts();
         Ok(Shown {
             published,
@@ -129,6 +129,7 @@ impl<S: StoreName> Stage<S> {
                 self.subscriber_shown(fourth)?,
                 self.subscriber_shown(fifth)?,
                 self.subscriber_shown(sixth)?,
+                self.subscriber_shown(seventh)?,
             ],
         })
     }

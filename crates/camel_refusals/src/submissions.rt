@@ -4,7 +4,7 @@ use crate::attempts::{Refusals, again};
 use crate::failure::{Failure, Lost, check};
 use crate::stage::{LIMIT, Stage, set};
 use crate::values::{
-    FIFTH, FOURTH, KNOWN, Kind, SECOND, SIXTH, STRANGER, t_criteria_update, update_of,
+    FIFTH, FOURTH, KNOWN, Kind, SECOND, SEVENTH, SIXTH, STRANGER, t_criteria_update, update_of,
 };
 use camel_criteria::Refusal;
 use camel_fixtures::{entry_update, imsi_of, row_update};
@@ -13,8 +13,8 @@ use camel_vlr::StoreName;
 use std::alloc::Global;
 use std::sync::Wait;
 
-/// Submits an update after a published row of the known subscriber, and pending registers of three others and rows of it
-/// and of one of these.
+/// Submits an update after a published row of the known subscriber, and pending registers of four others and another row
+/// of it.
 pub(crate) fn submit<S: StoreName, R: AllocGlobal + Print + Wait>(
     rt: &R,
     refusals: &mut Refusals,
@@ -43,17 +43,15 @@ pub(crate) fn submit<S: StoreName, R: AllocGlobal + Print + Wait>(
 
 // Submits so many updates that neither the list of what is pending nor the bucket of a table has room for one more.
 fn submit_rows<S: StoreName>(refusals: &mut Refusals, stage: &mut Stage<S>) -> Result<(), Failure> {
-    for number in [FOURTH, FIFTH, SIXTH] {
+    for number in [FOURTH, FIFTH, SIXTH, SEVENTH] {
         let imsi = imsi_of(number)?;
         again(
             &mut refusals.stage,
             || stage.submit(Update::Register { imsi }),
         )?;
     }
-    for number in [FOURTH, KNOWN] {
-        let imsi = imsi_of(number)?;
-        again(&mut refusals.stage, || stage.submit(row_update(imsi)?))?;
-    }
+    let known = imsi_of(KNOWN)?;
+    again(&mut refusals.stage, || stage.submit(row_update(known)?))?;
     Ok(())
 }
 

@@ -10,7 +10,7 @@ use std::alloc::Global;
 /// The subscribers of a stage: the first has data, and the second registers. In a run that submits updates, the third
 /// is never known, and the others come before the second, so that a table asks for a bucket more when that one
 /// registers.
-pub(crate) const SUBSCRIBERS: [u64; 6] = [KNOWN, SECOND, STRANGER, FOURTH, FIFTH, SIXTH];
+pub(crate) const SUBSCRIBERS: [u64; 7] = [KNOWN, SECOND, STRANGER, FOURTH, FIFTH, SIXTH, SEVENTH];
 
 pub(crate) const KNOWN: u64 = 1;
 
@@ -23,6 +23,8 @@ pub(crate) const FOURTH: u64 = 4;
 pub(crate) const FIFTH: u64 = 5;
 
 pub(crate) const SIXTH: u64 = 6;
+
+pub(crate) const SEVENTH: u64 = 7;
 
 /// The kinds of update.
 #[derive(Clone, Copy)]

@@ -136,9 +136,7 @@ fn append_trigger(
     append_decimal(out, u64::from(key))?;
     append_text(out, " ")?;
     append_address(out, scf)?;
-    append_text(out, " ")?;
-    append_text(out, action_text(handling))?;
-    append_text(out, "\n")
+    append_text(out, action_end(handling))
 }
 
 /// Appends the octets of an address in lower-case hexadecimal.
@@ -160,9 +158,7 @@ fn append_reason(out: &mut Vec<u8>, reason: Reason) -> Result<(), AllocError>
     ensures appended { OnOk result (out.new.items ≡ out.old.items ++ codes " none " ++ reason_text reason ++ codes "\n") }
     ensures kept { take (length out.old.items) out.new.items ≡ out.old.items }
 {
-    append_text(out, " none ")?;
-    append_text(out, reason_text(reason))?;
-    append_text(out, "\n")
+    append_text(out, reason_end(reason))
 }
 
 /// Appends a text.
@@ -182,25 +178,25 @@ fn append_decimal(out: &mut Vec<u8>, number: u64) -> Result<(), AllocError>
     append_text(out, digits.format(number))
 }
 
-/// What is done with the call if the dialogue with the gsmSCF fails.
-fn action_text(handling: Handling) -> &'static str
-    ensures { result.now ≡ action_text (action_of handling) }
+/// The end of a line: what is done with the call if the dialogue with the gsmSCF fails.
+fn action_end(handling: Handling) -> &'static str
+    ensures { result.now ≡ codes " " ++ action_text (action_of handling) ++ codes "\n" }
 {
     match on_failure(handling) {
-        CallAction::Continue => "continue",
-        CallAction::Release => "release",
+        CallAction::Continue => " continue\n",
+        CallAction::Release => " release\n",
     }
 }
 
-/// Why a call triggers no service.
-fn reason_text(reason: Reason) -> &'static str
-    ensures { result.now ≡ reason_text reason }
+/// The end of a line: why a call triggers no service.
+fn reason_end(reason: Reason) -> &'static str
+    ensures { result.now ≡ codes " none " ++ reason_text reason ++ codes "\n" }
 {
     match reason {
-        Reason::Unknown => "unknown",
-        Reason::NoCsi => "no-csi",
-        Reason::NotArmed => "not-armed",
-        Reason::Emergency => "emergency",
-        Reason::Criteria => "criteria",
+        Reason::Unknown => " none unknown\n",
+        Reason::NoCsi => " none no-csi\n",
+        Reason::NotArmed => " none not-armed\n",
+        Reason::Emergency => " none emergency\n",
+        Reason::Criteria => " none criteria\n",
     }
 }

@@ -85,7 +85,11 @@ impl<const MOST: usize, E: CriteriaEntry> StoredCsi<MOST, E> {
     pub(crate) fn entry(&self, dp: u8) -> Option<&E>
         ensures { option_copied result ≡ option_and_then (entry_of E.dp_of dp) (stored_in self.now) }
     {
-        find_entry(self.entries()?, dp)
+        match self {
+            StoredCsi::NotStored | StoredCsi::WithoutEntries(_) => None,
+            StoredCsi::WithEntry(_, entry) => find_entry(entry, dp),
+            StoredCsi::WithEntries(_, entries) => find_entry(entries, dp),
+        }
     }
 
     /// The criteria of the CSI, if it is stored.

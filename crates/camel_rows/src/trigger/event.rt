@@ -149,6 +149,9 @@ impl<'a> TdpEvent<Address<'a>> {
 
 impl TdpEvent<CallAddress> {
     /// This event, with its destination borrowed.
+    // As a call of its own: put into its caller, the fields of one kind of event would be written in the pieces of another
+    // kind, and a processor waits when it reads a field that was written in pieces.
+    #[inline(never)]
     pub fn lend(&self) -> Event<'_>
         ensures { event_data result ≡ self.now }
     {

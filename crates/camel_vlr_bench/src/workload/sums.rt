@@ -11,7 +11,7 @@ pub(crate) fn full(decision: &Decision) -> u64 {
         Decision::NoTrigger(reason) => of_reason(*reason),
         Decision::Trigger { row, .. } => {
             let scf = ScfOctets::of(row);
-            shredded(marks(row, row.key(), &scf), scf.first_eight(), scf.ninth())
+            shredded(marks(row, row.key(), &scf), scf.first_eight, scf.ninth)
         }
     }
 }
@@ -25,7 +25,7 @@ pub(crate) fn stable(decision: &Decision) -> u64 {
             let (scf, version) = ScfOctets::of(row).split_last();
             let difference = u64::from(row.key() >> 20 & 0x7F) ^ version;
             let marks = marks(row, row.key() & 0xF_FFFF, &scf);
-            shredded(marks, scf.first_eight(), scf.ninth() | difference << 8)
+            shredded(marks, scf.first_eight, scf.ninth | difference << 8)
         }
     }
 }
@@ -66,56 +66,51 @@ fn marks(row: &TdpRow, key: u32, scf: &ScfOctets) -> u64 {
     u64::from(row.dp()) | handling << 8 | (scf.length as u64) << 16 | u64::from(key) << 32
 }
 
-/// The octets of a gsmSCF address as one number, the first octet lowest.
+/// The octets of a gsmSCF address as numbers: the first eight, the first octet lowest, and the ninth, or 0.
 #[derive(Clone, Copy)]
 struct ScfOctets {
     length: usize,
-    number: u128,
+    first_eight: u64,
+    ninth: u64,
     ghost lengths: { (1 ≤ length) × (length ≤ 9) },
 }
 
 impl ScfOctets {
     fn of(row: &TdpRow) -> ScfOctets {
         let octets = row.scf().bytes();
+        let (first_eight, rest) = octets.split_at(octets.len().min(8));
         ScfOctets {
             length: octets.len(),
-            number: number_in(octets),
+            first_eight: number_in(first_eight),
+            ninth: rest.first().map_or(0, |octet| u64::from(*octet)),
         }
-    }
-
-    fn first_eight(&self) -> u64 {
-        (self.number % (1 << 64)) as u64
-    }
-
-    fn ninth(&self) -> u64 {
-        (self.number >> 64) as u64
     }
 
     /// The octets with a zero in the place of the last one, and the last one.
     fn split_last(self) -> (ScfOctets, u64) {
-        let ScfOctets { length, number } = self;
-        let last = 0xFF << (8 * (length - 1));
-        let rest = ScfOctets {
-            length,
-            number: number & !last,
-        };
-        (rest, ((number & last) >> (8 * (length - 1))) as u64)
+        let mut rest = self;
+        if self.length > 8 {
+            rest.ninth = 0;
+            return (rest, self.ninth);
+        }
+        let place = 8 * (self.length - 1);
+        rest.first_eight &= !(0xFF << place);
+        (rest, self.first_eight >> place & 0xFF)
     }
 }
 
-// Two reads make the number of five to nine octets, so that no branch depends on how many there are.
-fn number_in(octets: &[u8]) -> u128
-    requires { length octets.now ≤ 9 }
+// Two reads make the number of four to eight octets, so that no branch depends on how many there are.
+fn number_in(octets: &[u8]) -> u64
+    requires { length octets.now ≤ 8 }
 {
-    let (Some(first), Some(last)) = (octets.first_chunk::<5>(), octets.last_chunk::<4>()) else {
-        return octets.iter().rev().fold(0, |number: u128, octet| -> u128 {
-            number << 8 | u128::from(*octet)
+    let (Some(first), Some(last)) = (octets.first_chunk::<4>(), octets.last_chunk::<4>()) else {
+        return octets.iter().rev().fold(0, |number: u64, octet| -> u64 {
+            number << 8 | u64::from(*octet)
         });
     };
-    let [a, b, c, d, e] = *first;
-    let first = u64::from_le_bytes([a, b, c, d, e, 0, 0, 0]);
-    let last = u128::from(u32::from_le_bytes(*last));
-    u128::from(first) | last << (8 * (octets.len() - 4))
+    let first = u64::from(u32::from_le_bytes(*first));
+    let last = u64::from(u32::from_le_bytes(*last));
+    first | last << (8 * (octets.len() - 4))
 }
 
 /// How many decisions there were of each reason, in the order in which reasons are looked at, and then of rows.
