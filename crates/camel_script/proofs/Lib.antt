@@ -4,4 +4,3 @@ pub mod FieldLemmas
 pub mod InTurn
 pub mod PartsLemmas
 pub mod ReadRecord
-pub mod TextsLemmas

@@ -1,5 +1,5 @@
 -- What the texts of a script's fields stand for (profile 1's own format).
-use Rattle.std.specs.Prelude.{ℕ, ◌+◌, ◌-◌, ◌*◌, ◌==◌, ◌&&◌, Bool, true, false, nat_le, List, [], ◌∷◌, length, map, fold, codes, slice_index, Option, Some, None, Result, Ok, Err, if◌then◌else◌}
+use Rattle.std.specs.Prelude.{ℕ, ◌+◌, ◌-◌, ◌*◌, ◌==◌, ◌&&◌, Bool, true, false, nat_le, List, [], ◌∷◌, length, fold, codes, slice_index, Option, Some, None, Result, Ok, Err, if◌then◌else◌}
 use Rattle.std.specs.Char.{is_ascii_digit}
 use Rattle.std.specs.List.{list_all}
 use Rattle.std.specs.Str.{bytes_eq}
@@ -14,6 +14,8 @@ use Rattle.camel_criteria.specs.declared.criteria.MatchType.{MatchType}
 use Rattle.camel_criteria.specs.declared.criteria.MatchType.TheVariants.{Inhibiting, Enabling}
 use Rattle.camel_criteria.specs.declared.refusal.Refusal.TheVariants.{UnexpectedDataValue}
 use Rattle.camel_tbcd.specs.AddressLength.{max_address_length, max_isdn_address_length}
+use Rattle.camel_tbcd.specs.Imsi.{imsi_of_ascii}
+use Rattle.camel_tbcd.specs.declared.imsi.ImsiFault.{ImsiFault}
 use Rattle.camel_script.specs.Reading.{◌>>=◌}
 use Rattle.camel_script.specs.declared.text.record_fault.RecordFault.{RecordFault}
 use Rattle.camel_script.specs.declared.text.record_fault.RecordFault.TheVariants.{Word, Hexadecimal, Number, Refused}
@@ -22,15 +24,14 @@ use Rattle.camel_script.specs.declared.text.record_fault.RecordFault.TheVariants
 abbrev pub is_digits : List ℕ → Bool
 is_digits text = list_all is_ascii_digit text
 
--- the values of the characters 0 to 9
-abbrev pub digit_values : List ℕ → List ℕ
-digit_values text = map (λ character. character - 48) text
+-- a text that is no IMSI has the fault of a number
+abbrev pub or_number : Result (List ℕ) ImsiFault → Result (List ℕ) RecordFault
+or_number (Ok digits) = Ok digits
+or_number (Err e) = Err Number
 
 -- IMSI: 5 to 15 characters 0 to 9
 unfoldable pub imsi_of_text : List ℕ → Result (List ℕ) RecordFault
-imsi_of_text text =
-    if nat_le 5 (length text) && nat_le (length text) 15 && is_digits text
-    then Ok (digit_values text) else Err Number
+imsi_of_text text = or_number (imsi_of_ascii text)
 
 -- the number that decimal digits stand for
 abbrev pub number_of : List ℕ → ℕ

@@ -1,7 +1,7 @@
 //! The lines of output. Their texts are put together piece by piece: `format!` takes twice the time for a line.
 //! Each piece goes right behind the last one, so that a line takes no memory of its own.
 
-ghost use Rattle.std.specs.Prelude.{◌≡◌, ◌++◌, IfErr, OnErr, OnOk, codes, length, take};
+ghost use Rattle.std.specs.Prelude.{◌≡◌, ◌++◌, ◌∷◌, [], IfErr, OnErr, OnOk, codes, length, take};
 ghost use Rattle.std.specs.Fmt.{decimal};
 ghost use Rattle.hex.specs.Hex.{encode_lower};
 ghost use Rattle.camel_rows.specs.Outcome.{action_of};
@@ -78,7 +78,7 @@ fn append_numbered(out: &mut Vec<u8>, word: &str, number: u64) -> Result<(), All
 {
     append_text(out, word)?;
     append_decimal(out, number)?;
-    append_text(out, "\n")
+    append_character(out, b'\n')
 }
 
 /// Appends the text of a call that a session decided.
@@ -95,7 +95,7 @@ fn append_served(
     append_decimal(out, session)?;
     append_text(out, " call ")?;
     append_decimal(out, call)?;
-    append_text(out, " ")?;
+    append_character(out, b' ')?;
     append_decided(out, answer)
 }
 
@@ -132,9 +132,9 @@ fn append_trigger(
 {
     append_text(out, " trigger ")?;
     append_decimal(out, u64::from(dp))?;
-    append_text(out, " ")?;
+    append_character(out, b' ')?;
     append_decimal(out, u64::from(key))?;
-    append_text(out, " ")?;
+    append_character(out, b' ')?;
     append_address(out, scf)?;
     append_text(out, action_end(handling))
 }
@@ -167,6 +167,17 @@ fn append_text(out: &mut Vec<u8>, text: &str) -> Result<(), AllocError>
     ensures kept { take (length out.old.items) out.new.items ≡ out.old.items }
 {
     out.extend_from_slice(text.as_bytes())
+}
+
+/// Appends a character.
+fn append_character(out: &mut Vec<u8>, character: u8) -> Result<(), AllocError>
+    ensures appended { OnOk result (out.new.items ≡ out.old.items ++ character ∷ []) }
+    ensures kept { take (length out.old.items) out.new.items ≡ out.old.items }
+{
+    match out.push(character) {
+        Ok(()) => Ok(()),
+        Err(_) => Err(AllocError),
+    }
 }
 
 /// Appends a number in decimal digits.

@@ -4,7 +4,7 @@ ghost use Rattle.std.specs.Prelude.{◌≡◌, ◌≤◌, ◌-◌, IfOk, IsTrue,
 ghost use Rattle.std.specs.Char.{is_ascii_digit};
 ghost use Rattle.std.specs.List.{list_all};
 ghost use Rattle.camel_script.specs.Reading.{ReadsAs};
-ghost use Rattle.camel_script.specs.Texts.{basic_service_of, call_address_of, call_type_of, cause_of_value, decimal_of, digit_values, imsi_of_text, is_digits, isdn_address_of, match_type_of, number_of, octet_of, octets_of, is_forwarded_of};
+ghost use Rattle.camel_script.specs.Texts.{basic_service_of, call_address_of, call_type_of, cause_of_value, decimal_of, imsi_of_text, is_digits, isdn_address_of, match_type_of, number_of, octet_of, octets_of, is_forwarded_of};
 
 pub(crate) mod lists;
 pub(crate) mod parts;
@@ -12,9 +12,7 @@ pub(crate) mod record_fault;
 
 use crate::text::record_fault::RecordFault;
 use camel_criteria::{BasicService, CallType, Cause, MatchType, Refusal};
-use camel_tbcd::{
-    CallAddress, Imsi, IsdnAddress, MAX_ADDRESS_LENGTH, MAX_IMSI_DIGITS, MIN_IMSI_DIGITS,
-};
+use camel_tbcd::{CallAddress, Imsi, IsdnAddress, MAX_ADDRESS_LENGTH};
 use hex::FromHexError;
 use std::alloc::Global;
 use std::marker::Model;
@@ -33,18 +31,7 @@ pub(crate) const BEARER_SERVICE: u8 = b'b';
 pub(crate) fn parse_imsi(text: &[u8]) -> Result<Imsi, RecordFault>
     ensures { result ≡ imsi_of_text text.now }
 {
-    if text.len() < MIN_IMSI_DIGITS || text.len() > MAX_IMSI_DIGITS {
-        return Err(RecordFault::Number);
-    }
-    let mut values = [0; MAX_IMSI_DIGITS];
-    for at in 0..text.len() {
-        let character = text[at];
-        if !character.is_ascii_digit() {
-            return Err(RecordFault::Number);
-        }
-        values[at] = character - b'0';
-    }
-    match Imsi::from_digits(&values[..text.len()]) {
+    match Imsi::from_ascii(text) {
         Ok(imsi) => Ok(imsi),
         Err(_) => Err(RecordFault::Number),
     }

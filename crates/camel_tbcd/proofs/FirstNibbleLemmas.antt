@@ -1,14 +1,12 @@
 -- The first nibbles of an address, and its digits.
-use Rattle.std.proofs.Common.{◌≡◌, ◌∙◌, ℕ, ◌+◌, ◌%◌, ◌==◌, ◌<◌, ◌≤◌, ◌^◌, ◌↔◌, List, ◌++◌, length, take, drop, replicate, get_or, min, All, sym, ap, arith, ⊎_elim}
+use Rattle.std.proofs.Common.{◌≡◌, ◌∙◌, ℕ, ◌+◌, ◌==◌, ◌<◌, ◌≤◌, List, ◌++◌, length, take, drop, replicate, get_or, min, sym, ap, arith, ⊎_elim}
 use Rattle.std.proofs.lemmas.Bool.{cases_lt, eqb-false, eqb-true}
-use Rattle.std.proofs.lemmas.List.{get_or-append-add, get_or-take, get_or_append_left, length-append, length-replicate, length-take, length-take-le, take-append-le, take-take}
-use Rattle.std.proofs.lemmas.List.Elements.{All-append, All-drop, All-replicate, All-take}
+use Rattle.std.proofs.lemmas.List.{get_or-append-add, get_or-take, get_or_append_left, length-take, take-append-le, take-take}
 use Rattle.std.proofs.lemmas.List.Sums.{fails_before_first, passes_at_first}
 use Rattle.std.specs.List.{position_or_len}
 use Rattle.camel_tbcd.specs.Digits.{digits, nibbles}
-use Rattle.camel_tbcd.specs.PackedDigits.{first_nibbles, packed, packed_digits}
+use Rattle.camel_tbcd.specs.PackedDigits.{first_nibbles}
 use Rattle.camel_tbcd.proofs.DigitLemmas.{get-digits}
-use Rattle.camel_tbcd.proofs.NibbleLemmas.{All-nibbles, IsNibble, IsOctet, packed-mod, same_from_packed}
 
 -- the first 16 digits are in octets 2 to 9
 pub first_digits : (octets : List ℕ) (count : ℕ) → count ≤ length (digits octets) → count ≤ 16 → take count (first_nibbles octets) ≡ take count (digits octets)

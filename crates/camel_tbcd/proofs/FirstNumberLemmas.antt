@@ -1,5 +1,5 @@
 -- When two addresses have the same first nibbles, by their numbers.
-use Rattle.std.proofs.Common.{◌≡◌, ◌∙◌, ℕ, ◌%◌, ◌≤◌, ◌^◌, ◌↔◌, List, ◌++◌, length, take, drop, replicate, All, sym, ap, arith}
+use Rattle.std.proofs.Common.{◌≡◌, ◌∙◌, ℕ, ◌%◌, ◌≤◌, ◌^◌, ◌↔◌, List, length, take, drop, replicate, All, sym, ap, arith}
 use Rattle.std.proofs.lemmas.List.{length-append, length-replicate, length-take-le}
 use Rattle.std.proofs.lemmas.List.Elements.{All-append, All-drop, All-replicate, All-take}
 use Rattle.camel_tbcd.specs.Digits.{nibbles}

@@ -1,5 +1,5 @@
 -- IMSIs are ordered as their numbers.
-use Rattle.std.proofs.Common.{◌≡◌, ◌∙◌, ℕ, zero, suc, ◌+◌, ◌*◌, ◌<◌, ◌≤◌, ◌-◌, ◌^◌, add-one, Bool, true, false, List, [], ◌∷◌, All, ◌==◌, nat_eq, nat_lt, length, drop, refl, sym, ap, arith}
+use Rattle.std.proofs.Common.{◌≡◌, ◌∙◌, ℕ, zero, suc, ◌+◌, ◌*◌, ◌<◌, ◌≤◌, ◌^◌, Bool, true, false, List, [], ◌∷◌, All, ◌==◌, nat_eq, nat_lt, length, refl, sym, ap, arith}
 use Rattle.std.proofs.Math.Nat.{pow-le-pow_right}
 use Rattle.std.proofs.lemmas.Bool.Decides.{nat_tests}
 use Rattle.std.proofs.lemmas.Grind.{common_steps}
@@ -9,18 +9,10 @@ use Rattle.std.specs.Ordering.{eq_by_cmp, is_eq, nat_cmp, ordering_then}
 use Rattle.std.specs.declared.cmp.Ordering.{Ordering}
 use Rattle.std.specs.declared.cmp.Ordering.TheVariants.{Less, Equal, Greater}
 use Rattle.camel_tbcd.specs.Imsi.{IsImsi}
-use Rattle.camel_tbcd.specs.ImsiOrder.{order_number, value_at, with_places}
+use Rattle.camel_tbcd.specs.ImsiOrder.{order_number, with_places}
 
 abbrev IsDigit : ℕ → Type 0
 IsDigit digit = digit ≤ 9
-
--- a place more is a further digit of the number
-next_place : (places at : ℕ) (digits : List ℕ) (number : ℕ)
-    → with_places number (suc places) (drop at digits) ≡ with_places (number * 16 + value_at digits at) places (drop (suc at) digits)
-next_place places zero [] number = ap (λ (n : ℕ). with_places n places []) (omega arith)
-next_place places zero (digit ∷ digits) number = refl
-next_place places (suc at) [] number = ap (λ (n : ℕ). with_places n places []) (omega arith)
-next_place places (suc at) (digit ∷ digits) number = next_place places at digits number
 
 -- a lesser number stays less, whatever digits follow
 less : (places : ℕ) (a b : List ℕ) (x y : ℕ) → All IsDigit a → All IsDigit b → x < y → with_places x places a < with_places y places b
@@ -88,7 +80,7 @@ same_order (suc places) (d ∷ a) (e ∷ b) number fa fb at bt =
         ∙ sym (less-then d e (slice_cmp nat_cmp a b) fewer)
     by_less false p rest = by_equal (d == e) p refl rest
 
--- the number that a loop over the places makes
+-- the number of so many digits, and of one more
 pub bounded : (at number : ℕ) → at < 15 → number < 16 ^ at → number < 72057594037927936
 bounded at number lt fits =
     let bound : 16 ^ at ≤ 16 ^ 14 = pow-le-pow_right {n = 16} (omega arith) {i = at} {j = 14} (omega arith) in
@@ -96,13 +88,6 @@ bounded at number lt fits =
 
 pub grown : (at number value : ℕ) → value ≤ 10 → number < 16 ^ at → number * 16 + value < 16 ^ (at + 1)
 grown at number value few fits = grind (arith, common_steps)
-
-pub next_number : (at number value : ℕ) (digits : List ℕ) (total : ℕ) → at < 15 → value ≡ value_at digits at
-    → with_places number (15 - at) (drop at digits) ≡ total → with_places (number * 16 + value) (15 - (at + 1)) (drop (at + 1) digits) ≡ total
-next_number at number value digits total lt is so_far =
-    let places : 15 - at ≡ suc (14 - at) = omega arith in
-    let rest : 15 - (at + 1) ≡ 14 - at = omega arith in
-    rw (rest, add-one, is) (sym (next_place (14 - at) at digits number) ∙ rw places at so_far)
 
 -- two numbers are equal if neither is the greater one
 by_order : (x y : ℕ) → nat_eq x y ≡ is_eq (nat_cmp x y)

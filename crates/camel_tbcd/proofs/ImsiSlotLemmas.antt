@@ -1,5 +1,5 @@
 -- A slot has an IMSI exactly if it has its number, since that of an IMSI is not 0.
-use Rattle.std.proofs.Common.{◌≡◌, ◌∙◌, ℕ, ◌≤◌, Bool, true, false, cond, nat_eq, List, [], Option, Some, None, IfSome, length, sym, ap, ap₂, subst, refl, arith}
+use Rattle.std.proofs.Common.{◌≡◌, ◌∙◌, ℕ, ◌≤◌, true, false, cond, nat_eq, List, [], Some, None, IfSome, length, sym, ap, ap₂, subst, refl, arith}
 use Rattle.std.proofs.lemmas.Bool.{eqb-true}
 use Rattle.camel_tbcd.specs.Imsi.{IsImsi}
 use Rattle.camel_tbcd.specs.ImsiOrder.{order_number}

@@ -1,7 +1,9 @@
 pub mod BitDifferenceLemmas
+pub mod CharacterLemmas
 pub mod DifferenceLemmas
 pub mod DigitLemmas
 pub mod FillLemmas
+pub mod FirstDigitLemmas
 pub mod FirstNibbleLemmas
 pub mod FirstNumberLemmas
 pub mod FrontLemmas

@@ -1,6 +1,7 @@
 -- An IMSI, as the list of its digits (TS 23.003; the least number of digits is that of 3 octets with a
 -- filler, the least size that TS 29.002 gives an IMSI).
-use Rattle.std.specs.Prelude.{ℕ, ◌≤◌, ◌-◌, ◌==◌, ◌&&◌, nat_le, nat_lt, List, length, position, slice_index, take, All, Option, Some, None, Result, Ok, Err, if◌then◌else◌}
+use Rattle.std.specs.Prelude.{ℕ, ◌≤◌, ◌-◌, ◌==◌, ◌&&◌, not, nat_le, nat_lt, List, length, map, position, slice_index, take, All, Option, Some, None, Result, Ok, Err, if◌then◌else◌}
+use Rattle.std.specs.Char.{is_ascii_digit}
 use Rattle.camel_tbcd.specs.Digits.{filler, nibbles}
 use Rattle.camel_tbcd.specs.declared.imsi.ImsiFault.{ImsiFault}
 use Rattle.camel_tbcd.specs.declared.imsi.ImsiFault.TheVariants.{Length, NotDigit}
@@ -11,16 +12,27 @@ pub record IsImsi (digits : List ℕ) : Type 0 where
   pub most : length digits ≤ 15
   pub decimal : All (λ digit. digit ≤ 9) digits
 
--- the fault of the first value over 9, or else this result
-abbrev pub unless_over_nine : Option ℕ → Result (List ℕ) ImsiFault → Result (List ℕ) ImsiFault
-unless_over_nine (Some at) answer = Err (NotDigit at)
-unless_over_nine None answer = answer
+-- the fault of the first value that is no digit, or else this result
+abbrev pub unless_no_digit : Option ℕ → Result (List ℕ) ImsiFault → Result (List ℕ) ImsiFault
+unless_no_digit (Some at) answer = Err (NotDigit at)
+unless_no_digit None answer = answer
 
 -- the IMSI that values make: their count is looked at first, then the values from the first one on
 abbrev pub imsi_of : List ℕ → Result (List ℕ) ImsiFault
 imsi_of values =
     if nat_le 5 (length values) && nat_le (length values) 15
-    then unless_over_nine (position (λ value. nat_lt 9 value) values) (Ok values)
+    then unless_no_digit (position (λ value. nat_lt 9 value) values) (Ok values)
+    else Err Length
+
+-- the values of the characters 0 to 9
+abbrev pub digit_values : List ℕ → List ℕ
+digit_values characters = map (λ character. character - 48) characters
+
+-- the IMSI that characters make: their count is looked at first, then the characters from the first one on
+abbrev pub imsi_of_ascii : List ℕ → Result (List ℕ) ImsiFault
+imsi_of_ascii characters =
+    if nat_le 5 (length characters) && nat_le (length characters) 15
+    then unless_no_digit (position (λ character. not (is_ascii_digit character)) characters) (Ok (digit_values characters))
     else Err Length
 
 -- nibbles without the filler, if it is the last one
@@ -30,7 +42,7 @@ without_filler values = if slice_index values (length values - 1) == filler then
 -- the IMSI that the nibbles of octets make: the first of them over 9 is looked for, and then their count
 abbrev pub imsi_of_nibbles : List ℕ → Result (List ℕ) ImsiFault
 imsi_of_nibbles values =
-    unless_over_nine (position (λ value. nat_lt 9 value) values) (if nat_le (length values) 15 then Ok values else Err Length)
+    unless_no_digit (position (λ value. nat_lt 9 value) values) (if nat_le (length values) 15 then Ok values else Err Length)
 
 -- the IMSI that 3 to 8 TBCD octets make; a filler is allowed only as the last high nibble
 abbrev pub imsi_of_tbcd : List ℕ → Result (List ℕ) ImsiFault

@@ -1,15 +1,7 @@
 -- The order of IMSIs as that of one number, by which two are compared in one step.
-use Rattle.std.specs.Prelude.{ℕ, zero, suc, ◌+◌, ◌*◌, List, [], ◌∷◌, Option, Some, None, slice_get}
+use Rattle.std.specs.Prelude.{ℕ, zero, suc, ◌+◌, ◌*◌, List, [], ◌∷◌}
 
--- what stands for a digit in a place: the digit plus 1, or 0 if there is none
-abbrev pub place_value : Option ℕ → ℕ
-place_value None = 0
-place_value (Some digit) = digit + 1
-
-abbrev pub value_at : List ℕ → ℕ → ℕ
-value_at digits at = place_value (slice_get digits at)
-
--- the places that are left, each a further digit in base 16 of the number
+-- the places that are left, each a further digit in base 16 of the number: a digit plus 1, or 0 if there is none
 abbrev pub with_places : ℕ → ℕ → List ℕ → ℕ
 with_places number zero digits = number
 with_places number (suc places) [] = with_places (number * 16) places []

@@ -4,11 +4,12 @@ ghost use Rattle.std.specs.Cmp.{partial_equiv_from_equiv, partial_order_from_agr
 ghost use Rattle.std.specs.Cmp.Lexicographic.{slice_cmp, pointwise, nat_list_cmp_total, nat_list_eq_equiv, texts_ties};
 ghost use Rattle.std.proofs.Common.{refl};
 ghost use Rattle.camel_tbcd.specs.Digits.{nibbles};
-ghost use Rattle.camel_tbcd.specs.Imsi.{IsImsi, imsi_of, imsi_of_nibbles, imsi_of_tbcd, without_filler};
-ghost use Rattle.camel_tbcd.specs.ImsiOrder.{order_number, value_at};
+ghost use Rattle.camel_tbcd.specs.Imsi.{IsImsi, digit_values, imsi_of, imsi_of_ascii, imsi_of_nibbles, imsi_of_tbcd, without_filler};
+ghost use Rattle.camel_tbcd.specs.ImsiOrder.{order_number};
 ghost use Rattle.camel_tbcd.specs.ImsiFault.{imsi_fault_code};
 
 use crate::digits::FILLER;
+use crate::first_digits::FirstDigits;
 use crate::short_list::ShortList;
 use std::cmp::Ordering;
 use std::error::Error;
@@ -32,7 +33,7 @@ pub const MAX_IMSI_OCTETS: usize = 8;
 pub enum ImsiFault {
     /// 1: there are fewer than 5 digits or more than 15.
     Length,
-    /// 2: the value at the place `at`, from 0, is over 9, and none before it is.
+    /// 2: the value at the place `at`, from 0, is no decimal digit, and each before it is one.
     NotDigit { at: usize },
 }
 
@@ -106,6 +107,28 @@ impl Imsi {
         }
     }
 
+    /// Keeps digits, each as its character `0` to `9`, as an IMSI.
+    ///
+    /// Fails with `Length` (1) for fewer than 5 characters or more than 15, and else with `NotDigit` (2) and the place,
+    /// from 0, of the first character that is no digit.
+    pub fn from_ascii(characters: &[u8]) -> Result<Imsi, ImsiFault>
+        ensures answer { result ≡ imsi_of_ascii characters.now }
+        ensures kept { IfOk result (λ imsi. imsi ≡ digit_values characters.now) }
+    {
+        if characters.len() < MIN_IMSI_DIGITS || characters.len() > MAX_IMSI_DIGITS {
+            return Err(ImsiFault::Length);
+        }
+        let mut first = FirstDigits::new();
+        for at in 0..characters.len() {
+            let character = characters[at];
+            if !character.is_ascii_digit() {
+                return Err(ImsiFault::NotDigit { at });
+            }
+            first.push(character - b'0');
+        }
+        Ok(Imsi::of_first(&first))
+    }
+
     /// Keeps the digits that TBCD octets hold, two in each, as an IMSI. A filler is allowed only as the high nibble of
     /// the last octet.
     ///
@@ -140,9 +163,21 @@ impl Imsi {
         requires { IsImsi digits.now }
         ensures { result ≡ digits.now }
     {
+        let mut first = FirstDigits::new();
+        for digit in digits {
+            first.push(*digit);
+        }
+        Imsi::of_first(&first)
+    }
+
+    // The IMSI of these digits, behind which there are no others.
+    fn of_first(first: &FirstDigits) -> Imsi
+        requires { IsImsi first.now }
+        ensures { result ≡ first.now }
+    {
         Imsi {
-            digits: ShortList::from_slice(digits),
-            order: order_number(digits),
+            digits: first.digits(),
+            order: first.order_number(),
         }
     }
 
@@ -160,30 +195,6 @@ impl Imsi {
         ensures imsi { IsImsi self.now }
     {
         self.order
-    }
-}
-
-// The number whose order is that of the digits.
-fn order_number(digits: &[u8]) -> u64
-    requires decimal { All (λ digit. digit ≤ 9) digits.now }
-    ensures { result ≡ order_number digits.now }
-{
-    let mut number = 0u64;
-    for at in 0..MAX_IMSI_DIGITS {
-        number = number * 16 + value_at(digits, at);
-    }
-    number
-}
-
-// What stands for the digit in a place.
-fn value_at(digits: &[u8], at: usize) -> u64
-    requires decimal { All (λ digit. digit ≤ 9) digits.now }
-    ensures value { result ≡ value_at digits.now at }
-    ensures range { result ≤ 10 }
-{
-    match digits.get(at) {
-        Some(digit) => u64::from(*digit) + 1,
-        None => 0,
     }
 }
 

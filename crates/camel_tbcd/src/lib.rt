@@ -8,6 +8,7 @@
 mod address;
 mod call_address;
 mod digits;
+mod first_digits;
 mod imsi;
 mod imsi_slot;
 mod isdn_address;

@@ -1,4 +1,4 @@
-ghost use Rattle.std.specs.Prelude.{◌≡◌, ◌<◌, ◌≤◌, length, nat_eq};
+ghost use Rattle.std.specs.Prelude.{◌≡◌, ◌<◌, ◌≤◌, ◌++◌, ◌∷◌, [], length, nat_eq};
 ghost use Rattle.std.specs.Cmp.{partial_equiv_from_equiv};
 ghost use Rattle.std.specs.Cmp.Lexicographic.{nat_list_eq_equiv, pointwise};
 ghost use Rattle.camel_tbcd.specs.ShortList.{room_with};
@@ -36,6 +36,26 @@ impl<const MOST: usize> Model for ShortList<MOST> {
 }
 
 impl<const MOST: usize> ShortList<MOST> {
+    // No item.
+    pub(crate) fn new() -> Self
+        ensures { result ≡ [] }
+    {
+        ShortList {
+            room: [FILL; MOST],
+            len: 0,
+        }
+    }
+
+    // Adds an item behind the others.
+    pub(crate) fn push(&mut self, item: u8)
+        requires room { length self.old < MOST }
+        requires counted { MOST < 256 }
+        ensures { self.new ≡ self.old ++ item ∷ [] }
+    {
+        self.room[usize::from(self.len)] = item;
+        self.len += 1;
+    }
+
     // Keeps the items.
     pub(crate) fn from_slice(items: &[u8]) -> Self
         requires fits { length items.now ≤ MOST }

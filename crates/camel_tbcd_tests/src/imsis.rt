@@ -22,6 +22,36 @@ fn keeps_5_to_15_digits(rt: HostRuntime) {
     }
 }
 
+/// By TS 23.003 an IMSI is written in decimal digits.
+#[test]
+fn keeps_the_digits_of_characters(rt: HostRuntime) {
+    let cases: [(&[u8], &[u8]); 2] = [
+        (b"26201", &[2, 6, 2, 0, 1]),
+        (
+            b"001010123456789",
+            &[0, 0, 1, 0, 1, 0, 1, 2, 3, 4, 5, 6, 7, 8, 9],
+        ),
+    ];
+    for (characters, wanted) in cases {
+        let kept = has_digits(Imsi::from_ascii(characters), wanted);
+        assert_eq!(rt; kept, Ok(true), "of {characters:?}");
+        assert_eq!(rt; Imsi::from_ascii(characters), Imsi::from_digits(wanted));
+    }
+    let refused: [(&[u8], ImsiFault); 4] = [
+        (b"2620", ImsiFault::Length),
+        (b"0010101234567890", ImsiFault::Length),
+        (b"262-01", ImsiFault::NotDigit { at: 3 }),
+        (b"26201:/", ImsiFault::NotDigit { at: 5 }),
+    ];
+    for (characters, fault) in refused {
+        assert_eq!(rt;
+            Imsi::from_ascii(characters).err(),
+            Some(fault),
+            "of {characters:?}"
+        );
+    }
+}
+
 /// By TS 29.002 a TBCD-STRING has the first digit in the low nibble, and a filler only for an odd count.
 #[test]
 fn keeps_the_digits_of_tbcd_octets(rt: HostRuntime) {
