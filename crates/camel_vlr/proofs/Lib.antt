@@ -6,4 +6,4 @@ pub mod PrefixLemmas
 pub mod PublicationLemmas
 pub mod RuleLemmas
 pub mod RunLemmas
-pub mod SeatLemmas
+pub mod SessionLemmas

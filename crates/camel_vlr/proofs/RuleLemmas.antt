@@ -1,17 +1,15 @@
 -- Each step keeps the publication rule.
 use base.Growing.{prefix_refl, prefix_trans}
-use Rattle.std.proofs.Common.{◌≡◌, ◌∙◌, ◌≢◌, ℕ, List, [], ◌∷◌, ◌++◌, set, sym, refl, ap, subst, ⊎_elim, Option, Some, None, IfSome, IsSomeAnd, true}
+use Rattle.std.proofs.Common.{◌≡◌, ◌∙◌, ◌≢◌, ℕ, List, [], ◌∷◌, ◌++◌, set, sym, refl, subst, ⊎_elim, Option, Some, None, IfSome, IsSomeAnd}
 use mathlib.Core.Option.{some}
 use lib.ListN.{get_elem?}
 use Rattle.std.proofs.lemmas.Option.{IfSome_then}
 use Rattle.atomic_table.proofs.Lists.{at_set, at_snoc}
 use Rattle.crossbeam_utils.specs.Register.{Admits, Forks, Merges, TurnsAt}
 use Rattle.camel_vlr.specs.Prefix.{PrefixData}
-use Rattle.camel_rows.specs.Front.{Extends, IsFront}
-use Rattle.camel_vlr.specs.Session.{ExtendsAll}
+use Rattle.camel_rows.specs.Front.{Extends}
 use Rattle.camel_vlr.specs.PublishedCopy.{IsOfItsFront}
 use Rattle.camel_vlr.specs.Rule.{AllBehind, IsBehind, IsPrefixOf, IsKept, Knows, Looks, Publishes, newcomer}
-use Rattle.camel_vlr.specs.Session.{Sees, SessionData}
 use Rattle.camel_vlr.specs.declared.published_copy.PublishedCopy.{PublishedCopy}
 use Rattle.camel_vlr.specs.declared.history.rule.Known.{Known}
 
@@ -72,16 +70,3 @@ pub knows_less : (copy : PublishedCopy) (own : Known) (prefix : PrefixData) → 
 knows_less copy own prefix =
     has_if own.front (IsPrefixOf prefix) (λ front. IsPrefixOf front copy.front) (IsPrefixOf prefix copy.front)
     (λ front knows is. (knows.0 ∙ is.0, prefix_trans prefix.updates front.updates copy.front.updates knows.1 is.1))
-
-pub sees : (before : SessionData) (copy : PublishedCopy) (old new : Known) → Knows old (record { store = before.store; updates = before.seen }) → Looks old copy copy new
-    → (receipt : PrefixData) → receipt ≡ copy.front → ExtendsAll receipt.updates before.told
-    → Sees before (record { store = receipt.store; seen = receipt.updates; told = before.told; looks = true })
-sees before copy old new knows looked receipt same told =
-    let less = knows_less copy old (record { store = before.store; updates = before.seen }) knows looked.behind in record {
-      looks = refl;
-      store = ap (λ x. x.store) same ∙ sym less.0;
-      front = subst (λ (x : PrefixData). IsFront x.store.limit x.updates) (sym same) looked.is_of_front.front;
-      later = subst (λ (x : PrefixData). Extends x.updates before.seen) (sym same) less.1;
-      told = told;
-      keeps = refl;
-    }

@@ -1,5 +1,6 @@
 pub mod Chain
 pub mod History
+pub mod LeftRightSeat
 pub mod Operation
 pub mod OwnUpdates
 pub mod Prefix

@@ -43,7 +43,3 @@ Publishes old before after new = new ≡ record { front = Some after.front }
 -- it is known that a front is published of which this is a prefix
 abbrev pub Knows : Known → PrefixData → Type 0
 Knows own prefix = IsSomeAnd own.front (IsPrefixOf prefix)
-
--- what is known by the one is known by the other too
-abbrev pub KnowsNoLess : Known → Known → Type 0
-KnowsNoLess before after = (prefix : PrefixData) → Knows before prefix → Knows after prefix

@@ -30,6 +30,7 @@
 //! return is not proved.
 #![tactic(auto)]
 
+mod base;
 mod history;
 mod of_store;
 mod published_copy;

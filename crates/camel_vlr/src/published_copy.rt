@@ -14,7 +14,7 @@ use std::alloc::{AllocError, Global};
 
 /// One of the two copies: the data that a front leaves, how many updates it has, and the front, which takes no bytes.
 #[derive(Drop)]
-pub(crate) struct PublishedCopy {
+pub struct PublishedCopy {
     pub records: Records,
     pub count: u64,
     pub front: Prefix,

@@ -1,22 +1,19 @@
 //! The sessions of a store.
 
-ghost use Rattle.std.specs.Prelude.{◌≡◌, ◌↔◌, [], true, false, length, IfOk, IsTrue};
+ghost use Rattle.std.specs.Prelude.{◌≡◌, ◌↔◌, None, true, false, length, IfOk, IsTrue};
 ghost use Rattle.camel_rows.specs.Front.{Extends, IsFront};
 ghost use Rattle.camel_rows.specs.Update.{records_of};
 
 pub(crate) mod answers;
 pub(crate) mod look;
-pub(crate) mod seat;
 
-use crate::history::rule::{Known, PublicationRule};
+use crate::base::left_right_seat::LeftRightSeat;
+use crate::base::seat::Seat;
 use crate::history::told::Told;
 use crate::published_copy::PublishedCopy;
 use crate::receipt::Receipt;
 use crate::session::look::{Look, NoLook};
-use crate::session::seat::Seat;
 use camel_tbcd::Profile;
-use core::mem::replace_with;
-use left_right::reader::Reader;
 use std::marker::Model;
 use std::mem;
 use std::snapshot::Snapshot;
@@ -27,8 +24,8 @@ use std::snapshot::Snapshot;
 /// Contracts see of which store it is, the front of its last look, the fronts that it learnt, and whether it is
 /// looking.
 #[derive(Drop)]
-pub struct Session {
-    seat: Seat,
+pub struct Session<S: Seat = LeftRightSeat> {
+    seat: S,
     seen: Receipt,
     /// The longest front that it has learnt, which extends the others.
     longest: Receipt,
@@ -38,37 +35,32 @@ pub struct Session {
     profile: Profile,
 }
 
-impl Model for Session {
+impl<S: Seat> Model for Session<S> {
     ghost use Rattle.camel_vlr.specs.Session.{SessionData};
     ghost use Rattle.camel_vlr.specs.SessionFields.{IsSession, session_of};
 
     ghost Value = { SessionData };
 
-    ghost view = { session_of };
+    ghost view = { session_of S.Seat };
 
-    ghost invariant = { IsSession };
+    ghost invariant = { IsSession S.Seat };
 }
 
-impl Session {
+impl<S: Seat> Session<S> {
     ghost use Rattle.std.specs.Borrow.{sem, RestsIfErr};
-    ghost use Rattle.left_right.specs.Sides.{view};
     ghost use Rattle.camel_vlr.specs.contracts.session.Session.{the_row};
-    ghost use Rattle.camel_vlr.specs.Rule.{Knows};
     ghost use Rattle.camel_vlr.specs.Session.{LeavesLook, Learns, Sees, session_told_nothing};
 
     /// A session that has seen this front, and has learnt nothing. The profile is that of its store.
-    pub(crate) fn new(
-        reader: Reader<PublishedCopy, Known, PublicationRule>,
-        seen: Receipt,
-        profile: Profile,
-    ) -> Session
-        requires knows { Knows (view reader.place) seen }
+    pub(crate) fn new(seat: S, seen: Receipt, profile: Profile) -> Session<S>
+        requires idle { S.copy_of seat ≡ None }
+        requires knows { S.knows seat seen }
         requires profile { profile ≡ seen.store.profile }
         ensures { result ≡ session_told_nothing seen.store seen.updates }
     {
         let longest = seen.copy();
         Session {
-            seat: Seat::Idle(reader),
+            seat,
             seen,
             longest,
             told: Told::none(),
@@ -113,8 +105,8 @@ impl Session {
     /// It fails with [`NoLook`] if the store has ended, or, which no run meets, if the published copy is older than
     /// what the session was told of. Then the session keeps what it had seen and learnt.
     #[inline]
-    pub fn look(&mut self) -> Result<Look<'_>, NoLook>
-        ensures* refused { sem 𝓛 (RestsIfErr the_row self.entry (λ l. l.session.ghost_name) result (LeavesLook self.old)) }
+    pub fn look(&mut self) -> Result<Look<'_, S>, NoLook>
+        ensures* refused { sem 𝓛 (RestsIfErr (the_row S.row S.Seat) self.entry (λ l. l.session.ghost_name) result (LeavesLook self.old)) }
         ensures same_session { IfOk result (λ l. l.session.ghost_name ≡ self.entry.ghost_name) }
         ensures sees { IfOk result (λ l. Sees self.old l.session.now) }
     {
@@ -131,20 +123,24 @@ impl Session {
         ensures yes { result ≡ true → Sees self.old self.new }
         ensures no { result ≡ false → LeavesLook self.old self.new }
     {
-        match replace_with(&mut self.seat, &self.longest, Seat::take_copy) {
-            Some(front) => {
-                self.seen = front;
-                true
-            }
-            None => false,
+        if !self.seat.enter() {
+            return false;
         }
+        let front = self.seat.copy().receipt();
+        if !self.longest.is_prefix_of(&front) {
+            // No run comes here: docs/DECISIONS.md says why it stands.
+            self.seat.leave();
+            return false;
+        }
+        self.seen = front;
+        true
     }
 
     /// Gives the copy of a look back.
     pub(crate) fn leave(&mut self)
         ensures { LeavesLook self.old self.new }
     {
-        replace_with(&mut self.seat, (), Seat::give_back);
+        self.seat.leave();
     }
 
     /// The copy of the look.
@@ -154,9 +150,6 @@ impl Session {
         ensures count { result.now.count ≡ length self.now.seen }
         ensures front { IsFront self.now.store.limit self.now.seen }
     {
-        match &self.seat {
-            Seat::Reading(reading) => reading.get(),
-            Seat::Idle(_) => unreachable!(),
-        }
+        self.seat.copy()
     }
 }

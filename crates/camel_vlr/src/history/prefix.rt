@@ -8,7 +8,7 @@ use std::marker::Model;
 ///
 /// Contracts see of which store it is, and its updates.
 #[derive(Drop)]
-pub(crate) struct Prefix {
+pub struct Prefix {
     pub(crate) seen: SeenLinks,
     /// The links of which the last one names the cell at which the history begins.
     pub(crate) start: SeenLinks,

@@ -5,12 +5,12 @@ use crossbeam_utils::rule::{Outcome, Protocol};
 
 /// What a session or the writer knows to be published: a front, which also says which store it is. No value of it is
 /// made.
-pub(crate) struct Known {
+pub struct Known {
     pub front: Option<Prefix>,
 }
 
 /// The publication rule: what is known has been published, and only grows.
-pub(crate) struct PublicationRule;
+pub struct PublicationRule;
 
 impl Protocol<PublishedCopy, Known> for PublicationRule {
     ghost use Rattle.camel_vlr.specs.Rule.{IsKept, newcomer};

@@ -5,12 +5,13 @@ ghost use Rattle.camel_rows.specs.declared.trigger.outcome.Answer.{Answer};
 ghost use Rattle.camel_vlr.specs.Run.{Answers};
 ghost use Rattle.camel_vlr.specs.Session.{LeavesLook};
 
+use crate::base::seat::Seat;
 use crate::session::Session;
 use crate::session::look::NoLook;
 use camel_criteria::Refusal;
 use camel_rows::{Answer, CallEvent, Outcome};
 
-impl Session {
+impl<S: Seat> Session<S> {
     /// The answer to an event, by a look of its own, which has ended when it returns. It takes no lock, does not wait,
     /// and takes no memory.
     ///

@@ -7,6 +7,8 @@ ghost use Rattle.camel_rows.specs.Subscriber.{entry_at, entry_data, row_at};
 ghost use Rattle.camel_rows.specs.Update.{records_of};
 ghost use Rattle.camel_vlr.specs.OwnUpdates.{DecidedByOwn};
 
+use crate::base::left_right_seat::LeftRightSeat;
+use crate::base::seat::Seat;
 use crate::session::Session;
 use camel_rows::{Decision, Event, Lent, Records, TdpRow, decide_in};
 use camel_tbcd::Imsi;
@@ -20,11 +22,11 @@ pub struct NoLook;
 ///
 /// It borrows its session, and all that it lends borrows from it. Until it is dropped, the second publication after it
 /// waits for it. No public function of it takes memory.
-pub struct Look<'s> {
-    pub(crate) session: &'s mut Session,
+pub struct Look<'s, S: Seat = LeftRightSeat> {
+    pub(crate) session: &'s mut Session<S>,
 }
 
-impl Look<'_> {
+impl<S: Seat> Look<'_, S> {
     ghost use Rattle.camel_vlr.specs.Session.{LeavesLook};
 
     /// Decides an event by the trigger rules of TS 23.078, over the data of the front, under the profile of the store.
@@ -80,7 +82,7 @@ impl Look<'_> {
     {}
 }
 
-impl Drop for Look<'_> {
+impl<S: Seat> Drop for Look<'_, S> {
     ghost use Rattle.std.specs.Prelude.{◌≡◌};
     ghost use Rattle.camel_vlr.specs.Session.{LeavesLook};
 

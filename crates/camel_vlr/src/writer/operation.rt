@@ -6,7 +6,7 @@ use camel_rows::Update;
 /// The update is in a box, since an operation is moved several times, and the list of the operations keeps for good the
 /// room that the longest publication took.
 #[derive(Drop)]
-pub(crate) enum Operation {
+pub enum Operation {
     Update(Box<Update>),
     Front(Prefix),
 }

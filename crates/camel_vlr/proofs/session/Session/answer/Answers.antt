@@ -9,7 +9,7 @@ use Rattle.camel_vlr.specs.Prefix.{StoreId}
 use Rattle.camel_vlr.proofs.session.Session.answer.Goals as goal
 
 pub returns-clause-answers : goal.returns-clause-answers
-returns-clause-answers c =
+returns-clause-answers g c =
     let sees = c.in_ok-look.ensures.sees in
     let front = c.in_ok-look.look.session.now.seen in
     let profile = c.args.self.now.store.profile in

@@ -4,7 +4,7 @@ use Rattle.camel_vlr.proofs.RunLemmas.{Answers-append}
 use Rattle.camel_vlr.proofs.session.Session.answer_all.Goals as goal
 
 pub loop-event-preserved : goal.loop-event-preserved
-loop-event-preserved c =
+loop-event-preserved g c =
     let so_far = c.loop-event.invariant in
     let answer = c.in-Ok.answer in
     let event = c.event-item.result in

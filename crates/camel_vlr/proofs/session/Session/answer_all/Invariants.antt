@@ -5,7 +5,7 @@ use Rattle.camel_vlr.proofs.session.Session.answer_all.Given as goal
 
 -- the answers to the events so far stand behind those that were there, and there is room for the others
 abbrev pub invariant-loop-event : goal.invariant-loop-event
-invariant-loop-event l = record {
+invariant-loop-event g l = record {
   new : List Answer;
   count : length new ≡ l.event-index;
   appended : l.answers.items ≡ l.fn.answers.items ++ new;

@@ -7,12 +7,12 @@ use Rattle.camel_rows.proofs.ByImsiLemmas.{get-with_value_there}
 use Rattle.camel_vlr.proofs.writer.submission.accept_new.Goals as goal
 
 pub take_back-requires-clause-there : goal.take_back-requires-clause-there
-take_back-requires-clause-there c =
+take_back-requires-clause-there g c =
     let d = c.args.admission.now.directory in
     rw (c.in_ok-accept.ensures.accepted, get-with_value_there d c.args.imsi (Some c.args.csis)) (search rules)
 
 pub returns-in-Err-clause-unchanged : goal.returns-in-Err-clause-unchanged
-returns-in-Err-clause-unchanged c =
+returns-in-Err-clause-unchanged g c =
     let d = c.args.admission.now in
     let imsi = c.args.imsi in
     let csis = c.args.csis in

@@ -6,7 +6,7 @@ use Rattle.camel_vlr.specs.OwnUpdates.{DecidedByOwn}
 use Rattle.camel_vlr.proofs.session.look.Look.decide.Goals as goal
 
 pub returns-clause-own : goal.returns-clause-own
-returns-clause-own c =
+returns-clause-own g c =
     let session = c.args.self.now.session.now in
     let event = event_data c.args.event.now in
     let decided = c.decide_in.ensures ∙ ap (λ profile. decision profile c.published.result.now.records event) c.profile-profile.ensures

@@ -1,7 +1,7 @@
 use Rattle.std.proofs.Common.{◌≡◌, ◌-◌, ◌≤◌, vec_len, vec_capacity, All}
 use Rattle.camel_rows.specs.Store.{no_updates}
 use Rattle.camel_vlr.specs.Store.{fresh_session}
-use Rattle.camel_vlr.proofs.writer.Vlr.open_seeded.Given as goal
+use Rattle.camel_vlr.proofs.writer.opening.Vlr.open_seeded.Given as goal
 
 abbrev pub invariant-loop-store : goal.invariant-loop-store
 invariant-loop-store g l = record {

@@ -2,7 +2,7 @@ use Rattle.std.proofs.Common.{arith, ◌≡◌, ◌∙◌, ap}
 use Rattle.std.proofs.lemmas.List.Elements.{All-push}
 use Rattle.camel_vlr.specs.Session.{SessionData}
 use Rattle.camel_vlr.specs.Store.{fresh_session}
-use Rattle.camel_vlr.proofs.writer.Vlr.open_seeded.Goals as goal
+use Rattle.camel_vlr.proofs.writer.opening.Vlr.open_seeded.Goals as goal
 
 pub loop-store-preserved : goal.loop-store-preserved
 loop-store-preserved g c =

@@ -10,7 +10,7 @@ use Rattle.camel_vlr.specs.Rule.{Knows}
 use Rattle.camel_vlr.specs.declared.writer.TheConstants.{MAX_UPDATES}
 use Rattle.camel_vlr.specs.declared.writer.operation.Operation.{Operation}
 use Rattle.camel_vlr.specs.declared.writer.operation.Operation.TheVariants.{Front}
-use Rattle.camel_vlr.proofs.writer.Vlr.empty.Goals as goal
+use Rattle.camel_vlr.proofs.writer.opening.Vlr.empty.Goals as goal
 
 pub invariant_of-result : goal.invariant_of-result
 invariant_of-result g c =
@@ -27,7 +27,7 @@ invariant_of-result g c =
       all = subst (IsFront copy.front.store.limit) (sym all) shown.0.front;
       admits = rw (c.seeded.ensures, ← limit, all ∙ published) (IsAdmissionOf-empty c.args.terms.limit);
       greatest = subst (λ (n : ℕ). n ≤ MAX_UPDATES) limit c.requires.limit.1;
-      seat = subst (λ (x : PrefixData). Knows (view writer.desk.place) x) (sym shown.1) seat;
+      tells = subst (λ (x : PrefixData). Knows (view writer.desk.place) x) (sym shown.1) seat;
       store = sym (ap (λ x. x.store) same);
       within = ([], append-nil c.new-history.result.updates ∙ sym (all ∙ ap (λ x. x.updates) same));
       beyond = ([], append-nil copy.front.updates ∙ ap (λ x. x.updates) same);
@@ -37,7 +37,7 @@ invariant_of-result g c =
 pub publish_all-writer-requires-clause-last : goal.publish_all-writer-requires-clause-last
 publish_all-writer-requires-clause-last g c =
     let old = pending_operations c.in_ok-writer.writer in
-    let new = pending_operations c.append.new.writer in
+    let new = pending_operations c.append.new.self in
     let front = c.prefix-front.result in
     elim c.append.result as (λ r. is_err r ≡ false → MatchResult r (λ _. new ≡ old ++ Front c.copy-3.result ∷ []) (λ _. new ≡ old) → (x : List Operation) × (new ≡ x ++ Front front ∷ [])) [
       | Ok done ↦ λ ok pending. (old, pending ∙ ap (λ f. old ++ Front f ∷ []) c.copy-3.ensures)

@@ -4,7 +4,7 @@ use Rattle.camel_rows.specs.Front.{Extends}
 use Rattle.camel_rows.specs.Update.{records_of}
 use Rattle.camel_vlr.proofs.FrontLemmas.{all_last, same_front}
 use Rattle.camel_vlr.specs.Session.{ExtendsAll}
-use Rattle.camel_vlr.proofs.writer.Vlr.close.Goals as goal
+use Rattle.camel_vlr.proofs.writer.closing.Vlr.close.Goals as goal
 
 pub returns-in-Ok-clause-records : goal.returns-in-Ok-clause-records
 returns-in-Ok-clause-records g c =

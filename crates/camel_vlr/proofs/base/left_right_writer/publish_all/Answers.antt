@@ -4,7 +4,7 @@ use Rattle.std.proofs.lemmas.Result.{MatchResult-weaker}
 use Rattle.camel_vlr.proofs.PublicationLemmas.{both_ok, knows_published, next_copy}
 use Rattle.camel_vlr.proofs.RuleLemmas.{publishes}
 use Rattle.camel_vlr.specs.Operation.{pending_operations, updates_among}
-use Rattle.camel_vlr.proofs.writer.publication.publish_all.Goals as goal
+use Rattle.camel_vlr.proofs.base.left_right_writer.publish_all.Goals as goal
 
 pub publish_as-requires : goal.publish_as-requires
 publish_as-requires g c next is =

@@ -1,5 +1,5 @@
 use Rattle.camel_vlr.proofs.RuleLemmas.{admits, learns, tells}
-use Rattle.camel_vlr.proofs.writer.Vlr.seat.Goals as goal
+use Rattle.camel_vlr.proofs.base.left_right_writer.LeftRightWriterPublisher.place.Goals as goal
 
 pub reader-requires : goal.reader-requires
 reader-requires c = admits

@@ -1,0 +1,76 @@
+ghost use Rattle.std.specs.Prelude.{◌≡◌, ◌≤◌, List, [], ◌∷◌, ◌++◌, None, IfSome, MatchResult, OnErr, OnOk};
+ghost use Rattle.camel_rows.specs.Front.{IsFront};
+ghost use Rattle.camel_vlr.specs.Operation.{updates_among};
+ghost use Rattle.camel_vlr.specs.Prefix.{PrefixData};
+ghost use Rattle.camel_vlr.specs.PublishedCopy.{IsOfItsFront};
+ghost use Rattle.camel_vlr.specs.Seat.{KnowsNoLess};
+ghost use Rattle.camel_vlr.specs.declared.writer.operation.Operation.{Operation};
+ghost use Rattle.camel_vlr.specs.declared.writer.operation.Operation.TheVariants as operation;
+
+use crate::base::seat::Seat;
+use crate::history::prefix::Prefix;
+use crate::published_copy::PublishedCopy;
+use crate::writer::MAX_UPDATES;
+use crate::writer::operation::Operation;
+use std::alloc::AllocError;
+
+/// The writer's part of a base. No other crate sees it.
+pub trait Publisher: Sized {
+    ghost use Rattle.std.specs.Prelude.{List};
+    ghost use Rattle.camel_vlr.specs.Prefix.{PrefixData};
+    ghost use Rattle.camel_vlr.specs.declared.published_copy.PublishedCopy.{PublishedCopy};
+    ghost use Rattle.camel_vlr.specs.declared.writer.operation.Operation.{Operation};
+
+    /// A session's place.
+    type Place: Seat;
+
+    /// It is known to the writer that this front is published.
+    ghost tells: { Self → PrefixData → Type 0 };
+
+    /// The copy that is published.
+    ghost shown: { Self → PublishedCopy };
+
+    /// The operations that are pending.
+    ghost pending: { Self → List Operation };
+
+    /// The copy that is published.
+    fn published(&self) -> &PublishedCopy
+        ensures { result.now ≡ shown self.now };
+
+    /// Puts an operation behind what is pending.
+    fn append(&mut self, operation: Operation) -> Result<(), AllocError>
+        ensures shown { shown self.new ≡ shown self.old }
+        ensures tells { KnowsNoLess tells self.old self.new }
+        ensures pending { MatchResult result
+            (λ _. pending self.new ≡ pending self.old ++ operation ∷ [])
+            (λ _. pending self.new ≡ pending self.old) };
+
+    /// A place for a session, at which all is known that is known to the writer.
+    fn place(&mut self) -> Option<Self::Place>
+        ensures shown { shown self.new ≡ shown self.old }
+        ensures tells { KnowsNoLess tells self.old self.new }
+        ensures pending { pending self.new ≡ pending self.old }
+        ensures idle { IfSome result (λ place. Self.Place.copy_of place ≡ None) }
+        ensures knows { IfSome result (λ place. (prefix : PrefixData) → tells self.old prefix → Self.Place.knows place prefix) };
+}
+
+/// A base whose writer publishes by a handle `H`.
+pub trait Publishes<H>: Publisher {
+    /// Why nothing was published.
+    type Why: Drop + From<AllocError>;
+
+    /// Publishes all that is pending, of which the last is the front that all of it makes.
+    fn publish_all(&mut self, by: H, front: Prefix) -> Result<(), Self::Why>
+        requires shown { IsOfItsFront (Self.shown self.old) }
+        requires store { front.store ≡ (Self.shown self.old).front.store }
+        requires updates { front.updates ≡ (Self.shown self.old).front.updates ++ updates_among (Self.pending self.old) }
+        requires front { IsFront front.store.limit front.updates }
+        requires limit { front.store.limit ≤ MAX_UPDATES }
+        requires last { (operations : List Operation) × (Self.pending self.old ≡ operations ++ operation.Front front ∷ []) }
+        ensures shown { OnOk result (IsOfItsFront (Self.shown self.new) × ((Self.shown self.new).front ≡ front)) }
+        ensures tells { OnOk result (Self.tells self.new front) }
+        ensures none { OnOk result (Self.pending self.new ≡ []) }
+        ensures unchanged { OnErr result ((Self.shown self.new ≡ Self.shown self.old)
+            × KnowsNoLess Self.tells self.old self.new
+            × (Self.pending self.new ≡ Self.pending self.old)) };
+}
