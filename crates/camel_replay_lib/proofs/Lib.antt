@@ -1,12 +1,10 @@
 pub mod CommandLineLemmas
 pub mod FrontLemmas
 pub mod LineLemmas
-pub mod ListLemmas
 pub mod Progress
 pub mod ReadLemmas
 pub mod RoundLemmas
 pub mod RoundsLemmas
 pub mod SegmentLemmas
-pub mod SessionLinesLemmas
 pub mod StoreLemmas
 pub mod WriteLemmas

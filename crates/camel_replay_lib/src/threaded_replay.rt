@@ -63,7 +63,7 @@ use std::thread::Threads;
 /// | `OutOfMemory` (102): out of memory later | none | nothing |
 /// | `NoPlace` (103), `NoGuard` (104): a session got no place, or no look | none | nothing |
 /// | `Stopped` (105): the gate returned false | none | nothing |
-/// | `NoWorker` (106): a worker, or a thread for audit and lines, was not started | none | nothing |
+/// | `NoWorker` (106): a worker, or a thread for lines, was not started | none | nothing |
 /// | `FrontTooLong` (301) to `BadHistory` (304): the audit | none | nothing |
 /// | [`WRITE_FAULT`] (208): a write or the flush | none | a part of the output, from its beginning |
 ///

@@ -16,7 +16,7 @@ pub(crate) enum ThreadsFault {
     NoGuard,
     /// 105: the gate stopped a worker or the writer.
     Stopped,
-    /// 106: a worker, or a thread that audits a session and makes its lines, was not started.
+    /// 106: a worker, or a thread that makes the lines of a session, was not started.
     NoWorker,
     /// The audit failed. `OutOfMemory` (102): memory was refused; `FrontTooLong` (301) to `BadHistory` (304): the
     /// published updates do not explain what was answered.
