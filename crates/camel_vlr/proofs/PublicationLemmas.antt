@@ -7,7 +7,7 @@ use Rattle.camel_rows.specs.Front.{IsFront}
 use Rattle.camel_rows.specs.Records.{no_records}
 use Rattle.camel_rows.specs.Update.{records_of, records_from}
 use Rattle.camel_vlr.proofs.OperationLemmas.{fold-copy_after, updates_among-front}
-use Rattle.camel_vlr.specs.Operation.{CopyData, copy_after, updates_among}
+use Rattle.camel_vlr.specs.Operation.{copy_after, data_of, updates_among}
 use Rattle.camel_vlr.specs.PublishedCopy.{IsOfItsFront}
 use Rattle.camel_vlr.specs.Rule.{Knows, Publishes}
 use Rattle.camel_vlr.specs.declared.writer.TheConstants.{MAX_UPDATES}
@@ -15,9 +15,6 @@ use Rattle.camel_vlr.specs.declared.writer.operation.Operation.{Operation}
 use Rattle.camel_vlr.specs.declared.writer.operation.Operation.TheVariants as operation
 use Rattle.camel_vlr.specs.declared.published_copy.PublishedCopy.{PublishedCopy}
 use Rattle.camel_vlr.specs.declared.history.rule.Known.{Known}
-
-abbrev pub data_of : PublishedCopy → CopyData
-data_of copy = (copy.records, copy.count, copy.front)
 
 -- a copy to which all that was pending was applied, its front last, is of that front
 pub next_copy : (old new : PublishedCopy) (front : PrefixData) (pending operations : List Operation) → pending ≡ operations ++ operation.Front front ∷ [] → IsOfItsFront old

@@ -12,3 +12,4 @@ pub mod Session
 pub mod SessionFields
 pub mod Store
 pub mod StoreFields
+pub mod TwoCopiesSeat

@@ -6,12 +6,16 @@ use Rattle.camel_vlr.specs.Prefix.{PrefixData}
 use Rattle.camel_rows.specs.Records.{RecordsData}
 use Rattle.camel_rows.specs.Update.{records_after}
 use Rattle.camel_rows.specs.declared.subscriber.update.Update.{Update}
+use Rattle.camel_vlr.specs.declared.published_copy.PublishedCopy.{PublishedCopy}
 use Rattle.camel_vlr.specs.declared.writer.operation.Operation.{Operation}
 use Rattle.camel_vlr.specs.declared.writer.operation.Operation.TheVariants as operation
 
 -- the data of a copy, its count of updates, and its front
 abbrev pub CopyData : Type 0
 CopyData = RecordsData × ℕ × PrefixData
+
+abbrev pub data_of : PublishedCopy → CopyData
+data_of copy = (copy.records, copy.count, copy.front)
 
 -- an update changes the data, and counts; the count stays at the greatest u64, which no front reaches
 abbrev pub copy_after : CopyData → Operation → CopyData

@@ -2,6 +2,8 @@
 
 ghost use Rattle.std.specs.Prelude.{◌≡◌, IfOk, All, Some, map};
 
+use crate::base::publisher::Publisher;
+use crate::base::seat::Seat;
 use crate::receipt::Receipt;
 use crate::session::Session;
 use crate::writer::Vlr;
@@ -30,11 +32,11 @@ pub trait HasStore {
     ghost store_of: { Self → StoreId };
 }
 
-impl HasStore for Vlr {
+impl<W: Publisher> HasStore for Vlr<W> {
     ghost store_of = { λ store. store.store };
 }
 
-impl HasStore for Session {
+impl<S: Seat> HasStore for Session<S> {
     ghost store_of = { λ session. session.store };
 }
 

@@ -1,6 +1,6 @@
-ghost use Rattle.std.specs.Prelude.{◌≡◌, ◌+◌, ◌-◌, ◌^◌, min};
+ghost use Rattle.std.specs.Prelude.{◌≡◌, ◌+◌, ◌-◌, ◌^◌, min, MatchResult};
 ghost use Rattle.camel_rows.specs.Records.{no_records};
-ghost use Rattle.camel_vlr.specs.Operation.{copy_after};
+ghost use Rattle.camel_vlr.specs.Operation.{copy_after, data_of};
 ghost use Rattle.camel_vlr.specs.PublishedCopy.{IsOfItsFront};
 
 use crate::history::prefix::Prefix;
@@ -11,6 +11,7 @@ use camel_rows::Records;
 use camel_table::Seed;
 use left_right::Absorb;
 use std::alloc::{AllocError, Global};
+use two_copies::Apply;
 
 /// One of the two copies: the data that a front leaves, how many updates it has, and the front, which takes no bytes.
 #[derive(Drop)]
@@ -44,20 +45,13 @@ impl PublishedCopy {
             prefix: self.front.copy(),
         }
     }
-}
 
-impl Absorb<Operation> for PublishedCopy {
-    type State = (Records, u64, Prefix);
-
-    ghost state = { λ s. (s.records, s.count, s.front) };
-
-    ghost applied = { copy_after };
-
-    fn absorb_first(
-        &mut self,
-        operation: &Operation,
-        _other: &PublishedCopy,
-    ) -> Result<(), AllocError> {
+    /// Applies an operation. If memory is refused, it is as before.
+    fn apply_operation(&mut self, operation: &Operation) -> Result<(), AllocError>
+        ensures { MatchResult result
+            (λ _. data_of self.new ≡ copy_after (data_of self.old) operation.now)
+            (λ _. data_of self.new ≡ data_of self.old) }
+    {
         match operation {
             Operation::Update(update) => match self.records.apply(update) {
                 Err(Refusal::OutOfMemory) => Err(AllocError),
@@ -72,5 +66,33 @@ impl Absorb<Operation> for PublishedCopy {
                 Ok(())
             }
         }
+    }
+}
+
+impl Absorb<Operation> for PublishedCopy {
+    type State = (Records, u64, Prefix);
+
+    ghost state = { data_of };
+
+    ghost applied = { copy_after };
+
+    fn absorb_first(
+        &mut self,
+        operation: &Operation,
+        _other: &PublishedCopy,
+    ) -> Result<(), AllocError> {
+        self.apply_operation(operation)
+    }
+}
+
+impl Apply<Operation> for PublishedCopy {
+    type State = (Records, u64, Prefix);
+
+    ghost state = { data_of };
+
+    ghost applied = { copy_after };
+
+    fn apply(&mut self, operation: &Operation) -> Result<(), AllocError> {
+        self.apply_operation(operation)
     }
 }

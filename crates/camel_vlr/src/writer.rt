@@ -10,6 +10,7 @@ pub(crate) mod opening;
 pub(crate) mod operation;
 pub(crate) mod publication;
 pub(crate) mod submission;
+pub(crate) mod wait_free;
 
 use crate::base::left_right_writer::LeftRightWriter;
 use crate::base::publisher::{Publisher, Publishes};
@@ -58,14 +59,30 @@ impl<W: Publisher> Model for Vlr<W> {
 }
 
 impl<W: Publisher> Vlr<W> {
-    /// A session that knows which store it is of.
-    pub(crate) fn seat(&mut self) -> Option<Session<W::Place>>
+    /// So many sessions, none of which has seen or learnt anything.
+    pub(crate) fn seat_all(&mut self, places: usize) -> Result<Vec<Session<W::Place>>, Refusal>
         requires { self.old.updates.published ≡ [] }
         ensures same { self.new ≡ self.old }
-        ensures session { IfSome result (λ s. s ≡ fresh_session self.new.store) }
+        ensures places { IfOk result (λ sessions. vec_len sessions ≡ places) }
+        ensures sessions { IfOk result (λ sessions. All (λ s. s ≡ fresh_session self.new.store) sessions.items) }
+        ensures only { IfErr result (λ why. (why ≡ Refusal.OutOfMemory) ⊎ (why ≡ Refusal.NoPlace)) }
+    {
+        let mut sessions = Vec::with_capacity(self.alloc, places)?;
+        while sessions.len() < places {
+            sessions.push_reserved(self.seat()?);
+        }
+        Ok(sessions)
+    }
+
+    /// A session that knows which store it is of.
+    fn seat(&mut self) -> Result<Session<W::Place>, Refusal>
+        requires { self.old.updates.published ≡ [] }
+        ensures same { self.new ≡ self.old }
+        ensures session { IfOk result (λ s. s ≡ fresh_session self.new.store) }
+        ensures only { IfErr result (λ why. (why ≡ Refusal.OutOfMemory) ⊎ (why ≡ Refusal.NoPlace)) }
     {
         let place = self.writer.place()?;
-        Some(Session::new(place, self.receipt(), self.profile))
+        Ok(Session::new(place, self.receipt(), self.profile))
     }
 
     /// Accepts an update behind those that are pending, and returns its number, the first being 1.

@@ -35,3 +35,5 @@ mod set_up;
 mod threads;
 #[cfg(test)]
 mod transcripts;
+#[cfg(test)]
+mod wait_free;

@@ -8,7 +8,7 @@ use std::alloc::Global;
 use std::sync::Arc;
 
 /// Copies whose end a look holds up. Looks that are held go on, and other readers find that the copies have ended. It
-/// can't be dropped.
+/// can't be dropped: [`Ending::end`] ends it, and [`Ending::abandon`] leaves it to the looks.
 pub struct Ending<T: Drop, F: CopyRule<T>> {
     shown: Arc<T, Global>,
     spare: Arc<T, Global>,
@@ -58,5 +58,14 @@ impl<T: Drop, F: CopyRule<T>> Ending<T, F> {
                 places,
             }),
         }
+    }
+
+    /// Gives the end up. Looks that are held go on, and whoever leaves the last one frees its copy.
+    pub fn abandon(self) {
+        let Ending {
+            shown: _shown,
+            spare: _spare,
+            places: _places,
+        } = self;
     }
 }

@@ -14,6 +14,7 @@ use crate::history::rule::{Introducing, Known, PublicationRule, Publishing};
 use crate::published_copy::PublishedCopy;
 use crate::writer::MAX_UPDATES;
 use crate::writer::operation::Operation;
+use camel_criteria::Refusal;
 use core::mem::replace_with;
 use left_right::writer::Writer;
 use std::alloc::AllocError;
@@ -46,10 +47,12 @@ impl Publisher for LeftRightWriter {
         }
     }
 
-    fn place(&mut self) -> Option<LeftRightSeat> {
-        let mut reader = self.factory().reader().ok()?;
+    fn place(&mut self) -> Result<LeftRightSeat, Refusal> {
+        let Ok(mut reader) = self.factory().reader() else {
+            return Err(Refusal::NoPlace);
+        };
         reader.learn::<Introducing>(self.tell::<Introducing>());
-        Some(LeftRightSeat::Idle(reader))
+        Ok(LeftRightSeat::Idle(reader))
     }
 }
 

@@ -1,4 +1,4 @@
-ghost use Rattle.std.specs.Prelude.{◌≡◌, ◌≤◌, List, [], ◌∷◌, ◌++◌, None, IfSome, MatchResult, OnErr, OnOk};
+ghost use Rattle.std.specs.Prelude.{◌≡◌, ◌≤◌, ◌⊎◌, List, [], ◌∷◌, ◌++◌, None, IfErr, IfOk, MatchResult, OnErr, OnOk};
 ghost use Rattle.camel_rows.specs.Front.{IsFront};
 ghost use Rattle.camel_vlr.specs.Operation.{updates_among};
 ghost use Rattle.camel_vlr.specs.Prefix.{PrefixData};
@@ -12,6 +12,7 @@ use crate::history::prefix::Prefix;
 use crate::published_copy::PublishedCopy;
 use crate::writer::MAX_UPDATES;
 use crate::writer::operation::Operation;
+use camel_criteria::Refusal;
 use std::alloc::AllocError;
 
 /// The writer's part of a base. No other crate sees it.
@@ -45,13 +46,16 @@ pub trait Publisher: Sized {
             (λ _. pending self.new ≡ pending self.old ++ operation ∷ [])
             (λ _. pending self.new ≡ pending self.old) };
 
-    /// A place for a session, at which all is known that is known to the writer.
-    fn place(&mut self) -> Option<Self::Place>
+    /// A place for a session, at which all is known that is known to the writer. It fails with `OutOfMemory` (102) if
+    /// memory was refused, and with `NoPlace` (103) if there is none.
+    fn place(&mut self) -> Result<Self::Place, Refusal>
+        requires { IsOfItsFront (shown self.old) }
         ensures shown { shown self.new ≡ shown self.old }
         ensures tells { KnowsNoLess tells self.old self.new }
         ensures pending { pending self.new ≡ pending self.old }
-        ensures idle { IfSome result (λ place. Self.Place.copy_of place ≡ None) }
-        ensures knows { IfSome result (λ place. (prefix : PrefixData) → tells self.old prefix → Self.Place.knows place prefix) };
+        ensures idle { IfOk result (λ place. Self.Place.copy_of place ≡ None) }
+        ensures knows { IfOk result (λ place. (prefix : PrefixData) → tells self.old prefix → Self.Place.knows place prefix) }
+        ensures only { IfErr result (λ why. (why ≡ Refusal.OutOfMemory) ⊎ (why ≡ Refusal.NoPlace)) };
 }
 
 /// A base whose writer publishes by a handle `H`.

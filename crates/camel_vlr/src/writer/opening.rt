@@ -70,16 +70,14 @@ impl Vlr {
         ensures sessions { IfOk result (λ r. All (λ s. s ≡ fresh_session r.0.store) r.1.items) }
         ensures only { IfErr result (λ why. (why ≡ Refusal.OutOfMemory) ⊎ (why ≡ Refusal.NoPlace)) }
     {
-        let mut sessions = Vec::with_capacity(alloc, places)?;
         let mut store = Vlr::empty(rt, alloc, places, Terms { limit, profile }, seed)?;
-        while sessions.len() < places {
-            let Some(session) = store.seat() else {
+        match store.seat_all(places) {
+            Ok(sessions) => Ok((store, sessions)),
+            Err(why) => {
                 store.end(rt);
-                return Err(Refusal::NoPlace);
-            };
-            sessions.push_reserved(session);
+                Err(why)
+            }
         }
-        Ok((store, sessions))
     }
 
     /// The first publication, of nothing, lets the writer know which store it is.

@@ -1,0 +1,52 @@
+ghost use Rattle.std.specs.Prelude.{◌≡◌};
+ghost use Rattle.two_copies.specs.Copies.{pending_of, shown_by};
+ghost use Rattle.camel_vlr.specs.Rule.{IsPrefixOf};
+
+use crate::base::publisher::{Publisher, Publishes};
+use crate::base::two_copies_seat::{FrontsGrow, TwoCopiesSeat};
+use crate::history::prefix::Prefix;
+use crate::published_copy::PublishedCopy;
+use crate::writer::operation::Operation;
+use camel_criteria::Refusal;
+use std::alloc::AllocError;
+use two_copies::{Copies, NoReader, Unpublished};
+
+/// The writer's part of a store over `two_copies`.
+pub type TwoCopiesWriter = Copies<PublishedCopy, Operation, FrontsGrow>;
+
+impl Publisher for TwoCopiesWriter {
+    ghost use Rattle.two_copies.specs.Copies.{pending_of, shown_by};
+    ghost use Rattle.camel_vlr.specs.Rule.{IsPrefixOf};
+
+    type Place = TwoCopiesSeat;
+
+    ghost tells = { λ writer prefix. IsPrefixOf prefix (shown_by writer).front };
+
+    ghost shown = { shown_by };
+
+    ghost pending = { pending_of };
+
+    fn published(&self) -> &PublishedCopy {
+        self.shown()
+    }
+
+    fn append(&mut self, operation: Operation) -> Result<(), AllocError> {
+        self.push(operation)
+    }
+
+    fn place(&mut self) -> Result<TwoCopiesSeat, Refusal> {
+        match self.reader() {
+            Ok(reader) => Ok(TwoCopiesSeat::Idle(reader)),
+            Err(NoReader::NoPlace) => Err(Refusal::NoPlace),
+            Err(NoReader::OutOfMemory) => Err(Refusal::OutOfMemory),
+        }
+    }
+}
+
+impl Publishes<()> for TwoCopiesWriter {
+    type Why = Unpublished;
+
+    fn publish_all(&mut self, _by: (), _front: Prefix) -> Result<(), Unpublished> {
+        self.publish()
+    }
+}
