@@ -1,5 +1,7 @@
 //! Stores whose writer does not wait.
 
+ghost use Rattle.std.specs.Prelude.{◌≤◌};
+
 use camel_criteria::Refusal;
 use camel_fixtures::{ARMED, call_of, imsi_of, row_update, stored_summary, triggered};
 use camel_rows::{Answer, CallEvent, Outcome, Reason, Records, Update};
@@ -50,10 +52,10 @@ fn published_beside_a_look(
     store: &mut WaitFreeVlr,
     session: &mut WaitFreeSession,
     imsi: Imsi,
-) -> Result<([(u64, u64, Option<u64>); 4], [u64; 2]), Fail> {
+) -> Result<([(u64, u64, Option<u64>); 4], [u64; 2]), Refusal> {
     store.submit(Update::Register { imsi })?;
     let Ok(look) = session.look() else {
-        return Err(Refusal::NoGuard.into());
+        return Err(Refusal::NoGuard);
     };
     let first = tried(store);
     store.submit(row_update(imsi)?)?;
@@ -67,9 +69,10 @@ fn published_beside_a_look(
 #[test]
 fn a_held_look_stalls_the_second_publication_only(rt: HostRuntime) -> Result<(), Fail> {
     let imsi = imsi_of(1)?;
+    let call = call_of(imsi)?;
     let (mut store, mut session, _idle) = opened(rt.alloc(), 10)?;
     let done = published_beside_a_look(&mut store, &mut session, imsi);
-    let answer = session.answer(&call_of(imsi)?);
+    let answer = session.answer(&call);
     store.abandon();
     let (published, fronts) = done?;
     assert!(rt; published == [(0, 1, Some(1)), (1, 1, None), (1, 1, None), (1, 1, Some(2))]);
@@ -122,7 +125,8 @@ fn closed_beside_a_look<R: Abort>(
     }
 }
 
-fn published(store: &mut WaitFreeVlr, imsi: Imsi) -> Result<Option<u64>, Fail> {
+// Two updates are published, and the end of their subscriber is pending.
+fn with_pending_cancel(store: &mut WaitFreeVlr, imsi: Imsi) -> Result<Option<u64>, Refusal> {
     store.submit(Update::Register { imsi })?;
     store.submit(row_update(imsi)?)?;
     let (_, _, front) = tried(store);
@@ -134,7 +138,7 @@ fn published(store: &mut WaitFreeVlr, imsi: Imsi) -> Result<Option<u64>, Fail> {
 fn a_held_look_holds_up_the_end(rt: HostRuntime) -> Result<(), Fail> {
     let imsi = imsi_of(1)?;
     let (mut store, mut session, mut idle) = opened(rt.alloc(), 10)?;
-    let front = published(&mut store, imsi);
+    let front = with_pending_cancel(&mut store, imsi);
     let records = closed_beside_a_look(&rt, store, &mut session, &mut idle)?;
     assert_eq!(rt; front?, Some(2));
     let stored = stored_summary(&records, &imsi, 2);
@@ -187,9 +191,9 @@ fn run<R: Threads + Sync>(
     store: &mut WaitFreeVlr,
     first: WaitFreeSession,
     second: WaitFreeSession,
+    imsi: Imsi,
     call: &CallEvent,
 ) -> (Option<u64>, (Option<u64>, Option<u64>)) {
-    let imsi = call.imsi;
     join(
         rt,
         || publishes_each(store, imsi),
@@ -199,9 +203,10 @@ fn run<R: Threads + Sync>(
 
 #[test]
 fn sessions_see_each_publication_whole(rt: HostRuntime) -> Result<(), Fail> {
-    let call = call_of(imsi_of(1)?)?;
+    let imsi = imsi_of(1)?;
+    let call = call_of(imsi)?;
     let (mut store, first, second) = opened(rt.alloc(), UPDATES)?;
-    let (front, (one, two)) = run(&rt, &mut store, first, second, &call);
+    let (front, (one, two)) = run(&rt, &mut store, first, second, imsi, &call);
     store.abandon();
     assert_eq!(rt; front, Some(UPDATES));
     assert!(rt; one.is_some_and(|seen| seen <= UPDATES));
