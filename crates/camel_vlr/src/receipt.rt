@@ -33,8 +33,8 @@ impl Receipt {
         self.count
     }
 
-    /// A copy of the receipt.
-    pub(crate) fn copy(&self) -> Receipt
+    /// A copy of the receipt, for another session. It takes no memory.
+    pub fn copy(&self) -> Receipt
         ensures { result ≡ self.now }
     {
         Receipt {

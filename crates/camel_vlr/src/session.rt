@@ -6,6 +6,7 @@ ghost use Rattle.camel_rows.specs.Update.{records_of};
 
 pub(crate) mod answers;
 pub(crate) mod look;
+pub(crate) mod shown;
 
 use crate::base::left_right_seat::LeftRightSeat;
 use crate::base::seat::Seat;
@@ -117,8 +118,13 @@ impl<S: Seat> Session<S> {
         }
     }
 
-    /// Takes the copy that is published. Returns whether it has one then.
-    fn enter(&mut self) -> bool
+    /// Begins a look that lasts until [`Session::leave`], and returns whether there is one: for a caller that cannot keep
+    /// the borrow of a [`Look`], as one in C. What a look shows is lent by [`Session::decide`] and the calls beside it.
+    ///
+    /// If it returns false, [`Session::look`] says why. A look that has begun before is left first. It takes no lock,
+    /// does not wait, and takes no memory.
+    #[inline]
+    pub fn enter(&mut self) -> bool
         ensures looks { self.new.looks ≡ result }
         ensures yes { result ≡ true → Sees self.old self.new }
         ensures no { result ≡ false → LeavesLook self.old self.new }
@@ -136,8 +142,8 @@ impl<S: Seat> Session<S> {
         true
     }
 
-    /// Gives the copy of a look back.
-    pub(crate) fn leave(&mut self)
+    /// Leaves the look, if one has begun.
+    pub fn leave(&mut self)
         ensures { LeavesLook self.old self.new }
     {
         self.seat.leave();

@@ -10,7 +10,7 @@ ghost use Rattle.camel_vlr.specs.OwnUpdates.{DecidedByOwn};
 use crate::base::left_right_seat::LeftRightSeat;
 use crate::base::seat::Seat;
 use crate::session::Session;
-use camel_rows::{Decision, Event, Lent, Records, TdpRow, decide_in};
+use camel_rows::{Decision, Event, Lent, Records, TdpRow};
 use camel_tbcd::Imsi;
 
 /// The look failed: the store has ended, or, which no run meets, the published copy is older than what the session was
@@ -38,8 +38,7 @@ impl<S: Seat> Look<'_, S> {
         ensures own { DecidedByOwn self.now.session.now.store self.now.session.now.seen (event_data event.now)
             (decision_data result) }
     {
-        let profile = self.session.profile();
-        decide_in(&self.session.published().records, event, profile)
+        self.session.decide(event)
     }
 
     /// How many updates the front has.
@@ -47,7 +46,7 @@ impl<S: Seat> Look<'_, S> {
         requires { self.now.session.now.looks ≡ true }
         ensures { result ≡ length self.now.session.now.seen }
     {
-        self.session.published().count
+        self.session.front()
     }
 
     /// The TDP row of a subscriber at a detection point, if it is armed.
@@ -55,7 +54,7 @@ impl<S: Seat> Look<'_, S> {
         requires { self.now.session.now.looks ≡ true }
         ensures { option_copied result ≡ option_and_then (row_at dp) (map.get (records_of self.now.session.now.seen) imsi.now) }
     {
-        self.session.published().records.get(imsi)?.row(dp)
+        self.session.row(imsi, dp)
     }
 
     /// The criteria entry of a subscriber at a detection point, if there is one.
@@ -63,7 +62,7 @@ impl<S: Seat> Look<'_, S> {
         requires { self.now.session.now.looks ≡ true }
         ensures { option_map entry_data result ≡ option_and_then (entry_at dp) (map.get (records_of self.now.session.now.seen) imsi.now) }
     {
-        self.session.published().records.get(imsi)?.criteria(dp)
+        self.session.criteria(imsi, dp)
     }
 
     /// The records of the front, so that a running store can be listed ([`Records::imsis`]) and read whole. They are
@@ -73,7 +72,7 @@ impl<S: Seat> Look<'_, S> {
         requires { self.now.session.now.looks ≡ true }
         ensures { result.now ≡ records_of self.now.session.now.seen }
     {
-        &self.session.published().records
+        self.session.records()
     }
 
     /// Ends the look, as dropping it does.

@@ -3,7 +3,6 @@ use Rattle.std.proofs.Common.{◌≡◌, ◌∙◌, ℕ, ◌≤◌, [], ◌++◌
 use Rattle.two_copies.specs.Copies.{pending_of, shown_by}
 use Rattle.camel_rows.proofs.AdmissionLemmas.{IsAdmissionOf-empty}
 use Rattle.camel_rows.proofs.StoreLemmas.{IsFront-empty}
-use Rattle.camel_rows.specs.Front.{IsFront}
 use Rattle.camel_vlr.specs.Operation.{updates_among}
 use Rattle.camel_vlr.specs.declared.writer.TheConstants.{MAX_UPDATES}
 use Rattle.camel_vlr.proofs.writer.wait_free.Vlr+TwoCopiesWriter.empty_wait_free.Goals as goal
