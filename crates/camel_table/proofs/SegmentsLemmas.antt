@@ -7,7 +7,7 @@ use Rattle.std.proofs.Math.Nat.{mod-lt}
 use Rattle.camel_table.specs.Segments.{AreFull, HasRoom, joined}
 
 module _ {A : Type 0} where
-  first_full : (first : Vec A) (rest : List (Vec A)) → AreFull (first ∷ rest) → length first.items ≤ 1024
+  first_full : (first : Vec A) (rest : List (Vec A)) → AreFull (first ∷ rest) → length first.items ≤ 128
   first_full first [] full = full
   first_full first (next ∷ rest) full = omega (arith, full.0)
 
@@ -17,22 +17,22 @@ module _ {A : Type 0} where
 
   -- a segment that others follow is full
   before_others : (first : Vec A) (rest : List (Vec A)) (number place : ℕ) → AreFull (first ∷ rest)
-      → suc number * 1024 + place < length (first.items ++ joined rest) → length first.items ≡ 1024
+      → suc number * 128 + place < length (first.items ++ joined rest) → length first.items ≡ 128
   before_others first [] number place full inside =
       let none : length (first.items ++ []) ≡ length first.items = ap length (append-nil first.items) in
       absurd (omega (arith, full, inside, none))
   before_others first (next ∷ rest) number place full inside = full.0
 
   in_rest : (first : Vec A) (rest : List (Vec A)) (number place : ℕ) → AreFull (first ∷ rest)
-      → suc number * 1024 + place < length (first.items ++ joined rest) → number * 1024 + place < length (joined rest)
+      → suc number * 128 + place < length (first.items ++ joined rest) → number * 128 + place < length (joined rest)
   in_rest first rest number place full inside =
       let whole = before_others first rest number place full inside in
       let both : length (first.items ++ joined rest) ≡ length first.items + length (joined rest) = length-append first.items (joined rest) in
       omega (arith, inside, whole, both)
 
   -- a place of the first segment lies in it
-  in_first : (first : Vec A) (rest : List (Vec A)) (place : ℕ) → AreFull (first ∷ rest) → place < 1024
-      → 0 * 1024 + place < length (first.items ++ joined rest) → place < length first.items
+  in_first : (first : Vec A) (rest : List (Vec A)) (place : ℕ) → AreFull (first ∷ rest) → place < 128
+      → 0 * 128 + place < length (first.items ++ joined rest) → place < length first.items
   in_first first [] place full small inside =
       let none : length (first.items ++ []) ≡ length first.items = ap length (append-nil first.items) in
       omega (arith, inside, none)
@@ -40,34 +40,34 @@ module _ {A : Type 0} where
       let whole = full.0 in
       omega (arith, small, whole)
 
-  pub segment_inside : (segments : List (Vec A)) (number place : ℕ) → AreFull segments → number * 1024 + place < length (joined segments) → number < length segments
+  pub segment_inside : (segments : List (Vec A)) (number place : ℕ) → AreFull segments → number * 128 + place < length (joined segments) → number < length segments
   segment_inside [] number place full inside = absurd (omega (arith, inside))
   segment_inside (first ∷ rest) zero place full inside = omega arith
   segment_inside (first ∷ rest) (suc number) place full inside =
       let deeper = segment_inside rest number place (rest_full first rest full) (in_rest first rest number place full inside) in
       omega (arith, deeper)
 
-  pub bucket_inside : (segments : List (Vec A)) (number place : ℕ) (d : Vec A) → AreFull segments → place < 1024 → number * 1024 + place < length (joined segments)
+  pub bucket_inside : (segments : List (Vec A)) (number place : ℕ) (d : Vec A) → AreFull segments → place < 128 → number * 128 + place < length (joined segments)
       → place < length (slice_index_or segments number d).items
   bucket_inside [] number place d full small inside = absurd (omega (arith, inside))
   bucket_inside (first ∷ rest) zero place d full small inside = in_first first rest place full small inside
   bucket_inside (first ∷ rest) (suc number) place d full small inside =
       bucket_inside rest number place d (rest_full first rest full) small (in_rest first rest number place full inside)
 
-  pub item_at : (segments : List (Vec A)) (number place : ℕ) (d : Vec A) (x : A) → AreFull segments → place < 1024 → number * 1024 + place < length (joined segments)
-      → slice_index_or (joined segments) (number * 1024 + place) x ≡ slice_index_or (slice_index_or segments number d).items place x
+  pub item_at : (segments : List (Vec A)) (number place : ℕ) (d : Vec A) (x : A) → AreFull segments → place < 128 → number * 128 + place < length (joined segments)
+      → slice_index_or (joined segments) (number * 128 + place) x ≡ slice_index_or (slice_index_or segments number d).items place x
   item_at [] number place d x full small inside = absurd (omega (arith, inside))
   item_at (first ∷ rest) zero place d x full small inside =
       ap (λ n. slice_index_or (first.items ++ joined rest) n x) (omega arith)
       ∙ get_or_append_left first.items (joined rest) x place (in_first first rest place full small inside)
   item_at (first ∷ rest) (suc number) place d x full small inside =
-      get_or-append_right first.items (joined rest) 1024 (suc number * 1024 + place) x (before_others first rest number place full inside) (omega arith)
+      get_or-append_right first.items (joined rest) 128 (suc number * 128 + place) x (before_others first rest number place full inside) (omega arith)
       ∙ ap (λ n. slice_index_or (joined rest) n x) (omega arith)
       ∙ item_at rest number place d x (rest_full first rest full) small (in_rest first rest number place full inside)
 
-  pub item_set : (segments : List (Vec A)) (number place : ℕ) (d new : Vec A) (x : A) → AreFull segments → place < 1024 → number * 1024 + place < length (joined segments)
+  pub item_set : (segments : List (Vec A)) (number place : ℕ) (d new : Vec A) (x : A) → AreFull segments → place < 128 → number * 128 + place < length (joined segments)
       → new.items ≡ slice_set (slice_index_or segments number d).items place x
-      → joined (slice_set segments number new) ≡ slice_set (joined segments) (number * 1024 + place) x
+      → joined (slice_set segments number new) ≡ slice_set (joined segments) (number * 128 + place) x
   item_set [] number place d new x full small inside is = absurd (omega (arith, inside))
   item_set (first ∷ rest) zero place d new x full small inside is =
       ap (λ items. items ++ joined rest) is
@@ -76,7 +76,7 @@ module _ {A : Type 0} where
   item_set (first ∷ rest) (suc number) place d new x full small inside is =
       ap (λ items. first.items ++ items) (item_set rest number place d new x (rest_full first rest full) small (in_rest first rest number place full inside) is)
       ∙ ap (λ n. first.items ++ slice_set (joined rest) n x) (omega arith)
-      ∙ sym (set-append_right first.items (joined rest) 1024 (suc number * 1024 + place) x (before_others first rest number place full inside) (omega arith))
+      ∙ sym (set-append_right first.items (joined rest) 128 (suc number * 128 + place) x (before_others first rest number place full inside) (omega arith))
 
   -- segments stay full if one has as many items as before
   pub full_after : (segments : List (Vec A)) (number : ℕ) (d new : Vec A) → AreFull segments → length new.items ≡ length (slice_index_or segments number d).items
@@ -90,37 +90,37 @@ module _ {A : Type 0} where
 
   -- a place by its number from the first segment on
   module _ (segments : List (Vec A)) (full : AreFull segments) (at : ℕ) (inside : at < length (joined segments)) where
-    parts : at / 1024 * 1024 + at % 1024 ≡ at
-    parts = div-add-mod' at 1024
+    parts : at / 128 * 128 + at % 128 ≡ at
+    parts = div-add-mod' at 128
 
-    small : at % 1024 < 1024
+    small : at % 128 < 128
     small = mod-lt at (omega arith)
 
-    within : at / 1024 * 1024 + at % 1024 < length (joined segments)
+    within : at / 128 * 128 + at % 128 < length (joined segments)
     within = subst (λ n. n < length (joined segments)) (sym parts) inside
 
-    pub its_number : at / 1024 < length segments
-    its_number = segment_inside segments (at / 1024) (at % 1024) full within
+    pub its_number : at / 128 < length segments
+    its_number = segment_inside segments (at / 128) (at % 128) full within
 
-    module _ (own : Vec A) (is : own ≡ slice_index_or segments (at / 1024) own) where
-      pub its_place : at % 1024 < length own.items
-      its_place = subst (λ (v : Vec A). at % 1024 < length v.items) (sym is) (bucket_inside segments (at / 1024) (at % 1024) own full small within)
+    module _ (own : Vec A) (is : own ≡ slice_index_or segments (at / 128) own) where
+      pub its_place : at % 128 < length own.items
+      its_place = subst (λ (v : Vec A). at % 128 < length v.items) (sym is) (bucket_inside segments (at / 128) (at % 128) own full small within)
 
-      pub its_item : (x : A) → slice_index_or own.items (at % 1024) x ≡ slice_index_or (joined segments) at x
+      pub its_item : (x : A) → slice_index_or own.items (at % 128) x ≡ slice_index_or (joined segments) at x
       its_item x =
-          ap (λ (v : Vec A). slice_index_or v.items (at % 1024) x) is
-          ∙ sym (item_at segments (at / 1024) (at % 1024) own x full small within)
+          ap (λ (v : Vec A). slice_index_or v.items (at % 128) x) is
+          ∙ sym (item_at segments (at / 128) (at % 128) own x full small within)
           ∙ ap (λ n. slice_index_or (joined segments) n x) parts
 
-      pub its_set : (new : Vec A) (x : A) → new.items ≡ slice_set own.items (at % 1024) x → joined (slice_set segments (at / 1024) new) ≡ slice_set (joined segments) at x
+      pub its_set : (new : Vec A) (x : A) → new.items ≡ slice_set own.items (at % 128) x → joined (slice_set segments (at / 128) new) ≡ slice_set (joined segments) at x
       its_set new x set =
-          item_set segments (at / 1024) (at % 1024) own new x full small within (set ∙ ap (λ (v : Vec A). slice_set v.items (at % 1024) x) is)
+          item_set segments (at / 128) (at % 128) own new x full small within (set ∙ ap (λ (v : Vec A). slice_set v.items (at % 128) x) is)
           ∙ ap (λ n. slice_set (joined segments) n x) parts
 
-      pub full_set : (new : Vec A) (x : A) → new.items ≡ slice_set own.items (at % 1024) x → AreFull (slice_set segments (at / 1024) new)
+      pub full_set : (new : Vec A) (x : A) → new.items ≡ slice_set own.items (at % 128) x → AreFull (slice_set segments (at / 128) new)
       full_set new x set =
-          full_after segments (at / 1024) own new full
-          (ap length set ∙ length-set own.items (at % 1024) x ∙ ap (λ (v : Vec A). length v.items) is)
+          full_after segments (at / 128) own new full
+          (ap length set ∙ length-set own.items (at % 128) x ∙ ap (λ (v : Vec A). length v.items) is)
 
   -- a segment more
   pub joined_more : (segments : List (Vec A)) (new : Vec A) → new.items ≡ [] → joined (segments ++ new ∷ []) ≡ joined segments
@@ -128,22 +128,22 @@ module _ {A : Type 0} where
   joined_more (first ∷ rest) new none = ap (λ items. first.items ++ items) (joined_more rest new none)
 
   pub room_more : (segments : List (Vec A)) (new : Vec A) → new.items ≡ [] → HasRoom (segments ++ new ∷ [])
-  room_more [] new none = subst (λ items. length items < 1024) (sym none) (omega arith)
-  room_more (first ∷ []) new none = subst (λ items. length items < 1024) (sym none) (omega arith)
+  room_more [] new none = subst (λ items. length items < 128) (sym none) (omega arith)
+  room_more (first ∷ []) new none = subst (λ items. length items < 128) (sym none) (omega arith)
   room_more (first ∷ next ∷ rest) new none = room_more (next ∷ rest) new none
 
   -- the length of the last segment, or that of a full one if there is none
   abbrev pub last_length : List (Vec A) → ℕ
-  last_length [] = 1024
+  last_length [] = 128
   last_length (last ∷ []) = length last.items
   last_length (first ∷ next ∷ rest) = last_length (next ∷ rest)
 
-  pub full_more : (segments : List (Vec A)) (new : Vec A) → new.items ≡ [] → AreFull segments → 1024 ≤ last_length segments → AreFull (segments ++ new ∷ [])
-  full_more [] new none full whole = subst (λ items. length items ≤ 1024) (sym none) (omega arith)
-  full_more (last ∷ []) new none full whole = (omega (arith, full, whole), subst (λ items. length items ≤ 1024) (sym none) (omega arith))
+  pub full_more : (segments : List (Vec A)) (new : Vec A) → new.items ≡ [] → AreFull segments → 128 ≤ last_length segments → AreFull (segments ++ new ∷ [])
+  full_more [] new none full whole = subst (λ items. length items ≤ 128) (sym none) (omega arith)
+  full_more (last ∷ []) new none full whole = (omega (arith, full, whole), subst (λ items. length items ≤ 128) (sym none) (omega arith))
   full_more (first ∷ next ∷ rest) new none full whole = (full.0, full_more (next ∷ rest) new none full.1 whole)
 
-  pub room_by_length : (segments : List (Vec A)) → last_length segments < 1024 → HasRoom segments
+  pub room_by_length : (segments : List (Vec A)) → last_length segments < 128 → HasRoom segments
   room_by_length [] few = omega (arith, few)
   room_by_length (last ∷ []) few = few
   room_by_length (first ∷ next ∷ rest) few = room_by_length (next ∷ rest) few
@@ -160,7 +160,7 @@ module _ {A : Type 0} where
   last_measured segments count is some last own =
       ap (λ (v : Vec A). length v.items) (own ∙ ap (λ n. slice_index_or segments (n - 1) last) is) ∙ last_length_is segments last (subst (λ n. 0 < n) is some)
 
-  pub none_measured : (segments : List (Vec A)) → length segments ≤ 0 → last_length segments ≡ 1024
+  pub none_measured : (segments : List (Vec A)) → length segments ≤ 0 → last_length segments ≡ 128
   none_measured [] none = refl
   none_measured (first ∷ rest) none = absurd (omega (arith, none))
 
@@ -169,7 +169,7 @@ module _ {A : Type 0} where
   some_segment [] room = absurd room
   some_segment (first ∷ rest) room = omega arith
 
-  pub length_of_room : (segments : List (Vec A)) → HasRoom segments → last_length segments < 1024
+  pub length_of_room : (segments : List (Vec A)) → HasRoom segments → last_length segments < 128
   length_of_room [] room = absurd room
   length_of_room (last ∷ []) room = room
   length_of_room (first ∷ next ∷ rest) room = length_of_room (next ∷ rest) room
@@ -185,7 +185,7 @@ module _ {A : Type 0} where
       ∙ ap (λ items. first.items ++ items) (joined_last (next ∷ rest) new d added (omega arith) (is ∙ ap (λ n. (slice_index_or (first ∷ next ∷ rest) n d).items ++ added) before))
       ∙ sym (append_assoc first.items (joined (next ∷ rest)) added)
 
-  pub full_last : (segments : List (Vec A)) (new : Vec A) → AreFull segments → 0 < length segments → length new.items ≤ 1024 → AreFull (slice_set segments (length segments - 1) new)
+  pub full_last : (segments : List (Vec A)) (new : Vec A) → AreFull segments → 0 < length segments → length new.items ≤ 128 → AreFull (slice_set segments (length segments - 1) new)
   full_last [] new full some few = tt
   full_last (last ∷ []) new full some few = few
   full_last (first ∷ next ∷ []) new full some few = (full.0, few)

@@ -4,7 +4,7 @@ use Rattle.std.specs.Global.{Vec}
 
 -- how many items a segment has room for
 abbrev pub segment : ℕ
-segment = 1024
+segment = 128
 
 module _ {A : Type 0} where
   -- the items of all segments

@@ -7,7 +7,7 @@ use std::alloc::{AllocError, Global};
 use std::marker::Model;
 
 /// How many items a segment has room for.
-const SEGMENT: usize = 1024;
+const SEGMENT: usize = 128;
 
 /// A list that grows without moving what it holds: its items lie in segments, and a segment is never copied.
 ///

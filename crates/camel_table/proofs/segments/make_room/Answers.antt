@@ -11,20 +11,20 @@ returns-then-len-lt-SEGMENT-clause-room g c =
     let measured : c.len.result ≡ last_length segments.items =
     c.len.ensures ∙ last.ok.0
     ∙ last_measured segments.items c.len-count.result (c.len-count.ensures ∙ segments.ok.0) c.if-count-gt0.true last c.index.ensures in
-    room_by_length segments.items (subst (λ n. n < 1024) measured c.if-len-lt-SEGMENT.true)
+    room_by_length segments.items (subst (λ n. n < 128) measured c.if-len-lt-SEGMENT.true)
 
 pub returns-clause-full : goal.returns-clause-full
 returns-clause-full g c =
     let segments = c.args.segments.now in
     let new = c.in_ok-with_capacity.field-0 in
     let count : c.len-count.result ≡ length segments.items = c.len-count.ensures ∙ segments.ok.0 in
-    let whole : 1024 ≤ last_length segments.items =
+    let whole : 128 ≤ last_length segments.items =
     elim c.else-count-gt0.branch [
       | else-count-gt0-via-then-count-gt0+else-len-lt-SEGMENT w ↦
           let last = w.index.result.now in
           let measured : w.len.result ≡ last_length segments.items =
           w.len.ensures ∙ last.ok.0 ∙ last_measured segments.items c.len-count.result count w.if-count-gt0.true last w.index.ensures in
-          subst (λ n. 1024 ≤ n) measured w.if-len-lt-SEGMENT.false
+          subst (λ n. 128 ≤ n) measured w.if-len-lt-SEGMENT.false
       | else-count-gt0-via-else-count-gt0 w ↦
           let none = none_measured segments.items (subst (λ n. n ≤ 0) count w.if-count-gt0.false) in
           omega (arith, none)

@@ -6,13 +6,13 @@ pub index-requires : goal.index-requires
 index-requires g c =
     let segments = c.self.inside.segments in
     let inside = subst (λ list. c.args.at < length list) (sym c.self.view_is) c.requires in
-    subst (λ n. c.args.at / 1024 < n) (sym segments.ok.0) (its_number segments.items c.self.invariant.0 c.args.at inside)
+    subst (λ n. c.args.at / 128 < n) (sym segments.ok.0) (its_number segments.items c.self.invariant.0 c.args.at inside)
 
 pub index-requires-2 : goal.index-requires-2
 index-requires-2 g c =
     let segments = c.self.inside.segments in
     let inside = subst (λ list. c.args.at < length list) (sym c.self.view_is) c.requires in
-    subst (λ n. c.args.at % 1024 < n) (sym c.index.result.now.ok.0) (its_place segments.items c.self.invariant.0 c.args.at inside c.index.result.now c.index.ensures)
+    subst (λ n. c.args.at % 128 < n) (sym c.index.result.now.ok.0) (its_place segments.items c.self.invariant.0 c.args.at inside c.index.result.now c.index.ensures)
 
 pub returns : goal.returns
 returns g c =

@@ -9,20 +9,20 @@ pub index_mut-segment-requires : goal.index_mut-segment-requires
 index_mut-segment-requires g c =
     let segments = c.self.inside.segments in
     let inside = subst (λ list. c.args.at < length list) (sym c.self.view_is) c.requires in
-    subst (λ n. c.args.at / 1024 < n) (sym segments.ok.0) (its_number segments.items c.self.invariant.0 c.args.at inside)
+    subst (λ n. c.args.at / 128 < n) (sym segments.ok.0) (its_number segments.items c.self.invariant.0 c.args.at inside)
 
 pub index_mut-requires : goal.index_mut-requires
 index_mut-requires g c =
     let segments = c.self.inside.segments in
     let inside = subst (λ list. c.args.at < length list) (sym c.self.view_is) c.requires in
-    subst (λ n. c.args.at % 1024 < n) (sym c.index_mut-segment.result.now.ok.0)
+    subst (λ n. c.args.at % 128 < n) (sym c.index_mut-segment.result.now.ok.0)
     (its_place segments.items c.self.invariant.0 c.args.at inside c.index_mut-segment.result.now c.index_mut-segment.ensures.value)
 
 pub invariant_of-self-lent : goal.invariant_of-self-lent
 invariant_of-self-lent g c = λ w.
     let segments = c.self.inside.segments in
     let inside = subst (λ list. c.args.at < length list) (sym c.self.view_is) c.requires in
-    let new = with_item c.index_mut-segment.result.now (c.args.at % 1024) w in
+    let new = with_item c.index_mut-segment.result.now (c.args.at % 128) w in
     let set = its_set segments.items c.self.invariant.0 c.args.at inside c.index_mut-segment.result.now c.index_mut-segment.ensures.value new w refl in (
       full_set segments.items c.self.invariant.0 c.args.at inside c.index_mut-segment.result.now c.index_mut-segment.ensures.value new w refl,
       c.self.invariant.1 ∙ sym (ap length set ∙ length-set (joined segments.items) c.args.at w),
