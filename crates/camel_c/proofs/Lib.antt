@@ -1,0 +1,9 @@
+pub mod BoxCalls
+pub mod BoxCode
+pub mod BoxRows
+pub mod LayoutLemmas
+pub mod ObjectDrop
+pub mod ObjectLemmas
+pub mod ReadingLemmas
+pub mod SubmissionLemmas
+pub mod Values

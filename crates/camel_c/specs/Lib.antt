@@ -1,0 +1,11 @@
+pub mod Change
+pub mod Decides
+pub mod Failure
+pub mod Handle
+pub mod Kept
+pub mod Layouts
+pub mod Object
+pub mod Opening
+pub mod Shown
+pub mod Shows
+pub mod Submission

@@ -1,0 +1,16 @@
+-- What a session shows while it looks.
+use Rattle.std.specs.Prelude.{ℕ, List, Option}
+use Rattle.std.specs.FinMap as map
+use Rattle.std.specs.Option.{option_and_then}
+use Rattle.camel_rows.specs.Subscriber.{SubscriberData, row_at}
+use Rattle.camel_rows.specs.TdpRow.{TdpRowData}
+use Rattle.camel_rows.specs.Update.{records_of}
+use Rattle.camel_vlr.specs.Session.{SessionData}
+
+-- the record of a subscriber, over the front of a look
+abbrev pub record_shown : SessionData → List ℕ → Option SubscriberData
+record_shown shown imsi = map.get (records_of shown.seen) imsi
+
+-- the row of a subscriber at a detection point, over the front of a look
+abbrev pub row_shown : SessionData → List ℕ → ℕ → Option TdpRowData
+row_shown shown imsi dp = option_and_then (row_at dp) (record_shown shown imsi)

@@ -1,0 +1,42 @@
+-- Submissions: the update that the data of a caller are, and what the store makes of it.
+use Rattle.std.specs.Prelude.{◌≡◌, ◌≢◌, ◌⊎◌, ℕ, Option, Some, Result, Ok, Err, IfSome, IsSome}
+use Rattle.camel_criteria.specs.Refusal.{refusal_code}
+use Rattle.camel_rows.specs.Store.{with_update}
+use Rattle.camel_rows.specs.declared.subscriber.update.Update.{Update}
+use Rattle.camel_rows.specs.declared.subscriber.update.Update.TheVariants as update
+use Rattle.camel_vlr.specs.Store.{StoreData, submission_refusal}
+use Rattle.camel_c_data.specs.DataFault.{data_fault_code}
+use Rattle.camel_c_data.specs.Imsi.{imsi_in}
+use Rattle.camel_c_data.specs.Reading.{◌>>=◌}
+use Rattle.camel_c_data.specs.declared.data_fault.DataFault.{DataFault}
+use Rattle.camel_c_data.specs.declared.imsi.CamelImsi.{CamelImsi}
+use Rattle.camel_c.specs.Change.{ChangesUpdates}
+use Rattle.camel_c.specs.Object.{HoldsLiveStore, live_store}
+use Rattle.camel_c.specs.declared.object.Object.{Object}
+
+-- the Register of an IMSI
+abbrev pub register_in : CamelImsi → Result Update DataFault
+register_in held = imsi_in held >>= λ imsi. Ok (update.Register imsi)
+
+-- the Cancel of an IMSI
+abbrev pub cancel_in : CamelImsi → Result Update DataFault
+cancel_in held = imsi_in held >>= λ imsi. Ok (update.Cancel imsi)
+
+-- Data that read so are submitted to what a handle held before, and this is the status. Memory may be refused (102)
+-- while the data are read, and while the store takes the update.
+pub record Submits (reading : Result Update DataFault) (status : ℕ) (before after : Option Object) : Type 0 where
+  -- the data are an update, which the store has taken
+  pub submitted : status ≡ 0 → (update : Update) × (reading ≡ Ok update)
+      × ChangesUpdates (λ updates. with_update updates update) before after
+  pub unchanged : status ≢ 0 → after ≡ before
+  -- the data are none
+  pub faulty : (fault : DataFault) → reading ≡ Err fault → (status ≡ data_fault_code fault) ⊎ (status ≡ 102)
+  -- the store does not accept the update
+  pub refused : (update : Update) (store : StoreData) → reading ≡ Ok update → before ≡ Some (live_store store)
+      → IfSome (submission_refusal store update) (λ why. (status ≡ refusal_code why) ⊎ (status ≡ 102))
+  -- a store takes an update that it accepts, unless memory is refused
+  pub only : (update : Update) (store : StoreData) → reading ≡ Ok update → before ≡ Some (live_store store)
+      → (status ≡ 0) ⊎ ((status ≡ 102) ⊎ IsSome (submission_refusal store update))
+  -- no store takes updates
+  pub wrong : (update : Update) → reading ≡ Ok update
+      → HoldsLiveStore before ⊎ ((status ≡ 202) ⊎ (status ≡ 102))

@@ -1,0 +1,32 @@
+//! The store of `camel_vlr` for switches in C and Rust: a static library.
+//!
+//! C keeps stores, sessions and receipts by handles, and a [`CamelHandle`] says what one is. A call returns 0 if it did
+//! what it says, and else the number of a [`Failure`]: then nothing is changed, unless the call says otherwise.
+//!
+//! What no check reaches, the caller owes: a handle is empty, that is all zeros, or as a call left it; one call at a time
+//! takes a handle, and none takes the same one twice; pointers are not null; and `malloc`, `realloc` and `free` are those
+//! of one allocator. A handle may go to another thread.
+#![tactic(auto)]
+
+mod counting;
+mod deciding;
+mod deciding_kept;
+mod ending;
+mod failure;
+mod filling;
+mod handle;
+mod keeping;
+mod kept_subscriber;
+mod layouts;
+mod looking;
+mod looks;
+mod making;
+mod object;
+mod opening;
+mod publishing;
+mod receipts;
+mod showing;
+mod submitting;
+
+pub use failure::Failure;
+pub use handle::CamelHandle;

@@ -1,0 +1,83 @@
+//! IMSIs and addresses, which a caller makes once per call.
+
+ghost use Rattle.std.specs.Prelude.{◌≡◌, ◌≢◌, ◌≤◌, ◌⊎◌, Ok, IsErr, IsOk, length};
+ghost use Rattle.camel_c_data.specs.Address.{call_address_in, isdn_address_in};
+ghost use Rattle.camel_c_data.specs.Imsi.{imsi_in};
+ghost use Rattle.camel_c_data.specs.Reading.{ok_or_malformed};
+ghost use Rattle.camel_tbcd.specs.AddressLength.{max_address_length, max_isdn_address_length};
+ghost use Rattle.camel_tbcd.specs.Imsi.{imsi_of_ascii, imsi_of_tbcd};
+
+use crate::failure::Failure;
+use camel_c_data::{CamelAddress, CamelImsi, CamelIsdnAddress};
+use camel_tbcd::{CallAddress, Imsi, IsdnAddress};
+
+/// Writes the IMSI that 3 to 8 TBCD octets are (TS 29.002). It fails with 201 if they are none, and leaves the IMSI as
+/// it was.
+#[unsafe(no_mangle)]
+pub extern "C" fn camel_imsi_of_tbcd(octets: &[u8], imsi: &mut CamelImsi) -> u32
+    ensures written { result ≡ 0 → imsi_in imsi.new ≡ ok_or_malformed (imsi_of_tbcd octets.now) }
+    ensures unchanged { result ≢ 0 → imsi.new ≡ imsi.old }
+    ensures only { IsOk (imsi_of_tbcd octets.now) → result ≡ 0 }
+    ensures malformed { IsErr (imsi_of_tbcd octets.now) → result ≡ 201 }
+{
+    match Imsi::from_tbcd(octets) {
+        Ok(made) => {
+            *imsi = CamelImsi::of(&made);
+            0
+        }
+        Err(_) => Failure::Malformed.code(),
+    }
+}
+
+/// Writes the IMSI that 5 to 15 characters 0 to 9 are. It fails with 201 if they are none, and leaves the IMSI as it was.
+#[unsafe(no_mangle)]
+pub extern "C" fn camel_imsi_of_digits(digits: &[u8], imsi: &mut CamelImsi) -> u32
+    ensures written { result ≡ 0 → imsi_in imsi.new ≡ ok_or_malformed (imsi_of_ascii digits.now) }
+    ensures unchanged { result ≢ 0 → imsi.new ≡ imsi.old }
+    ensures only { IsOk (imsi_of_ascii digits.now) → result ≡ 0 }
+    ensures malformed { IsErr (imsi_of_ascii digits.now) → result ≡ 201 }
+{
+    match Imsi::from_ascii(digits) {
+        Ok(made) => {
+            *imsi = CamelImsi::of(&made);
+            0
+        }
+        Err(_) => Failure::Malformed.code(),
+    }
+}
+
+/// Writes the AddressString of these octets, 1 to 20 (TS 29.002). It fails with 201 if they are none, and leaves the
+/// address as it was.
+#[unsafe(no_mangle)]
+pub extern "C" fn camel_address_of(octets: &[u8], address: &mut CamelAddress) -> u32
+    ensures written { result ≡ 0 → call_address_in address.new ≡ Ok octets.now }
+    ensures unchanged { result ≢ 0 → address.new ≡ address.old }
+    ensures only { 1 ≤ length octets.now → length octets.now ≤ max_address_length → result ≡ 0 }
+    ensures malformed { (result ≡ 0) ⊎ (result ≡ 201) }
+{
+    match CallAddress::from_bytes(octets) {
+        Ok(made) => {
+            *address = CamelAddress::of(&made);
+            0
+        }
+        Err(_) => Failure::Malformed.code(),
+    }
+}
+
+/// Writes the ISDN-AddressString of these octets, 1 to 9 (TS 29.002). It fails with 201 if they are none, and leaves the
+/// address as it was.
+#[unsafe(no_mangle)]
+pub extern "C" fn camel_isdn_address_of(octets: &[u8], address: &mut CamelIsdnAddress) -> u32
+    ensures written { result ≡ 0 → isdn_address_in address.new ≡ Ok octets.now }
+    ensures unchanged { result ≢ 0 → address.new ≡ address.old }
+    ensures only { 1 ≤ length octets.now → length octets.now ≤ max_isdn_address_length → result ≡ 0 }
+    ensures malformed { (result ≡ 0) ⊎ (result ≡ 201) }
+{
+    match IsdnAddress::from_bytes(octets) {
+        Ok(made) => {
+            *address = CamelIsdnAddress::of(&made);
+            0
+        }
+        Err(_) => Failure::Malformed.code(),
+    }
+}

@@ -1,0 +1,45 @@
+-- Entries of criteria, and sets of them, by their fields.
+use Rattle.std.specs.Prelude.{Bool, List, Option, Some, None, Result, Ok, if◌then◌else◌}
+use Rattle.camel_criteria.specs.Criteria.{NumberCriterionData, OCriteriaData, TCriteriaData, o_criteria_of, t_criteria_of}
+use Rattle.camel_criteria.specs.declared.criteria.CallType.{CallType}
+use Rattle.camel_criteria.specs.declared.criteria.CallType.TheVariants.{Forwarded, NotForwarded}
+use Rattle.camel_rows.specs.Received.{o_criteria_set_of, t_criteria_set_of}
+use Rattle.camel_c_data.specs.EntryLists.{basic_services_in, causes_in}
+use Rattle.camel_c_data.specs.NumberCriterion.{number_criterion_in}
+use Rattle.camel_c_data.specs.Reading.{◌>>=◌, or_refused}
+use Rattle.camel_c_data.specs.SentList.{sent_list}
+use Rattle.camel_c_data.specs.declared.criteria.CamelOCriteria.{CamelOCriteria}
+use Rattle.camel_c_data.specs.declared.criteria.CamelTCriteria.{CamelTCriteria}
+use Rattle.camel_c_data.specs.declared.data_fault.DataFault.{DataFault}
+
+-- the destination number criterion, if there is one
+unfoldable pub number_in : CamelOCriteria → Result (Option NumberCriterionData) DataFault
+number_in entry =
+    if entry.has_number then (number_criterion_in entry.number >>= λ number. Ok (Some number)) else Ok None
+
+-- the call type criterion, if there is one
+abbrev pub call_type_in : CamelOCriteria → Option CallType
+call_type_in entry = if entry.has_call_type then Some (if entry.is_forwarded then Forwarded else NotForwarded) else None
+
+-- the entry of the criteria of the O-CSI that the fields are
+unfoldable pub o_entry_in : CamelOCriteria → Result OCriteriaData DataFault
+o_entry_in entry = do
+  number ← number_in entry
+  basic ← basic_services_in entry.basic
+  causes ← causes_in entry.causes
+  or_refused (o_criteria_of entry.dp number basic (call_type_in entry) causes)
+
+-- the entry of the criteria of the VT-CSI that the fields are
+unfoldable pub t_entry_in : CamelTCriteria → Result TCriteriaData DataFault
+t_entry_in entry = do
+  basic ← basic_services_in entry.basic
+  causes ← causes_in entry.causes
+  or_refused (t_criteria_of entry.dp basic causes)
+
+-- the criteria of the O-CSI of these entries
+unfoldable pub o_criteria_set_in : Bool → List CamelOCriteria → Result (Option (List OCriteriaData)) DataFault
+o_criteria_set_in is_sent entries = sent_list o_entry_in o_criteria_set_of is_sent entries
+
+-- the criteria of the VT-CSI of these entries
+unfoldable pub t_criteria_set_in : Bool → List CamelTCriteria → Result (Option (List TCriteriaData)) DataFault
+t_criteria_set_in is_sent entries = sent_list t_entry_in t_criteria_set_of is_sent entries

@@ -1,0 +1,21 @@
+-- An IMSI by its number, as a C caller keeps it.
+use Rattle.std.specs.Prelude.{◌≢◌, ◌==◌, ℕ, List, Result, Ok, Err, if◌then◌else◌}
+use Rattle.camel_tbcd.specs.Imsi.{IsImsi, imsi_of}
+use Rattle.camel_tbcd.specs.ImsiOrder.{order_number}
+use Rattle.camel_tbcd.specs.PackedImsi.{digits_of_number}
+use Rattle.camel_c_data.specs.Reading.{◌>>=◌, ok_or_malformed}
+use Rattle.camel_c_data.specs.declared.data_fault.DataFault.{DataFault}
+use Rattle.camel_c_data.specs.declared.data_fault.DataFault.TheVariants.{Malformed}
+use Rattle.camel_c_data.specs.declared.imsi.CamelImsi.{CamelImsi}
+
+-- a number is that of no IMSI
+abbrev pub IsNumberOfNone : ℕ → Type 0
+IsNumberOfNone number = (digits : List ℕ) → IsImsi digits → order_number digits ≢ number
+
+-- an IMSI, if this is its number
+abbrev pub with_number : ℕ → List ℕ → Result (List ℕ) DataFault
+with_number number imsi = if order_number imsi == number then Ok imsi else Err Malformed
+
+-- the IMSI of which this is the number
+unfoldable pub imsi_in : CamelImsi → Result (List ℕ) DataFault
+imsi_in held = ok_or_malformed (imsi_of (digits_of_number held.number)) >>= with_number held.number

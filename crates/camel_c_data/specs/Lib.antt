@@ -1,0 +1,14 @@
+pub mod Address
+pub mod Answer
+pub mod BasicService
+pub mod Criteria
+pub mod DataFault
+pub mod EntryLists
+pub mod Event
+pub mod FirstItems
+pub mod Imsi
+pub mod NumberCriterion
+pub mod Reading
+pub mod Row
+pub mod SentList
+pub mod Update

@@ -1,0 +1,156 @@
+//! The entries of the criteria of both CSIs, and the sets of them.
+
+ghost use Rattle.std.specs.Prelude.{◌≡◌};
+ghost use Rattle.camel_c_data.specs.Criteria.{call_type_in, number_in, o_criteria_set_in, o_entry_in, t_criteria_set_in, t_entry_in};
+ghost use Rattle.camel_c_data.specs.Reading.{ReadsAs, ReadsList, each_of};
+
+use crate::data_fault::DataFault;
+use crate::entry_lists::{CamelBasicServices, CamelCauses};
+use crate::number_criterion::CamelNumberCriterion;
+use crate::read_each::read_each;
+use camel_criteria::{CallType, NumberCriterion, OCriteria, TCriteria};
+use camel_rows::{OCriteriaSet, TCriteriaSet};
+use std::alloc::Global;
+use std::mem::size_of;
+
+/// The criteria of a detection point of the O-CSI (O-BcsmCamelTDP-Criteria of TS 29.002). Each criterion may be absent.
+#[repr(C)]
+#[derive(Clone, Copy, Debug)]
+pub struct CamelOCriteria {
+    /// The trigger detection point.
+    pub dp: u8,
+    /// Whether there is a destination number criterion. It is not looked at otherwise.
+    pub has_number: bool,
+    /// The destination number criterion.
+    pub number: CamelNumberCriterion,
+    /// The basic service criterion.
+    pub basic: CamelBasicServices,
+    /// Whether there is a call type criterion.
+    pub has_call_type: bool,
+    /// Whether the call type criterion asks for forwarded calls; else for those that are not forwarded.
+    pub is_forwarded: bool,
+    /// The cause criterion.
+    pub causes: CamelCauses,
+}
+
+const _: () = prove!(size_of::<CamelOCriteria>() == 127);
+
+impl CamelOCriteria {
+    /// The entry that the fields are.
+    ///
+    /// Fails as the destination number criterion, then the basic services and then the causes fail to read, then as
+    /// [`OCriteria::new`], and with `OutOfMemory` (102) if memory is refused. Nothing was made then.
+    #[tactic(auto, unfolding(crate::specs::Criteria::o_entry_in))]
+    pub fn read(&self, alloc: Global) -> Result<OCriteria, DataFault>
+        ensures { ReadsAs result (o_entry_in self.now) }
+    {
+        let number = self.read_number(alloc)?;
+        let basic = self.basic.read(alloc)?;
+        let causes = self.causes.read()?;
+        let call_type = self.call_type();
+        Ok(OCriteria::new(alloc, self.dp, number, &basic, call_type, causes)?)
+    }
+
+    #[tactic(auto, unfolding(crate::specs::Criteria::number_in))]
+    fn read_number(&self, alloc: Global) -> Result<Option<NumberCriterion>, DataFault>
+        ensures { ReadsAs result (number_in self.now) }
+    {
+        if !self.has_number {
+            return Ok(None);
+        }
+        Ok(Some(self.number.read(alloc)?))
+    }
+
+    fn call_type(&self) -> Option<CallType>
+        ensures { result ≡ call_type_in self.now }
+    {
+        if !self.has_call_type {
+            return None;
+        }
+        Some(if self.is_forwarded {
+            CallType::Forwarded
+        } else {
+            CallType::NotForwarded
+        })
+    }
+}
+
+/// The criteria of a detection point of the VT-CSI (T-BCSM-CAMEL-TDP-Criteria of TS 29.002). Each criterion may be
+/// absent.
+#[repr(C)]
+#[derive(Clone, Copy, Debug)]
+pub struct CamelTCriteria {
+    /// The trigger detection point.
+    pub dp: u8,
+    /// The basic service criterion.
+    pub basic: CamelBasicServices,
+    /// The cause criterion.
+    pub causes: CamelCauses,
+}
+
+const _: () = prove!(size_of::<CamelTCriteria>() == 18);
+
+impl CamelTCriteria {
+    /// The entry that the fields are.
+    ///
+    /// Fails as the basic services and then the causes fail to read, then as [`TCriteria::new`], and with `OutOfMemory`
+    /// (102) if memory is refused. Nothing was made then.
+    #[tactic(auto, unfolding(crate::specs::Criteria::t_entry_in))]
+    pub fn read(&self, alloc: Global) -> Result<TCriteria, DataFault>
+        ensures { ReadsAs result (t_entry_in self.now) }
+    {
+        let basic = self.basic.read(alloc)?;
+        let causes = self.causes.read()?;
+        Ok(TCriteria::new(self.dp, &basic, causes)?)
+    }
+}
+
+/// The criteria of the O-CSI of received entries, or none if they are not sent: the entries are not looked at then.
+///
+/// Fails as the first entry that fails to read, then as [`OCriteriaSet::new`], and with `OutOfMemory` (102) if memory
+/// is refused. Nothing was made then.
+#[tactic(auto, unfolding(crate::specs::Criteria::o_criteria_set_in))]
+pub fn read_o_criteria_set(
+    alloc: Global,
+    is_sent: bool,
+    entries: &[CamelOCriteria],
+) -> Result<Option<OCriteriaSet>, DataFault>
+    ensures { ReadsAs result (o_criteria_set_in is_sent entries.now) }
+{
+    if !is_sent {
+        return Ok(None);
+    }
+    let received = read_o_entries(alloc, entries)?;
+    Ok(Some(OCriteriaSet::new(received)?))
+}
+
+fn read_o_entries(alloc: Global, entries: &[CamelOCriteria]) -> Result<Vec<OCriteria>, DataFault>
+    ensures { ReadsList result (each_of o_entry_in entries.now) }
+{
+    read_each(alloc, entries, |entry| entry.read(alloc))
+}
+
+/// The criteria of the VT-CSI of received entries, or none if they are not sent: the entries are not looked at then.
+///
+/// Fails as the first entry that fails to read, then as [`TCriteriaSet::new`], and with `OutOfMemory` (102) if memory
+/// is refused. Nothing was made then.
+#[tactic(auto, unfolding(crate::specs::Criteria::t_criteria_set_in))]
+pub fn read_t_criteria_set(
+    alloc: Global,
+    is_sent: bool,
+    entries: &[CamelTCriteria],
+) -> Result<Option<TCriteriaSet>, DataFault>
+    ensures { ReadsAs result (t_criteria_set_in is_sent entries.now) }
+{
+    if !is_sent {
+        return Ok(None);
+    }
+    let received = read_t_entries(alloc, entries)?;
+    Ok(Some(TCriteriaSet::new(received)?))
+}
+
+fn read_t_entries(alloc: Global, entries: &[CamelTCriteria]) -> Result<Vec<TCriteria>, DataFault>
+    ensures { ReadsList result (each_of t_entry_in entries.now) }
+{
+    read_each(alloc, entries, |entry| entry.read(alloc))
+}

@@ -1,0 +1,68 @@
+//! The lists that entries of criteria of both CSIs have.
+
+ghost use Rattle.std.specs.Prelude.{◌≡◌, Ok, IfErr, IfOk, map};
+ghost use Rattle.camel_c_data.specs.BasicService.{basic_service_in};
+ghost use Rattle.camel_c_data.specs.EntryLists.{basic_services_in, causes_in};
+ghost use Rattle.camel_c_data.specs.Reading.{ReadsList};
+
+use crate::basic_service::CamelBasicService;
+use crate::data_fault::DataFault;
+use crate::first_items::first_items;
+use crate::read_each::read_each;
+use camel_criteria::{BasicService, MAX_BASIC_SERVICES, MAX_CAUSES};
+use std::alloc::Global;
+use std::mem::size_of;
+
+/// A basic service criterion: the first `count` basic services, up to 5. One of none is absent.
+#[repr(C)]
+#[derive(Clone, Copy, Debug)]
+pub struct CamelBasicServices {
+    pub count: u8,
+    pub services: [CamelBasicService; MAX_BASIC_SERVICES],
+}
+
+const _: () = prove!(size_of::<CamelBasicServices>() == 11);
+
+impl CamelBasicServices {
+    /// The basic services that the fields are.
+    ///
+    /// Fails with `Malformed` (201) for more than 5, and with `OutOfMemory` (102) if memory is refused.
+    #[tactic(auto, unfolding(crate::specs::EntryLists::basic_services_in))]
+    pub fn read(&self, alloc: Global) -> Result<Vec<BasicService>, DataFault>
+        ensures { ReadsList result (basic_services_in self.now) }
+    {
+        read_services(alloc, first_items(&self.services, self.count)?)
+    }
+}
+
+fn read_services(
+    alloc: Global,
+    services: &[CamelBasicService],
+) -> Result<Vec<BasicService>, DataFault>
+    ensures { ReadsList result (Ok (map basic_service_in services.now)) }
+{
+    read_each(alloc, services, |service| Ok(service.read()))
+}
+
+/// A cause criterion: the first `count` causes, up to 5. One of none is absent.
+#[repr(C)]
+#[derive(Clone, Copy, Debug)]
+pub struct CamelCauses {
+    pub count: u8,
+    pub causes: [u8; MAX_CAUSES],
+}
+
+const _: () = prove!(size_of::<CamelCauses>() == 6);
+
+impl CamelCauses {
+    /// The causes that the fields are, each any octet.
+    ///
+    /// Fails with `Malformed` (201) for more than 5.
+    #[tactic(auto, unfolding(crate::specs::EntryLists::causes_in))]
+    pub fn read(&self) -> Result<&[u8], DataFault>
+        ensures listed { IfOk result (λ causes. causes_in self.now ≡ Ok causes.now) }
+        ensures malformed { IfErr result (λ fault. causes_in self.now ≡ Err fault) }
+    {
+        first_items(&self.causes, self.count)
+    }
+}

@@ -1,0 +1,31 @@
+//! The data of subscribers, call events and answers as a C caller has them, and what they are in the product's terms.
+//!
+//! Each type with a name that begins with `Camel` has the layout of a C structure of plain numbers. A C caller may write
+//! any number into it, so a read checks its fields. A read that fails made nothing, and holds no memory.
+#![tactic(auto)]
+
+mod address;
+mod answer;
+mod basic_service;
+mod criteria;
+mod data_fault;
+mod entry_lists;
+mod event;
+mod first_items;
+mod imsi;
+mod number_criterion;
+mod read_each;
+mod row;
+mod update;
+
+pub use address::{CamelAddress, CamelIsdnAddress};
+pub use answer::CamelAnswer;
+pub use basic_service::CamelBasicService;
+pub use criteria::{CamelOCriteria, CamelTCriteria, read_o_criteria_set, read_t_criteria_set};
+pub use data_fault::DataFault;
+pub use entry_lists::{CamelBasicServices, CamelCauses};
+pub use event::CamelEvent;
+pub use imsi::CamelImsi;
+pub use number_criterion::CamelNumberCriterion;
+pub use row::{CamelRow, read_o_csi, read_vt_csi};
+pub use update::{CamelInsert, CamelWithdrawal};

@@ -1,0 +1,62 @@
+ghost use Rattle.std.specs.Prelude.{◌≡◌};
+ghost use Rattle.camel_c_data.specs.NumberCriterion.{match_type_in, number_criterion_in};
+ghost use Rattle.camel_c_data.specs.Address.{isdn_address_in};
+ghost use Rattle.camel_c_data.specs.Reading.{ReadsAs, ReadsList, each_of};
+
+use crate::address::CamelIsdnAddress;
+use crate::data_fault::DataFault;
+use crate::first_items::first_items;
+use crate::read_each::read_each;
+use camel_criteria::{MAX_LENGTHS, MAX_NUMBERS, MatchType, NumberCriterion};
+use camel_tbcd::IsdnAddress;
+use std::alloc::Global;
+use std::mem::size_of;
+
+/// A destination number criterion (DestinationNumberCriteria of TS 29.002): a match type, the first `number_count`
+/// numbers, and the first `length_count` lengths, each 1 to 15 digits. A list of none is absent.
+#[repr(C)]
+#[derive(Clone, Copy, Debug)]
+pub struct CamelNumberCriterion {
+    /// Whether the criterion is met if the destination is listed; else it is met if it is not.
+    pub is_enabling: bool,
+    pub number_count: u8,
+    pub length_count: u8,
+    pub lengths: [u8; MAX_LENGTHS],
+    pub numbers: [CamelIsdnAddress; MAX_NUMBERS],
+}
+
+const _: () = prove!(size_of::<CamelNumberCriterion>() == 106);
+
+impl CamelNumberCriterion {
+    /// The criterion that the fields are.
+    ///
+    /// Fails with `Malformed` (201) for more than 10 numbers, for a number that is no address and for more than 3
+    /// lengths, then as [`NumberCriterion::new`], and with `OutOfMemory` (102) if memory is refused. Nothing was made
+    /// then.
+    #[tactic(auto, unfolding(crate::specs::NumberCriterion::number_criterion_in))]
+    pub fn read(&self, alloc: Global) -> Result<NumberCriterion, DataFault>
+        ensures { ReadsAs result (number_criterion_in self.now) }
+    {
+        let listed = first_items(&self.numbers, self.number_count)?;
+        let numbers = read_numbers(alloc, listed)?;
+        let lengths = first_items(&self.lengths, self.length_count)?;
+        let match_type = self.match_type();
+        Ok(NumberCriterion::new(alloc, match_type, &numbers, lengths)?)
+    }
+
+    fn match_type(&self) -> MatchType
+        ensures { result ≡ match_type_in self.now }
+    {
+        if self.is_enabling {
+            MatchType::Enabling
+        } else {
+            MatchType::Inhibiting
+        }
+    }
+}
+
+fn read_numbers(alloc: Global, numbers: &[CamelIsdnAddress]) -> Result<Vec<IsdnAddress>, DataFault>
+    ensures { ReadsList result (each_of isdn_address_in numbers.now) }
+{
+    read_each(alloc, numbers, |number| number.read())
+}

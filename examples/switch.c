@@ -1,0 +1,214 @@
+/* A switch to begin with, over libcamel.a: a writer, two call-control threads, receipts over a queue of the switch's own,
+ * a publication that is held and tried again, the data of a call kept from detection point 2 to 4, and the end.
+ * It prints what it does, and exits with 1 at the first call that does not do what is expected of it. */
+#include "camel.h"
+
+#include <pthread.h>
+#include <stdio.h>
+#include <stdlib.h>
+#include <string.h>
+
+enum { THREADS = 2, CALLS = 10000 };
+
+/* Exits if a call does not return this status. */
+static void expect(const char *what, camel_status status, camel_status wanted)
+{
+    if (status == wanted)
+        return;
+    fprintf(stderr, "%s: %s, and not %s\n", what, camel_status_name(status), camel_status_name(wanted));
+    exit(1);
+}
+
+#define OK(call) expect(#call, call, CAMEL_OK)
+
+/* One receipt on its way to a thread: the writer puts it there, and the thread takes it. */
+struct queue {
+    pthread_mutex_t lock;
+    camel_receipt receipt;
+    bool is_full;
+};
+
+static void put(struct queue *queue, camel_receipt *receipt)
+{
+    pthread_mutex_lock(&queue->lock);
+    if (queue->is_full)
+        camel_free(&queue->receipt); /* a later receipt says more */
+    memcpy(&queue->receipt, receipt, sizeof *receipt);
+    memset(receipt, 0, sizeof *receipt);
+    queue->is_full = true;
+    pthread_mutex_unlock(&queue->lock);
+}
+
+static bool take(struct queue *queue, camel_receipt *receipt)
+{
+    pthread_mutex_lock(&queue->lock);
+    bool is_there = queue->is_full;
+    if (is_there) {
+        memcpy(receipt, &queue->receipt, sizeof *receipt);
+        memset(&queue->receipt, 0, sizeof queue->receipt);
+        queue->is_full = false;
+    }
+    pthread_mutex_unlock(&queue->lock);
+    return is_there;
+}
+
+/* A call-control thread: its session, the queue from the writer, the call that it decides, and how many triggered. */
+struct caller {
+    camel_session session;
+    struct queue queue;
+    camel_event event;
+    unsigned long triggered;
+};
+
+static void *decide_calls(void *of)
+{
+    struct caller *caller = of;
+    uint64_t front = 0;
+    for (int call = 0; call < CALLS; call++) {
+        camel_receipt receipt = CAMEL_EMPTY;
+        if (take(&caller->queue, &receipt)) {
+            OK(camel_learn(&caller->session, &receipt));
+            camel_free(&receipt);
+        }
+        camel_answer answer;
+        OK(camel_decide(&caller->session, &caller->event, &answer));
+        if (answer.front < front) {
+            fprintf(stderr, "a session went back\n");
+            exit(1);
+        }
+        front = answer.front;
+        caller->triggered += answer.is_trigger;
+    }
+    return NULL;
+}
+
+static camel_event event_of(const camel_imsi *imsi, uint8_t dp)
+{
+    static const uint8_t destination[] = { 0x91, 0x34, 0x61, 0x05 };
+    camel_event event = { .imsi = *imsi, .basic = { .is_bearer = false, .code = 0x11 }, .dp = dp, .cause = 1 };
+    OK(camel_address_of(destination, sizeof destination, &event.destination));
+    return event;
+}
+
+static void say(const char *what, const camel_answer *answer)
+{
+    printf("%s: front %lu, ", what, (unsigned long)answer->front);
+    if (!answer->is_trigger) {
+        printf("no trigger, reason %u\n", answer->reason);
+        return;
+    }
+    printf("DP %u, service key %u, gsmSCF ", answer->dp, answer->key);
+    for (int at = 0; at < answer->scf.length; at++)
+        printf("%02x", answer->scf.octets[at]);
+    printf(", %s\n", answer->is_release ? "release" : "continue");
+}
+
+/* What the HLR sends of the subscriber: rows at 2 and 4, and at 4 only for a destination that begins with 4316. */
+static void submit_data(camel_store *store, const camel_imsi *imsi)
+{
+    static const uint8_t scf[] = { 0x91, 0x94, 0x71, 0x16, 0x00, 0x00 };
+    static const uint8_t listed[] = { 0x91, 0x34, 0x61 };
+    camel_row rows[] = { { .key = 100, .handling = 0, .dp = 2 }, { .key = 101, .handling = 1, .dp = 4 } };
+    camel_o_criteria criteria = { .dp = 4, .has_number = true };
+    camel_insert sent = { .has_o = true, .has_o_criteria = true };
+
+    OK(camel_isdn_address_of(scf, sizeof scf, &rows[0].scf));
+    OK(camel_isdn_address_of(scf, sizeof scf, &rows[1].scf));
+    criteria.number.is_enabling = true;
+    criteria.number.number_count = 1;
+    OK(camel_isdn_address_of(listed, sizeof listed, &criteria.number.numbers[0]));
+    OK(camel_submit_register(store, imsi));
+    OK(camel_submit_insert(store, imsi, &sent, rows, 2, &criteria, 1, rows, 0, (camel_t_criteria[1]){ 0 }, 0));
+}
+
+/* Publishes, and hands each thread a receipt. */
+static void publish_to(camel_store *store, struct caller *callers)
+{
+    OK(camel_publish(store));
+    for (int thread = 0; thread < THREADS; thread++) {
+        camel_receipt receipt = CAMEL_EMPTY;
+        OK(camel_receipt_of(store, &receipt));
+        put(&callers[thread].queue, &receipt);
+    }
+}
+
+/* A look lets the first publication through, and holds up the second one. */
+static void hold_publications(camel_store *store, camel_session *session, const camel_imsi *other)
+{
+    OK(camel_look(session));
+    OK(camel_submit_register(store, other));
+    OK(camel_publish(store));
+    OK(camel_submit_cancel(store, other));
+    expect("a publication behind a look", camel_publish(store), CAMEL_HELD);
+    OK(camel_leave(session));
+    OK(camel_publish(store));
+    printf("a publication was held, and made again\n");
+}
+
+/* A call keeps the record of its set-up, whatever the HLR sends meanwhile. */
+static void keep_data(camel_store *store, camel_session *session, const camel_imsi *imsi)
+{
+    camel_event set_up = event_of(imsi, 2), failure = event_of(imsi, 4);
+    camel_subscriber kept = CAMEL_EMPTY;
+    camel_withdrawal everything = { .everything = true };
+    camel_answer answer;
+    bool is_there = false;
+
+    OK(camel_look(session));
+    OK(camel_decide(session, &set_up, &answer));
+    OK(camel_keep(session, imsi, &kept, &is_there));
+    OK(camel_leave(session));
+    say("set-up", &answer);
+    OK(camel_submit_delete(store, imsi, &everything));
+    OK(camel_publish(store));
+    OK(camel_decide_kept(&kept, &failure, &answer));
+    say("route select failure, by the data of the set-up", &answer);
+    OK(camel_decide(session, &failure, &answer));
+    say("the same by a new look", &answer);
+    camel_free(&kept);
+}
+
+int main(void)
+{
+    camel_store store = CAMEL_EMPTY;
+    camel_session sessions[THREADS + 1] = { CAMEL_EMPTY };
+    static struct caller callers[THREADS];
+    pthread_t threads[THREADS];
+    camel_imsi imsi, other;
+
+    OK(camel_open(&store, sessions, THREADS + 1, INT64_MAX, 1, 0x5eed));
+    OK(camel_imsi_of_digits((const uint8_t *)"262010000000001", 15, &imsi));
+    OK(camel_imsi_of_digits((const uint8_t *)"262010000000002", 15, &other));
+    submit_data(&store, &imsi);
+    expect("an Insert of a subscriber who is not registered",
+           camel_submit_insert(&store, &other, &(camel_insert){ .has_o = false }, (camel_row[1]){ 0 }, 0,
+                               (camel_o_criteria[1]){ 0 }, 0, (camel_row[1]){ 0 }, 0, (camel_t_criteria[1]){ 0 }, 0),
+           CAMEL_UNIDENTIFIED_SUBSCRIBER);
+    for (int thread = 0; thread < THREADS; thread++) {
+        memcpy(&callers[thread].session, &sessions[thread], sizeof sessions[thread]);
+        memset(&sessions[thread], 0, sizeof sessions[thread]);
+        pthread_mutex_init(&callers[thread].queue.lock, NULL);
+        callers[thread].event = event_of(&imsi, 2);
+    }
+    publish_to(&store, callers);
+    for (int thread = 0; thread < THREADS; thread++)
+        if (pthread_create(&threads[thread], NULL, decide_calls, &callers[thread]) != 0)
+            return 1;
+    for (int thread = 0; thread < THREADS; thread++) {
+        pthread_join(threads[thread], NULL);
+        printf("thread %d: %d calls, %lu triggered\n", thread, CALLS, callers[thread].triggered);
+    }
+    hold_publications(&store, &sessions[THREADS], &other);
+    keep_data(&store, &sessions[THREADS], &imsi);
+
+    OK(camel_look(&sessions[THREADS]));
+    expect("an end behind a look", camel_close(&store), CAMEL_HELD);
+    OK(camel_leave(&sessions[THREADS]));
+    OK(camel_close(&store));
+    expect("a look behind the end", camel_look(&sessions[THREADS]), CAMEL_NO_LOOK);
+    camel_free(&sessions[THREADS]);
+    for (int thread = 0; thread < THREADS; thread++)
+        camel_free(&callers[thread].session);
+    printf("the store has ended\n");
+    return 0;
+}

@@ -1,0 +1,237 @@
+/* camel.h: when a VMSC/VLR hands a call to an intelligent network service (3GPP TS 23.078, CAMEL phase 3).
+ *
+ * A store has the O-CSI and VT-CSI of each subscriber, with their criteria, as the HLR sends them. One writer submits
+ * updates and publishes them; each call-control thread has a session, and asks at trigger detection points 2, 4, 12, 13
+ * and 14. The library is libcamel.a. C11 and C++17.
+ *
+ * Handles. A handle is some words of the caller's memory, empty if all of its bytes are 0 (CAMEL_EMPTY). The library
+ * fills it, and camel_free or camel_close empties it. Never write its fields, and never copy a full one: to move it, copy
+ * its bytes and forget the old ones.
+ *
+ * Threads. The store's handle is the writer's, and each session's handle that of one thread. A handle moves to another
+ * thread by a lock, by a thread's start or join, or by a sequentially consistent atomic. It is in one call at a time;
+ * different handles may be in calls at the same time. No call takes a lock, waits or yields.
+ *
+ * Memory. The library calls malloc, realloc and free. A call that is refused memory returns CAMEL_OUT_OF_MEMORY, has
+ * changed nothing, and may be made again. camel_decide, camel_look, camel_leave, camel_learn, camel_row_at and a
+ * publication that returns CAMEL_HELD ask for none.
+ *
+ * What nothing checks. A handle is empty or as the library left it; a bool is 0 or 1; a pointer is not null, also that
+ * of an array of none, and points to as much as is said; what is passed does not overlap; a receipt is of the session's
+ * own store; no call is made from a signal handler, or from the forked child of a process with threads; malloc, realloc
+ * and free are of one allocator. */
+#ifndef CAMEL_H
+#define CAMEL_H
+
+#include <stdbool.h>
+#include <stddef.h>
+#include <stdint.h>
+
+#ifdef __cplusplus
+extern "C" {
+#endif
+
+/* The version of the layouts and of the functions below. camel_abi_version returns that of the library. */
+#define CAMEL_ABI_VERSION 1
+
+/* What a call returns: CAMEL_OK, or why it did nothing. */
+typedef uint32_t camel_status;
+enum {
+    CAMEL_OK = 0,
+    CAMEL_UNIDENTIFIED_SUBSCRIBER = 5, /* TS 29.002: the IMSI has no record */
+    CAMEL_DATA_MISSING = 35,           /* TS 29.002 */
+    CAMEL_UNEXPECTED_DATA_VALUE = 36,  /* TS 29.002 */
+    CAMEL_HISTORY_FULL = 101,          /* the store has accepted as many updates as its limit */
+    CAMEL_OUT_OF_MEMORY = 102,
+    CAMEL_NO_PLACE = 103,              /* a session got no place: no run meets it */
+    CAMEL_NO_LOOK = 104,               /* the store has ended */
+    CAMEL_HELD = 105,                  /* a look is held: try again once it is left */
+    CAMEL_MALFORMED = 201,             /* an argument or a field is none of what it stands for, or out of its range */
+    CAMEL_WRONG_HANDLE = 202,          /* the handle is empty, or of another kind, or the store has ended */
+    CAMEL_FULL_HANDLE = 203            /* the handle that is to be filled is not empty; 204 and 205 are for bindings */
+};
+
+/* Handles. They have one layout, and each has a type of its own so that a compiler tells them apart. */
+typedef struct { void *at; bool is_full; } camel_store;
+typedef struct { void *at; bool is_full; } camel_session;
+typedef struct { void *at; bool is_full; } camel_receipt;
+typedef struct { void *at; bool is_full; } camel_subscriber;
+#define CAMEL_EMPTY { 0, 0 }
+
+/* An IMSI in 8 octets, made once per call by camel_imsi_of_tbcd or camel_imsi_of_digits. Two are equal if their numbers
+ * are. The number 0 is no IMSI. */
+typedef struct { uint64_t number; } camel_imsi;
+
+/* An AddressString of TS 29.002, as the destination of a call: the first `length` octets, 1 to 20. */
+typedef struct { uint8_t length; uint8_t octets[20]; } camel_address;
+
+/* An ISDN-AddressString, as a gsmSCF address or a number of a criterion: the first `length` octets, 1 to 9. */
+typedef struct { uint8_t length; uint8_t octets[9]; } camel_isdn_address;
+
+/* A basic service: the first octet of its code. */
+typedef struct { bool is_bearer; uint8_t code; } camel_basic_service;
+
+/* A row of a CSI. Service keys are at most 2147483647; the default call handling is given as it was received. */
+typedef struct {
+    uint32_t key;
+    uint32_t handling;
+    camel_isdn_address scf;
+    uint8_t dp;
+} camel_row;
+
+/* The criteria of an entry. A list of none is absent. */
+typedef struct { uint8_t count; camel_basic_service services[5]; } camel_basic_services;
+typedef struct { uint8_t count; uint8_t causes[5]; } camel_causes;
+typedef struct {
+    bool is_enabling; /* else the criterion is met by a destination that is not listed */
+    uint8_t number_count;
+    uint8_t length_count;
+    uint8_t lengths[3];
+    camel_isdn_address numbers[10];
+} camel_number_criterion;
+
+/* The criteria of a detection point of the O-CSI, and of the VT-CSI. */
+typedef struct {
+    uint8_t dp;
+    bool has_number;
+    camel_number_criterion number;
+    camel_basic_services basic;
+    bool has_call_type;
+    bool is_forwarded; /* the call type criterion asks for forwarded calls; else for those that are not */
+    camel_causes causes;
+} camel_o_criteria;
+typedef struct { uint8_t dp; camel_basic_services basic; camel_causes causes; } camel_t_criteria;
+
+/* Which lists an Insert sends. One that is not sent is not looked at; one that is sent has 1 to 10 items. */
+typedef struct { bool has_o; bool has_o_criteria; bool has_vt; bool has_t_criteria; } camel_insert;
+
+/* What a Delete removes, each with its criteria. */
+typedef struct { bool o; bool vt; bool everything; } camel_withdrawal;
+
+/* A call event. The destination and is_forwarded are read at detection points 2 and 4, the cause (0 to 127) at 4, 13 and
+ * 14. */
+typedef struct {
+    camel_imsi imsi;
+    camel_address destination;
+    camel_basic_service basic;
+    uint8_t dp;
+    bool is_forwarded;
+    uint8_t cause;
+} camel_event;
+
+/* Why no service is invoked. */
+enum {
+    CAMEL_UNKNOWN = 1,   /* there is no record of the IMSI */
+    CAMEL_NO_CSI = 2,    /* the CSI is not stored */
+    CAMEL_NOT_ARMED = 3, /* the CSI has no row of the detection point */
+    CAMEL_EMERGENCY = 4, /* the call is an emergency call */
+    CAMEL_CRITERIA = 5   /* the criteria are not met */
+};
+
+/* An answer. If a service is invoked, key, scf, dp and is_release are those of the row, and reason is 0; else they are 0,
+ * with no octets of an address. */
+typedef struct {
+    uint64_t front; /* how many updates the data have by which it was decided */
+    uint32_t key;
+    camel_isdn_address scf;
+    uint8_t dp;
+    bool is_release; /* the default call handling: the call is released if the dialogue with the gsmSCF fails */
+    bool is_trigger;
+    uint8_t reason;
+} camel_answer;
+
+uint32_t camel_abi_version(void);
+
+/* The sizes with which the library was built, of the types above in their order and then of a handle: writes as many as
+ * there is room for, and returns how many there are. */
+uint32_t camel_layouts(uint32_t *sizes, size_t size_count);
+
+/* Data, made once per call. CAMEL_MALFORMED: they are none, and what was to be written is as before. */
+camel_status camel_imsi_of_tbcd(const uint8_t *octets, size_t octet_count, camel_imsi *imsi);
+camel_status camel_imsi_of_digits(const uint8_t *digits, size_t digit_count, camel_imsi *imsi); /* characters 0 to 9 */
+camel_status camel_address_of(const uint8_t *octets, size_t octet_count, camel_address *address);
+camel_status camel_isdn_address_of(const uint8_t *octets, size_t octet_count, camel_isdn_address *address);
+
+/* Opens a store that takes at most `limit` updates (1 to 2^63 - 1), with 1 to 64 sessions, which decide under profile 1
+ * or 2. The seed is secret and random. All handles are filled, or none is: CAMEL_MALFORMED, CAMEL_FULL_HANDLE,
+ * CAMEL_OUT_OF_MEMORY, CAMEL_NO_PLACE. */
+camel_status camel_open(camel_store *store, camel_session *sessions, size_t session_count, uint64_t limit,
+                        uint8_t profile, uint64_t seed);
+
+/* The writer. No call sees an update before it is published. Each returns CAMEL_UNIDENTIFIED_SUBSCRIBER,
+ * CAMEL_DATA_MISSING, CAMEL_HISTORY_FULL or CAMEL_OUT_OF_MEMORY if the store rejects it, and CAMEL_MALFORMED or
+ * CAMEL_UNEXPECTED_DATA_VALUE for its data, which are looked at first. */
+camel_status camel_submit_register(camel_store *store, const camel_imsi *imsi);
+camel_status camel_submit_insert(camel_store *store, const camel_imsi *imsi, const camel_insert *sent,
+                                 const camel_row *o, size_t o_count,
+                                 const camel_o_criteria *o_criteria, size_t o_criteria_count,
+                                 const camel_row *vt, size_t vt_count,
+                                 const camel_t_criteria *t_criteria, size_t t_criteria_count);
+camel_status camel_submit_delete(camel_store *store, const camel_imsi *imsi, const camel_withdrawal *what);
+camel_status camel_submit_cancel(camel_store *store, const camel_imsi *imsi);
+camel_status camel_submit_clear_all(camel_store *store);
+
+/* Publishes all that is pending. CAMEL_HELD: a look that began before the last publication is held; all is pending as
+ * before. */
+camel_status camel_publish(camel_store *store);
+camel_status camel_published(camel_store *store, uint64_t *count);
+camel_status camel_pending(camel_store *store, uint64_t *count);
+
+/* Fills a handle with a receipt of all that is published. A session that learns it sees at least that from then on; any
+ * number of sessions may learn it. camel_learn returns CAMEL_HELD while a look has begun. */
+camel_status camel_receipt_of(camel_store *store, camel_receipt *receipt);
+camel_status camel_learn(camel_session *session, camel_receipt *receipt);
+
+/* Decides an event, over the look that has begun, or else by a look of its own. */
+camel_status camel_decide(camel_session *session, const camel_event *event, camel_answer *answer);
+
+/* Begins a look, so that all calls until camel_leave are over one front. It lets the next publication go through, and
+ * holds up the one after it. CAMEL_HELD: a look has begun already, and goes on. camel_leave of a session without a look
+ * returns CAMEL_OK. */
+camel_status camel_look(camel_session *session);
+camel_status camel_leave(camel_session *session);
+
+/* The row of a subscriber at a detection point, over the look that has begun, or else by a look of its own. is_there tells
+ * whether there is one; if not, the row is as before. */
+camel_status camel_row_at(camel_session *session, const camel_imsi *imsi, uint8_t dp, camel_row *row, bool *is_there);
+
+/* Fills a handle with a copy of the record of a subscriber, which a call keeps from its set-up to its later detection
+ * points; is_there tells whether there is a record, and if there is none, the handle stays empty. What is decided by it
+ * has the front of the copy. The IMSI of an event is not compared: events are those of the same subscriber. If memory is
+ * refused, the session may have seen a later front. */
+camel_status camel_keep(camel_session *session, const camel_imsi *imsi, camel_subscriber *subscriber, bool *is_there);
+camel_status camel_decide_kept(camel_subscriber *subscriber, const camel_event *event, camel_answer *answer);
+
+/* Ends the store and empties its handle; what is pending is dropped. CAMEL_HELD: a look is held; other sessions find
+ * that the store has ended, the writer's other calls return CAMEL_WRONG_HANDLE, and this is to be called again. */
+camel_status camel_close(camel_store *store);
+
+/* Frees what a handle of any kind holds, and empties it; an empty one stays so. A store that is freed so leaves it to the
+ * looks that are held to free the data. */
+void camel_free(void *handle);
+
+/* The name of a status, as in this file; "CAMEL_?" of no status. */
+static inline const char *camel_status_name(camel_status status)
+{
+    switch (status) {
+    case CAMEL_OK: return "CAMEL_OK";
+    case CAMEL_UNIDENTIFIED_SUBSCRIBER: return "CAMEL_UNIDENTIFIED_SUBSCRIBER";
+    case CAMEL_DATA_MISSING: return "CAMEL_DATA_MISSING";
+    case CAMEL_UNEXPECTED_DATA_VALUE: return "CAMEL_UNEXPECTED_DATA_VALUE";
+    case CAMEL_HISTORY_FULL: return "CAMEL_HISTORY_FULL";
+    case CAMEL_OUT_OF_MEMORY: return "CAMEL_OUT_OF_MEMORY";
+    case CAMEL_NO_PLACE: return "CAMEL_NO_PLACE";
+    case CAMEL_NO_LOOK: return "CAMEL_NO_LOOK";
+    case CAMEL_HELD: return "CAMEL_HELD";
+    case CAMEL_MALFORMED: return "CAMEL_MALFORMED";
+    case CAMEL_WRONG_HANDLE: return "CAMEL_WRONG_HANDLE";
+    case CAMEL_FULL_HANDLE: return "CAMEL_FULL_HANDLE";
+    default: return "CAMEL_?";
+    }
+}
+
+#ifdef __cplusplus
+}
+#endif
+
+#endif

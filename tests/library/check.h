@@ -1,0 +1,87 @@
+/* What the tests of the library share: a check of a status, and of a condition. */
+#ifndef CHECK_H
+#define CHECK_H
+
+#include "camel.h"
+
+#include <stdio.h>
+#include <stdlib.h>
+#include <string.h>
+
+static int failed;
+
+/* Counts a call that does not return this status. */
+#define RETURNS(wanted, call)                                                                                       \
+    do {                                                                                                            \
+        camel_status status_ = (call);                                                                              \
+        if (status_ != (wanted)) {                                                                                  \
+            printf("%s:%d: %s, and not %s: %s\n", __FILE__, __LINE__, camel_status_name(status_),                   \
+                   camel_status_name(wanted), #call);                                                               \
+            failed++;                                                                                               \
+        }                                                                                                           \
+    } while (0)
+
+#define IS(condition)                                                                                               \
+    do {                                                                                                            \
+        if (!(condition)) {                                                                                         \
+            printf("%s:%d: %s\n", __FILE__, __LINE__, #condition);                                                  \
+            failed++;                                                                                               \
+        }                                                                                                           \
+    } while (0)
+
+static const uint8_t SCF[] = { 0x91, 0x94, 0x71, 0x16, 0x00, 0x00 };
+static const uint8_t DESTINATION[] = { 0x91, 0x34, 0x61, 0x05 };
+
+static inline camel_imsi imsi_of(unsigned number)
+{
+    char digits[16];
+    camel_imsi imsi = { 0 };
+    snprintf(digits, sizeof digits, "26201%010u", number);
+    RETURNS(CAMEL_OK, camel_imsi_of_digits((const uint8_t *)digits, 15, &imsi));
+    return imsi;
+}
+
+static inline camel_isdn_address isdn_of(const uint8_t *octets, size_t count)
+{
+    camel_isdn_address address = { 0 };
+    RETURNS(CAMEL_OK, camel_isdn_address_of(octets, count, &address));
+    return address;
+}
+
+static inline camel_row row_of(uint8_t dp, uint32_t key)
+{
+    camel_row row = { .key = key, .handling = 1, .scf = isdn_of(SCF, sizeof SCF), .dp = dp };
+    return row;
+}
+
+static inline camel_event event_of(unsigned number, uint8_t dp)
+{
+    camel_event event = { .imsi = imsi_of(number), .basic = { .is_bearer = false, .code = 0x11 }, .dp = dp };
+    RETURNS(CAMEL_OK, camel_address_of(DESTINATION, sizeof DESTINATION, &event.destination));
+    event.cause = 17;
+    return event;
+}
+
+/* An Insert of these lists; a list of none is not sent. */
+static inline camel_status insert(camel_store *store, unsigned number, const camel_row *o, size_t o_count,
+                                  const camel_o_criteria *o_criteria, size_t o_criteria_count, const camel_row *vt,
+                                  size_t vt_count, const camel_t_criteria *t_criteria, size_t t_criteria_count)
+{
+    camel_imsi imsi = imsi_of(number);
+    camel_insert sent = { o_count > 0, o_criteria_count > 0, vt_count > 0, t_criteria_count > 0 };
+    static const camel_row no_row;
+    static const camel_o_criteria no_o_criteria;
+    static const camel_t_criteria no_t_criteria;
+    return camel_submit_insert(store, &imsi, &sent, o ? o : &no_row, o_count, o_criteria ? o_criteria : &no_o_criteria,
+                               o_criteria_count, vt ? vt : &no_row, vt_count,
+                               t_criteria ? t_criteria : &no_t_criteria, t_criteria_count);
+}
+
+/* Ends a test: the status of the program. */
+static inline int ended(const char *name)
+{
+    printf("%s: %s\n", name, failed ? "failed" : "ok");
+    return failed != 0;
+}
+
+#endif

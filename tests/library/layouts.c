@@ -1,0 +1,140 @@
+/* The layouts: what the header says, what the library was built with, and that no field has moved. */
+#include "check.h"
+
+/* So that a compiler with another layout is found when it compiles this. */
+_Static_assert(sizeof(camel_imsi) == 8, "camel_imsi");
+_Static_assert(sizeof(camel_address) == 21, "camel_address");
+_Static_assert(sizeof(camel_isdn_address) == 10, "camel_isdn_address");
+_Static_assert(sizeof(camel_basic_service) == 2, "camel_basic_service");
+_Static_assert(sizeof(camel_row) == 20, "camel_row");
+_Static_assert(sizeof(camel_basic_services) == 11, "camel_basic_services");
+_Static_assert(sizeof(camel_causes) == 6, "camel_causes");
+_Static_assert(sizeof(camel_number_criterion) == 106, "camel_number_criterion");
+_Static_assert(sizeof(camel_o_criteria) == 127, "camel_o_criteria");
+_Static_assert(sizeof(camel_t_criteria) == 18, "camel_t_criteria");
+_Static_assert(sizeof(camel_insert) == 4, "camel_insert");
+_Static_assert(sizeof(camel_withdrawal) == 3, "camel_withdrawal");
+_Static_assert(sizeof(camel_event) == 40, "camel_event");
+_Static_assert(sizeof(camel_answer) == 32, "camel_answer");
+_Static_assert(offsetof(camel_row, scf) == 8 && offsetof(camel_row, dp) == 18, "camel_row");
+_Static_assert(offsetof(camel_number_criterion, numbers) == 6, "camel_number_criterion");
+_Static_assert(offsetof(camel_o_criteria, number) == 2 && offsetof(camel_o_criteria, causes) == 121, "camel_o_criteria");
+_Static_assert(offsetof(camel_event, basic) == 29 && offsetof(camel_event, cause) == 33, "camel_event");
+_Static_assert(offsetof(camel_answer, scf) == 12 && offsetof(camel_answer, reason) == 25, "camel_answer");
+
+static const uint8_t NUMBERS[2][3] = { { 0x91, 0x34, 0x61 }, { 0xa1, 0x21, 0xf3 } };
+
+/* An entry of the O-CSI with each field. */
+static camel_o_criteria o_criteria_of(uint8_t dp, bool is_enabling)
+{
+    camel_o_criteria entry = {
+        .dp = dp,
+        .has_number = true,
+        .number = { .is_enabling = is_enabling, .number_count = 2, .length_count = 2, .lengths = { 11, 4 } },
+        .basic = { .count = 2, .services = { { false, 0x11 }, { true, 0x18 } } },
+        .has_call_type = true,
+        .is_forwarded = !is_enabling,
+        .causes = { .count = dp == 4 ? 2 : 0, .causes = { 17, 3 } },
+    };
+    for (int at = 0; at < 2; at++)
+        entry.number.numbers[at] = isdn_of(NUMBERS[at], sizeof NUMBERS[at]);
+    return entry;
+}
+
+static bool is_same_isdn(const camel_isdn_address *one, const camel_isdn_address *other)
+{
+    return one->length == other->length && memcmp(one->octets, other->octets, one->length) == 0;
+}
+
+static bool is_same_row(const camel_row *one, const camel_row *other)
+{
+    return one->key == other->key && one->handling == other->handling && one->dp == other->dp
+        && is_same_isdn(&one->scf, &other->scf);
+}
+
+/* Each row comes back with each field. */
+static void fields_come_back(camel_store *store, camel_session *session)
+{
+    camel_row o[] = { row_of(2, 100), row_of(4, 101) }, vt[] = { row_of(12, 102), row_of(13, 103), row_of(14, 104) };
+    camel_o_criteria o_criteria[] = { o_criteria_of(2, true), o_criteria_of(4, false) };
+    camel_t_criteria t_criteria[] = {
+        { .dp = 13, .basic = { 1, { { true, 0x20 } } }, .causes = { 1, { 17 } } },
+        { .dp = 14, .causes = { 2, { 19, 18 } } },
+    };
+    camel_imsi imsi = imsi_of(1);
+    bool is_there = false;
+
+    o[1].handling = 0;
+    RETURNS(CAMEL_OK, camel_submit_register(store, &imsi));
+    RETURNS(CAMEL_OK, insert(store, 1, o, 2, o_criteria, 2, vt, 3, t_criteria, 2));
+    RETURNS(CAMEL_OK, camel_publish(store));
+    for (int at = 0; at < 5; at++) {
+        const camel_row *sent = at < 2 ? &o[at] : &vt[at - 2];
+        camel_row row = { 0 };
+        RETURNS(CAMEL_OK, camel_row_at(session, &imsi, sent->dp, &row, &is_there));
+        IS(is_there && is_same_row(&row, sent));
+    }
+    camel_row none = { .key = 7 };
+    RETURNS(CAMEL_OK, camel_row_at(session, &imsi, 3, &none, &is_there));
+    IS(!is_there && none.key == 7);
+}
+
+/* What an event of each detection point gives, by each field that is read. */
+static void fields_of_events(camel_session *session)
+{
+    struct { camel_event event; bool is_trigger; uint32_t key; uint8_t reason; } cases[] = {
+        { event_of(1, 2), true, 100, 0 },  { event_of(1, 2), false, 0, CAMEL_CRITERIA },
+        { event_of(1, 2), false, 0, CAMEL_EMERGENCY }, { event_of(1, 2), false, 0, CAMEL_CRITERIA },
+        { event_of(1, 4), true, 101, 0 },  { event_of(1, 4), false, 0, CAMEL_CRITERIA },
+        { event_of(1, 12), true, 102, 0 }, { event_of(1, 13), true, 103, 0 },
+        { event_of(1, 13), false, 0, CAMEL_CRITERIA }, { event_of(1, 14), false, 0, CAMEL_CRITERIA },
+        { event_of(1, 14), true, 104, 0 }, { event_of(2, 2), false, 0, CAMEL_UNKNOWN },
+    };
+    cases[1].event.is_forwarded = true;
+    cases[2].event.basic.code = 0x12; /* emergency calls */
+    cases[3].event.basic.is_bearer = true;
+    /* At 4 the criterion is inhibiting, and for forwarded calls. */
+    cases[4].event.is_forwarded = true;
+    cases[4].event.destination.octets[2] = 0x77;
+    cases[5].event.is_forwarded = true;
+    cases[7].event.basic = (camel_basic_service){ true, 0x20 };
+    cases[8].event.basic = (camel_basic_service){ true, 0x20 };
+    cases[8].event.cause = 16;
+    cases[10].event.cause = 18;
+    for (size_t at = 0; at < sizeof cases / sizeof cases[0]; at++) {
+        camel_answer answer = { .front = 7 };
+        RETURNS(CAMEL_OK, camel_decide(session, &cases[at].event, &answer));
+        if (answer.is_trigger != cases[at].is_trigger || answer.key != cases[at].key
+            || answer.reason != cases[at].reason || answer.front != 2) {
+            printf("case %zu: trigger %d, key %u, reason %u\n", at, answer.is_trigger, answer.key, answer.reason);
+            failed++;
+        }
+        if (answer.is_trigger) {
+            camel_isdn_address scf = isdn_of(SCF, sizeof SCF);
+            IS(is_same_isdn(&answer.scf, &scf) && answer.dp == cases[at].event.dp);
+            IS(answer.is_release == (answer.dp != 4));
+        }
+    }
+}
+
+int main(void)
+{
+    camel_store store = CAMEL_EMPTY;
+    camel_session session = CAMEL_EMPTY;
+    static const uint32_t sizes[] = {
+        sizeof(camel_imsi), sizeof(camel_address), sizeof(camel_isdn_address), sizeof(camel_basic_service),
+        sizeof(camel_row), sizeof(camel_basic_services), sizeof(camel_causes), sizeof(camel_number_criterion),
+        sizeof(camel_o_criteria), sizeof(camel_t_criteria), sizeof(camel_insert), sizeof(camel_withdrawal),
+        sizeof(camel_event), sizeof(camel_answer), sizeof(camel_store),
+    };
+    uint32_t of_library[16] = { 0 };
+
+    IS(camel_layouts(of_library, 16) == sizeof sizes / sizeof sizes[0]);
+    IS(memcmp(of_library, sizes, sizeof sizes) == 0);
+    RETURNS(CAMEL_OK, camel_open(&store, &session, 1, 10, 1, 1));
+    fields_come_back(&store, &session);
+    fields_of_events(&session);
+    camel_free(&session);
+    RETURNS(CAMEL_OK, camel_close(&store));
+    return ended("layouts");
+}

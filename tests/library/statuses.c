@@ -1,0 +1,171 @@
+/* Each status, by a call that returns it, and that the call did nothing then. */
+#include "check.h"
+
+/* Data that are none. */
+static void malformed_data(void)
+{
+    camel_imsi imsi = { 7 };
+    camel_address address = { .length = 7 };
+    camel_isdn_address isdn = { .length = 7 };
+    uint8_t octets[21] = { 0x91 };
+
+    RETURNS(CAMEL_MALFORMED, camel_imsi_of_tbcd(octets, 0, &imsi));
+    RETURNS(CAMEL_MALFORMED, camel_imsi_of_digits((const uint8_t *)"26x010000000001", 15, &imsi));
+    RETURNS(CAMEL_MALFORMED, camel_imsi_of_digits((const uint8_t *)"2620100000000010", 16, &imsi));
+    IS(imsi.number == 7);
+    RETURNS(CAMEL_MALFORMED, camel_address_of(octets, 0, &address));
+    RETURNS(CAMEL_MALFORMED, camel_address_of(octets, 21, &address));
+    IS(address.length == 7);
+    RETURNS(CAMEL_MALFORMED, camel_isdn_address_of(octets, 10, &isdn));
+    IS(isdn.length == 7);
+}
+
+/* A store is opened whole, or not at all. */
+static void malformed_opening(void)
+{
+    camel_store store = CAMEL_EMPTY;
+    static camel_session sessions[65];
+
+    RETURNS(CAMEL_MALFORMED, camel_open(&store, sessions, 0, 10, 1, 1));
+    RETURNS(CAMEL_MALFORMED, camel_open(&store, sessions, 65, 10, 1, 1));
+    RETURNS(CAMEL_MALFORMED, camel_open(&store, sessions, 1, 0, 1, 1));
+    RETURNS(CAMEL_MALFORMED, camel_open(&store, sessions, 1, UINT64_MAX, 1, 1));
+    RETURNS(CAMEL_MALFORMED, camel_open(&store, sessions, 1, 10, 3, 1));
+    IS(!store.is_full && !sessions[0].is_full);
+    RETURNS(CAMEL_OK, camel_open(&store, &sessions[1], 1, 10, 2, 1));
+    RETURNS(CAMEL_FULL_HANDLE, camel_open(&store, sessions, 1, 10, 1, 1));
+    IS(!sessions[0].is_full);
+    RETURNS(CAMEL_OK, camel_close(&store));
+    RETURNS(CAMEL_FULL_HANDLE, camel_open(&store, sessions, 3, 10, 1, 1));
+    IS(!store.is_full && !sessions[0].is_full && !sessions[2].is_full);
+    camel_free(&sessions[1]);
+    IS(!sessions[1].is_full);
+}
+
+/* Updates that the store rejects, or of which the data are none. */
+static void rejected_updates(camel_store *store)
+{
+    camel_imsi imsi = imsi_of(1), none = { 0 };
+    camel_withdrawal what = { .o = true };
+    camel_row row = row_of(2, 100), many = row_of(2, 0x80000000u), nowhere = { .key = 1, .dp = 2 };
+    camel_o_criteria criteria = { .dp = 2 }, causes = { .dp = 2, .causes = { 1, { 17 } } };
+    camel_insert sent = { .has_o = true };
+    camel_t_criteria t_criteria = { .dp = 13 };
+
+    RETURNS(CAMEL_MALFORMED, camel_submit_register(store, &none));
+    RETURNS(CAMEL_MALFORMED, camel_submit_delete(store, &none, &what));
+    RETURNS(CAMEL_MALFORMED, camel_submit_cancel(store, &none));
+    RETURNS(CAMEL_UNIDENTIFIED_SUBSCRIBER, camel_submit_delete(store, &imsi, &what));
+    RETURNS(CAMEL_UNIDENTIFIED_SUBSCRIBER, insert(store, 1, &row, 1, NULL, 0, NULL, 0, NULL, 0));
+    RETURNS(CAMEL_OK, camel_submit_register(store, &imsi));
+    RETURNS(CAMEL_DATA_MISSING, insert(store, 1, NULL, 0, &criteria, 1, NULL, 0, NULL, 0));
+    RETURNS(CAMEL_DATA_MISSING, camel_submit_insert(store, &imsi, &sent, &row, 0, &criteria, 0, &row, 0, &t_criteria, 0));
+    RETURNS(CAMEL_UNEXPECTED_DATA_VALUE, insert(store, 1, &many, 1, NULL, 0, NULL, 0, NULL, 0));
+    RETURNS(CAMEL_UNEXPECTED_DATA_VALUE, insert(store, 1, &row, 1, &causes, 1, NULL, 0, NULL, 0));
+    RETURNS(CAMEL_MALFORMED, insert(store, 1, &nowhere, 1, NULL, 0, NULL, 0, NULL, 0));
+    criteria.has_number = true;
+    criteria.number.number_count = 11;
+    RETURNS(CAMEL_MALFORMED, insert(store, 1, &row, 1, &criteria, 1, NULL, 0, NULL, 0));
+    RETURNS(CAMEL_OK, insert(store, 1, &row, 1, NULL, 0, NULL, 0, NULL, 0));
+    RETURNS(CAMEL_OK, camel_submit_clear_all(store));
+    RETURNS(CAMEL_HISTORY_FULL, camel_submit_register(store, &imsi));
+}
+
+/* Handles that are empty, or of another kind. */
+static void wrong_handles(camel_store *store, camel_session *session)
+{
+    camel_store empty = CAMEL_EMPTY;
+    camel_receipt receipt = CAMEL_EMPTY;
+    camel_subscriber kept = CAMEL_EMPTY;
+    camel_imsi imsi = imsi_of(1);
+    camel_event event = event_of(1, 2);
+    camel_answer answer = { .front = 7 };
+    camel_row row = { .key = 7 };
+    uint64_t count = 7;
+    bool is_there = true;
+
+    RETURNS(CAMEL_WRONG_HANDLE, camel_submit_register(&empty, &imsi));
+    RETURNS(CAMEL_WRONG_HANDLE, camel_publish((camel_store *)session));
+    RETURNS(CAMEL_WRONG_HANDLE, camel_published(&empty, &count));
+    RETURNS(CAMEL_WRONG_HANDLE, camel_pending(&empty, &count));
+    IS(count == 7);
+    RETURNS(CAMEL_WRONG_HANDLE, camel_learn(session, &receipt));
+    RETURNS(CAMEL_WRONG_HANDLE, camel_receipt_of(&empty, &receipt));
+    RETURNS(CAMEL_WRONG_HANDLE, camel_decide((camel_session *)store, &event, &answer));
+    RETURNS(CAMEL_WRONG_HANDLE, camel_decide_kept(&kept, &event, &answer));
+    RETURNS(CAMEL_WRONG_HANDLE, camel_look((camel_session *)store));
+    RETURNS(CAMEL_WRONG_HANDLE, camel_leave((camel_session *)store));
+    RETURNS(CAMEL_WRONG_HANDLE, camel_row_at((camel_session *)store, &imsi, 2, &row, &is_there));
+    RETURNS(CAMEL_WRONG_HANDLE, camel_keep((camel_session *)store, &imsi, &kept, &is_there));
+    RETURNS(CAMEL_WRONG_HANDLE, camel_close((camel_store *)session));
+    RETURNS(CAMEL_WRONG_HANDLE, camel_close(&empty));
+    IS(answer.front == 7 && row.key == 7 && is_there && !kept.is_full && !receipt.is_full);
+    RETURNS(CAMEL_FULL_HANDLE, camel_receipt_of(store, (camel_receipt *)session));
+    camel_free(&empty);
+}
+
+/* Events that are none. */
+static void malformed_events(camel_session *session)
+{
+    camel_event event = event_of(1, 3), no_destination = event_of(1, 2), no_cause = event_of(1, 13);
+    camel_answer answer = { .front = 7 };
+
+    RETURNS(CAMEL_MALFORMED, camel_decide(session, &event, &answer));
+    no_destination.destination.length = 21;
+    RETURNS(CAMEL_MALFORMED, camel_decide(session, &no_destination, &answer));
+    no_cause.cause = 128;
+    RETURNS(CAMEL_MALFORMED, camel_decide(session, &no_cause, &answer));
+    no_cause.imsi.number = UINT64_MAX;
+    RETURNS(CAMEL_MALFORMED, camel_decide(session, &no_cause, &answer));
+    IS(answer.front == 7);
+}
+
+/* A look holds up the second publication and the end, and none comes after the end. */
+static void held_and_ended(camel_store *store, camel_session *session, camel_session *other)
+{
+    camel_imsi imsi = imsi_of(1);
+    camel_event event = event_of(1, 2);
+    camel_answer answer = { .front = 7 };
+    camel_subscriber kept = CAMEL_EMPTY;
+    uint64_t pending = 7;
+    bool is_there = true;
+
+    RETURNS(CAMEL_OK, camel_look(session));
+    RETURNS(CAMEL_OK, camel_publish(store));
+    RETURNS(CAMEL_HELD, camel_publish(store));
+    RETURNS(CAMEL_OK, camel_pending(store, &pending));
+    IS(pending == 0);
+    RETURNS(CAMEL_HELD, camel_close(store));
+    RETURNS(CAMEL_WRONG_HANDLE, camel_publish(store));
+    RETURNS(CAMEL_NO_LOOK, camel_decide(other, &event, &answer));
+    RETURNS(CAMEL_NO_LOOK, camel_look(other));
+    IS(answer.front == 7);
+    RETURNS(CAMEL_OK, camel_decide(session, &event, &answer));
+    RETURNS(CAMEL_OK, camel_keep(session, &imsi, &kept, &is_there));
+    IS(!kept.is_full && !is_there);
+    RETURNS(CAMEL_HELD, camel_close(store));
+    RETURNS(CAMEL_OK, camel_leave(session));
+    RETURNS(CAMEL_OK, camel_close(store));
+    IS(!store->is_full);
+    RETURNS(CAMEL_NO_LOOK, camel_look(session));
+    RETURNS(CAMEL_OK, camel_leave(session));
+}
+
+int main(void)
+{
+    camel_store store = CAMEL_EMPTY;
+    camel_session sessions[2] = { CAMEL_EMPTY };
+
+    IS(camel_abi_version() == CAMEL_ABI_VERSION);
+    malformed_data();
+    malformed_opening();
+    RETURNS(CAMEL_OK, camel_open(&store, sessions, 2, 3, 1, 1));
+    rejected_updates(&store);
+    wrong_handles(&store, &sessions[0]);
+    malformed_events(&sessions[0]);
+    held_and_ended(&store, &sessions[0], &sessions[1]);
+    camel_free(&sessions[0]);
+    camel_free(&sessions[1]);
+    IS(strcmp(camel_status_name(CAMEL_HELD), "CAMEL_HELD") == 0);
+    return ended("statuses");
+}
