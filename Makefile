@@ -10,6 +10,8 @@ COUNT ?= 100000
 CALLS ?= 100000
 SECONDS ?= 60
 SUBSCRIBERS ?= 100000
+DECISIONS ?= 1000000
+PREFIX ?= /usr/local
 
 PROGRAM := crates/camel_replay/out/camel_replay
 BENCH := crates/camel_vlr_bench/out/camel_vlr_bench
@@ -36,8 +38,8 @@ define targets
 endef
 say = $(call targets,$@) >&2
 
-.PHONY: help try replay program check script crate pages examples scripts streams coprocess refusals soak fuzz bench \
-	bench-program bench-vlr bench-peers count-vlr test
+.PHONY: help try replay program check script crate pages examples scripts streams coprocess refusals soak fuzz library \
+	install library-test bench bench-program bench-vlr bench-peers count-vlr test
 # In order, so that what is missing is said before anything is built.
 .NOTPARALLEL:
 .SECONDEXPANSION:
@@ -52,6 +54,9 @@ need-%:
 
 need-cc:
 	@.ci/need $(firstword $(CC))
+
+need-c++:
+	@.ci/need $(firstword $(CXX))
 
 script:
 	@[ -r "$$SCRIPT" ] && [ ! -d "$$SCRIPT" ] || { echo "SCRIPT=$$SCRIPT is no file that can be read" >&2; exit 2; }
@@ -125,6 +130,25 @@ refusals: $(REFUSALS)
 	$(say)
 	@.ci/refusals
 
+## Proves and builds the library for C, C++ and Rust, into out/library: FIRST.
+library: need-rt need-python3 need-ar
+	$(say)
+	@.ci/library
+
+## Copies the library and its headers to PREFIX: a second, once it is built.
+install: library
+	@mkdir -p "$(PREFIX)/lib/pkgconfig" "$(PREFIX)/include"
+	@cp out/library/libcamel.a "$(PREFIX)/lib/"
+	@cp out/library/camel.h out/library/camel.hpp "$(PREFIX)/include/"
+	@cp out/library/camel.pc "$(PREFIX)/lib/pkgconfig/"
+	@echo "$(PREFIX) has libcamel.a, its headers and camel.pc" >&2
+
+# The soak makes DECISIONS, and COUNT calls have random fields.
+## Compiles and runs the tests, the examples and the bindings of the library: a minute, once it is built.
+library-test: need-cc need-c++ need-cargo library
+	$(say)
+	@.ci/library-test $(DECISIONS) $(COUNT)
+
 ## Measures the program beside a plain one in Rust: some minutes, once it is built.
 bench: need-rustc $(PROGRAM)
 	$(say)
@@ -171,5 +195,7 @@ test: need-rt need-python3 need-cc
 	@.ci/must-not-compile
 	@$(MAKE) --no-print-directory examples scripts refusals
 	@$(MAKE) --no-print-directory streams coprocess CALLS=1000
+	@$(MAKE) --no-print-directory library
+	@.ci/library-test 1000000 100000
 	@$(MAKE) --no-print-directory soak SECONDS=10 SUBSCRIBERS=5000
 	@$(MAKE) --no-print-directory fuzz COUNT=1000
