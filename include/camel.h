@@ -192,7 +192,7 @@ camel_status camel_look(camel_session *session);
 camel_status camel_leave(camel_session *session);
 
 /* The row of a subscriber at a detection point, over the look that has begun, or else by a look of its own. is_there tells
- * whether there is one; if not, the row is as before. */
+ * whether there is one; if not, the row is as before. Its default call handling is 0, continue, or 1, release. */
 camel_status camel_row_at(camel_session *session, const camel_imsi *imsi, uint8_t dp, camel_row *row, bool *is_there);
 
 /* Fills a handle with a copy of the record of a subscriber, which a call keeps from its set-up to its later detection

@@ -1,6 +1,6 @@
 //! Stores whose writer does not wait.
 
-ghost use Rattle.std.specs.Prelude.{◌≤◌};
+ghost use Rattle.std.specs.Prelude.{◌≡◌, ◌≤◌, true};
 
 use camel_criteria::Refusal;
 use camel_fixtures::{ARMED, call_of, imsi_of, row_update, stored_summary, triggered};
@@ -91,7 +91,9 @@ fn closed_behind_a_look<R: Abort>(
     closing: Closing,
     look: WaitFreeLook,
     idle: &mut WaitFreeSession,
-) -> Result<Records, Fail> {
+) -> Result<Records, Fail>
+    requires { look.session.now.looks ≡ true }
+{
     assert!(rt; idle.look().is_err());
     let closing = match closing.close() {
         Ok(_) => panic!(rt; "the look is still held"),

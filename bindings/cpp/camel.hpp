@@ -1,0 +1,387 @@
+/* camel.hpp: classes of C++17 over camel.h, for its library libcamel.a.
+ *
+ * A Store is the writer's, and each Session is of one call-control thread. Store, Session, Look, Receipt and Subscriber
+ * move, are not copied, and free what they hold at their end. An object is in one call at a time, also in a const one;
+ * different objects may be in calls at the same time. Data are the structs of camel.h.
+ *
+ * A call returns a Result: its value, or the status that says why it did nothing, with what camel.h says of it. Nothing
+ * throws but the vector of open. Beside what camel.h leaves unchecked, one thing is left to the caller: a session is
+ * neither moved nor ended while a Look of it lives. A receipt of another store is refused. */
+#ifndef CAMEL_HPP
+#define CAMEL_HPP
+
+#include "camel.h"
+
+#include <atomic>
+#include <cassert>
+#include <optional>
+#include <string_view>
+#include <utility>
+#include <vector>
+
+namespace camel {
+
+/* Statuses of this header, beside those of camel.h. */
+inline constexpr camel_status OTHER_STORE = 204;   /* the receipt is of another store than the session */
+inline constexpr camel_status OTHER_VERSION = 205; /* the library has other layouts than camel.h */
+
+inline constexpr size_t MAX_SESSIONS = 64;
+inline constexpr uint64_t MAX_UPDATES = INT64_MAX;
+
+/* The name of a status, as in camel.h or here. */
+inline const char *status_name(camel_status status)
+{
+    switch (status) {
+    case OTHER_STORE: return "camel::OTHER_STORE";
+    case OTHER_VERSION: return "camel::OTHER_VERSION";
+    default: return camel_status_name(status);
+    }
+}
+
+/* A status that is not CAMEL_OK, on its way into a Result. */
+struct Failure {
+    camel_status status;
+};
+
+/* A value, or the status that says why there is none. The value is asked for only if it is there. */
+template <class T>
+class [[nodiscard]] Result {
+public:
+    Result(T value) : value_(std::move(value)) {}
+    Result(Failure failure) : status_(failure.status) {}
+
+    explicit operator bool() const { return value_.has_value(); }
+    camel_status status() const { return status_; }
+    T &operator*() & { return value(); }
+    T &&operator*() && { return std::move(value()); }
+    T *operator->() { return &value(); }
+    T &value() { assert(value_); return *value_; }
+    const T &value() const { assert(value_); return *value_; }
+
+private:
+    camel_status status_ = CAMEL_OK;
+    std::optional<T> value_;
+};
+
+/* What is there, or nothing, or the status that says why neither is known. */
+template <class T>
+using Maybe = Result<std::optional<T>>;
+
+/* Whether a call without a value did what it is for. */
+template <>
+class [[nodiscard]] Result<void> {
+public:
+    Result() = default;
+    Result(Failure failure) : status_(failure.status) {}
+
+    explicit operator bool() const { return status_ == CAMEL_OK; }
+    camel_status status() const { return status_; }
+
+private:
+    camel_status status_ = CAMEL_OK;
+};
+
+namespace detail {
+
+inline Result<void> done(camel_status status)
+{
+    if (status == CAMEL_OK)
+        return {};
+    return Failure{ status };
+}
+
+/* The value that a call of the library writes last. */
+template <class T, class Call, class... Given>
+Result<T> read(Call call, Given... given)
+{
+    T value{};
+    if (camel_status status = call(given..., &value))
+        return Failure{ status };
+    return value;
+}
+
+/* What a call of the library writes if it is there. */
+template <class T, class Call, class... Given>
+Maybe<T> find(Call call, Given... given)
+{
+    T value{};
+    bool is_there = false;
+    if (camel_status status = call(given..., &value, &is_there))
+        return Failure{ status };
+    return is_there ? std::optional<T>(value) : std::optional<T>();
+}
+
+/* A handle that one object has: a move copies its bytes, and empties the old ones. */
+template <class Raw>
+class Owned {
+public:
+    Owned() = default;
+    explicit Owned(Raw &raw) : raw_(std::exchange(raw, Raw{})) {}
+    Owned(Owned &&other) noexcept : raw_(std::exchange(other.raw_, Raw{})) {}
+    Owned &operator=(Owned &&other) noexcept
+    {
+        std::swap(raw_, other.raw_);
+        return *this;
+    }
+    ~Owned()
+    {
+        if (raw_.is_full)
+            camel_free(&raw_);
+    }
+    Raw *at() const { return &raw_; }
+
+private:
+    mutable Raw raw_ = CAMEL_EMPTY;
+};
+
+/* The number of a further store, by which its sessions know its receipts. */
+inline uint64_t next_store()
+{
+    static std::atomic<uint64_t> stores{ 0 };
+    return ++stores;
+}
+
+/* The items of a list, by a pointer that is not null. */
+template <class T>
+struct Items {
+    T none{};
+    const T *data;
+    size_t count;
+    explicit Items(const std::optional<std::vector<T>> &list)
+        : data(list && !list->empty() ? list->data() : &none), count(list ? list->size() : 0) {}
+    Items(const Items &) = delete;
+};
+
+} // namespace detail
+
+/* Data, made once per call: CAMEL_MALFORMED if they are none. */
+inline Result<camel_imsi> imsi_of_tbcd(const uint8_t *octets, size_t count)
+{
+    return detail::read<camel_imsi>(camel_imsi_of_tbcd, octets, count);
+}
+
+inline Result<camel_imsi> imsi_of_digits(std::string_view digits)
+{
+    if (digits.empty())
+        return Failure{ CAMEL_MALFORMED };
+    auto characters = reinterpret_cast<const uint8_t *>(digits.data());
+    return detail::read<camel_imsi>(camel_imsi_of_digits, characters, digits.size());
+}
+
+inline Result<camel_address> address_of(const uint8_t *octets, size_t count)
+{
+    return detail::read<camel_address>(camel_address_of, octets, count);
+}
+
+inline Result<camel_isdn_address> isdn_address_of(const uint8_t *octets, size_t count)
+{
+    return detail::read<camel_isdn_address>(camel_isdn_address_of, octets, count);
+}
+
+/* The lists of an Insert. One that is not there did not come, and one that came has 1 to 10 items. */
+struct Csis {
+    std::optional<std::vector<camel_row>> o;
+    std::optional<std::vector<camel_o_criteria>> o_criteria;
+    std::optional<std::vector<camel_row>> vt;
+    std::optional<std::vector<camel_t_criteria>> t_criteria;
+};
+
+/* Says up to which update a store has published. Any number of sessions may learn it, one after the other. */
+class Receipt {
+    friend class Store;
+    friend class Session;
+    explicit Receipt(uint64_t store) : store_(store) {}
+
+    detail::Owned<camel_receipt> handle_;
+    uint64_t store_;
+};
+
+/* The record of a subscriber, which a call keeps from its set-up to its later detection points. */
+class Subscriber {
+public:
+    /* Decides an event of the record's own subscriber, over the front of the look in which it was kept. */
+    Result<camel_answer> decide(const camel_event &event) const
+    {
+        return detail::read<camel_answer>(camel_decide_kept, handle_.at(), &event);
+    }
+
+private:
+    friend class Session;
+    Subscriber() = default;
+
+    detail::Owned<camel_subscriber> handle_;
+};
+
+class Look;
+
+/* What one call-control thread decides its calls by. Each call has a look of its own; `look` has several over one
+ * front. CAMEL_NO_LOOK: the store has ended. */
+class Session {
+public:
+    Result<camel_answer> decide(const camel_event &event)
+    {
+        return detail::read<camel_answer>(camel_decide, handle_.at(), &event);
+    }
+
+    /* From then on the session sees at least what the receipt is of. OTHER_STORE, or CAMEL_HELD: a look has begun. */
+    Result<void> learn(const Receipt &receipt)
+    {
+        if (receipt.store_ != store_)
+            return Failure{ OTHER_STORE };
+        return detail::done(camel_learn(handle_.at(), receipt.handle_.at()));
+    }
+
+    /* Begins a look, which lasts until the Look ends. It lets the next publication go through, and holds up the one
+     * after it. CAMEL_HELD: a look has begun. */
+    Result<Look> look();
+
+    /* The row of a subscriber at a detection point, if there is one. Its handling is 0, continue, or 1, release. */
+    Maybe<camel_row> row_at(camel_imsi imsi, uint8_t dp)
+    {
+        return detail::find<camel_row>(camel_row_at, handle_.at(), &imsi, dp);
+    }
+
+    /* Keeps the record of a subscriber, if there is one. */
+    Maybe<Subscriber> keep(camel_imsi imsi)
+    {
+        Subscriber subscriber;
+        bool is_there = false;
+        if (camel_status status = camel_keep(handle_.at(), &imsi, subscriber.handle_.at(), &is_there))
+            return Failure{ status };
+        return is_there ? std::optional<Subscriber>(std::move(subscriber)) : std::nullopt;
+    }
+
+private:
+    friend class Store;
+    friend class Look;
+    Session(camel_session &raw, uint64_t store) : handle_(raw), store_(store) {}
+
+    detail::Owned<camel_session> handle_;
+    uint64_t store_;
+};
+
+/* A look of a session: all that it returns is of one front. It is left at its end, or before by `leave`; what is asked
+ * of it afterwards is CAMEL_WRONG_HANDLE. */
+class Look {
+public:
+    Look(Look &&other) noexcept : session_(std::exchange(other.session_, nullptr)) {}
+    ~Look() { (void)leave(); }
+
+    Result<void> leave()
+    {
+        Session *session = std::exchange(session_, nullptr);
+        return session ? detail::done(camel_leave(session->handle_.at())) : Result<void>();
+    }
+
+    Result<camel_answer> decide(const camel_event &event) { return ask(&Session::decide, event); }
+    Maybe<camel_row> row_at(camel_imsi imsi, uint8_t dp) { return ask(&Session::row_at, imsi, dp); }
+    Maybe<Subscriber> keep(camel_imsi imsi) { return ask(&Session::keep, imsi); }
+
+private:
+    friend class Session;
+    explicit Look(Session &session) : session_(&session) {}
+
+    template <class R, class... Asked, class... Given>
+    R ask(R (Session::*call)(Asked...), const Given &...given)
+    {
+        if (!session_)
+            return Failure{ CAMEL_WRONG_HANDLE };
+        return (session_->*call)(given...);
+    }
+
+    Session *session_;
+};
+
+inline Result<Look> Session::look()
+{
+    if (camel_status status = camel_look(handle_.at()))
+        return Failure{ status };
+    return Look(*this);
+}
+
+/* The writer. A store that ends with its object leaves what looks hold to them. */
+class Store {
+public:
+    struct Opened;
+
+    /* Opens a store of 1 to MAX_SESSIONS sessions, which takes 1 to MAX_UPDATES updates and decides under profile 1 or
+     * 2. The seed is secret and random. */
+    static Result<Opened> open(size_t session_count, uint64_t limit, uint8_t profile, uint64_t seed);
+
+    Result<void> submit_register(camel_imsi imsi) { return detail::done(camel_submit_register(handle_.at(), &imsi)); }
+    Result<void> submit_delete(camel_imsi imsi, camel_withdrawal what)
+    {
+        return detail::done(camel_submit_delete(handle_.at(), &imsi, &what));
+    }
+    Result<void> submit_cancel(camel_imsi imsi) { return detail::done(camel_submit_cancel(handle_.at(), &imsi)); }
+    Result<void> submit_clear_all() { return detail::done(camel_submit_clear_all(handle_.at())); }
+    Result<void> submit_insert(camel_imsi imsi, const Csis &csis)
+    {
+        camel_insert sent{ bool(csis.o), bool(csis.o_criteria), bool(csis.vt), bool(csis.t_criteria) };
+        detail::Items o(csis.o), vt(csis.vt);
+        detail::Items oc(csis.o_criteria);
+        detail::Items tc(csis.t_criteria);
+        return detail::done(camel_submit_insert(handle_.at(), &imsi, &sent, o.data, o.count, oc.data, oc.count, vt.data,
+                                                vt.count, tc.data, tc.count));
+    }
+
+    /* Publishes all that is pending, and gives a receipt of all that is published; if nothing is pending, only that.
+     * After CAMEL_OUT_OF_MEMORY publish again: if `pending` is 0, only the receipt was refused. */
+    Result<Receipt> publish()
+    {
+        uint64_t count = 0;
+        camel_status status = camel_pending(handle_.at(), &count);
+        if (status == CAMEL_OK && count > 0)
+            status = camel_publish(handle_.at());
+        return status == CAMEL_OK ? receipt() : Failure{ status };
+    }
+
+    /* A further receipt of all that is published. */
+    Result<Receipt> receipt()
+    {
+        Receipt receipt(number_);
+        if (camel_status status = camel_receipt_of(handle_.at(), receipt.handle_.at()))
+            return Failure{ status };
+        return receipt;
+    }
+
+    Result<uint64_t> published() const { return detail::read<uint64_t>(camel_published, handle_.at()); }
+    Result<uint64_t> pending() const { return detail::read<uint64_t>(camel_pending, handle_.at()); }
+
+    /* Ends the store; what is pending is dropped. CAMEL_HELD: a look is held, and it is to be called again. */
+    Result<void> close() { return detail::done(camel_close(handle_.at())); }
+
+private:
+    explicit Store(camel_store &raw) : handle_(raw), number_(detail::next_store()) {}
+
+    detail::Owned<camel_store> handle_;
+    uint64_t number_;
+};
+
+/* A store with its sessions. */
+struct Store::Opened {
+    Store store;
+    std::vector<Session> sessions;
+};
+
+inline Result<Store::Opened> Store::open(size_t session_count, uint64_t limit, uint8_t profile, uint64_t seed)
+{
+    if (camel_abi_version() != CAMEL_ABI_VERSION)
+        return Failure{ OTHER_VERSION };
+    if (session_count < 1 || session_count > MAX_SESSIONS)
+        return Failure{ CAMEL_MALFORMED };
+    std::vector<Session> sessions;
+    sessions.reserve(session_count);
+    camel_store raw = CAMEL_EMPTY;
+    camel_session places[MAX_SESSIONS] = {};
+    if (camel_status status = camel_open(&raw, places, session_count, limit, profile, seed))
+        return Failure{ status };
+    Store store(raw);
+    for (size_t at = 0; at < session_count; at++)
+        sessions.push_back(Session(places[at], store.number_));
+    return Opened{ std::move(store), std::move(sessions) };
+}
+
+} // namespace camel
+
+#endif

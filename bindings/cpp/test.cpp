@@ -1,0 +1,211 @@
+/* A test of camel.hpp: each class does what it is for, and the layouts are those of camel.h.
+ *
+ *     g++ -std=c++17 -I include -I bindings/cpp bindings/cpp/test.cpp libcamel.a -o test && ./test */
+#include "camel.hpp"
+
+#include <cstddef>
+#include <cstdio>
+#include <cstdlib>
+#include <thread>
+#include <type_traits>
+
+static_assert(sizeof(camel_imsi) == 8 && sizeof(camel_address) == 21 && sizeof(camel_isdn_address) == 10);
+static_assert(sizeof(camel_basic_service) == 2 && sizeof(camel_row) == 20 && sizeof(camel_number_criterion) == 106);
+static_assert(sizeof(camel_basic_services) == 11 && sizeof(camel_causes) == 6 && sizeof(camel_o_criteria) == 127);
+static_assert(sizeof(camel_t_criteria) == 18 && sizeof(camel_insert) == 4 && sizeof(camel_withdrawal) == 3);
+static_assert(sizeof(camel_event) == 40 && sizeof(camel_answer) == 32);
+static_assert(offsetof(camel_row, dp) == 18 && offsetof(camel_number_criterion, numbers) == 6);
+static_assert(offsetof(camel_o_criteria, causes) == 121 && offsetof(camel_event, cause) == 33);
+static_assert(offsetof(camel_answer, reason) == 25);
+static_assert(sizeof(camel_store) == 2 * sizeof(void *) && sizeof(camel_session) == sizeof(camel_store));
+static_assert(sizeof(camel_receipt) == sizeof(camel_store) && sizeof(camel_subscriber) == sizeof(camel_store));
+
+template <class T>
+constexpr bool only_moves = std::is_nothrow_move_constructible_v<T> && !std::is_copy_constructible_v<T>;
+static_assert(only_moves<camel::Store> && only_moves<camel::Session> && only_moves<camel::Look>);
+static_assert(only_moves<camel::Receipt> && only_moves<camel::Subscriber>);
+
+#define CHECK(what) check(what, #what, __LINE__)
+
+static void check(bool is_so, const char *what, int line)
+{
+    if (is_so)
+        return;
+    std::fprintf(stderr, "test.cpp:%d: %s\n", line, what);
+    std::exit(1);
+}
+
+/* The value of a result that has one. */
+template <class T>
+static T get(camel::Result<T> result)
+{
+    if (!result) {
+        std::fprintf(stderr, "%s\n", camel::status_name(result.status()));
+        std::exit(1);
+    }
+    return *std::move(result);
+}
+
+static camel_imsi imsi() { return get(camel::imsi_of_digits("262010000000001")); }
+
+static camel_event event_at(uint8_t dp)
+{
+    const uint8_t destination[] = { 0x91, 0x21, 0x43 };
+    camel_event event{};
+    event.imsi = imsi();
+    event.destination = get(camel::address_of(destination, sizeof destination));
+    event.basic.code = 0x11;
+    event.dp = dp;
+    event.cause = 17;
+    return event;
+}
+
+static camel::Csis csis_of(uint32_t key)
+{
+    const uint8_t scf[] = { 0x91, 0x94, 0x71 };
+    camel_row o{}, vt{};
+    o.key = vt.key = key;
+    o.scf = vt.scf = get(camel::isdn_address_of(scf, sizeof scf));
+    o.dp = 2;
+    vt.dp = 13;
+    camel_o_criteria o_criteria{};
+    o_criteria.dp = 2;
+    o_criteria.has_call_type = true;
+    camel_t_criteria t_criteria{};
+    t_criteria.dp = 13;
+    t_criteria.causes.count = 1;
+    t_criteria.causes.causes[0] = 17;
+    camel::Csis csis;
+    csis.o.emplace({ o });
+    csis.o_criteria.emplace({ o_criteria });
+    csis.vt.emplace({ vt });
+    csis.t_criteria.emplace({ t_criteria });
+    return csis;
+}
+
+/* A store of which two updates are published, and whose two sessions learnt it. */
+static camel::Store::Opened open()
+{
+    camel::Store::Opened opened = get(camel::Store::open(2, camel::MAX_UPDATES, 1, 0x5eed));
+    CHECK(bool(opened.store.submit_register(imsi())));
+    CHECK(bool(opened.store.submit_insert(imsi(), csis_of(7))));
+    CHECK(get(opened.store.pending()) == 2);
+    camel::Receipt receipt = get(opened.store.publish());
+    for (camel::Session &session : opened.sessions)
+        CHECK(bool(session.learn(receipt)));
+    return opened;
+}
+
+static void data_are_made_or_refused()
+{
+    const uint8_t tbcd[] = { 0x62, 0x02, 0x01, 0x00, 0x00, 0x00, 0x00, 0xf1 };
+    const uint8_t octets[21] = { 0x91 };
+    CHECK(get(camel::imsi_of_tbcd(tbcd, sizeof tbcd)).number == imsi().number);
+    CHECK(camel::imsi_of_digits("").status() == CAMEL_MALFORMED);
+    CHECK(camel::imsi_of_digits("2620a").status() == CAMEL_MALFORMED);
+    CHECK(get(camel::address_of(octets, 20)).length == 20);
+    CHECK(camel::address_of(octets, 21).status() == CAMEL_MALFORMED);
+    CHECK(camel::isdn_address_of(octets, 10).status() == CAMEL_MALFORMED);
+    CHECK(camel::Store::open(0, 1, 1, 1).status() == CAMEL_MALFORMED);
+    CHECK(camel::Store::open(65, 1, 1, 1).status() == CAMEL_MALFORMED);
+    CHECK(camel::Store::open(1, 1, 3, 1).status() == CAMEL_MALFORMED);
+}
+
+static void a_session_reads()
+{
+    auto [store, sessions] = open();
+    camel::Session session = std::move(sessions[0]);
+    CHECK(sessions[0].decide(event_at(2)).status() == CAMEL_WRONG_HANDLE);
+    camel_answer answer = get(session.decide(event_at(2)));
+    CHECK(answer.is_trigger && answer.key == 7 && answer.front == 2 && answer.scf.length == 3);
+    answer = get(session.decide(event_at(4)));
+    CHECK(!answer.is_trigger && answer.reason == CAMEL_NOT_ARMED);
+    camel_event event = event_at(2);
+    event.is_forwarded = true;
+    CHECK(get(session.decide(event)).reason == CAMEL_CRITERIA);
+    CHECK(get(session.decide(event_at(13))).key == 7);
+    event = event_at(13);
+    event.cause = 18;
+    CHECK(get(session.decide(event)).reason == CAMEL_CRITERIA);
+    CHECK(get(session.row_at(imsi(), 13))->key == 7);
+    CHECK(!get(session.row_at(imsi(), 4)));
+    CHECK(!get(session.keep(get(camel::imsi_of_digits("26201")))));
+    CHECK(store.submit_insert(get(camel::imsi_of_digits("26201")), camel::Csis{}).status()
+          == CAMEL_UNIDENTIFIED_SUBSCRIBER);
+    CHECK(store.submit_insert(imsi(), camel::Csis{ std::vector<camel_row>{}, {}, {}, {} }).status()
+          == CAMEL_DATA_MISSING);
+}
+
+static void a_receipt_of_another_store_is_refused()
+{
+    auto [store, sessions] = open();
+    auto [other, of_other] = open();
+    camel::Receipt receipt = get(other.receipt());
+    CHECK(sessions[0].learn(receipt).status() == camel::OTHER_STORE);
+    CHECK(bool(of_other[0].learn(receipt)));
+    receipt = get(store.receipt());
+    CHECK(bool(sessions[0].learn(receipt)));
+    CHECK(bool(sessions[1].learn(receipt)));
+}
+
+static void a_look_is_of_one_front()
+{
+    auto [store, sessions] = open();
+    camel::Look look = get(sessions[0].look());
+    std::optional<camel::Subscriber> kept = get(look.keep(imsi()));
+    CHECK(sessions[0].look().status() == CAMEL_HELD);
+    CHECK(sessions[0].learn(get(store.receipt())).status() == CAMEL_HELD);
+    CHECK(bool(store.submit_delete(imsi(), camel_withdrawal{ true, false, false })));
+    CHECK(bool(store.publish()));
+    CHECK(bool(store.submit_cancel(imsi())));
+    CHECK(store.publish().status() == CAMEL_HELD);
+    CHECK(get(store.published()) == 3 && get(store.pending()) == 1);
+    CHECK(get(look.decide(event_at(2))).front == 2);
+    CHECK(get(look.row_at(imsi(), 2))->key == 7);
+    CHECK(bool(look.leave()));
+    CHECK(look.decide(event_at(2)).status() == CAMEL_WRONG_HANDLE);
+    CHECK(bool(sessions[0].learn(get(store.publish()))));
+    CHECK(get(sessions[0].decide(event_at(2))).reason == CAMEL_UNKNOWN);
+    CHECK(get(kept->decide(event_at(13))).key == 7);
+}
+
+static void a_store_ends()
+{
+    auto [store, sessions] = open();
+    {
+        camel::Look look = get(sessions[0].look());
+        CHECK(store.close().status() == CAMEL_HELD);
+        CHECK(sessions[1].decide(event_at(2)).status() == CAMEL_NO_LOOK);
+        CHECK(get(look.decide(event_at(2))).is_trigger);
+    }
+    CHECK(bool(store.close()));
+    CHECK(sessions[0].look().status() == CAMEL_NO_LOOK);
+    CHECK(store.submit_clear_all().status() == CAMEL_WRONG_HANDLE);
+}
+
+static void threads_decide()
+{
+    auto [store, sessions] = open();
+    bool triggered[2] = {};
+    std::vector<std::thread> threads;
+    for (size_t at = 0; at < 2; at++)
+        threads.emplace_back([session = std::move(sessions[at]), is = &triggered[at]]() mutable {
+            camel::Result<camel_answer> answer = session.decide(event_at(2));
+            *is = answer && answer->is_trigger;
+        });
+    for (std::thread &thread : threads)
+        thread.join();
+    CHECK(triggered[0] && triggered[1]);
+}
+
+int main()
+{
+    data_are_made_or_refused();
+    a_session_reads();
+    a_receipt_of_another_store_is_refused();
+    a_look_is_of_one_front();
+    a_store_ends();
+    threads_decide();
+    std::puts("camel.hpp: all is as it should be");
+    return 0;
+}

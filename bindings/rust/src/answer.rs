@@ -1,0 +1,140 @@
+//! Answers: whether a service is invoked.
+use crate::{DetectionPoint, Error, IsdnAddress, ffi};
+
+/// What an event was decided to be, and over which data.
+#[derive(Clone, Copy, Debug, PartialEq, Eq)]
+pub struct Answer {
+    /// How many updates the data have by which it was decided.
+    pub front: u64,
+    /// The decision.
+    pub outcome: Outcome,
+}
+
+/// A decision.
+#[derive(Clone, Copy, Debug, PartialEq, Eq)]
+pub enum Outcome {
+    /// A service is invoked: that of the row that is stored for the detection point.
+    Trigger {
+        /// The detection point of the row, which is that of the event.
+        dp: DetectionPoint,
+        /// The service key, 0 to 2147483647.
+        key: u32,
+        /// The address of the gsmSCF.
+        scf: IsdnAddress,
+        /// What becomes of the call if the dialogue with the gsmSCF fails.
+        on_failure: OnFailure,
+    },
+    /// No service is invoked.
+    NoTrigger(Reason),
+}
+
+impl Outcome {
+    /// Whether a service is invoked.
+    pub fn is_trigger(&self) -> bool {
+        matches!(self, Outcome::Trigger { .. })
+    }
+}
+
+/// The default call handling of a row.
+#[derive(Clone, Copy, Debug, PartialEq, Eq, Hash)]
+pub enum OnFailure {
+    /// The call goes on without the service.
+    Continue,
+    /// The call is released.
+    Release,
+}
+
+/// Why no service is invoked: the first one in this order that applies.
+#[derive(Clone, Copy, Debug, PartialEq, Eq, Hash)]
+#[repr(u8)]
+pub enum Reason {
+    /// There is no record of the IMSI. It does not say that the subscriber has no service.
+    Unknown = 1,
+    /// The CSI is not stored.
+    NoCsi = 2,
+    /// The CSI has no row of the detection point.
+    NotArmed = 3,
+    /// The call is an emergency call.
+    Emergency = 4,
+    /// The criteria are not met.
+    Criteria = 5,
+}
+
+impl Reason {
+    /// The number of the reason, as in `camel.h`.
+    pub const fn code(self) -> u8 {
+        self as u8
+    }
+
+    #[inline]
+    const fn of_code(code: u8) -> Option<Reason> {
+        match code {
+            1 => Some(Reason::Unknown),
+            2 => Some(Reason::NoCsi),
+            3 => Some(Reason::NotArmed),
+            4 => Some(Reason::Emergency),
+            5 => Some(Reason::Criteria),
+            _ => None,
+        }
+    }
+}
+
+impl Answer {
+    #[inline]
+    pub(crate) fn of_raw(answer: &ffi::Answer) -> Result<Answer, Error> {
+        let outcome = if answer.is_trigger {
+            let dp =
+                DetectionPoint::of_number(answer.dp).ok_or(Error::Unknown(u32::from(answer.dp)))?;
+            let on_failure = if answer.is_release {
+                OnFailure::Release
+            } else {
+                OnFailure::Continue
+            };
+            Outcome::Trigger {
+                dp,
+                key: answer.key,
+                scf: IsdnAddress::of_raw(answer.scf),
+                on_failure,
+            }
+        } else {
+            Outcome::NoTrigger(
+                Reason::of_code(answer.reason).ok_or(Error::Unknown(u32::from(answer.reason)))?,
+            )
+        };
+        Ok(Answer {
+            front: answer.front,
+            outcome,
+        })
+    }
+}
+
+#[cfg(test)]
+mod tests {
+    use super::*;
+
+    #[test]
+    fn answers_of_unknown_numbers_are_errors() {
+        for reason in 1..=5 {
+            let answer = Answer::of_raw(&ffi::Answer {
+                reason,
+                ..ffi::Answer::NONE
+            });
+            assert!(
+                matches!(answer, Ok(Answer { outcome: Outcome::NoTrigger(why), .. }) if why.code() == reason)
+            );
+        }
+        assert_eq!(
+            Answer::of_raw(&ffi::Answer {
+                reason: 6,
+                ..ffi::Answer::NONE
+            }),
+            Err(Error::Unknown(6))
+        );
+        let trigger = ffi::Answer {
+            is_trigger: true,
+            dp: 3,
+            ..ffi::Answer::NONE
+        };
+        assert_eq!(Answer::of_raw(&trigger), Err(Error::Unknown(3)));
+    }
+}

@@ -1,0 +1,377 @@
+//! The rows of a CSI, and the criteria of its detection points.
+use crate::numbers::first;
+use crate::{BasicService, Cause, Error, IsdnAddress, ffi};
+use std::fmt;
+
+/// A row of a CSI: the service that is invoked at a detection point.
+#[derive(Clone, Copy)]
+#[repr(transparent)]
+pub struct Row(ffi::Row);
+
+impl Row {
+    /// A row whose default call handling is 0, continue. The detection point is any that was received: one that is not
+    /// of the CSI is ignored, and counts. Service keys are at most 2147483647, which is looked at when it is submitted.
+    pub fn new(dp: impl Into<u8>, key: u32, scf: IsdnAddress) -> Row {
+        Row(ffi::Row {
+            key,
+            handling: 0,
+            scf: scf.raw(),
+            dp: dp.into(),
+        })
+    }
+
+    /// The row with this default call handling as it was received: 0 is continue, 1 is release, 2 to 31 are continue,
+    /// and those above are release.
+    #[must_use]
+    pub fn with_handling(mut self, handling: u32) -> Row {
+        self.0.handling = handling;
+        self
+    }
+
+    /// The number of the detection point.
+    pub fn dp(&self) -> u8 {
+        self.0.dp
+    }
+
+    /// The service key.
+    pub fn key(&self) -> u32 {
+        self.0.key
+    }
+
+    /// The address of the gsmSCF.
+    pub fn scf(&self) -> IsdnAddress {
+        IsdnAddress::of_raw(self.0.scf)
+    }
+
+    /// The default call handling. That of a row that a session gives is what it comes to: 0, continue, or 1, release.
+    pub fn handling(&self) -> u32 {
+        self.0.handling
+    }
+
+    pub(crate) fn of_raw(row: ffi::Row) -> Row {
+        Row(row)
+    }
+}
+
+impl PartialEq for Row {
+    fn eq(&self, other: &Row) -> bool {
+        (self.dp(), self.key(), self.scf(), self.handling())
+            == (other.dp(), other.key(), other.scf(), other.handling())
+    }
+}
+
+impl Eq for Row {}
+
+impl fmt::Debug for Row {
+    fn fmt(&self, out: &mut fmt::Formatter<'_>) -> fmt::Result {
+        out.debug_struct("Row")
+            .field("dp", &self.dp())
+            .field("key", &self.key())
+            .field("scf", &self.scf())
+            .field("handling", &self.handling())
+            .finish()
+    }
+}
+
+/// Whether a criterion of numbers is met by a destination that is listed, or by one that is not.
+#[derive(Clone, Copy, Debug, PartialEq, Eq, Hash)]
+pub enum MatchType {
+    /// Met by a destination that is not listed.
+    Inhibiting,
+    /// Met by a destination that is listed.
+    Enabling,
+}
+
+/// A destination number criterion: numbers that the destination begins with, and lengths that it has.
+#[derive(Clone, Copy)]
+pub struct NumberCriterion(ffi::NumberCriterion);
+
+impl NumberCriterion {
+    /// A criterion of at most 10 numbers and at most 3 lengths. That it has one of them, and that each length is 1 to
+    /// 15, is looked at when it is submitted.
+    ///
+    /// # Errors
+    /// [`Error::UnexpectedDataValue`] if there are more.
+    pub fn new(
+        match_type: MatchType,
+        numbers: &[IsdnAddress],
+        lengths: &[u8],
+    ) -> Result<NumberCriterion, Error> {
+        let mut raw = ffi::NumberCriterion {
+            is_enabling: match_type == MatchType::Enabling,
+            ..ffi::NumberCriterion::NONE
+        };
+        raw.number_count = fill(&mut raw.numbers, numbers.iter().map(|number| number.raw()))?;
+        raw.length_count = fill(&mut raw.lengths, lengths.iter().copied())?;
+        Ok(NumberCriterion(raw))
+    }
+
+    /// Whether listed destinations meet it.
+    pub fn match_type(&self) -> MatchType {
+        if self.0.is_enabling {
+            MatchType::Enabling
+        } else {
+            MatchType::Inhibiting
+        }
+    }
+
+    /// The listed numbers, in their order.
+    pub fn numbers(&self) -> impl Iterator<Item = IsdnAddress> + '_ {
+        first(&self.0.numbers, self.0.number_count)
+            .iter()
+            .copied()
+            .map(IsdnAddress::of_raw)
+    }
+
+    /// The listed lengths, in their order.
+    pub fn lengths(&self) -> &[u8] {
+        first(&self.0.lengths, self.0.length_count)
+    }
+}
+
+impl PartialEq for NumberCriterion {
+    fn eq(&self, other: &NumberCriterion) -> bool {
+        self.match_type() == other.match_type()
+            && self.numbers().eq(other.numbers())
+            && self.lengths() == other.lengths()
+    }
+}
+
+impl Eq for NumberCriterion {}
+
+impl fmt::Debug for NumberCriterion {
+    fn fmt(&self, out: &mut fmt::Formatter<'_>) -> fmt::Result {
+        out.debug_struct("NumberCriterion")
+            .field("match_type", &self.match_type())
+            .field("numbers", &self.numbers().collect::<Vec<_>>())
+            .field("lengths", &self.lengths())
+            .finish()
+    }
+}
+
+/// The call type criterion.
+#[derive(Clone, Copy, Debug, PartialEq, Eq, Hash)]
+pub enum CallType {
+    /// Met by a forwarded call.
+    Forwarded,
+    /// Met by a call that is not forwarded.
+    NotForwarded,
+}
+
+/// The criteria of a detection point of the O-CSI. An event meets them if it meets each one that is there.
+#[derive(Clone, Copy)]
+#[repr(transparent)]
+pub struct OCriteria(ffi::OCriteria);
+
+impl OCriteria {
+    /// Criteria of a detection point, any that was received, with none in them.
+    pub fn new(dp: impl Into<u8>) -> OCriteria {
+        OCriteria(ffi::OCriteria {
+            dp: dp.into(),
+            has_number: false,
+            number: ffi::NumberCriterion::NONE,
+            basic: ffi::BasicServices::NONE,
+            has_call_type: false,
+            is_forwarded: false,
+            causes: ffi::Causes::NONE,
+        })
+    }
+
+    /// With a destination number criterion.
+    #[must_use]
+    pub fn with_number(mut self, number: NumberCriterion) -> OCriteria {
+        self.0.has_number = true;
+        self.0.number = number.0;
+        self
+    }
+
+    /// With a basic service criterion of at most 5 codes; none are no criterion.
+    ///
+    /// # Errors
+    /// [`Error::UnexpectedDataValue`] if there are more.
+    pub fn with_basic(mut self, services: &[BasicService]) -> Result<OCriteria, Error> {
+        self.0.basic = basic_of(services)?;
+        Ok(self)
+    }
+
+    /// With a call type criterion.
+    #[must_use]
+    pub fn with_call_type(mut self, call_type: CallType) -> OCriteria {
+        self.0.has_call_type = true;
+        self.0.is_forwarded = call_type == CallType::Forwarded;
+        self
+    }
+
+    /// With a cause criterion of at most 5 causes; none are no criterion. Criteria of DP 2 with causes are refused when
+    /// they are submitted.
+    ///
+    /// # Errors
+    /// [`Error::UnexpectedDataValue`] if there are more.
+    pub fn with_causes(mut self, causes: &[Cause]) -> Result<OCriteria, Error> {
+        self.0.causes = causes_of(causes)?;
+        Ok(self)
+    }
+
+    /// The number of the detection point.
+    pub fn dp(&self) -> u8 {
+        self.0.dp
+    }
+
+    /// The destination number criterion.
+    pub fn number(&self) -> Option<NumberCriterion> {
+        self.0.has_number.then_some(NumberCriterion(self.0.number))
+    }
+
+    /// The codes of the basic service criterion; none if there is none.
+    pub fn basic(&self) -> impl Iterator<Item = BasicService> + '_ {
+        services_in(&self.0.basic)
+    }
+
+    /// The call type criterion.
+    pub fn call_type(&self) -> Option<CallType> {
+        let call_type = if self.0.is_forwarded {
+            CallType::Forwarded
+        } else {
+            CallType::NotForwarded
+        };
+        self.0.has_call_type.then_some(call_type)
+    }
+
+    /// The causes of the cause criterion; none if there is none.
+    pub fn causes(&self) -> impl Iterator<Item = Cause> + '_ {
+        causes_in(&self.0.causes)
+    }
+}
+
+impl PartialEq for OCriteria {
+    fn eq(&self, other: &OCriteria) -> bool {
+        (self.dp(), self.number(), self.call_type())
+            == (other.dp(), other.number(), other.call_type())
+            && self.basic().eq(other.basic())
+            && self.causes().eq(other.causes())
+    }
+}
+
+impl Eq for OCriteria {}
+
+impl fmt::Debug for OCriteria {
+    fn fmt(&self, out: &mut fmt::Formatter<'_>) -> fmt::Result {
+        out.debug_struct("OCriteria")
+            .field("dp", &self.dp())
+            .field("number", &self.number())
+            .field("basic", &self.basic().collect::<Vec<_>>())
+            .field("call_type", &self.call_type())
+            .field("causes", &self.causes().collect::<Vec<_>>())
+            .finish()
+    }
+}
+
+/// The criteria of a detection point of the VT-CSI. An event meets them if it meets each one that is there.
+#[derive(Clone, Copy)]
+#[repr(transparent)]
+pub struct TCriteria(ffi::TCriteria);
+
+impl TCriteria {
+    /// Criteria of a detection point, any that was received, with none in them.
+    pub fn new(dp: impl Into<u8>) -> TCriteria {
+        TCriteria(ffi::TCriteria {
+            dp: dp.into(),
+            basic: ffi::BasicServices::NONE,
+            causes: ffi::Causes::NONE,
+        })
+    }
+
+    /// With a basic service criterion of at most 5 codes; none are no criterion.
+    ///
+    /// # Errors
+    /// [`Error::UnexpectedDataValue`] if there are more.
+    pub fn with_basic(mut self, services: &[BasicService]) -> Result<TCriteria, Error> {
+        self.0.basic = basic_of(services)?;
+        Ok(self)
+    }
+
+    /// With a cause criterion of at most 5 causes; none are no criterion. Criteria of DP 12 with causes are refused
+    /// when they are submitted.
+    ///
+    /// # Errors
+    /// [`Error::UnexpectedDataValue`] if there are more.
+    pub fn with_causes(mut self, causes: &[Cause]) -> Result<TCriteria, Error> {
+        self.0.causes = causes_of(causes)?;
+        Ok(self)
+    }
+
+    /// The number of the detection point.
+    pub fn dp(&self) -> u8 {
+        self.0.dp
+    }
+
+    /// The codes of the basic service criterion; none if there is none.
+    pub fn basic(&self) -> impl Iterator<Item = BasicService> + '_ {
+        services_in(&self.0.basic)
+    }
+
+    /// The causes of the cause criterion; none if there is none.
+    pub fn causes(&self) -> impl Iterator<Item = Cause> + '_ {
+        causes_in(&self.0.causes)
+    }
+}
+
+impl PartialEq for TCriteria {
+    fn eq(&self, other: &TCriteria) -> bool {
+        self.dp() == other.dp()
+            && self.basic().eq(other.basic())
+            && self.causes().eq(other.causes())
+    }
+}
+
+impl Eq for TCriteria {}
+
+impl fmt::Debug for TCriteria {
+    fn fmt(&self, out: &mut fmt::Formatter<'_>) -> fmt::Result {
+        out.debug_struct("TCriteria")
+            .field("dp", &self.dp())
+            .field("basic", &self.basic().collect::<Vec<_>>())
+            .field("causes", &self.causes().collect::<Vec<_>>())
+            .finish()
+    }
+}
+
+/// Puts items into an array, and tells how many; more than it has room for are refused.
+fn fill<T>(array: &mut [T], items: impl ExactSizeIterator<Item = T>) -> Result<u8, Error> {
+    let count = items.len();
+    let places = array.get_mut(..count).ok_or(Error::UnexpectedDataValue)?;
+    places
+        .iter_mut()
+        .zip(items)
+        .for_each(|(place, item)| *place = item);
+    Ok(count as u8)
+}
+
+fn basic_of(services: &[BasicService]) -> Result<ffi::BasicServices, Error> {
+    let mut basic = ffi::BasicServices::NONE;
+    basic.count = fill(
+        &mut basic.services,
+        services.iter().map(|service| service.raw()),
+    )?;
+    Ok(basic)
+}
+
+fn causes_of(causes: &[Cause]) -> Result<ffi::Causes, Error> {
+    let mut raw = ffi::Causes::NONE;
+    raw.count = fill(&mut raw.causes, causes.iter().map(|cause| cause.value()))?;
+    Ok(raw)
+}
+
+fn services_in(basic: &ffi::BasicServices) -> impl Iterator<Item = BasicService> + '_ {
+    first(&basic.services, basic.count)
+        .iter()
+        .copied()
+        .map(BasicService::of_raw)
+}
+
+fn causes_in(causes: &ffi::Causes) -> impl Iterator<Item = Cause> + '_ {
+    first(&causes.causes, causes.count)
+        .iter()
+        .copied()
+        .map(Cause::of_octet)
+}

@@ -1,0 +1,127 @@
+//! Why a call did nothing.
+use crate::ffi;
+use std::fmt;
+
+/// Why a call did nothing: the statuses of `camel.h`, and what this crate finds itself.
+///
+/// Each call says what stands after its errors.
+#[derive(Clone, Copy, Debug, PartialEq, Eq, Hash)]
+#[non_exhaustive]
+pub enum Error {
+    /// The IMSI has no record: unidentifiedSubscriber of TS 29.002 (5).
+    UnidentifiedSubscriber,
+    /// Data are absent that have to come: dataMissing of TS 29.002 (35).
+    DataMissing,
+    /// Data are out of their range: unexpectedDataValue of TS 29.002 (36).
+    UnexpectedDataValue,
+    /// The store has accepted as many updates as its limit (101).
+    HistoryFull,
+    /// Memory was refused (102). The call may be made again.
+    OutOfMemory,
+    /// A session got no place (103). No run meets it.
+    NoPlace,
+    /// The store has ended (104).
+    NoLook,
+    /// A look is held (105): try again once it is left.
+    Held,
+    /// What was handed in is not an IMSI, an address, a detection point or a number in range (201).
+    Malformed,
+    /// The handle is empty or of another kind, or the store has ended (202). Safe code does not meet it.
+    WrongHandle,
+    /// The handle that is to be filled is not empty (203). Safe code does not meet it.
+    FullHandle,
+    /// The receipt is of another store than the session (204, a number of the bindings).
+    OtherStore,
+    /// The library has other layouts than this crate (205, a number of the bindings).
+    OtherVersion,
+    /// The library returned a number that this crate does not know.
+    Unknown(u32),
+}
+
+impl Error {
+    /// The number of the error: that of `camel.h`, or 204 or 205, which are of the bindings.
+    pub const fn code(self) -> u32 {
+        match self {
+            Error::UnidentifiedSubscriber => 5,
+            Error::DataMissing => 35,
+            Error::UnexpectedDataValue => 36,
+            Error::HistoryFull => 101,
+            Error::OutOfMemory => 102,
+            Error::NoPlace => 103,
+            Error::NoLook => 104,
+            Error::Held => 105,
+            Error::Malformed => 201,
+            Error::WrongHandle => 202,
+            Error::FullHandle => 203,
+            Error::OtherStore => 204,
+            Error::OtherVersion => 205,
+            Error::Unknown(code) => code,
+        }
+    }
+
+    /// The error of a status that is not `CAMEL_OK`.
+    const fn of_status(status: ffi::Status) -> Error {
+        match status {
+            5 => Error::UnidentifiedSubscriber,
+            35 => Error::DataMissing,
+            36 => Error::UnexpectedDataValue,
+            101 => Error::HistoryFull,
+            102 => Error::OutOfMemory,
+            103 => Error::NoPlace,
+            104 => Error::NoLook,
+            105 => Error::Held,
+            201 => Error::Malformed,
+            202 => Error::WrongHandle,
+            203 => Error::FullHandle,
+            other => Error::Unknown(other),
+        }
+    }
+}
+
+impl fmt::Display for Error {
+    fn fmt(&self, out: &mut fmt::Formatter<'_>) -> fmt::Result {
+        let words = match self {
+            Error::UnidentifiedSubscriber => "the IMSI has no record",
+            Error::DataMissing => "data are missing",
+            Error::UnexpectedDataValue => "a data value is not expected",
+            Error::HistoryFull => "the store has accepted as many updates as its limit",
+            Error::OutOfMemory => "out of memory",
+            Error::NoPlace => "a session got no place",
+            Error::NoLook => "the store has ended",
+            Error::Held => "a look is held",
+            Error::Malformed => "what was handed in is malformed",
+            Error::WrongHandle => "the handle is not of this call",
+            Error::FullHandle => "the handle is not empty",
+            Error::OtherStore => "the receipt is of another store",
+            Error::OtherVersion => "the library is of another version",
+            Error::Unknown(_) => "a number that is not known",
+        };
+        write!(out, "{words} ({})", self.code())
+    }
+}
+
+impl std::error::Error for Error {}
+
+/// Ok for `CAMEL_OK`, else the error of the status.
+#[inline]
+pub(crate) fn done(status: ffi::Status) -> Result<(), Error> {
+    match status {
+        ffi::OK => Ok(()),
+        other => Err(Error::of_status(other)),
+    }
+}
+
+#[cfg(test)]
+mod tests {
+    use super::*;
+
+    #[test]
+    fn statuses_become_errors_of_their_number() {
+        assert_eq!(done(0), Ok(()));
+        for status in 1..300 {
+            assert_eq!(done(status).map_err(Error::code), Err(status));
+        }
+        assert_eq!(done(105), Err(Error::Held));
+        assert_eq!(done(204), Err(Error::Unknown(204)));
+    }
+}

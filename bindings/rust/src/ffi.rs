@@ -1,0 +1,302 @@
+//! The declarations of `camel.h`, as they stand there. Nothing of this module is public.
+use std::ffi::c_void;
+use std::mem::{offset_of, size_of};
+
+pub const ABI_VERSION: u32 = 1;
+
+pub type Status = u32;
+pub const OK: Status = 0;
+
+/// A handle: words of the caller's memory, empty if all of its bytes are 0.
+pub trait Handle {
+    const EMPTY: Self;
+    fn is_full(&self) -> bool;
+}
+
+macro_rules! handles {
+    ($($name:ident)*) => { $(
+        #[repr(C)]
+        pub struct $name {
+            pub at: *mut c_void,
+            pub is_full: bool,
+        }
+
+        impl Handle for $name {
+            const EMPTY: $name = $name { at: std::ptr::null_mut(), is_full: false };
+
+            fn is_full(&self) -> bool {
+                self.is_full
+            }
+        }
+    )* };
+}
+
+handles! { Store Session Receipt Subscriber }
+
+#[repr(C)]
+#[derive(Clone, Copy)]
+pub struct Imsi {
+    pub number: u64,
+}
+
+#[repr(C)]
+#[derive(Clone, Copy)]
+pub struct Address {
+    pub length: u8,
+    pub octets: [u8; 20],
+}
+
+#[repr(C)]
+#[derive(Clone, Copy)]
+pub struct IsdnAddress {
+    pub length: u8,
+    pub octets: [u8; 9],
+}
+
+impl IsdnAddress {
+    pub const NONE: IsdnAddress = IsdnAddress {
+        length: 0,
+        octets: [0; 9],
+    };
+}
+
+#[repr(C)]
+#[derive(Clone, Copy)]
+pub struct BasicService {
+    pub is_bearer: bool,
+    pub code: u8,
+}
+
+#[repr(C)]
+#[derive(Clone, Copy)]
+pub struct Row {
+    pub key: u32,
+    pub handling: u32,
+    pub scf: IsdnAddress,
+    pub dp: u8,
+}
+
+#[repr(C)]
+#[derive(Clone, Copy)]
+pub struct BasicServices {
+    pub count: u8,
+    pub services: [BasicService; 5],
+}
+
+impl BasicServices {
+    pub const NONE: BasicServices = BasicServices {
+        count: 0,
+        services: [BasicService {
+            is_bearer: false,
+            code: 0,
+        }; 5],
+    };
+}
+
+#[repr(C)]
+#[derive(Clone, Copy)]
+pub struct Causes {
+    pub count: u8,
+    pub causes: [u8; 5],
+}
+
+impl Causes {
+    pub const NONE: Causes = Causes {
+        count: 0,
+        causes: [0; 5],
+    };
+}
+
+#[repr(C)]
+#[derive(Clone, Copy)]
+pub struct NumberCriterion {
+    pub is_enabling: bool,
+    pub number_count: u8,
+    pub length_count: u8,
+    pub lengths: [u8; 3],
+    pub numbers: [IsdnAddress; 10],
+}
+
+impl NumberCriterion {
+    pub const NONE: NumberCriterion = NumberCriterion {
+        is_enabling: false,
+        number_count: 0,
+        length_count: 0,
+        lengths: [0; 3],
+        numbers: [IsdnAddress::NONE; 10],
+    };
+}
+
+#[repr(C)]
+#[derive(Clone, Copy)]
+pub struct OCriteria {
+    pub dp: u8,
+    pub has_number: bool,
+    pub number: NumberCriterion,
+    pub basic: BasicServices,
+    pub has_call_type: bool,
+    pub is_forwarded: bool,
+    pub causes: Causes,
+}
+
+#[repr(C)]
+#[derive(Clone, Copy)]
+pub struct TCriteria {
+    pub dp: u8,
+    pub basic: BasicServices,
+    pub causes: Causes,
+}
+
+#[repr(C)]
+#[derive(Clone, Copy)]
+pub struct Insert {
+    pub has_o: bool,
+    pub has_o_criteria: bool,
+    pub has_vt: bool,
+    pub has_t_criteria: bool,
+}
+
+#[repr(C)]
+#[derive(Clone, Copy)]
+pub struct Withdrawal {
+    pub o: bool,
+    pub vt: bool,
+    pub everything: bool,
+}
+
+#[repr(C)]
+#[derive(Clone, Copy)]
+pub struct Event {
+    pub imsi: Imsi,
+    pub destination: Address,
+    pub basic: BasicService,
+    pub dp: u8,
+    pub is_forwarded: bool,
+    pub cause: u8,
+}
+
+#[repr(C)]
+#[derive(Clone, Copy)]
+pub struct Answer {
+    pub front: u64,
+    pub key: u32,
+    pub scf: IsdnAddress,
+    pub dp: u8,
+    pub is_release: bool,
+    pub is_trigger: bool,
+    pub reason: u8,
+}
+
+impl Answer {
+    pub const NONE: Answer = Answer {
+        front: 0,
+        key: 0,
+        scf: IsdnAddress::NONE,
+        dp: 0,
+        is_release: false,
+        is_trigger: false,
+        reason: 0,
+    };
+}
+
+unsafe extern "C" {
+    pub fn camel_abi_version() -> u32;
+
+    pub fn camel_imsi_of_tbcd(octets: *const u8, octet_count: usize, imsi: *mut Imsi) -> Status;
+    pub fn camel_imsi_of_digits(digits: *const u8, digit_count: usize, imsi: *mut Imsi) -> Status;
+    pub fn camel_address_of(octets: *const u8, octet_count: usize, address: *mut Address)
+    -> Status;
+    pub fn camel_isdn_address_of(
+        octets: *const u8,
+        octet_count: usize,
+        address: *mut IsdnAddress,
+    ) -> Status;
+
+    pub fn camel_open(
+        store: *mut Store,
+        sessions: *mut Session,
+        session_count: usize,
+        limit: u64,
+        profile: u8,
+        seed: u64,
+    ) -> Status;
+
+    pub fn camel_submit_register(store: *mut Store, imsi: *const Imsi) -> Status;
+    pub fn camel_submit_insert(
+        store: *mut Store,
+        imsi: *const Imsi,
+        sent: *const Insert,
+        o: *const Row,
+        o_count: usize,
+        o_criteria: *const OCriteria,
+        o_criteria_count: usize,
+        vt: *const Row,
+        vt_count: usize,
+        t_criteria: *const TCriteria,
+        t_criteria_count: usize,
+    ) -> Status;
+    pub fn camel_submit_delete(
+        store: *mut Store,
+        imsi: *const Imsi,
+        what: *const Withdrawal,
+    ) -> Status;
+    pub fn camel_submit_cancel(store: *mut Store, imsi: *const Imsi) -> Status;
+    pub fn camel_submit_clear_all(store: *mut Store) -> Status;
+
+    pub fn camel_publish(store: *mut Store) -> Status;
+    pub fn camel_published(store: *mut Store, count: *mut u64) -> Status;
+    pub fn camel_pending(store: *mut Store, count: *mut u64) -> Status;
+
+    pub fn camel_receipt_of(store: *mut Store, receipt: *mut Receipt) -> Status;
+    pub fn camel_learn(session: *mut Session, receipt: *mut Receipt) -> Status;
+
+    pub fn camel_decide(session: *mut Session, event: *const Event, answer: *mut Answer) -> Status;
+
+    pub fn camel_look(session: *mut Session) -> Status;
+    pub fn camel_leave(session: *mut Session) -> Status;
+
+    pub fn camel_row_at(
+        session: *mut Session,
+        imsi: *const Imsi,
+        dp: u8,
+        row: *mut Row,
+        is_there: *mut bool,
+    ) -> Status;
+
+    pub fn camel_keep(
+        session: *mut Session,
+        imsi: *const Imsi,
+        subscriber: *mut Subscriber,
+        is_there: *mut bool,
+    ) -> Status;
+    pub fn camel_decide_kept(
+        subscriber: *mut Subscriber,
+        event: *const Event,
+        answer: *mut Answer,
+    ) -> Status;
+
+    pub fn camel_close(store: *mut Store) -> Status;
+    pub fn camel_free(handle: *mut c_void);
+}
+
+// The sizes of camel.h, and the places of the fields behind which there is padding.
+const _: () = {
+    assert!(size_of::<Store>() == 2 * size_of::<*mut c_void>());
+    assert!(size_of::<Session>() == size_of::<Store>());
+    assert!(size_of::<Receipt>() == size_of::<Store>());
+    assert!(size_of::<Subscriber>() == size_of::<Store>());
+    assert!(size_of::<Imsi>() == 8);
+    assert!(size_of::<Address>() == 21);
+    assert!(size_of::<IsdnAddress>() == 10);
+    assert!(size_of::<BasicService>() == 2);
+    assert!(size_of::<Row>() == 20 && offset_of!(Row, dp) == 18);
+    assert!(size_of::<NumberCriterion>() == 106 && offset_of!(NumberCriterion, numbers) == 6);
+    assert!(size_of::<BasicServices>() == 11);
+    assert!(size_of::<Causes>() == 6);
+    assert!(size_of::<OCriteria>() == 127 && offset_of!(OCriteria, causes) == 121);
+    assert!(size_of::<TCriteria>() == 18);
+    assert!(size_of::<Insert>() == 4);
+    assert!(size_of::<Withdrawal>() == 3);
+    assert!(size_of::<Event>() == 40 && offset_of!(Event, cause) == 33);
+    assert!(size_of::<Answer>() == 32 && offset_of!(Answer, reason) == 25);
+};

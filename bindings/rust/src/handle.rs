@@ -1,0 +1,40 @@
+//! Handles that are freed when they are dropped.
+use crate::ffi::{self, Handle};
+use std::cell::UnsafeCell;
+
+/// A handle that only this value has. It is never copied: a move copies its bytes and forgets the old ones.
+///
+/// The cell lets a call that only reads take `&self`. It makes the type one that is not `Sync`, so that no two threads
+/// are in calls with one handle at a time.
+pub(crate) struct Owned<T: Handle>(UnsafeCell<T>);
+
+impl<T: Handle> Owned<T> {
+    /// An empty handle.
+    pub fn empty() -> Owned<T> {
+        Owned::of(T::EMPTY)
+    }
+
+    /// Takes over a handle that is empty, or as the library left it.
+    pub fn of(handle: T) -> Owned<T> {
+        Owned(UnsafeCell::new(handle))
+    }
+
+    /// The handle for one call of the library. It is empty or as the library left it, and in no other call: no other
+    /// thread has a reference to it, and the library calls nothing back.
+    pub fn at(&self) -> *mut T {
+        self.0.get()
+    }
+}
+
+impl<T: Handle> Drop for Owned<T> {
+    fn drop(&mut self) {
+        if self.0.get_mut().is_full() {
+            // SAFETY: the handle is as the library left it, and in no other call, since this has it by `&mut`.
+            unsafe { ffi::camel_free(self.at().cast()) }
+        }
+    }
+}
+
+// SAFETY: the library proves that what a handle holds may be used by another thread. Each way by which Rust sends a value
+// makes the calls before it happen before those behind it, as the ways that `camel.h` names do.
+unsafe impl<T: Handle> Send for Owned<T> {}

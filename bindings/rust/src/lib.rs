@@ -1,0 +1,76 @@
+//! CAMEL phase 3 triggering for a VMSC/VLR (3GPP TS 23.078): safe Rust over `libcamel.a`.
+//!
+//! A [`Store`] has the O-CSI and VT-CSI of each subscriber, with their criteria, as the HLR sends them. Its one writer
+//! submits an [`Update`] of each operation, and publishes them; each call-control thread has a [`Session`], and asks at
+//! trigger detection points 2, 4, 12, 13 and 14 whether a service is invoked. No call takes a lock, waits or yields.
+//!
+//! ```
+//! use camel::{Address, BasicService, Csis, Event, Imsi, IsdnAddress, MAX_UPDATES, Profile, Row, Store, Update};
+//!
+//! fn main() -> Result<(), camel::Error> {
+//!     let (mut store, mut sessions) = Store::open(1, MAX_UPDATES, Profile::One, camel::random_seed())?;
+//!     let imsi: Imsi = "262010000000001".parse()?;
+//!     let scf = IsdnAddress::new(&[0x91, 0x94, 0x71, 0x16, 0x00, 0x00])?;
+//!     let csis = Csis { o: Some(vec![Row::new(2, 100, scf)]), ..Csis::default() };
+//!     store.submit(&Update::Register { imsi })?;
+//!     store.submit(&Update::Insert { imsi, csis })?;
+//!     let receipt = store.publish()?;
+//!     sessions[0].learn(&receipt)?;
+//!     let destination = Address::new(&[0x91, 0x21, 0x43, 0x65])?;
+//!     let event = Event::collected_info(imsi, BasicService::Tele(0x11), destination);
+//!     assert!(sessions[0].decide(&event)?.outcome.is_trigger());
+//!     Ok(())
+//! }
+//! ```
+//!
+//! # Building
+//!
+//! `libcamel.a` is in the folder that the environment variable `CAMEL_LIB_DIR` names, or else in `out/library` at the
+//! top of the repository:
+//!
+//! ```text
+//! CAMEL_LIB_DIR=/usr/local/lib cargo build
+//! ```
+//!
+//! # What this crate checks, and what it leaves to the switch
+//!
+//! The crate frees handles and never copies them, refuses a receipt of another store, and lets a handle be in one call
+//! at a time, so safe code reaches nothing that the library does not check. Three things are not seen by it: no call is
+//! made from a signal handler, none from the forked child of a process with threads, and `malloc`, `realloc` and `free`
+//! of the program are of one allocator.
+#![warn(missing_docs)]
+#![deny(unsafe_op_in_unsafe_fn)]
+
+mod answer;
+mod criteria;
+mod error;
+mod event;
+mod ffi;
+mod handle;
+mod numbers;
+mod receipt;
+mod session;
+mod store;
+mod update;
+
+pub use answer::{Answer, OnFailure, Outcome, Reason};
+pub use criteria::{CallType, MatchType, NumberCriterion, OCriteria, Row, TCriteria};
+pub use error::Error;
+pub use event::{BasicService, Cause, DetectionPoint, Event};
+pub use numbers::{Address, Imsi, IsdnAddress};
+pub use receipt::{Receipt, Subscriber};
+pub use session::{Look, Session};
+pub use store::{Closing, MAX_SESSIONS, MAX_UPDATES, Profile, Store};
+pub use update::{Csis, Update, Withdrawal};
+
+/// The version of the layouts and functions of the library that is linked. [`Store::open`] compares it.
+pub fn abi_version() -> u32 {
+    // SAFETY: the function takes nothing, and may be called at any time.
+    unsafe { ffi::camel_abi_version() }
+}
+
+/// A seed for a store, of the random source by which std seeds its hash maps.
+pub fn random_seed() -> u64 {
+    use std::hash::{BuildHasher, Hasher, RandomState};
+    RandomState::new().build_hasher().finish()
+}

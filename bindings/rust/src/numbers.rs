@@ -1,0 +1,179 @@
+//! IMSIs and addresses.
+use crate::error::done;
+use crate::{Error, ffi};
+use std::fmt;
+use std::num::NonZeroU64;
+use std::str::FromStr;
+
+/// An IMSI in 8 octets, made once per call. Two are equal if their digits are.
+#[derive(Clone, Copy, Debug, PartialEq, Eq, Hash)]
+pub struct Imsi(NonZeroU64);
+
+impl Imsi {
+    /// The IMSI of TBCD octets as in MAP: 3 to 8 octets, a filler only as the last high nibble.
+    ///
+    /// # Errors
+    /// [`Error::Malformed`] if they are no IMSI of 5 to 15 digits.
+    pub fn from_tbcd(octets: &[u8]) -> Result<Imsi, Error> {
+        let mut imsi = ffi::Imsi { number: 0 };
+        // SAFETY: the pointer and the length are of one slice, and the IMSI is apart from it.
+        done(unsafe { ffi::camel_imsi_of_tbcd(octets.as_ptr(), octets.len(), &mut imsi) })?;
+        Imsi::of_raw(imsi)
+    }
+
+    /// The IMSI of 5 to 15 characters `0` to `9`, as a `&str` or as octets. A `&str` may also be parsed.
+    ///
+    /// # Errors
+    /// [`Error::Malformed`] if they are none.
+    pub fn from_digits(digits: impl AsRef<[u8]>) -> Result<Imsi, Error> {
+        let digits = digits.as_ref();
+        let mut imsi = ffi::Imsi { number: 0 };
+        // SAFETY: the pointer and the length are of one slice, and the IMSI is apart from it.
+        done(unsafe { ffi::camel_imsi_of_digits(digits.as_ptr(), digits.len(), &mut imsi) })?;
+        Imsi::of_raw(imsi)
+    }
+
+    fn of_raw(imsi: ffi::Imsi) -> Result<Imsi, Error> {
+        NonZeroU64::new(imsi.number)
+            .map(Imsi)
+            .ok_or(Error::Malformed)
+    }
+
+    pub(crate) fn raw(self) -> ffi::Imsi {
+        ffi::Imsi {
+            number: self.0.get(),
+        }
+    }
+}
+
+impl FromStr for Imsi {
+    type Err = Error;
+
+    fn from_str(digits: &str) -> Result<Imsi, Error> {
+        Imsi::from_digits(digits)
+    }
+}
+
+/// An AddressString of TS 29.002, as the destination of a call: 1 to 20 octets, octet 1 with the nature of address and
+/// the numbering plan. It is written in hexadecimal.
+#[derive(Clone, Copy)]
+pub struct Address(ffi::Address);
+
+impl Address {
+    /// The address of these octets.
+    ///
+    /// # Errors
+    /// [`Error::Malformed`] if there are none, or more than 20.
+    pub fn new(octets: &[u8]) -> Result<Address, Error> {
+        let mut address = Address::NONE;
+        // SAFETY: the pointer and the length are of one slice, and the address is apart from it.
+        done(unsafe { ffi::camel_address_of(octets.as_ptr(), octets.len(), &mut address) })?;
+        Ok(Address(address))
+    }
+
+    /// Its octets.
+    pub fn octets(&self) -> &[u8] {
+        first(&self.0.octets, self.0.length)
+    }
+
+    pub(crate) const NONE: ffi::Address = ffi::Address {
+        length: 0,
+        octets: [0; 20],
+    };
+
+    pub(crate) fn of_raw(address: ffi::Address) -> Address {
+        Address(address)
+    }
+
+    pub(crate) fn raw(self) -> ffi::Address {
+        self.0
+    }
+}
+
+/// An ISDN-AddressString, as a gsmSCF address or a number of a criterion: 1 to 9 octets. It is written in hexadecimal.
+#[derive(Clone, Copy)]
+pub struct IsdnAddress(ffi::IsdnAddress);
+
+impl IsdnAddress {
+    /// The address of these octets.
+    ///
+    /// # Errors
+    /// [`Error::Malformed`] if there are none, or more than 9.
+    pub fn new(octets: &[u8]) -> Result<IsdnAddress, Error> {
+        let mut address = ffi::IsdnAddress::NONE;
+        // SAFETY: the pointer and the length are of one slice, and the address is apart from it.
+        done(unsafe { ffi::camel_isdn_address_of(octets.as_ptr(), octets.len(), &mut address) })?;
+        Ok(IsdnAddress(address))
+    }
+
+    /// Its octets.
+    pub fn octets(&self) -> &[u8] {
+        first(&self.0.octets, self.0.length)
+    }
+
+    pub(crate) fn of_raw(address: ffi::IsdnAddress) -> IsdnAddress {
+        IsdnAddress(address)
+    }
+
+    pub(crate) fn raw(self) -> ffi::IsdnAddress {
+        self.0
+    }
+}
+
+/// A forwarded-to number is the destination of the forwarded call.
+impl From<IsdnAddress> for Address {
+    fn from(number: IsdnAddress) -> Address {
+        let mut address = Address::NONE;
+        address.length = number.octets().len() as u8;
+        address.octets[..number.octets().len()].copy_from_slice(number.octets());
+        Address(address)
+    }
+}
+
+/// The first so many octets of an array, or all of it.
+pub(crate) fn first<T>(items: &[T], count: u8) -> &[T] {
+    items.get(..usize::from(count)).unwrap_or(items)
+}
+
+macro_rules! as_its_octets {
+    ($name:ident) => {
+        impl PartialEq for $name {
+            fn eq(&self, other: &$name) -> bool {
+                self.octets() == other.octets()
+            }
+        }
+
+        impl Eq for $name {}
+
+        impl std::hash::Hash for $name {
+            fn hash<H: std::hash::Hasher>(&self, state: &mut H) {
+                self.octets().hash(state);
+            }
+        }
+
+        impl TryFrom<&[u8]> for $name {
+            type Error = Error;
+
+            fn try_from(octets: &[u8]) -> Result<$name, Error> {
+                $name::new(octets)
+            }
+        }
+
+        impl fmt::Display for $name {
+            fn fmt(&self, out: &mut fmt::Formatter<'_>) -> fmt::Result {
+                self.octets()
+                    .iter()
+                    .try_for_each(|octet| write!(out, "{octet:02x}"))
+            }
+        }
+
+        impl fmt::Debug for $name {
+            fn fmt(&self, out: &mut fmt::Formatter<'_>) -> fmt::Result {
+                write!(out, concat!(stringify!($name), "({})"), self)
+            }
+        }
+    };
+}
+
+as_its_octets!(Address);
+as_its_octets!(IsdnAddress);

@@ -1,0 +1,221 @@
+//! Sessions: what call-control threads decide their calls by.
+use crate::error::done;
+use crate::handle::Owned;
+use crate::{Answer, DetectionPoint, Error, Event, Imsi, Receipt, Row, Subscriber, ffi};
+use std::fmt;
+
+/// What one call-control thread decides its calls by. No call takes a lock, waits or yields, and none but
+/// [`keep`](Session::keep) takes memory.
+///
+/// Each call has a look of its own; [`look`](Session::look) has several over one front. The front of a session never
+/// goes back.
+///
+/// A session is in one call at a time, which the compiler sees to: it is not shared between threads, and has no other
+/// call while it looks.
+///
+/// ```compile_fail,E0499
+/// fn two_looks(session: &mut camel::Session) -> Result<(), camel::Error> {
+///     let first = session.look()?;
+///     let second = session.look()?;
+///     first.leave();
+///     Ok(second.leave())
+/// }
+/// ```
+///
+/// ```compile_fail,E0277
+/// fn is_shared<T: Sync>() {}
+/// is_shared::<camel::Session>();
+/// ```
+pub struct Session {
+    handle: Owned<ffi::Session>,
+    store: u64,
+    /// Whether a look has begun and is not left. No call of this type finds it so, except behind a forgotten [`Look`].
+    is_looking: bool,
+}
+
+impl Session {
+    pub(crate) fn of(handle: ffi::Session, store: u64) -> Session {
+        Session {
+            handle: Owned::of(handle),
+            store,
+            is_looking: false,
+        }
+    }
+
+    /// Decides an event, over a front that extends all that the session saw and learnt.
+    ///
+    /// # Errors
+    /// The session is as before. [`Error::NoLook`]: the store has ended.
+    #[inline]
+    pub fn decide(&mut self, event: &Event) -> Result<Answer, Error> {
+        self.leave_forgotten()?;
+        self.decide_over(event)
+    }
+
+    /// Begins a look, which holds one front until it is left or dropped. It lets the next publication go through, and
+    /// holds up the one after it: leave it before anything that takes long.
+    ///
+    /// # Errors
+    /// As [`decide`](Session::decide).
+    pub fn look(&mut self) -> Result<Look<'_>, Error> {
+        self.leave_forgotten()?;
+        // SAFETY: the handle is fit for a call, as `Owned` says.
+        done(unsafe { ffi::camel_look(self.handle.at()) })?;
+        self.is_looking = true;
+        Ok(Look { session: self })
+    }
+
+    /// Learns a receipt: from then on the session sees at least what it is of. Any number of sessions may learn it.
+    ///
+    /// # Errors
+    /// The session is as before. [`Error::OtherStore`]: the receipt is not of the session's own store.
+    pub fn learn(&mut self, receipt: &Receipt) -> Result<(), Error> {
+        if receipt.store != self.store {
+            return Err(Error::OtherStore);
+        }
+        self.leave_forgotten()?;
+        // SAFETY: both handles are fit for a call, as `Owned` says, and the receipt is of the session's own store.
+        done(unsafe { ffi::camel_learn(self.handle.at(), receipt.handle.at()) })
+    }
+
+    /// The row that is stored for a subscriber at a detection point; None if there is none.
+    ///
+    /// # Errors
+    /// As [`decide`](Session::decide).
+    pub fn row(&mut self, imsi: Imsi, dp: DetectionPoint) -> Result<Option<Row>, Error> {
+        self.leave_forgotten()?;
+        self.row_over(imsi, dp)
+    }
+
+    /// Keeps the record of a subscriber, for the later detection points of a call; None if there is no record.
+    ///
+    /// # Errors
+    /// As [`decide`](Session::decide), and [`Error::OutOfMemory`]: ask again.
+    pub fn keep(&mut self, imsi: Imsi) -> Result<Option<Subscriber>, Error> {
+        self.leave_forgotten()?;
+        self.keep_over(imsi)
+    }
+
+    /// Leaves the look of a [`Look`] that was forgotten, so that each look is of its own call again.
+    #[inline]
+    fn leave_forgotten(&mut self) -> Result<(), Error> {
+        if self.is_looking {
+            self.leave()
+        } else {
+            Ok(())
+        }
+    }
+
+    fn leave(&mut self) -> Result<(), Error> {
+        self.is_looking = false;
+        // SAFETY: the handle is fit for a call, as `Owned` says.
+        done(unsafe { ffi::camel_leave(self.handle.at()) })
+    }
+
+    // The calls over the look that has begun, or else by a look of their own.
+
+    #[inline]
+    fn decide_over(&self, event: &Event) -> Result<Answer, Error> {
+        let mut answer = ffi::Answer::NONE;
+        // SAFETY: the handle is fit for a call, as `Owned` says; the event and the answer are apart from it.
+        done(unsafe { ffi::camel_decide(self.handle.at(), event.raw(), &mut answer) })?;
+        Answer::of_raw(&answer)
+    }
+
+    fn row_over(&self, imsi: Imsi, dp: DetectionPoint) -> Result<Option<Row>, Error> {
+        let mut row = ffi::Row {
+            key: 0,
+            handling: 0,
+            scf: ffi::IsdnAddress::NONE,
+            dp: 0,
+        };
+        let mut is_there = false;
+        // SAFETY: the handle is fit for a call, as `Owned` says; what is read and written is apart from it.
+        done(unsafe {
+            ffi::camel_row_at(
+                self.handle.at(),
+                &imsi.raw(),
+                dp.number(),
+                &mut row,
+                &mut is_there,
+            )
+        })?;
+        Ok(is_there.then(|| Row::of_raw(row)))
+    }
+
+    fn keep_over(&self, imsi: Imsi) -> Result<Option<Subscriber>, Error> {
+        let subscriber = Subscriber {
+            handle: Owned::empty(),
+        };
+        let mut is_there = false;
+        // SAFETY: both handles are fit for a call, as `Owned` says, and that of the subscriber is empty; the others are
+        // apart from them.
+        done(unsafe {
+            ffi::camel_keep(
+                self.handle.at(),
+                &imsi.raw(),
+                subscriber.handle.at(),
+                &mut is_there,
+            )
+        })?;
+        Ok(is_there.then_some(subscriber))
+    }
+}
+
+impl Drop for Session {
+    fn drop(&mut self) {
+        // If the library refuses that, the handle is freed as it is.
+        let _ = self.leave_forgotten();
+    }
+}
+
+impl fmt::Debug for Session {
+    fn fmt(&self, out: &mut fmt::Formatter<'_>) -> fmt::Result {
+        out.debug_struct("Session")
+            .field("store", &self.store)
+            .finish_non_exhaustive()
+    }
+}
+
+/// A look of a session: all that it returns is of one front. It is left when it is dropped.
+#[derive(Debug)]
+pub struct Look<'s> {
+    session: &'s mut Session,
+}
+
+impl Look<'_> {
+    /// Decides an event over the front of the look.
+    ///
+    /// # Errors
+    /// The look is as before: [`Error::Unknown`] only, which safe code does not meet.
+    #[inline]
+    pub fn decide(&self, event: &Event) -> Result<Answer, Error> {
+        self.session.decide_over(event)
+    }
+
+    /// The row that is stored for a subscriber at a detection point; None if there is none.
+    ///
+    /// # Errors
+    /// As [`decide`](Look::decide).
+    pub fn row(&self, imsi: Imsi, dp: DetectionPoint) -> Result<Option<Row>, Error> {
+        self.session.row_over(imsi, dp)
+    }
+
+    /// Keeps the record of a subscriber, of the front of the look; None if there is no record.
+    ///
+    /// # Errors
+    /// As [`decide`](Look::decide), and [`Error::OutOfMemory`]: ask again, the look is as before.
+    pub fn keep(&self, imsi: Imsi) -> Result<Option<Subscriber>, Error> {
+        self.session.keep_over(imsi)
+    }
+
+    /// Leaves the look, as a drop does.
+    pub fn leave(self) {}
+}
+
+impl Drop for Look<'_> {
+    fn drop(&mut self) {
+        // A look that has begun can be left. What the library answered else would change nothing for the caller.
+        let _ = self.session.leave_forgotten();
+    }
+}

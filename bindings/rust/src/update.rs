@@ -1,0 +1,125 @@
+//! Updates: what the HLR sends.
+use crate::error::done;
+use crate::handle::Owned;
+use crate::{Error, Imsi, OCriteria, Row, TCriteria, ffi};
+
+/// An update of the subscriber data.
+#[derive(Clone, Debug, PartialEq, Eq)]
+pub enum Update {
+    /// Gives the IMSI an empty record; a record that is there is emptied.
+    Register {
+        /// The subscriber.
+        imsi: Imsi,
+    },
+    /// What an InsertSubscriberData brings, for a subscriber who has a record.
+    Insert {
+        /// The subscriber.
+        imsi: Imsi,
+        /// The lists that came.
+        csis: Csis,
+    },
+    /// What a DeleteSubscriberData removes, for a subscriber who has a record.
+    Delete {
+        /// The subscriber.
+        imsi: Imsi,
+        /// The CSIs that are named.
+        what: Withdrawal,
+    },
+    /// CancelLocation: the IMSI has no record afterwards.
+    Cancel {
+        /// The subscriber.
+        imsi: Imsi,
+    },
+    /// No IMSI has a record afterwards.
+    ClearAll,
+}
+
+/// The lists of an Insert. One that is `None` did not come, and one that came has 1 to 10 items.
+///
+/// Rows that come take the place of the stored rows and criteria. Criteria without rows take the place of the stored
+/// criteria, and need stored rows. Items of detection points of which a list has none are ignored, and count.
+#[derive(Clone, Debug, Default, PartialEq, Eq)]
+pub struct Csis {
+    /// The rows of the O-CSI: those of DP 2 and 4 count.
+    pub o: Option<Vec<Row>>,
+    /// The criteria of the O-CSI: those of DP 2 and 4 count.
+    pub o_criteria: Option<Vec<OCriteria>>,
+    /// The rows of the VT-CSI: those of DP 12, 13 and 14 count.
+    pub vt: Option<Vec<Row>>,
+    /// The criteria of the VT-CSI: those of DP 12, 13 and 14 count.
+    pub t_criteria: Option<Vec<TCriteria>>,
+}
+
+/// What a Delete removes, each with its criteria. What is not there is no fault.
+#[derive(Clone, Copy, Debug, Default, PartialEq, Eq)]
+pub struct Withdrawal {
+    /// The O-CSI.
+    pub o: bool,
+    /// The VT-CSI.
+    pub vt: bool,
+    /// Both.
+    pub everything: bool,
+}
+
+impl Update {
+    pub(crate) fn submit(&self, store: &mut Owned<ffi::Store>) -> Result<(), Error> {
+        let store = store.at();
+        // SAFETY: the handle is as the library left it, and in no other call, since this has it by `&mut`; each IMSI
+        // and withdrawal lives as long as the call.
+        done(unsafe {
+            match self {
+                Update::Register { imsi } => ffi::camel_submit_register(store, &imsi.raw()),
+                Update::Insert { imsi, csis } => submit_insert(store, *imsi, csis),
+                Update::Delete { imsi, what } => {
+                    ffi::camel_submit_delete(store, &imsi.raw(), &what.raw())
+                }
+                Update::Cancel { imsi } => ffi::camel_submit_cancel(store, &imsi.raw()),
+                Update::ClearAll => ffi::camel_submit_clear_all(store),
+            }
+        })
+    }
+}
+
+/// Submits an Insert.
+///
+/// # Safety
+/// The handle is of a store, as the library left it, and in no other call.
+unsafe fn submit_insert(store: *mut ffi::Store, imsi: Imsi, csis: &Csis) -> ffi::Status {
+    let sent = ffi::Insert {
+        has_o: csis.o.is_some(),
+        has_o_criteria: csis.o_criteria.is_some(),
+        has_vt: csis.vt.is_some(),
+        has_t_criteria: csis.t_criteria.is_some(),
+    };
+    let o = csis.o.as_deref().unwrap_or_default();
+    let o_criteria = csis.o_criteria.as_deref().unwrap_or_default();
+    let vt = csis.vt.as_deref().unwrap_or_default();
+    let t_criteria = csis.t_criteria.as_deref().unwrap_or_default();
+    // SAFETY: the handle is so; each pointer and length are of one slice, whose items are transparent over those of the
+    // library, and the pointer of a slice of none is not null.
+    unsafe {
+        ffi::camel_submit_insert(
+            store,
+            &imsi.raw(),
+            &sent,
+            o.as_ptr().cast(),
+            o.len(),
+            o_criteria.as_ptr().cast(),
+            o_criteria.len(),
+            vt.as_ptr().cast(),
+            vt.len(),
+            t_criteria.as_ptr().cast(),
+            t_criteria.len(),
+        )
+    }
+}
+
+impl Withdrawal {
+    fn raw(self) -> ffi::Withdrawal {
+        ffi::Withdrawal {
+            o: self.o,
+            vt: self.vt,
+            everything: self.everything,
+        }
+    }
+}

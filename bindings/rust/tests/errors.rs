@@ -1,0 +1,63 @@
+//! The numbers of the errors are those of camel.h, and each says what it is.
+use camel::Error;
+
+const ERRORS: [(Error, &str); 11] = [
+    (
+        Error::UnidentifiedSubscriber,
+        "CAMEL_UNIDENTIFIED_SUBSCRIBER",
+    ),
+    (Error::DataMissing, "CAMEL_DATA_MISSING"),
+    (Error::UnexpectedDataValue, "CAMEL_UNEXPECTED_DATA_VALUE"),
+    (Error::HistoryFull, "CAMEL_HISTORY_FULL"),
+    (Error::OutOfMemory, "CAMEL_OUT_OF_MEMORY"),
+    (Error::NoPlace, "CAMEL_NO_PLACE"),
+    (Error::NoLook, "CAMEL_NO_LOOK"),
+    (Error::Held, "CAMEL_HELD"),
+    (Error::Malformed, "CAMEL_MALFORMED"),
+    (Error::WrongHandle, "CAMEL_WRONG_HANDLE"),
+    (Error::FullHandle, "CAMEL_FULL_HANDLE"),
+];
+
+/// The statuses of the header: each `CAMEL_NAME = NUMBER` of its first enum of them.
+fn statuses() -> Vec<(String, u32)> {
+    let header = include_str!("../../../include/camel.h");
+    let (_, behind) = header
+        .split_once("typedef uint32_t camel_status;")
+        .expect("the statuses");
+    let (list, _) = behind.split_once("};").expect("their end");
+    let status = |line: &str| {
+        let (name, rest) = line.trim().split_once(" = ")?;
+        let digits: String = rest.chars().take_while(char::is_ascii_digit).collect();
+        Some((name.to_owned(), digits.parse().ok()?))
+    };
+    list.lines()
+        .filter_map(status)
+        .filter(|(_, number)| *number != 0)
+        .collect()
+}
+
+#[test]
+fn numbers_are_those_of_the_header() {
+    let ours: Vec<_> = ERRORS
+        .iter()
+        .map(|(error, name)| ((*name).to_owned(), error.code()))
+        .collect();
+    assert_eq!(ours, statuses());
+}
+
+#[test]
+fn numbers_of_the_bindings_are_no_status() {
+    for error in [Error::OtherStore, Error::OtherVersion] {
+        assert!(statuses().iter().all(|(_, number)| *number != error.code()));
+    }
+}
+
+#[test]
+fn errors_say_what_they_are() {
+    let error: Box<dyn std::error::Error> = Box::new(Error::Held);
+    assert_eq!(error.to_string(), "a look is held (105)");
+    assert_eq!(
+        Error::Unknown(77).to_string(),
+        "a number that is not known (77)"
+    );
+}

@@ -1,0 +1,229 @@
+//! What the crate adds to the library: receipts know their store, a store that is held comes back, a look is left.
+use camel::{
+    Address, Answer, BasicService, Cause, Closing, Csis, DetectionPoint, Error, Event, Imsi,
+    IsdnAddress, Look, MAX_UPDATES, OnFailure, Outcome, Profile, Reason, Receipt, Row, Session,
+    Store, Subscriber, Update, Withdrawal,
+};
+
+fn imsi() -> Imsi {
+    Imsi::from_digits("262010000000001").unwrap()
+}
+
+fn scf() -> IsdnAddress {
+    IsdnAddress::new(&[0x91, 0x94, 0x71]).unwrap()
+}
+
+fn event() -> Event {
+    Event::collected_info(
+        imsi(),
+        BasicService::Tele(0x11),
+        Address::new(&[0x91, 0x21]).unwrap(),
+    )
+}
+
+fn insert(key: u32) -> Update {
+    let csis = Csis {
+        o: Some(vec![Row::new(2, key, scf()).with_handling(32)]),
+        ..Csis::default()
+    };
+    Update::Insert { imsi: imsi(), csis }
+}
+
+/// A store of which two updates are published, and two sessions that learnt it.
+fn open() -> (Store, Session, Session) {
+    let (mut store, mut sessions) =
+        Store::open(2, MAX_UPDATES, Profile::One, camel::random_seed()).unwrap();
+    store.submit(&Update::Register { imsi: imsi() }).unwrap();
+    store.submit(&insert(5)).unwrap();
+    let receipt = store.publish().unwrap();
+    let (mut one, mut two) = (sessions.remove(0), sessions.remove(0));
+    one.learn(&receipt).unwrap();
+    two.learn(&receipt).unwrap();
+    (store, one, two)
+}
+
+fn trigger(front: u64, key: u32) -> Result<Answer, Error> {
+    let outcome = Outcome::Trigger {
+        dp: DetectionPoint::CollectedInfo,
+        key,
+        scf: scf(),
+        on_failure: OnFailure::Release,
+    };
+    Ok(Answer { front, outcome })
+}
+
+fn no_trigger(front: u64, reason: Reason) -> Result<Answer, Error> {
+    Ok(Answer {
+        front,
+        outcome: Outcome::NoTrigger(reason),
+    })
+}
+
+#[test]
+fn a_receipt_of_another_store_is_refused() {
+    let (store, mut session, _) = open();
+    let (other, mut of_other, _) = open();
+    let receipt = other.receipt().unwrap();
+    assert_eq!(session.learn(&receipt), Err(Error::OtherStore));
+    assert_eq!(of_other.learn(&receipt), Ok(()));
+    drop(other);
+    assert_eq!(session.learn(&receipt), Err(Error::OtherStore));
+    assert_eq!(session.learn(&store.receipt().unwrap()), Ok(()));
+    assert_eq!(session.decide(&event()), trigger(2, 5));
+}
+
+#[test]
+fn a_store_that_is_held_comes_back() {
+    let (store, mut session, mut other) = open();
+    let look = session.look().unwrap();
+    let closing = store.close().unwrap_err();
+    assert_eq!(closing.why(), Error::Held);
+    assert_eq!(other.decide(&event()), Err(Error::NoLook));
+    assert_eq!(look.decide(&event()), trigger(2, 5));
+    let closing = closing.close().unwrap_err();
+    look.leave();
+    assert!(closing.close().is_ok());
+    assert_eq!(session.decide(&event()), Err(Error::NoLook));
+    assert!(matches!(session.look(), Err(Error::NoLook)));
+}
+
+#[test]
+fn a_look_keeps_its_data_when_a_store_is_dropped() {
+    let (store, mut session, mut other) = open();
+    let look = session.look().unwrap();
+    drop(store.close().unwrap_err());
+    assert_eq!(look.decide(&event()), trigger(2, 5));
+    drop(look);
+    assert_eq!(session.decide(&event()), Err(Error::NoLook));
+    assert_eq!(other.decide(&event()), Err(Error::NoLook));
+
+    let (store, mut session, _) = open();
+    let look = session.look().unwrap();
+    drop(store);
+    assert_eq!(look.decide(&event()), trigger(2, 5));
+}
+
+#[test]
+fn a_look_holds_up_the_second_publication() {
+    let (mut store, mut session, mut other) = open();
+    let look = session.look().unwrap();
+    store.submit(&insert(6)).unwrap();
+    let receipt = store.publish().unwrap();
+    other.learn(&receipt).unwrap();
+    assert_eq!(other.decide(&event()), trigger(3, 6));
+    assert!(store.publish().is_ok(), "nothing is pending");
+    store.submit(&insert(7)).unwrap();
+    assert_eq!(store.publish().err(), Some(Error::Held));
+    assert_eq!((store.published(), store.pending()), (Ok(3), Ok(1)));
+    assert_eq!(look.decide(&event()), trigger(2, 5));
+    drop(look);
+    session.learn(&store.publish().unwrap()).unwrap();
+    assert_eq!(session.decide(&event()), trigger(4, 7));
+    assert_eq!((store.published(), store.pending()), (Ok(4), Ok(0)));
+}
+
+#[test]
+fn a_look_that_is_forgotten_is_left_by_the_next_call() {
+    let (mut store, mut session, _) = open();
+    std::mem::forget(session.look().unwrap());
+    for key in 6..8 {
+        store.submit(&insert(key)).unwrap();
+        assert_eq!(store.publish().is_ok(), key == 6);
+    }
+    session.learn(&store.receipt().unwrap()).unwrap();
+    assert_eq!(session.decide(&event()), trigger(3, 6));
+    assert!(store.publish().is_ok());
+    std::mem::forget(session.look().unwrap());
+    drop(session);
+    assert!(store.close().is_ok());
+}
+
+#[test]
+fn a_call_keeps_the_record_of_its_set_up() {
+    let (mut store, mut session, _) = open();
+    let kept = session.look().unwrap().keep(imsi()).unwrap().unwrap();
+    let what = Withdrawal {
+        o: true,
+        ..Withdrawal::default()
+    };
+    store
+        .submit(&Update::Delete { imsi: imsi(), what })
+        .unwrap();
+    session.learn(&store.publish().unwrap()).unwrap();
+    assert_eq!(session.decide(&event()), no_trigger(3, Reason::NoCsi));
+    assert!(store.close().is_ok());
+    drop(session);
+    assert_eq!(kept.decide(&event()), trigger(2, 5));
+    let busy = Event::busy(imsi(), BasicService::Tele(0x11), Cause::of_octet(17));
+    assert_eq!(kept.decide(&busy), no_trigger(2, Reason::NoCsi));
+}
+
+#[test]
+fn each_reason_is_given() {
+    let (mut store, mut session, _) = open();
+    let emergency = Event::collected_info(
+        imsi(),
+        BasicService::Tele(0x12),
+        Address::new(&[0x81]).unwrap(),
+    );
+    let failure = Event::route_select_failure(
+        imsi(),
+        BasicService::Bearer(0x12),
+        Address::new(&[0x81]).unwrap(),
+        Cause::of_octet(0x80),
+    );
+    assert_eq!(session.decide(&emergency), no_trigger(2, Reason::Emergency));
+    assert_eq!(session.decide(&failure), no_trigger(2, Reason::NotArmed));
+    store.submit(&Update::ClearAll).unwrap();
+    session.learn(&store.publish().unwrap()).unwrap();
+    assert_eq!(session.decide(&event()), no_trigger(3, Reason::Unknown));
+}
+
+#[test]
+fn a_store_is_opened_in_its_ranges() {
+    let opened = |sessions, limit| {
+        Store::open(sessions, limit, Profile::Two, 1).map(|(_, sessions)| sessions.len())
+    };
+    assert_eq!(opened(64, 1), Ok(64));
+    assert_eq!(opened(1, MAX_UPDATES), Ok(1));
+    for (sessions, limit) in [
+        (0, 1),
+        (65, 1),
+        (usize::MAX, 1),
+        (1, 0),
+        (1, MAX_UPDATES + 1),
+        (1, u64::MAX),
+    ] {
+        assert_eq!(
+            opened(sessions, limit),
+            Err(Error::Malformed),
+            "{sessions} {limit}"
+        );
+    }
+}
+
+#[test]
+fn handles_move_between_threads() {
+    fn is_send<T: Send>() {}
+    is_send::<(
+        Store,
+        Closing,
+        Session,
+        Look<'static>,
+        Receipt,
+        Subscriber,
+        Update,
+        Event,
+    )>();
+    let (store, mut session, mut other) = open();
+    let receipt = store.receipt().unwrap();
+    let ended = std::thread::spawn(move || {
+        session.learn(&receipt).unwrap();
+        (session.decide(&event()), receipt, store.close().is_ok())
+    });
+    let (answer, receipt, is_closed) = ended.join().unwrap();
+    assert_eq!(answer, trigger(2, 5));
+    assert!(is_closed);
+    assert_eq!(other.learn(&receipt), Ok(()));
+    assert_eq!(other.decide(&event()), Err(Error::NoLook));
+}

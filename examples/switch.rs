@@ -1,0 +1,212 @@
+//! A switch to begin with, over the crate `camel`: a writer, two call-control threads, receipts over channels, a
+//! publication that is held and tried again, the data of a call kept from detection point 2 to 4, and the end. It does
+//! what switch.c does, and prints the same. It ends with status 1 at the first call that does not do what is expected.
+//!
+//! In bindings/rust: `CAMEL_LIB_DIR=FOLDER cargo run --example switch`, with the folder of libcamel.a.
+use camel::{
+    Address, Answer, BasicService, Cause, Csis, Error, Event, Imsi, IsdnAddress, MAX_UPDATES,
+    MatchType, NumberCriterion, OCriteria, OnFailure, Outcome, Profile, Receipt, Row, Session,
+    Store, Update, Withdrawal,
+};
+use std::sync::mpsc::{Receiver, Sender, channel};
+use std::thread;
+
+const THREADS: usize = 2;
+const CALLS: u64 = 10_000;
+
+/// What went wrong, in words.
+type Outcomes<T> = Result<T, Box<dyn std::error::Error + Send + Sync>>;
+
+/// Fails if a call does not fail with this error.
+fn expect<T>(what: &str, result: Result<T, Error>, wanted: Error) -> Outcomes<()> {
+    match result {
+        Err(error) if error == wanted => Ok(()),
+        Err(error) => Err(format!("{what}: {error}, and not {wanted}").into()),
+        Ok(_) => Err(format!("{what}: it went through, and not {wanted}").into()),
+    }
+}
+
+/// A call-control thread: its session, what comes from the writer, the call that it decides, and how many triggered.
+fn decide_calls(
+    session: &mut Session,
+    receipts: &Receiver<Receipt>,
+    event: &Event,
+) -> Outcomes<u64> {
+    let (mut front, mut triggered) = (0, 0);
+    for _ in 0..CALLS {
+        for receipt in receipts.try_iter() {
+            session.learn(&receipt)?;
+        }
+        let answer = session.decide(event)?;
+        if answer.front < front {
+            return Err("a session went back".into());
+        }
+        front = answer.front;
+        triggered += u64::from(answer.outcome.is_trigger());
+    }
+    Ok(triggered)
+}
+
+fn destination() -> Result<Address, Error> {
+    Address::new(&[0x91, 0x34, 0x61, 0x05])
+}
+
+fn set_up_of(imsi: Imsi) -> Result<Event, Error> {
+    Ok(Event::collected_info(
+        imsi,
+        BasicService::Tele(0x11),
+        destination()?,
+    ))
+}
+
+fn failure_of(imsi: Imsi) -> Result<Event, Error> {
+    Ok(Event::route_select_failure(
+        imsi,
+        BasicService::Tele(0x11),
+        destination()?,
+        Cause::new(1)?,
+    ))
+}
+
+fn say(what: &str, answer: &Answer) {
+    print!("{what}: front {}, ", answer.front);
+    match answer.outcome {
+        Outcome::NoTrigger(reason) => println!("no trigger, reason {}", reason.code()),
+        Outcome::Trigger {
+            dp,
+            key,
+            scf,
+            on_failure,
+        } => {
+            let handling = if on_failure == OnFailure::Release {
+                "release"
+            } else {
+                "continue"
+            };
+            println!(
+                "DP {}, service key {key}, gsmSCF {scf}, {handling}",
+                dp.number()
+            );
+        }
+    }
+}
+
+/// What the HLR sends of the subscriber: rows at 2 and 4, and at 4 only for a destination that begins with 4316.
+fn submit_data(store: &mut Store, imsi: Imsi) -> Result<(), Error> {
+    let scf = IsdnAddress::new(&[0x91, 0x94, 0x71, 0x16, 0x00, 0x00])?;
+    let listed = IsdnAddress::new(&[0x91, 0x34, 0x61])?;
+    let number = NumberCriterion::new(MatchType::Enabling, &[listed], &[])?;
+    let csis = Csis {
+        o: Some(vec![
+            Row::new(2, 100, scf),
+            Row::new(4, 101, scf).with_handling(1),
+        ]),
+        o_criteria: Some(vec![OCriteria::new(4).with_number(number)]),
+        ..Csis::default()
+    };
+    store.submit(&Update::Register { imsi })?;
+    store.submit(&Update::Insert { imsi, csis })
+}
+
+/// Publishes, and hands each thread a receipt.
+fn publish_to(store: &mut Store, threads: &[Sender<Receipt>]) -> Outcomes<()> {
+    store.publish()?;
+    for thread in threads {
+        thread
+            .send(store.receipt()?)
+            .map_err(|_| "a thread has ended")?;
+    }
+    Ok(())
+}
+
+/// Runs the call-control threads, each with its session, and gives back the sessions.
+fn run_calls(store: &mut Store, sessions: Vec<Session>, imsi: Imsi) -> Outcomes<Vec<Session>> {
+    let event = set_up_of(imsi)?;
+    let (senders, receivers): (Vec<_>, Vec<_>) = sessions.iter().map(|_| channel()).unzip();
+    publish_to(store, &senders)?;
+    let threads: Vec<_> = (sessions.into_iter().zip(receivers))
+        .map(|(mut session, receipts)| {
+            thread::spawn(move || {
+                decide_calls(&mut session, &receipts, &event).map(|triggered| (session, triggered))
+            })
+        })
+        .collect();
+    let mut sessions = Vec::new();
+    for (number, thread) in threads.into_iter().enumerate() {
+        let (session, triggered) = thread.join().map_err(|_| "a thread ended by a panic")??;
+        println!("thread {number}: {CALLS} calls, {triggered} triggered");
+        sessions.push(session);
+    }
+    Ok(sessions)
+}
+
+/// A look lets the first publication through, and holds up the second one.
+fn hold_publications(store: &mut Store, session: &mut Session, other: Imsi) -> Outcomes<()> {
+    let look = session.look()?;
+    store.submit(&Update::Register { imsi: other })?;
+    store.publish()?;
+    store.submit(&Update::Cancel { imsi: other })?;
+    expect("a publication behind a look", store.publish(), Error::Held)?;
+    look.leave();
+    store.publish()?;
+    println!("a publication was held, and made again");
+    Ok(())
+}
+
+/// A call keeps the record of its set-up, whatever the HLR sends meanwhile.
+fn keep_data(store: &mut Store, session: &mut Session, imsi: Imsi) -> Outcomes<()> {
+    let (set_up, failure) = (set_up_of(imsi)?, failure_of(imsi)?);
+    let look = session.look()?;
+    let answer = look.decide(&set_up)?;
+    let kept = look.keep(imsi)?.ok_or("there is no record to keep")?;
+    look.leave();
+    say("set-up", &answer);
+    let what = Withdrawal {
+        everything: true,
+        ..Withdrawal::default()
+    };
+    store.submit(&Update::Delete { imsi, what })?;
+    store.publish()?;
+    say(
+        "route select failure, by the data of the set-up",
+        &kept.decide(&failure)?,
+    );
+    say("the same by a new look", &session.decide(&failure)?);
+    Ok(())
+}
+
+fn main() -> Outcomes<()> {
+    let (mut store, mut sessions) = Store::open(THREADS + 1, MAX_UPDATES, Profile::One, 0x5eed)?;
+    let mut own = sessions.pop().ok_or("there is no session")?;
+    let imsi = Imsi::from_digits("262010000000001")?;
+    let other = Imsi::from_digits("262010000000002")?;
+    submit_data(&mut store, imsi)?;
+    let nothing = Update::Insert {
+        imsi: other,
+        csis: Csis::default(),
+    };
+    expect(
+        "an Insert of a subscriber who is not registered",
+        store.submit(&nothing),
+        Error::UnidentifiedSubscriber,
+    )?;
+    let sessions = run_calls(&mut store, sessions, imsi)?;
+    hold_publications(&mut store, &mut own, other)?;
+    keep_data(&mut store, &mut own, imsi)?;
+
+    let look = own.look()?;
+    let Err(closing) = store.close() else {
+        return Err("the store ended behind a look".into());
+    };
+    expect(
+        "an end behind a look",
+        Err::<(), _>(closing.why()),
+        Error::Held,
+    )?;
+    look.leave();
+    closing.close().map_err(|closing| closing.why())?;
+    expect("a look behind the end", own.look(), Error::NoLook)?;
+    drop((own, sessions));
+    println!("the store has ended");
+    Ok(())
+}
