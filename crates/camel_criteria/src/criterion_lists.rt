@@ -135,7 +135,8 @@ impl CriterionLists {
     }
 
     pub(crate) fn numbers(&self) -> &[IsdnAddress]
-        ensures { result.now ≡ (criterion_of self.now).numbers }
+        ensures same { result.now ≡ (criterion_of self.now).numbers }
+        ensures most { length (criterion_of self.now).numbers ≤ MAX_NUMBERS }
     {
         match self {
             CriterionLists::FewEnabling(numbers) | CriterionLists::FewInhibiting(numbers) => {
@@ -147,7 +148,8 @@ impl CriterionLists {
     }
 
     pub(crate) fn lengths(&self) -> &[u8]
-        ensures { result.now ≡ (criterion_of self.now).lengths }
+        ensures same { result.now ≡ (criterion_of self.now).lengths }
+        ensures most { length (criterion_of self.now).lengths ≤ MAX_LENGTHS }
     {
         match self {
             CriterionLists::FewEnabling(_) | CriterionLists::FewInhibiting(_) => &[],

@@ -1,4 +1,4 @@
-ghost use Rattle.std.specs.Prelude.{◌≡◌, IfSome, take};
+ghost use Rattle.std.specs.Prelude.{◌≡◌, ◌≤◌, IfSome, length, take};
 ghost use Rattle.std.specs.List.{list_any};
 ghost use Rattle.camel_tbcd.specs.Address.{octets};
 ghost use Rattle.camel_criteria.specs.FewNumbers.{IsFew};
@@ -60,7 +60,8 @@ impl FewNumbers {
 
     // The numbers, in their order.
     pub(crate) fn as_slice(&self) -> &[IsdnAddress]
-        ensures { result.now ≡ self.now }
+        ensures same { result.now ≡ self.now }
+        ensures most { length self.now ≤ MAX_IN_PLACE }
     {
         &self.room[..usize::from(self.len)]
     }

@@ -1,4 +1,4 @@
-ghost use Rattle.std.specs.Prelude.{◌≡◌, IfOk, IsTrue};
+ghost use Rattle.std.specs.Prelude.{◌≡◌, ◌≤◌, IfOk, IsTrue, length};
 ghost use Rattle.std.specs.Option.{option_copied};
 ghost use Rattle.camel_criteria.specs.Criteria.{HoldsNoOther};
 ghost use Rattle.camel_criteria.specs.HeldCriteria.{entry_of};
@@ -59,7 +59,8 @@ impl HeldCriteria {
     }
 
     pub(crate) fn basic(&self) -> &[BasicService]
-        ensures { result.now ≡ (entry_of self.now).basic }
+        ensures same { result.now ≡ (entry_of self.now).basic }
+        ensures most { length (entry_of self.now).basic ≤ MAX_BASIC_SERVICES }
     {
         match self {
             HeldCriteria::Apart { criteria, .. } => criteria.basic.as_slice(),
@@ -77,7 +78,8 @@ impl HeldCriteria {
     }
 
     pub(crate) fn causes(&self) -> &[u8]
-        ensures { result.now ≡ (entry_of self.now).causes }
+        ensures same { result.now ≡ (entry_of self.now).causes }
+        ensures most { length (entry_of self.now).causes ≤ MAX_CAUSES }
     {
         match self {
             HeldCriteria::Apart { criteria, .. } => criteria.causes.as_slice(),

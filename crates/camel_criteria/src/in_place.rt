@@ -40,7 +40,8 @@ impl<T: Copy, const MOST: usize> InPlace<T, MOST> {
 
     // The items, in their order.
     pub(crate) fn as_slice(&self) -> &[T]
-        ensures { result.now ≡ self.now }
+        ensures same { result.now ≡ self.now }
+        ensures most { length self.now ≤ MOST }
     {
         &self.room[..usize::from(self.len)]
     }

@@ -1,4 +1,4 @@
-ghost use Rattle.std.specs.Prelude.{◌≡◌, [], IfErr, slice_get};
+ghost use Rattle.std.specs.Prelude.{◌≡◌, ◌≤◌, [], IfErr, length, slice_get};
 ghost use Rattle.std.specs.List.{list_all};
 ghost use Rattle.std.specs.Option.{option_map};
 ghost use Rattle.camel_tbcd.specs.Address.{octets};
@@ -75,9 +75,10 @@ impl NumberCriterion {
         self.lists.match_type()
     }
 
-    /// The listed numbers, in the order received.
+    /// The listed numbers, up to 10, in the order received.
     pub fn numbers(&self) -> &[IsdnAddress]
-        ensures { result.now ≡ self.now.numbers }
+        ensures same { result.now ≡ self.now.numbers }
+        ensures most { length self.now.numbers ≤ MAX_NUMBERS }
     {
         self.lists.numbers()
     }
@@ -99,9 +100,10 @@ impl NumberCriterion {
         self.lists.is_met_by(destination, profile)
     }
 
-    /// The listed lengths, in digits, in the order received.
+    /// The listed lengths, up to 3, in digits, in the order received.
     pub fn lengths(&self) -> &[u8]
-        ensures { result.now ≡ self.now.lengths }
+        ensures same { result.now ≡ self.now.lengths }
+        ensures most { length self.now.lengths ≤ MAX_LENGTHS }
     {
         self.lists.lengths()
     }

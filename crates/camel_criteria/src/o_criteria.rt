@@ -1,4 +1,4 @@
-ghost use Rattle.std.specs.Prelude.{◌≡◌, IfErr, IsTrue};
+ghost use Rattle.std.specs.Prelude.{◌≡◌, ◌≤◌, IfErr, IsTrue, length};
 ghost use Rattle.std.specs.Option.{option_copied};
 ghost use Rattle.camel_criteria.specs.Criteria.{HoldsNoOther, o_criteria_of};
 ghost use Rattle.camel_criteria.specs.Refusal.{MakesOf};
@@ -90,9 +90,10 @@ impl OCriteria {
         self.held.number()
     }
 
-    /// The codes of the basic service criterion, in the order received; none if it is absent.
+    /// The codes of the basic service criterion, up to 5, in the order received; none if it is absent.
     pub fn basic(&self) -> &[BasicService]
-        ensures { result.now ≡ self.now.basic }
+        ensures same { result.now ≡ self.now.basic }
+        ensures most { length self.now.basic ≤ MAX_BASIC_SERVICES }
     {
         self.held.basic()
     }
@@ -104,9 +105,10 @@ impl OCriteria {
         self.held.call_type()
     }
 
-    /// The causes of the cause criterion, in the order received; none if it is absent.
+    /// The causes of the cause criterion, up to 5, in the order received; none if it is absent.
     pub fn causes(&self) -> &[u8]
-        ensures { result.now ≡ self.now.causes }
+        ensures same { result.now ≡ self.now.causes }
+        ensures most { length self.now.causes ≤ MAX_CAUSES }
     {
         self.held.causes()
     }

@@ -1,4 +1,4 @@
-ghost use Rattle.std.specs.Prelude.{◌≡◌};
+ghost use Rattle.std.specs.Prelude.{◌≡◌, ◌≤◌, length};
 ghost use Rattle.camel_criteria.specs.Criteria.{t_criteria_of};
 
 use crate::basic_service::{BLANK, BasicService};
@@ -51,16 +51,18 @@ impl TCriteria {
         self.dp
     }
 
-    /// The codes of the basic service criterion, in the order received; none if it is absent.
+    /// The codes of the basic service criterion, up to 5, in the order received; none if it is absent.
     pub fn basic(&self) -> &[BasicService]
-        ensures { result.now ≡ self.now.basic }
+        ensures same { result.now ≡ self.now.basic }
+        ensures most { length self.now.basic ≤ MAX_BASIC_SERVICES }
     {
         self.basic.as_slice()
     }
 
-    /// The causes of the cause criterion, in the order received; none if it is absent.
+    /// The causes of the cause criterion, up to 5, in the order received; none if it is absent.
     pub fn causes(&self) -> &[u8]
-        ensures { result.now ≡ self.now.causes }
+        ensures same { result.now ≡ self.now.causes }
+        ensures most { length self.now.causes ≤ MAX_CAUSES }
     {
         self.causes.as_slice()
     }

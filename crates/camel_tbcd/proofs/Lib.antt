@@ -12,6 +12,7 @@ pub mod ImsiSlotLemmas
 pub mod NibbleLemmas
 pub mod PackedDigitLemmas
 pub mod PackedImsiLemmas
+pub mod PlaceLemmas
 pub mod ProfileLemmas
 pub mod RoomLemmas
 pub mod ShiftLemmas

@@ -53,7 +53,7 @@ abbrev pub read_at : ℕ → ℕ → ℕ
 read_at number at = number / 2 ^ (4 * (14 - at)) % 16
 
 -- the digits in the places that are left, after the one that is read
-rest_at : (number at : ℕ) → at < 15 → digits_in_places (15 - at) number ≡ digit_before (read_at number at) (digits_in_places (15 - (at + 1)) number)
+pub rest_at : (number at : ℕ) → at < 15 → digits_in_places (15 - at) number ≡ digit_before (read_at number at) (digits_in_places (15 - (at + 1)) number)
 rest_at number at lt =
     let places : 15 - at ≡ suc (14 - at) = omega arith in
     let rest : 15 - (at + 1) ≡ 14 - at = omega arith in

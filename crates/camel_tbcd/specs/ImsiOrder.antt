@@ -1,5 +1,6 @@
 -- The order of IMSIs as that of one number, by which two are compared in one step.
-use Rattle.std.specs.Prelude.{ℕ, zero, suc, ◌+◌, ◌*◌, List, [], ◌∷◌}
+use Rattle.std.specs.Prelude.{◌≢◌, ℕ, zero, suc, ◌+◌, ◌*◌, List, [], ◌∷◌}
+use Rattle.camel_tbcd.specs.Imsi.{IsImsi}
 
 -- the places that are left, each a further digit in base 16 of the number: a digit plus 1, or 0 if there is none
 abbrev pub with_places : ℕ → ℕ → List ℕ → ℕ
@@ -10,3 +11,7 @@ with_places number (suc places) (digit ∷ digits) = with_places (number * 16 + 
 -- the number of an IMSI, of which there are at most 15 digits
 abbrev pub order_number : List ℕ → ℕ
 order_number digits = with_places 0 15 digits
+
+-- a number is that of no IMSI
+abbrev pub IsNumberOfNone : ℕ → Type 0
+IsNumberOfNone number = (digits : List ℕ) → IsImsi digits → order_number digits ≢ number

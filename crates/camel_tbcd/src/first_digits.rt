@@ -56,12 +56,19 @@ impl FirstDigits {
         self.digits
     }
 
+    // How many digits there are.
+    pub(crate) fn len(&self) -> usize
+        ensures { result ≡ length self.now }
+    {
+        self.digits.as_slice().len()
+    }
+
     // Their number as that of an IMSI, in which the places that are left are empty.
     pub(crate) fn order_number(&self) -> u64
         requires { length self.now ≤ 15 }
         ensures { result ≡ order_number self.now }
     {
-        let places = MAX_IMSI_DIGITS - self.digits.as_slice().len();
+        let places = MAX_IMSI_DIGITS - self.len();
         self.number << (4 * places)
     }
 }

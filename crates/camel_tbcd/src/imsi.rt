@@ -1,15 +1,16 @@
-ghost use Rattle.std.specs.Prelude.{◌≡◌, ◌≤◌, ◌↔◌, length, position, take, ◌*◌, nat_eq, nat_lt, All, IsNone, IfOk, IsOk};
+ghost use Rattle.std.specs.Prelude.{◌≡◌, ◌≤◌, ◌↔◌, length, position, take, ◌*◌, nat_eq, nat_lt, All, IsNone, IfOk, IfSome, IsOk};
 ghost use Rattle.std.specs.Ordering.{nat_cmp, as_partial_cmp};
 ghost use Rattle.std.specs.Cmp.{partial_equiv_from_equiv, partial_order_from_agreeing_total};
 ghost use Rattle.std.specs.Cmp.Lexicographic.{slice_cmp, pointwise, nat_list_cmp_total, nat_list_eq_equiv, texts_ties};
 ghost use Rattle.std.proofs.Common.{refl};
 ghost use Rattle.camel_tbcd.specs.Digits.{nibbles};
 ghost use Rattle.camel_tbcd.specs.Imsi.{IsImsi, digit_values, imsi_of, imsi_of_ascii, imsi_of_nibbles, imsi_of_tbcd, without_filler};
-ghost use Rattle.camel_tbcd.specs.ImsiOrder.{order_number};
+ghost use Rattle.camel_tbcd.specs.ImsiOrder.{IsNumberOfNone, order_number};
 ghost use Rattle.camel_tbcd.specs.ImsiFault.{imsi_fault_code};
 
 use crate::digits::FILLER;
 use crate::first_digits::FirstDigits;
+use crate::packed_imsi::digits_in_places;
 use crate::short_list::ShortList;
 use std::cmp::Ordering;
 use std::error::Error;
@@ -144,6 +145,23 @@ impl Imsi {
         }
         let nibbles = nibbles_of(octets);
         Imsi::from_nibbles(without_filler(&nibbles[..2 * octets.len()]))
+    }
+
+    /// The IMSI of which this is the [`number`](Imsi::number); None if it is the number of none.
+    pub fn from_number(number: u64) -> Option<Imsi>
+        ensures imsi { IfSome result IsImsi }
+        ensures number { IfSome result (λ imsi. order_number imsi ≡ number) }
+        ensures none { IsNone result → IsNumberOfNone number }
+    {
+        let first = digits_in_places(number)?;
+        if first.len() < MIN_IMSI_DIGITS {
+            return None;
+        }
+        let imsi = Imsi::of_first(&first);
+        if imsi.order != number {
+            return None;
+        }
+        Some(imsi)
     }
 
     fn from_nibbles(nibbles: &[u8]) -> Result<Imsi, ImsiFault>

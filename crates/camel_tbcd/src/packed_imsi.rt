@@ -1,10 +1,12 @@
-ghost use Rattle.std.specs.Prelude.{◌≡◌, IfSome};
+ghost use Rattle.std.specs.Prelude.{◌≡◌, IfSome, IsNone};
 ghost use Rattle.std.specs.Cmp.Lexicographic.{slice_cmp};
 ghost use Rattle.std.specs.Ordering.{eq_by_cmp, nat_cmp};
 ghost use Rattle.camel_tbcd.specs.Imsi.{IsImsi};
-ghost use Rattle.camel_tbcd.specs.ImsiOrder.{order_number};
+ghost use Rattle.camel_tbcd.specs.ImsiOrder.{IsNumberOfNone, order_number};
 ghost use Rattle.camel_tbcd.specs.ImsiSlot.{imsi_of_number};
+ghost use Rattle.camel_tbcd.specs.PackedImsi.{AreFewDigits, digits_of_number};
 
+use crate::first_digits::FirstDigits;
 use crate::imsi::{Imsi, MAX_IMSI_DIGITS};
 use std::marker::Model;
 
@@ -84,4 +86,23 @@ impl PackedImsi {
     {
         self.number
     }
+}
+
+// The digits in the places of a number, up to the first place that is empty; None if one holds more than a digit.
+pub(crate) fn digits_in_places(number: u64) -> Option<FirstDigits>
+    ensures digits { IfSome result (λ first. (first ≡ digits_of_number number) × AreFewDigits first) }
+    ensures none { IsNone result → IsNumberOfNone number }
+{
+    let mut first = FirstDigits::new();
+    for at in 0..MAX_IMSI_DIGITS {
+        let value = (number >> (4 * (MAX_IMSI_DIGITS - 1 - at))) % 16;
+        if value == 0 {
+            return Some(first);
+        }
+        if value > 10 {
+            return None;
+        }
+        first.push((value - 1) as u8);
+    }
+    Some(first)
 }

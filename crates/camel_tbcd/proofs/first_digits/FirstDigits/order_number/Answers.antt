@@ -9,4 +9,4 @@ returns c =
     let digits = c.args.self.now in
     let is : number ≡ with_places 0 (length digits) digits = rw c.self.view_is at c.self.invariant.0 in
     let fits : number < 16 ^ length digits = rw c.self.view_is at c.self.invariant.1 in
-    rw (c.as_slice.ensures, c.self.view_is) (shifted_number number digits c.requires is fits)
+    rw c.len-places.ensures (shifted_number number digits c.requires is fits)
