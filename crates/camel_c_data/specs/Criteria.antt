@@ -1,11 +1,11 @@
 -- Entries of criteria, and sets of them, by their fields.
-use Rattle.std.specs.Prelude.{Bool, List, Option, Some, None, Result, Ok, if◌then◌else◌}
+use Rattle.std.specs.Prelude.{◌≡◌, Bool, List, Option, Some, None, IfSome, is_some, Result, Ok, if◌then◌else◌}
 use Rattle.camel_criteria.specs.Criteria.{NumberCriterionData, OCriteriaData, TCriteriaData, o_criteria_of, t_criteria_of}
 use Rattle.camel_criteria.specs.declared.criteria.CallType.{CallType}
 use Rattle.camel_criteria.specs.declared.criteria.CallType.TheVariants.{Forwarded, NotForwarded}
 use Rattle.camel_rows.specs.Received.{o_criteria_set_of, t_criteria_set_of}
 use Rattle.camel_c_data.specs.EntryLists.{basic_services_in, causes_in}
-use Rattle.camel_c_data.specs.NumberCriterion.{number_criterion_in}
+use Rattle.camel_c_data.specs.NumberCriterion.{ShowsNumber, number_criterion_in}
 use Rattle.camel_c_data.specs.Reading.{◌>>=◌, or_refused}
 use Rattle.camel_c_data.specs.SentList.{sent_list}
 use Rattle.camel_c_data.specs.declared.criteria.CamelOCriteria.{CamelOCriteria}
@@ -35,6 +35,21 @@ t_entry_in entry = do
   basic ← basic_services_in entry.basic
   causes ← causes_in entry.causes
   or_refused (t_criteria_of entry.dp basic causes)
+
+-- the fields are each part of an entry of the criteria of the O-CSI
+pub record ShowsO (entry : OCriteriaData) (fields : CamelOCriteria) : Type 0 where
+  pub dp : fields.dp ≡ entry.dp
+  pub has_number : fields.has_number ≡ is_some entry.number
+  pub number : IfSome entry.number (λ number. ShowsNumber number fields.number)
+  pub basic : basic_services_in fields.basic ≡ Ok entry.basic
+  pub call_type : call_type_in fields ≡ entry.call_type
+  pub causes : causes_in fields.causes ≡ Ok entry.causes
+
+-- the fields are each part of an entry of the criteria of the VT-CSI
+pub record ShowsT (entry : TCriteriaData) (fields : CamelTCriteria) : Type 0 where
+  pub dp : fields.dp ≡ entry.dp
+  pub basic : basic_services_in fields.basic ≡ Ok entry.basic
+  pub causes : causes_in fields.causes ≡ Ok entry.causes
 
 -- the criteria of the O-CSI of these entries
 unfoldable pub o_criteria_set_in : Bool → List CamelOCriteria → Result (Option (List OCriteriaData)) DataFault

@@ -1,16 +1,12 @@
 -- An IMSI by its number, as a C caller keeps it.
-use Rattle.std.specs.Prelude.{◌≢◌, ◌==◌, ℕ, List, Result, Ok, Err, if◌then◌else◌}
-use Rattle.camel_tbcd.specs.Imsi.{IsImsi, imsi_of}
+use Rattle.std.specs.Prelude.{◌==◌, ℕ, List, Result, Ok, Err, if◌then◌else◌}
+use Rattle.camel_tbcd.specs.Imsi.{imsi_of}
 use Rattle.camel_tbcd.specs.ImsiOrder.{order_number}
 use Rattle.camel_tbcd.specs.PackedImsi.{digits_of_number}
 use Rattle.camel_c_data.specs.Reading.{◌>>=◌, ok_or_malformed}
 use Rattle.camel_c_data.specs.declared.data_fault.DataFault.{DataFault}
 use Rattle.camel_c_data.specs.declared.data_fault.DataFault.TheVariants.{Malformed}
 use Rattle.camel_c_data.specs.declared.imsi.CamelImsi.{CamelImsi}
-
--- a number is that of no IMSI
-abbrev pub IsNumberOfNone : ℕ → Type 0
-IsNumberOfNone number = (digits : List ℕ) → IsImsi digits → order_number digits ≢ number
 
 -- an IMSI, if this is its number
 abbrev pub with_number : ℕ → List ℕ → Result (List ℕ) DataFault

@@ -16,6 +16,22 @@ pub struct CamelBasicService {
 const _: () = prove!(size_of::<CamelBasicService>() == 2);
 
 impl CamelBasicService {
+    /// The fields of a basic service.
+    pub(crate) fn of(service: BasicService) -> CamelBasicService
+        ensures { basic_service_in result ≡ service }
+    {
+        match service {
+            BasicService::Bearer(code) => CamelBasicService {
+                is_bearer: true,
+                code,
+            },
+            BasicService::Tele(code) => CamelBasicService {
+                is_bearer: false,
+                code,
+            },
+        }
+    }
+
     /// The basic service that the fields are. Every octet is a code.
     pub fn read(&self) -> BasicService
         ensures { result ≡ basic_service_in self.now }

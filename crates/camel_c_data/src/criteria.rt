@@ -1,7 +1,7 @@
 //! The entries of the criteria of both CSIs, and the sets of them.
 
 ghost use Rattle.std.specs.Prelude.{◌≡◌};
-ghost use Rattle.camel_c_data.specs.Criteria.{call_type_in, number_in, o_criteria_set_in, o_entry_in, t_criteria_set_in, t_entry_in};
+ghost use Rattle.camel_c_data.specs.Criteria.{ShowsO, ShowsT, call_type_in, number_in, o_criteria_set_in, o_entry_in, t_criteria_set_in, t_entry_in};
 ghost use Rattle.camel_c_data.specs.Reading.{ReadsAs, ReadsList, each_of};
 
 use crate::data_fault::DataFault;
@@ -36,6 +36,25 @@ pub struct CamelOCriteria {
 const _: () = prove!(size_of::<CamelOCriteria>() == 127);
 
 impl CamelOCriteria {
+    /// The fields of an entry. Each is read as that part of it; what is absent has no items, and all its numbers are 0.
+    pub fn of(entry: &OCriteria) -> CamelOCriteria
+        ensures { ShowsO entry.now result }
+    {
+        let call_type = entry.call_type();
+        CamelOCriteria {
+            dp: entry.dp(),
+            has_number: entry.number().is_some(),
+            number: match entry.number() {
+                Some(number) => CamelNumberCriterion::of(number),
+                None => CamelNumberCriterion::none(),
+            },
+            basic: CamelBasicServices::of(entry.basic()),
+            has_call_type: call_type.is_some(),
+            is_forwarded: matches!(call_type, Some(CallType::Forwarded)),
+            causes: CamelCauses::of(entry.causes()),
+        }
+    }
+
     /// The entry that the fields are.
     ///
     /// Fails as the destination number criterion, then the basic services and then the causes fail to read, then as
@@ -91,6 +110,17 @@ pub struct CamelTCriteria {
 const _: () = prove!(size_of::<CamelTCriteria>() == 18);
 
 impl CamelTCriteria {
+    /// The fields of an entry. Each is read as that part of it; what is absent has no items, and all its numbers are 0.
+    pub fn of(entry: &TCriteria) -> CamelTCriteria
+        ensures { ShowsT entry.now result }
+    {
+        CamelTCriteria {
+            dp: entry.dp(),
+            basic: CamelBasicServices::of(entry.basic()),
+            causes: CamelCauses::of(entry.causes()),
+        }
+    }
+
     /// The entry that the fields are.
     ///
     /// Fails as the basic services and then the causes fail to read, then as [`TCriteria::new`], and with `OutOfMemory`

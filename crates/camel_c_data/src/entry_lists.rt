@@ -1,13 +1,13 @@
 //! The lists that entries of criteria of both CSIs have.
 
-ghost use Rattle.std.specs.Prelude.{◌≡◌, Ok, IfErr, IfOk, map};
+ghost use Rattle.std.specs.Prelude.{◌≡◌, ◌≤◌, Ok, IfErr, IfOk, length, map, take};
 ghost use Rattle.camel_c_data.specs.BasicService.{basic_service_in};
 ghost use Rattle.camel_c_data.specs.EntryLists.{basic_services_in, causes_in};
 ghost use Rattle.camel_c_data.specs.Reading.{ReadsList};
 
 use crate::basic_service::CamelBasicService;
 use crate::data_fault::DataFault;
-use crate::first_items::first_items;
+use crate::first_items::{first_items, room_with};
 use crate::read_each::read_each;
 use camel_criteria::{BasicService, MAX_BASIC_SERVICES, MAX_CAUSES};
 use std::alloc::Global;
@@ -24,6 +24,18 @@ pub struct CamelBasicServices {
 const _: () = prove!(size_of::<CamelBasicServices>() == 11);
 
 impl CamelBasicServices {
+    /// The fields of up to 5 basic services.
+    #[tactic(auto, unfolding(crate::specs::EntryLists::basic_services_in))]
+    pub(crate) fn of(services: &[BasicService]) -> CamelBasicServices
+        requires { length services.now ≤ MAX_BASIC_SERVICES }
+        ensures { basic_services_in result ≡ Ok services.now }
+    {
+        CamelBasicServices {
+            count: services.len() as u8,
+            services: services_with(services),
+        }
+    }
+
     /// The basic services that the fields are.
     ///
     /// Fails with `Malformed` (201) for more than 5, and with `OutOfMemory` (102) if memory is refused.
@@ -33,6 +45,18 @@ impl CamelBasicServices {
     {
         read_services(alloc, first_items(&self.services, self.count)?)
     }
+}
+
+/// A room with the fields of basic services, and those of none behind them.
+fn services_with(services: &[BasicService]) -> [CamelBasicService; MAX_BASIC_SERVICES]
+    requires { length services.now ≤ MAX_BASIC_SERVICES }
+    ensures { map basic_service_in (take (length services.now) result) ≡ services.now }
+{
+    let mut room = [CamelBasicService::of(BasicService::Tele(0)); MAX_BASIC_SERVICES];
+    for at in 0..services.len() {
+        room[at] = CamelBasicService::of(services[at]);
+    }
+    room
 }
 
 fn read_services(
@@ -55,6 +79,18 @@ pub struct CamelCauses {
 const _: () = prove!(size_of::<CamelCauses>() == 6);
 
 impl CamelCauses {
+    /// The fields of up to 5 causes.
+    #[tactic(auto, unfolding(crate::specs::EntryLists::causes_in))]
+    pub(crate) fn of(causes: &[u8]) -> CamelCauses
+        requires { length causes.now ≤ MAX_CAUSES }
+        ensures { causes_in result ≡ Ok causes.now }
+    {
+        CamelCauses {
+            count: causes.len() as u8,
+            causes: room_with(causes),
+        }
+    }
+
     /// The causes that the fields are, each any octet.
     ///
     /// Fails with `Malformed` (201) for more than 5.

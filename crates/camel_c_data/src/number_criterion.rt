@@ -1,11 +1,11 @@
-ghost use Rattle.std.specs.Prelude.{◌≡◌};
-ghost use Rattle.camel_c_data.specs.NumberCriterion.{match_type_in, number_criterion_in};
+ghost use Rattle.std.specs.Prelude.{◌≡◌, ◌≤◌, Ok, length, take};
+ghost use Rattle.camel_c_data.specs.NumberCriterion.{ShowsNumber, match_type_in, number_criterion_in};
 ghost use Rattle.camel_c_data.specs.Address.{isdn_address_in};
 ghost use Rattle.camel_c_data.specs.Reading.{ReadsAs, ReadsList, each_of};
 
 use crate::address::CamelIsdnAddress;
 use crate::data_fault::DataFault;
-use crate::first_items::first_items;
+use crate::first_items::{first_items, room_with};
 use crate::read_each::read_each;
 use camel_criteria::{MAX_LENGTHS, MAX_NUMBERS, MatchType, NumberCriterion};
 use camel_tbcd::IsdnAddress;
@@ -28,12 +28,37 @@ pub struct CamelNumberCriterion {
 const _: () = prove!(size_of::<CamelNumberCriterion>() == 106);
 
 impl CamelNumberCriterion {
+    /// The fields of a criterion.
+    #[tactic(auto, unfolding(crate::specs::NumberCriterion::numbers_in, crate::specs::NumberCriterion::lengths_in))]
+    pub(crate) fn of(criterion: &NumberCriterion) -> CamelNumberCriterion
+        ensures { ShowsNumber criterion.now result }
+    {
+        CamelNumberCriterion {
+            is_enabling: matches!(criterion.match_type(), MatchType::Enabling),
+            number_count: criterion.numbers().len() as u8,
+            length_count: criterion.lengths().len() as u8,
+            lengths: room_with(criterion.lengths()),
+            numbers: numbers_with(criterion.numbers()),
+        }
+    }
+
+    /// No criterion: no number and no length.
+    pub(crate) fn none() -> CamelNumberCriterion {
+        CamelNumberCriterion {
+            is_enabling: false,
+            number_count: 0,
+            length_count: 0,
+            lengths: [0; MAX_LENGTHS],
+            numbers: [CamelIsdnAddress::none(); MAX_NUMBERS],
+        }
+    }
+
     /// The criterion that the fields are.
     ///
     /// Fails with `Malformed` (201) for more than 10 numbers, for a number that is no address and for more than 3
     /// lengths, then as [`NumberCriterion::new`], and with `OutOfMemory` (102) if memory is refused. Nothing was made
     /// then.
-    #[tactic(auto, unfolding(crate::specs::NumberCriterion::number_criterion_in))]
+    #[tactic(auto, unfolding(crate::specs::NumberCriterion::number_criterion_in, crate::specs::NumberCriterion::numbers_in, crate::specs::NumberCriterion::lengths_in))]
     pub fn read(&self, alloc: Global) -> Result<NumberCriterion, DataFault>
         ensures { ReadsAs result (number_criterion_in self.now) }
     {
@@ -53,6 +78,18 @@ impl CamelNumberCriterion {
             MatchType::Inhibiting
         }
     }
+}
+
+/// A room with the fields of numbers, and those of none behind them.
+fn numbers_with(numbers: &[IsdnAddress]) -> [CamelIsdnAddress; MAX_NUMBERS]
+    requires { length numbers.now ≤ MAX_NUMBERS }
+    ensures { each_of isdn_address_in (take (length numbers.now) result) ≡ Ok numbers.now }
+{
+    let mut room = [CamelIsdnAddress::none(); MAX_NUMBERS];
+    for at in 0..numbers.len() {
+        room[at] = CamelIsdnAddress::of(&numbers[at]);
+    }
+    room
 }
 
 fn read_numbers(alloc: Global, numbers: &[CamelIsdnAddress]) -> Result<Vec<IsdnAddress>, DataFault>

@@ -1,0 +1,10 @@
+use Rattle.std.proofs.Common.{◌≡◌, length, map, take}
+use Rattle.camel_c_data.specs.BasicService.{basic_service_in}
+use Rattle.camel_c_data.proofs.entry_lists.services_with.Given as goal
+
+-- the first places have the fields of the first services
+abbrev pub invariant-loop-at : goal.invariant-loop-at
+invariant-loop-at l = record {
+  whole : length l.room ≡ 5;
+  so_far : map basic_service_in (take l.at l.room) ≡ take l.at l.services;
+}
