@@ -26,6 +26,7 @@ mod opening;
 mod publishing;
 mod receipts;
 mod showing;
+mod shown_at;
 mod submitting;
 
 pub use failure::Failure;

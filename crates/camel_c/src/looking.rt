@@ -3,9 +3,9 @@
 ghost use Rattle.std.specs.Prelude.{◌≡◌, true, MatchResult};
 ghost use Rattle.camel_rows.specs.Answer.{answer_over};
 ghost use Rattle.camel_vlr.specs.Session.{LeavesLook, Sees};
-ghost use Rattle.camel_c.specs.Shown.{row_shown};
 
-use camel_rows::{Answer, CallEvent, Outcome, TdpRow};
+use crate::shown_at::ShownAt;
+use camel_rows::{Answer, CallEvent, Outcome};
 use camel_tbcd::Imsi;
 use camel_vlr::WaitFreeSession;
 
@@ -47,10 +47,10 @@ impl LookingSession {
         }
     }
 
-    /// The row of a subscriber at a detection point, over the front of the look.
-    pub(crate) fn row(&self, imsi: &Imsi, dp: u8) -> Option<TdpRow>
-        ensures { result ≡ row_shown self.now.session imsi.now dp }
+    /// The fields of what a subscriber has at a detection point, over the front of the look.
+    pub(crate) fn find<C: ShownAt>(&self, imsi: &Imsi, dp: u8) -> Option<C>
+        ensures { C.is_found self.now.session imsi.now dp result }
     {
-        self.session.row(imsi, dp).copied()
+        C::find(&self.session, imsi, dp)
     }
 }
