@@ -13,8 +13,8 @@
  * different handles may be in calls at the same time. No call takes a lock, waits or yields.
  *
  * Memory. The library calls malloc, realloc and free. A call that is refused memory returns CAMEL_OUT_OF_MEMORY, has
- * changed nothing, and may be made again. camel_decide, camel_look, camel_leave, camel_learn, camel_row_at and a
- * publication that returns CAMEL_HELD ask for none.
+ * changed nothing, and may be made again. camel_decide, camel_look, camel_leave, camel_learn, camel_row_at,
+ * camel_o_criteria_at, camel_t_criteria_at and a publication that returns CAMEL_HELD ask for none.
  *
  * What nothing checks. A handle is empty or as the library left it; a bool is 0 or 1; a pointer is not null, also that
  * of an array of none, and points to as much as is said; what is passed does not overlap; a receipt is of the session's
@@ -194,6 +194,13 @@ camel_status camel_leave(camel_session *session);
 /* The row of a subscriber at a detection point, over the look that has begun, or else by a look of its own. is_there tells
  * whether there is one; if not, the row is as before. Its default call handling is 0, continue, or 1, release. */
 camel_status camel_row_at(camel_session *session, const camel_imsi *imsi, uint8_t dp, camel_row *row, bool *is_there);
+
+/* The criteria of a subscriber at a detection point of the O-CSI, or of the VT-CSI, as camel_row_at. They are there even
+ * if there is no row, and have no effect then. What is behind the items of a list, and what is absent, is 0. */
+camel_status camel_o_criteria_at(camel_session *session, const camel_imsi *imsi, uint8_t dp,
+                                 camel_o_criteria *criteria, bool *is_there);
+camel_status camel_t_criteria_at(camel_session *session, const camel_imsi *imsi, uint8_t dp,
+                                 camel_t_criteria *criteria, bool *is_there);
 
 /* Fills a handle with a copy of the record of a subscriber, which a call keeps from its set-up to its later detection
  * points; is_there tells whether there is a record, and if there is none, the handle stays empty. What is decided by it

@@ -241,6 +241,16 @@ public:
         return detail::find<camel_row>(camel_row_at, handle_.at(), &imsi, dp);
     }
 
+    /* The criteria of a subscriber at a detection point of the O-CSI, or of the VT-CSI, if there are any. */
+    Maybe<camel_o_criteria> o_criteria_at(camel_imsi imsi, uint8_t dp)
+    {
+        return detail::find<camel_o_criteria>(camel_o_criteria_at, handle_.at(), &imsi, dp);
+    }
+    Maybe<camel_t_criteria> t_criteria_at(camel_imsi imsi, uint8_t dp)
+    {
+        return detail::find<camel_t_criteria>(camel_t_criteria_at, handle_.at(), &imsi, dp);
+    }
+
     /* Keeps the record of a subscriber, if there is one. */
     Maybe<Subscriber> keep(camel_imsi imsi)
     {
@@ -275,6 +285,8 @@ public:
 
     Result<camel_answer> decide(const camel_event &event) { return ask(&Session::decide, event); }
     Maybe<camel_row> row_at(camel_imsi imsi, uint8_t dp) { return ask(&Session::row_at, imsi, dp); }
+    Maybe<camel_o_criteria> o_criteria_at(camel_imsi imsi, uint8_t dp) { return ask(&Session::o_criteria_at, imsi, dp); }
+    Maybe<camel_t_criteria> t_criteria_at(camel_imsi imsi, uint8_t dp) { return ask(&Session::t_criteria_at, imsi, dp); }
     Maybe<Subscriber> keep(camel_imsi imsi) { return ask(&Session::keep, imsi); }
 
 private:

@@ -129,6 +129,9 @@ static void a_session_reads()
     CHECK(get(session.decide(event)).reason == CAMEL_CRITERIA);
     CHECK(get(session.row_at(imsi(), 13))->key == 7);
     CHECK(!get(session.row_at(imsi(), 4)));
+    CHECK(get(session.o_criteria_at(imsi(), 2))->has_call_type);
+    CHECK(get(session.t_criteria_at(imsi(), 13))->causes.count == 1);
+    CHECK(!get(session.o_criteria_at(imsi(), 13)) && !get(session.t_criteria_at(imsi(), 2)));
     CHECK(!get(session.keep(get(camel::imsi_of_digits("26201")))));
     CHECK(store.submit_insert(get(camel::imsi_of_digits("26201")), camel::Csis{}).status()
           == CAMEL_UNIDENTIFIED_SUBSCRIBER);
@@ -162,6 +165,7 @@ static void a_look_is_of_one_front()
     CHECK(get(store.published()) == 3 && get(store.pending()) == 1);
     CHECK(get(look.decide(event_at(2))).front == 2);
     CHECK(get(look.row_at(imsi(), 2))->key == 7);
+    CHECK(get(look.o_criteria_at(imsi(), 2)) && get(look.t_criteria_at(imsi(), 13)));
     CHECK(bool(look.leave()));
     CHECK(look.decide(event_at(2)).status() == CAMEL_WRONG_HANDLE);
     CHECK(bool(sessions[0].learn(get(store.publish()))));

@@ -182,15 +182,19 @@ static camel_status any_question(struct world *world)
     camel_event event = any_event();
     camel_answer answer;
     camel_row row;
+    camel_o_criteria of_o;
+    camel_t_criteria of_t;
     bool is_there;
     uint8_t dp = event.dp;
     camel_status status;
-    switch (below(8)) {
+    switch (below(10)) {
     case 0: return camel_look(session);
     case 1: case 2: return camel_leave(session);
     case 3: return camel_row_at(session, &imsi, dp, &row, &is_there);
     case 4: camel_free(&world->kept); return camel_keep(session, &imsi, &world->kept, &is_there);
     case 5: return camel_decide_kept(&world->kept, &event, &answer);
+    case 6: return camel_o_criteria_at(session, &imsi, dp, &of_o, &is_there);
+    case 7: return camel_t_criteria_at(session, &imsi, dp, &of_t, &is_there);
     default:
         status = camel_decide(session, &event, &answer);
         if (status == CAMEL_OK)

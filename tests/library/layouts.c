@@ -52,7 +52,25 @@ static bool is_same_row(const camel_row *one, const camel_row *other)
         && is_same_isdn(&one->scf, &other->scf);
 }
 
-/* Each row comes back with each field. */
+/* There is no row at 3, no criteria of the O-CSI at 13 and none of the VT-CSI at 12: what stands is left. */
+static void nothing_is_there(camel_session *session, const camel_imsi *imsi)
+{
+    camel_row row = { .key = 7 };
+    camel_o_criteria of_o = { .dp = 7 };
+    camel_t_criteria of_t = { .dp = 7 };
+    bool is_there = true;
+
+    RETURNS(CAMEL_OK, camel_row_at(session, imsi, 3, &row, &is_there));
+    IS(!is_there && row.key == 7);
+    is_there = true;
+    RETURNS(CAMEL_OK, camel_o_criteria_at(session, imsi, 13, &of_o, &is_there));
+    IS(!is_there && of_o.dp == 7);
+    is_there = true;
+    RETURNS(CAMEL_OK, camel_t_criteria_at(session, imsi, 12, &of_t, &is_there));
+    IS(!is_there && of_t.dp == 7);
+}
+
+/* Each row and each entry of criteria comes back with each field. */
 static void fields_come_back(camel_store *store, camel_session *session)
 {
     camel_row o[] = { row_of(2, 100), row_of(4, 101) }, vt[] = { row_of(12, 102), row_of(13, 103), row_of(14, 104) };
@@ -74,9 +92,15 @@ static void fields_come_back(camel_store *store, camel_session *session)
         RETURNS(CAMEL_OK, camel_row_at(session, &imsi, sent->dp, &row, &is_there));
         IS(is_there && is_same_row(&row, sent));
     }
-    camel_row none = { .key = 7 };
-    RETURNS(CAMEL_OK, camel_row_at(session, &imsi, 3, &none, &is_there));
-    IS(!is_there && none.key == 7);
+    for (int at = 0; at < 2; at++) {
+        camel_o_criteria of_o = { .dp = 7 };
+        camel_t_criteria of_t = { .dp = 7 };
+        RETURNS(CAMEL_OK, camel_o_criteria_at(session, &imsi, o_criteria[at].dp, &of_o, &is_there));
+        IS(is_there && memcmp(&of_o, &o_criteria[at], sizeof of_o) == 0);
+        RETURNS(CAMEL_OK, camel_t_criteria_at(session, &imsi, t_criteria[at].dp, &of_t, &is_there));
+        IS(is_there && memcmp(&of_t, &t_criteria[at], sizeof of_t) == 0);
+    }
+    nothing_is_there(session, &imsi);
 }
 
 /* What an event of each detection point gives, by each field that is read. */

@@ -82,6 +82,8 @@ static void wrong_handles(camel_store *store, camel_session *session)
     camel_answer answer = { .front = 7 };
     camel_row row = { .key = 7 };
     uint64_t count = 7;
+    camel_o_criteria of_o = { .dp = 7 };
+    camel_t_criteria of_t = { .dp = 7 };
     bool is_there = true;
 
     RETURNS(CAMEL_WRONG_HANDLE, camel_submit_register(&empty, &imsi));
@@ -96,9 +98,12 @@ static void wrong_handles(camel_store *store, camel_session *session)
     RETURNS(CAMEL_WRONG_HANDLE, camel_look((camel_session *)store));
     RETURNS(CAMEL_WRONG_HANDLE, camel_leave((camel_session *)store));
     RETURNS(CAMEL_WRONG_HANDLE, camel_row_at((camel_session *)store, &imsi, 2, &row, &is_there));
+    RETURNS(CAMEL_WRONG_HANDLE, camel_o_criteria_at((camel_session *)store, &imsi, 2, &of_o, &is_there));
+    RETURNS(CAMEL_WRONG_HANDLE, camel_t_criteria_at((camel_session *)store, &imsi, 12, &of_t, &is_there));
     RETURNS(CAMEL_WRONG_HANDLE, camel_keep((camel_session *)store, &imsi, &kept, &is_there));
     RETURNS(CAMEL_WRONG_HANDLE, camel_close((camel_store *)session));
     RETURNS(CAMEL_WRONG_HANDLE, camel_close(&empty));
+    IS(of_o.dp == 7 && of_t.dp == 7);
     IS(answer.front == 7 && row.key == 7 && is_there && !kept.is_full && !receipt.is_full);
     RETURNS(CAMEL_FULL_HANDLE, camel_receipt_of(store, (camel_receipt *)session));
     camel_free(&empty);

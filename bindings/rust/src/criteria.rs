@@ -14,9 +14,9 @@ impl Row {
     pub fn new(dp: impl Into<u8>, key: u32, scf: IsdnAddress) -> Row {
         Row(ffi::Row {
             key,
-            handling: 0,
             scf: scf.raw(),
             dp: dp.into(),
+            ..ffi::Row::NONE
         })
     }
 
@@ -168,12 +168,7 @@ impl OCriteria {
     pub fn new(dp: impl Into<u8>) -> OCriteria {
         OCriteria(ffi::OCriteria {
             dp: dp.into(),
-            has_number: false,
-            number: ffi::NumberCriterion::NONE,
-            basic: ffi::BasicServices::NONE,
-            has_call_type: false,
-            is_forwarded: false,
-            causes: ffi::Causes::NONE,
+            ..ffi::OCriteria::NONE
         })
     }
 
@@ -241,6 +236,10 @@ impl OCriteria {
     pub fn causes(&self) -> impl Iterator<Item = Cause> + '_ {
         causes_in(&self.0.causes)
     }
+
+    pub(crate) fn of_raw(raw: ffi::OCriteria) -> OCriteria {
+        OCriteria(raw)
+    }
 }
 
 impl PartialEq for OCriteria {
@@ -276,8 +275,7 @@ impl TCriteria {
     pub fn new(dp: impl Into<u8>) -> TCriteria {
         TCriteria(ffi::TCriteria {
             dp: dp.into(),
-            basic: ffi::BasicServices::NONE,
-            causes: ffi::Causes::NONE,
+            ..ffi::TCriteria::NONE
         })
     }
 
@@ -313,6 +311,10 @@ impl TCriteria {
     /// The causes of the cause criterion; none if there is none.
     pub fn causes(&self) -> impl Iterator<Item = Cause> + '_ {
         causes_in(&self.0.causes)
+    }
+
+    pub(crate) fn of_raw(raw: ffi::TCriteria) -> TCriteria {
+        TCriteria(raw)
     }
 }
 

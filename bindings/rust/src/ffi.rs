@@ -76,6 +76,15 @@ pub struct Row {
     pub dp: u8,
 }
 
+impl Row {
+    pub const NONE: Row = Row {
+        key: 0,
+        handling: 0,
+        scf: IsdnAddress::NONE,
+        dp: 0,
+    };
+}
+
 #[repr(C)]
 #[derive(Clone, Copy)]
 pub struct BasicServices {
@@ -139,12 +148,32 @@ pub struct OCriteria {
     pub causes: Causes,
 }
 
+impl OCriteria {
+    pub const NONE: OCriteria = OCriteria {
+        dp: 0,
+        has_number: false,
+        number: NumberCriterion::NONE,
+        basic: BasicServices::NONE,
+        has_call_type: false,
+        is_forwarded: false,
+        causes: Causes::NONE,
+    };
+}
+
 #[repr(C)]
 #[derive(Clone, Copy)]
 pub struct TCriteria {
     pub dp: u8,
     pub basic: BasicServices,
     pub causes: Causes,
+}
+
+impl TCriteria {
+    pub const NONE: TCriteria = TCriteria {
+        dp: 0,
+        basic: BasicServices::NONE,
+        causes: Causes::NONE,
+    };
 }
 
 #[repr(C)]
@@ -198,6 +227,10 @@ impl Answer {
         reason: 0,
     };
 }
+
+/// A call that writes what a subscriber has at a detection point, and whether there is anything.
+pub type FindAt<T> =
+    unsafe extern "C" fn(*mut Session, *const Imsi, u8, *mut T, *mut bool) -> Status;
 
 unsafe extern "C" {
     pub fn camel_abi_version() -> u32;
@@ -260,6 +293,20 @@ unsafe extern "C" {
         imsi: *const Imsi,
         dp: u8,
         row: *mut Row,
+        is_there: *mut bool,
+    ) -> Status;
+    pub fn camel_o_criteria_at(
+        session: *mut Session,
+        imsi: *const Imsi,
+        dp: u8,
+        criteria: *mut OCriteria,
+        is_there: *mut bool,
+    ) -> Status;
+    pub fn camel_t_criteria_at(
+        session: *mut Session,
+        imsi: *const Imsi,
+        dp: u8,
+        criteria: *mut TCriteria,
         is_there: *mut bool,
     ) -> Status;
 

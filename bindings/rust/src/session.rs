@@ -1,7 +1,9 @@
 //! Sessions: what call-control threads decide their calls by.
 use crate::error::done;
 use crate::handle::Owned;
-use crate::{Answer, DetectionPoint, Error, Event, Imsi, Receipt, Row, Subscriber, ffi};
+use crate::{
+    Answer, DetectionPoint, Error, Event, Imsi, OCriteria, Receipt, Row, Subscriber, TCriteria, ffi,
+};
 use std::fmt;
 
 /// What one call-control thread decides its calls by. No call takes a lock, waits or yields, and none but
@@ -87,6 +89,34 @@ impl Session {
         self.row_over(imsi, dp)
     }
 
+    /// The criteria that are stored for a subscriber at a detection point of the O-CSI; None if there are none. They are
+    /// there even if there is no row, and have no effect then.
+    ///
+    /// # Errors
+    /// As [`decide`](Session::decide).
+    pub fn o_criteria(
+        &mut self,
+        imsi: Imsi,
+        dp: DetectionPoint,
+    ) -> Result<Option<OCriteria>, Error> {
+        self.leave_forgotten()?;
+        self.o_criteria_over(imsi, dp)
+    }
+
+    /// The criteria that are stored for a subscriber at a detection point of the VT-CSI; None if there are none. They
+    /// are there even if there is no row, and have no effect then.
+    ///
+    /// # Errors
+    /// As [`decide`](Session::decide).
+    pub fn t_criteria(
+        &mut self,
+        imsi: Imsi,
+        dp: DetectionPoint,
+    ) -> Result<Option<TCriteria>, Error> {
+        self.leave_forgotten()?;
+        self.t_criteria_over(imsi, dp)
+    }
+
     /// Keeps the record of a subscriber, for the later detection points of a call; None if there is no record.
     ///
     /// # Errors
@@ -123,24 +153,40 @@ impl Session {
     }
 
     fn row_over(&self, imsi: Imsi, dp: DetectionPoint) -> Result<Option<Row>, Error> {
-        let mut row = ffi::Row {
-            key: 0,
-            handling: 0,
-            scf: ffi::IsdnAddress::NONE,
-            dp: 0,
-        };
+        let row = self.find_over(ffi::camel_row_at, imsi, dp, ffi::Row::NONE)?;
+        Ok(row.map(Row::of_raw))
+    }
+
+    fn o_criteria_over(&self, imsi: Imsi, dp: DetectionPoint) -> Result<Option<OCriteria>, Error> {
+        let entry = self.find_over(ffi::camel_o_criteria_at, imsi, dp, ffi::OCriteria::NONE)?;
+        Ok(entry.map(OCriteria::of_raw))
+    }
+
+    fn t_criteria_over(&self, imsi: Imsi, dp: DetectionPoint) -> Result<Option<TCriteria>, Error> {
+        let entry = self.find_over(ffi::camel_t_criteria_at, imsi, dp, ffi::TCriteria::NONE)?;
+        Ok(entry.map(TCriteria::of_raw))
+    }
+
+    fn find_over<T>(
+        &self,
+        find: ffi::FindAt<T>,
+        imsi: Imsi,
+        dp: DetectionPoint,
+        none: T,
+    ) -> Result<Option<T>, Error> {
+        let mut found = none;
         let mut is_there = false;
         // SAFETY: the handle is fit for a call, as `Owned` says; what is read and written is apart from it.
         done(unsafe {
-            ffi::camel_row_at(
+            find(
                 self.handle.at(),
                 &imsi.raw(),
                 dp.number(),
-                &mut row,
+                &mut found,
                 &mut is_there,
             )
         })?;
-        Ok(is_there.then(|| Row::of_raw(row)))
+        Ok(is_there.then_some(found))
     }
 
     fn keep_over(&self, imsi: Imsi) -> Result<Option<Subscriber>, Error> {
@@ -199,6 +245,22 @@ impl Look<'_> {
     /// As [`decide`](Look::decide).
     pub fn row(&self, imsi: Imsi, dp: DetectionPoint) -> Result<Option<Row>, Error> {
         self.session.row_over(imsi, dp)
+    }
+
+    /// The criteria that are stored for a subscriber at a detection point of the O-CSI; None if there are none.
+    ///
+    /// # Errors
+    /// As [`decide`](Look::decide).
+    pub fn o_criteria(&self, imsi: Imsi, dp: DetectionPoint) -> Result<Option<OCriteria>, Error> {
+        self.session.o_criteria_over(imsi, dp)
+    }
+
+    /// The criteria that are stored for a subscriber at a detection point of the VT-CSI; None if there are none.
+    ///
+    /// # Errors
+    /// As [`decide`](Look::decide).
+    pub fn t_criteria(&self, imsi: Imsi, dp: DetectionPoint) -> Result<Option<TCriteria>, Error> {
+        self.session.t_criteria_over(imsi, dp)
     }
 
     /// Keeps the record of a subscriber, of the front of the look; None if there is no record.

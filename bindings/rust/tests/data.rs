@@ -162,6 +162,23 @@ fn a_store_gives_back_the_rows_that_came() {
 }
 
 #[test]
+fn a_store_gives_back_the_criteria_that_came() {
+    let (imsi, csis) = (Imsi::from_digits("26201").unwrap(), all_lists());
+    let (_store, mut session) = session_of(imsi, csis.clone());
+    for dp in POINTS {
+        let of_o = csis.o_criteria.as_deref().unwrap().iter().copied();
+        let of_t = csis.t_criteria.as_deref().unwrap().iter().copied();
+        let came_of_o = of_o.clone().find(|entry| entry.dp() == dp.number());
+        let came_of_t = of_t.clone().find(|entry| entry.dp() == dp.number());
+        assert_eq!(session.o_criteria(imsi, dp), Ok(came_of_o));
+        assert_eq!(session.t_criteria(imsi, dp), Ok(came_of_t));
+        let look = session.look().unwrap();
+        assert_eq!(look.o_criteria(imsi, dp), Ok(came_of_o));
+        assert_eq!(look.t_criteria(imsi, dp), Ok(came_of_t));
+    }
+}
+
+#[test]
 fn a_row_that_is_given_back_has_handling_0_or_1() {
     let imsi = Imsi::from_digits("26201").unwrap();
     for (came, given) in [(0, 0), (1, 1), (2, 0), (31, 0), (32, 1), (u32::MAX, 1)] {
