@@ -34,8 +34,9 @@ static camel_o_criteria o_criteria_of(uint8_t dp, bool is_enabling)
         .basic = { .count = 2, .services = { { false, 0x11 }, { true, 0x18 } } },
         .has_call_type = true,
         .is_forwarded = !is_enabling,
-        .causes = { .count = dp == 4 ? 2 : 0, .causes = { 17, 3 } },
     };
+    if (dp == 4)
+        entry.causes = (camel_causes){ 2, { 17, 3 } };
     for (int at = 0; at < 2; at++)
         entry.number.numbers[at] = isdn_of(NUMBERS[at], sizeof NUMBERS[at]);
     return entry;
