@@ -43,32 +43,31 @@ impl CamelEvent {
     pub fn read(&self) -> Result<CallEvent, DataFault>
         ensures { result ≡ event_in self.now }
     {
+        let imsi = self.imsi.read()?;
+        let basic = self.basic.read();
         match self.dp {
             COLLECTED_INFO => Ok(TdpEvent::CollectedInfo {
-                imsi: self.imsi.read()?,
+                imsi,
                 destination: self.destination.read()?,
-                basic: self.basic.read(),
+                basic,
                 forwarded: self.is_forwarded,
             }),
             ROUTE_SELECT_FAILURE => Ok(TdpEvent::RouteSelectFailure {
-                imsi: self.imsi.read()?,
+                imsi,
                 destination: self.destination.read()?,
-                basic: self.basic.read(),
+                basic,
                 forwarded: self.is_forwarded,
                 cause: read_cause(self.cause)?,
             }),
-            TERMINATING_ATTEMPT => Ok(TdpEvent::TerminatingAttempt {
-                imsi: self.imsi.read()?,
-                basic: self.basic.read(),
-            }),
+            TERMINATING_ATTEMPT => Ok(TdpEvent::TerminatingAttempt { imsi, basic }),
             BUSY => Ok(TdpEvent::Busy {
-                imsi: self.imsi.read()?,
-                basic: self.basic.read(),
+                imsi,
+                basic,
                 cause: read_cause(self.cause)?,
             }),
             NO_ANSWER => Ok(TdpEvent::NoAnswer {
-                imsi: self.imsi.read()?,
-                basic: self.basic.read(),
+                imsi,
+                basic,
                 cause: read_cause(self.cause)?,
             }),
             _ => Err(DataFault::Malformed),

@@ -1,6 +1,7 @@
 ghost use Rattle.std.specs.Prelude.{◌≡◌, Ok, IfErr, IfOk};
 ghost use Rattle.camel_tbcd.specs.ImsiOrder.{IsNumberOfNone, order_number};
 ghost use Rattle.camel_c_data.specs.Imsi.{imsi_in};
+ghost use Rattle.camel_c_data.specs.declared.data_fault.DataFault.TheVariants.{Malformed};
 
 use crate::data_fault::DataFault;
 use camel_tbcd::Imsi;
@@ -34,7 +35,7 @@ impl CamelImsi {
     pub fn read(&self) -> Result<Imsi, DataFault>
         ensures imsi { result ≡ imsi_in self.now }
         ensures number { IfOk result (λ imsi. order_number imsi ≡ self.now.number) }
-        ensures malformed { IfErr result (λ _. IsNumberOfNone self.now.number) }
+        ensures malformed { IfErr result (λ fault. (fault ≡ Malformed) × IsNumberOfNone self.now.number) }
     {
         match Imsi::from_number(self.number) {
             Some(imsi) => Ok(imsi),

@@ -3,7 +3,7 @@ use Rattle.std.proofs.Common.{◌≡◌, ◌∙◌, ℕ, zero, suc, ◌+◌, ◌
 use Rattle.std.proofs.Math.Nat.{mod-eq_of_lt, mul-lt-mul_of_pos_right, mul_assoc, one-le-pow, pow-suc}
 use Rattle.std.proofs.lemmas.List.{length-append}
 use Rattle.std.proofs.lemmas.Nat.{pow-add}
-use Rattle.camel_tbcd.specs.ImsiOrder.{order_number, with_places}
+use Rattle.camel_tbcd.specs.ImsiOrder.{IsNumberOf, order_number, with_places}
 use Rattle.camel_tbcd.proofs.ImsiOrderLemmas.{grown}
 use Rattle.camel_tbcd.proofs.ShiftLemmas.{pow-16}
 
@@ -12,10 +12,7 @@ pub with_digit : (number digit : ℕ) (digits : List ℕ) → with_places number
 with_digit number digit [] = refl
 with_digit number digit (first ∷ digits) = with_digit (number * 16 + (first + 1)) digit digits
 
--- the number of so few digits, and of one more
-abbrev IsNumberOf : ℕ → List ℕ → Type 0
-IsNumberOf number digits = (number ≡ with_places 0 (length digits) digits) × (number < 16 ^ length digits)
-
+-- the number of one digit more
 pub grown_number : (number digit : ℕ) (digits more : List ℕ) → length digits < 15 → digit ≤ 9 → more ≡ digits ++ digit ∷ [] → IsNumberOf number digits → IsNumberOf (number * 16 + digit + 1) more
 grown_number number digit digits more few decimal is number_of =
     let longer : length more ≡ suc (length digits) = rw is (length-append digits (digit ∷ []) ∙ omega arith) in

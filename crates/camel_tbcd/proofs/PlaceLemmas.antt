@@ -1,9 +1,11 @@
 -- The places of a number, read one after the other.
-use Rattle.std.proofs.Common.{◌≡◌, ◌∙◌, ℕ, suc, ◌+◌, ◌-◌, ◌<◌, ◌≤◌, List, [], ◌∷◌, ◌++◌, All, length, sym, ap, subst, arith}
-use Rattle.std.proofs.lemmas.List.{append-nil, append_assoc}
+use Rattle.std.proofs.Common.{◌≡◌, ◌∙◌, ℕ, suc, ◌+◌, ◌-◌, ◌<◌, ◌≤◌, List, [], ◌∷◌, ◌++◌, All, drop, length, length-set, replicate, slice_set, take, sym, ap, subst, arith}
+use Rattle.std.proofs.Math.Seq.{drop-append-add}
+use Rattle.std.proofs.lemmas.List.{append-nil, append_assoc, drop-drop, drop-set-lt, length-take-le, take-append-drop}
 use Rattle.std.proofs.lemmas.List.Elements.{All-head, All-tail}
 use Rattle.camel_tbcd.specs.ImsiOrder.{IsNumberOfNone, order_number}
 use Rattle.camel_tbcd.specs.PackedImsi.{digit_before, digits_in_places, digits_of_number}
+use Rattle.camel_tbcd.specs.ShortList.{IsKept}
 use Rattle.camel_tbcd.proofs.PackedImsiLemmas.{digits_of_order, read_at, rest_at}
 
 abbrev pub rest_behind : ℕ → ℕ → List ℕ
@@ -59,3 +61,25 @@ pub too_few : (number : ℕ) (first : List ℕ) → first ≡ digits_of_number n
 too_few number first are few digits is its =
     let same : first ≡ digits = are ∙ ap digits_of_number (sym its) ∙ digits_of_order digits is in
     absurd (omega (arith, ap length same, few, is.least))
+
+-- an item more in a room
+pub kept_more : (most at item : ℕ) (room : List ℕ) → at < most → IsKept most room at → IsKept most (slice_set room at item) (at + 1)
+kept_more most at item room lt kept =
+    let fill : List ℕ = replicate most 255 in
+    let items : List ℕ = take at room in
+    let more : List ℕ = take (at + 1) (slice_set room at item) in
+    let counted : length items ≡ at = length-take-le at room (omega (arith, lt, kept.full)) in
+    let one_more : length more ≡ at + 1 =
+    length-take-le (at + 1) (slice_set room at item) (omega (arith, lt, kept.full, length-set room at item)) in
+    let rest : drop (at + 1) (slice_set room at item) ≡ drop (at + 1) fill =
+    drop-set-lt (at + 1) room at item (omega arith)
+    ∙ ap (drop (at + 1)) kept.fill
+    ∙ ap (λ n. drop (n + 1) (items ++ drop (length items) fill)) (sym counted)
+    ∙ drop-append-add items (drop (length items) fill) 1
+    ∙ drop-drop 1 (length items) fill
+    ∙ ap (λ n. drop (n + 1) fill) counted in
+    record {
+      full = length-set room at item ∙ kept.full;
+      fits = omega (arith, lt);
+      fill = sym (take-append-drop (at + 1) (slice_set room at item)) ∙ ap (λ l. more ++ l) (rest ∙ ap (λ n. drop n fill) (sym one_more));
+    }

@@ -1,5 +1,6 @@
-ghost use Rattle.std.specs.Prelude.{◌≡◌, ◌≤◌, ◌<◌, ◌++◌, ◌∷◌, [], length};
-ghost use Rattle.camel_tbcd.specs.ImsiOrder.{order_number};
+ghost use Rattle.std.specs.Prelude.{◌≡◌, ◌≤◌, ◌<◌, ◌++◌, ◌∷◌, [], length, take};
+ghost use Rattle.camel_tbcd.specs.ImsiOrder.{IsNumberOf, order_number};
+ghost use Rattle.camel_tbcd.specs.ShortList.{IsKept};
 
 use crate::imsi::MAX_IMSI_DIGITS;
 use crate::short_list::ShortList;
@@ -13,15 +14,15 @@ pub(crate) struct FirstDigits {
 }
 
 impl Model for FirstDigits {
-    ghost use Rattle.std.specs.Prelude.{◌≡◌, ◌<◌, ◌^◌, ℕ, List, length};
+    ghost use Rattle.std.specs.Prelude.{ℕ, List, length};
     ghost use Rattle.std.proofs.Common.{sym};
-    ghost use Rattle.camel_tbcd.specs.ImsiOrder.{with_places};
+    ghost use Rattle.camel_tbcd.specs.ImsiOrder.{IsNumberOf, with_places};
 
     ghost Value = { List ℕ };
 
     ghost view = { λ a. a.digits };
 
-    ghost invariant = { λ a. (a.number ≡ with_places 0 (length a.digits) a.digits) × (a.number < 16 ^ length a.digits) };
+    ghost invariant = { λ a. IsNumberOf a.number a.digits };
 
     ghost inverse = { λ digits. record { digits = digits; number = with_places 0 (length digits) digits } };
 
@@ -36,6 +37,18 @@ impl FirstDigits {
         FirstDigits {
             digits: ShortList::new(),
             number: 0,
+        }
+    }
+
+    // The first `len` digits of a room, with their number.
+    pub(crate) fn of_room(room: [u8; MAX_IMSI_DIGITS], len: u8, number: u64) -> FirstDigits
+        requires kept { IsKept 15 room len }
+        requires number { IsNumberOf number (take len room) }
+        ensures { result ≡ take len room }
+    {
+        FirstDigits {
+            digits: ShortList::of_room(room, len),
+            number,
         }
     }
 

@@ -8,6 +8,7 @@ ghost use Rattle.camel_tbcd.specs.PackedImsi.{AreFewDigits, digits_of_number};
 
 use crate::first_digits::FirstDigits;
 use crate::imsi::{Imsi, MAX_IMSI_DIGITS};
+use crate::short_list::FILL;
 use std::marker::Model;
 
 /// An IMSI in 8 octets: the number of its digits only.
@@ -88,21 +89,24 @@ impl PackedImsi {
     }
 }
 
-// The digits in the places of a number, up to the first place that is empty; None if one holds more than a digit.
+// The digits in the places of a number, up to the first place that is empty; None if one holds more than a digit. What
+// the loop changes lies apart from the room, so that it stays in registers.
 pub(crate) fn digits_in_places(number: u64) -> Option<FirstDigits>
     ensures digits { IfSome result (λ first. (first ≡ digits_of_number number) × AreFewDigits first) }
     ensures none { IsNone result → IsNumberOfNone number }
 {
-    let mut first = FirstDigits::new();
+    let mut room = [FILL; MAX_IMSI_DIGITS];
+    let mut read = 0;
     for at in 0..MAX_IMSI_DIGITS {
         let value = (number >> (4 * (MAX_IMSI_DIGITS - 1 - at))) % 16;
         if value == 0 {
-            return Some(first);
+            return Some(FirstDigits::of_room(room, at as u8, read));
         }
         if value > 10 {
             return None;
         }
-        first.push((value - 1) as u8);
+        room[at] = (value - 1) as u8;
+        read = read * 16 + value;
     }
-    Some(first)
+    Some(FirstDigits::of_room(room, MAX_IMSI_DIGITS as u8, read))
 }

@@ -8,7 +8,7 @@ use Rattle.camel_c_data.proofs.number_criterion.numbers_with.Goals as goal
 
 pub loop-at-init : goal.loop-at-init
 unfolding each_of
-loop-at-init c = record { whole = refl; so_far = refl; }
+loop-at-init c = record { whole = refl; so_far = refl }
 
 pub loop-at-preserved : goal.loop-at-preserved
 loop-at-preserved c =
@@ -18,7 +18,10 @@ loop-at-preserved c =
     let number = c.index-numbers-at.result in
     record {
       whole = length-set room at _ ∙ c.loop-at.invariant.whole;
-      so_far = rw (take_more_set room at c.of.result (omega (arith, c.loop-at.invariant.whole, c.loop-at-test.true, c.requires)),
-        each_of-more isdn_address_in (take at room) c.of.result number c.of.ensures, c.loop-at.invariant.so_far)
-        (ap Ok (sym (take_more numbers at number c.loop-at-test.true ∙ ap (λ n. take at numbers ++ n ∷ []) (sym c.index-numbers-at.is))));
+      so_far = rw (
+        take_more_set room at c.of.result (omega (arith, c.loop-at.invariant.whole, c.loop-at-test.true, c.requires)),
+        each_of-more isdn_address_in (take at room) c.of.result number c.of.ensures,
+        c.loop-at.invariant.so_far,
+      )
+          (ap Ok (sym (take_more numbers at number c.loop-at-test.true ∙ ap (λ n. take at numbers ++ n ∷ []) (sym c.index-numbers-at.is))));
     }
