@@ -44,7 +44,7 @@ pub extern "C" fn camel_decide(
         ⊎ (HoldsLook session.old.value ⊎ (IsErr (event_in event.now) ⊎ (result ≡ 202))) }
 {
     match event.read() {
-        Ok(asked) => match replace_with(session, (alloc, asked), decide_by_handle) {
+        Ok(asked) => match replace_with(session, (alloc, &asked), decide_by_handle) {
             Ok(given) => {
                 *answer = CamelAnswer::of(&given);
                 0
@@ -57,9 +57,9 @@ pub extern "C" fn camel_decide(
 
 fn decide_by_handle(
     handle: CamelHandle,
-    with: (Global, CallEvent),
+    with: (Global, &CallEvent),
 ) -> (CamelHandle, Result<Answer, Failure>)
-    ensures decided { IfOk result.1 (λ given. Decides handle.value with.1 given result.0.value) }
+    ensures decided { IfOk result.1 (λ given. Decides handle.value with.entry.1.now given result.0.value) }
     ensures no_look { result.1 ≡ Err (failure.Refused refusal.NoGuard) → GetsNoLook handle.value result.0.value }
     ensures failed { IfErr result.1 (λ why. (why ≡ failure.Refused refusal.NoGuard) ⊎ (result.0.value ≡ handle.value)) }
     ensures only { HoldsSession handle.value → IfErr result.1 (λ why. why ≡ failure.Refused refusal.NoGuard) }
@@ -69,7 +69,7 @@ fn decide_by_handle(
     let (alloc, event) = with;
     match handle.into_box(alloc) {
         Some(mut held) => {
-            let given = decide_held(&mut *held, &event);
+            let given = decide_held(&mut *held, event);
             (CamelHandle::of(held), given)
         }
         None => (CamelHandle::empty(), Err(Failure::WrongHandle)),

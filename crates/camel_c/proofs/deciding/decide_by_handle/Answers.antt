@@ -8,7 +8,7 @@ use Rattle.camel_c.proofs.deciding.decide_by_handle.Goals as goal
 
 pub returns-in-Some-clause-decided : goal.returns-in-Some-clause-decided
 returns-in-Some-clause-decided c = let r = c.decide_held-given.result in
-    of_handles (λ (before after : Option Object). IfOk r (λ given. Decides before c.args.with.1 given after))
+    of_handles (λ (before after : Option Object). IfOk r (λ given. Decides before c.args.with.1.now given after))
     c.in-Some.ensures c.deref_mut.ensures.value c.of.ensures c.decide_held-given.ensures.decided
 
 pub returns-in-Some-clause-looking : goal.returns-in-Some-clause-looking
