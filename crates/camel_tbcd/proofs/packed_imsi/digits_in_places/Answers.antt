@@ -1,5 +1,4 @@
-use Rattle.std.proofs.Common.{◌≡◌, ◌∙◌, ◌-◌, ◌+◌, ◌≤◌, ◌<◌, ◌∷◌, ◌++◌, ◌*◌, ◌^◌, [], length, length-set, slice_set, take, sym, ap, arith}
-use Rattle.std.proofs.lemmas.Grind.{common_steps}
+use Rattle.std.proofs.Common.{◌≡◌, ◌∙◌, ◌-◌, ◌+◌, ◌≤◌, ◌<◌, ◌∷◌, ◌++◌, ◌*◌, [], length, slice_set, take, sym, ap, arith}
 use Rattle.std.proofs.lemmas.List.{append-nil, length-take-le, take_more_set}
 use Rattle.std.proofs.lemmas.List.Elements.{All-append, All-cons, All-nil}
 use Rattle.camel_tbcd.proofs.FirstDigitLemmas.{grown_number}
@@ -11,12 +10,13 @@ use Rattle.camel_tbcd.proofs.packed_imsi.digits_in_places.Goals as goal
 pub returns-then-value-eq0-clause-digits : goal.returns-then-value-eq0-clause-digits
 returns-then-value-eq0-clause-digits c =
     let first = take c.loop-at.at c.loop-at.room in
-    rw c.of_room.ensures
-    (ends c.args.number c.loop-at.at first _ c.loop-at-test.true c.if-value-eq0.true c.loop-at.invariant.so_far,
-     record {
-       most = omega (arith, length-take-le c.loop-at.at c.loop-at.room (omega (arith, c.loop-at.invariant.kept.full, c.loop-at-test.true)), c.loop-at-test.true);
-       decimal = c.loop-at.invariant.decimal;
-     })
+    rw c.of_room.ensures (
+      ends c.args.number c.loop-at.at first _ c.loop-at-test.true c.if-value-eq0.true c.loop-at.invariant.so_far,
+      record {
+        most = omega (arith, length-take-le c.loop-at.at c.loop-at.room (omega (arith, c.loop-at.invariant.kept.full, c.loop-at-test.true)), c.loop-at-test.true);
+        decimal = c.loop-at.invariant.decimal;
+      },
+    )
 
 pub returns-then-value-gt10-clause-none : goal.returns-then-value-gt10-clause-none
 returns-then-value-gt10-clause-none c none =
@@ -59,8 +59,10 @@ returns-clause-digits c =
     let end : 15 - at ≡ 0 = omega (arith, c.loop-at-test.false) in
     let whole = rw end at c.loop-at.invariant.so_far in
     let last : at ≡ 15 = omega (arith, c.loop-at-test.false, c.loop-at.auto.at-end) in
-    let made = c.of_room-2.ensures ∙ ap (λ n. take n c.loop-at.room) (sym last) in
-    (made ∙ sym (append-nil (take at c.loop-at.room)) ∙ whole, rw made (record {
-      most = omega (arith, length-take-le at c.loop-at.room (omega (arith, c.loop-at.invariant.kept.full, last)), last);
-      decimal = c.loop-at.invariant.decimal;
-    }))
+    let made = c.of_room-2.ensures ∙ ap (λ n. take n c.loop-at.room) (sym last) in (
+      made ∙ sym (append-nil (take at c.loop-at.room)) ∙ whole,
+      rw made (record {
+        most = omega (arith, length-take-le at c.loop-at.room (omega (arith, c.loop-at.invariant.kept.full, last)), last);
+        decimal = c.loop-at.invariant.decimal;
+      }),
+    )

@@ -1,4 +1,4 @@
-use Rattle.std.proofs.Common.{◌≡◌, ◌∙◌, ◌<◌, length, ap, sym, arith}
+use Rattle.std.proofs.Common.{◌∙◌, ap, arith}
 use Rattle.camel_tbcd.specs.ImsiOrder.{order_number}
 use Rattle.camel_tbcd.proofs.PlaceLemmas.{other_number, too_few}
 use Rattle.camel_tbcd.proofs.imsi.Imsi.from_number.Goals as goal
