@@ -1,7 +1,5 @@
 #include "workload.h"
 
-#include "memory.h"
-
 enum { INTERNATIONAL = 0x91, NATIONAL = 0xA1 };
 
 static const uint64_t FIRST_NEVER_THERE = (uint64_t)1 << 25;
@@ -191,21 +189,20 @@ size_t count_of_events(uint64_t known)
     return count;
 }
 
-/* Nine of ten events are of known subscribers. */
-const struct event *events_of(uint64_t reader, uint64_t known)
+struct events events_of(uint64_t reader, uint64_t known)
 {
-    size_t count = count_of_events(known);
-    struct event *events = checked(aligned_alloc(64, count * sizeof *events));
-    uint64_t state = state_of(0x5EED0000 + reader);
-    for (size_t place = 0; place < count; place++) {
-        uint64_t whose = draw(&state), choice = draw(&state), digits = draw(&state);
-        uint64_t subscriber = (whose >> 8) % known;
-        bool is_known = whose % 10 != 0;
-        if (!is_known)
-            subscriber += FIRST_NEVER_THERE;
-        events[place] = event_of(subscriber, choice, digits, is_known && (choice >> 7 & 1) == 1);
-    }
-    return events;
+    return (struct events){ .state = state_of(0x5EED0000 + reader), .known = known };
+}
+
+/* Nine of ten events are of known subscribers. */
+struct event next_event(struct events *events)
+{
+    uint64_t *state = &events->state, whose = draw(state), choice = draw(state), digits = draw(state);
+    uint64_t subscriber = (whose >> 8) % events->known;
+    bool is_known = whose % 10 != 0;
+    if (!is_known)
+        subscriber += FIRST_NEVER_THERE;
+    return event_of(subscriber, choice, digits, is_known && (choice >> 7 & 1) == 1);
 }
 
 struct event probe_of(uint64_t subscriber)

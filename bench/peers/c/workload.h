@@ -74,8 +74,14 @@ uint64_t imsi_of(uint64_t subscriber);
 struct record record_of(uint64_t subscriber, uint32_t version);
 
 size_t count_of_events(uint64_t known);
-/* The events of a reader, which are never freed. */
-const struct event *events_of(uint64_t reader, uint64_t known);
+
+/* The events of a reader, in their order. */
+struct events {
+    uint64_t state, known;
+};
+
+struct events events_of(uint64_t reader, uint64_t known);
+struct event next_event(struct events *events);
 /* The event by which the data of a subscriber are looked at in the end. */
 struct event probe_of(uint64_t subscriber);
 
