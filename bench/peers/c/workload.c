@@ -1,5 +1,7 @@
 #include "workload.h"
 
+#include "memory.h"
+
 enum { INTERNATIONAL = 0x91, NATIONAL = 0xA1 };
 
 static const uint64_t FIRST_NEVER_THERE = (uint64_t)1 << 25;
@@ -214,18 +216,32 @@ struct event probe_of(uint64_t subscriber)
 
 struct changes changes_of(uint64_t known)
 {
-    return (struct changes){ .state = state_of(0x0DDBA11), .known = known };
+    bool *are_there = checked(calloc(comers_beside(known), sizeof *are_there));
+    return (struct changes){ .state = state_of(0x0DDBA11), .known = known, .are_there = are_there };
+}
+
+/* Whether a subscriber that comes and goes had a record, which it has from now on or not. */
+static bool was_there(struct changes *changes, uint64_t comer, bool is_there)
+{
+    bool was_there = changes->are_there[comer];
+    changes->are_there[comer] = is_there;
+    return was_there;
 }
 
 struct change next_change(struct changes *changes)
 {
-    uint64_t choice = draw(&changes->state), comer = FIRST_COMER + (choice >> 8) % comers_beside(changes->known);
+    uint64_t choice = draw(&changes->state), comer = (choice >> 8) % comers_beside(changes->known);
     uint32_t version = ++changes->made & 0x7FF;
     switch (choice % 10) {
     case 0:
-        return (struct change){ .subscriber = comer, .version = version };
+        return (struct change){
+            .subscriber = FIRST_COMER + comer,
+            .is_new = !was_there(changes, comer, true),
+            .version = version,
+        };
     case 1:
-        return (struct change){ .subscriber = comer, .is_cancel = true };
+        was_there(changes, comer, false);
+        return (struct change){ .subscriber = FIRST_COMER + comer, .is_cancel = true };
     default:
         return (struct change){ .subscriber = (choice >> 8) % changes->known, .version = version };
     }

@@ -88,12 +88,16 @@ struct event probe_of(uint64_t subscriber);
 struct change {
     uint64_t subscriber;
     bool is_cancel;
+    /* Whether the subscriber has no record before. */
+    bool is_new;
     uint32_t version;
 };
 
 /* The changes that a writer publishes, without an end. */
 struct changes {
     uint64_t state, known, made;
+    /* Which of the subscribers that come and go have a record. It is never freed. */
+    bool *are_there;
 };
 
 struct changes changes_of(uint64_t known);
