@@ -163,8 +163,8 @@ bench-vlr: need-python3 $(BENCH)
 	@bench/run-vlr
 
 # Says which Debian packages it needs, if one is missing.
-## Measures the store beside others in Rust and C: about a quarter of an hour, once its program is built.
-bench-peers: need-cargo need-gcc $(BENCH)
+## Measures the store beside others in Rust and C: about a quarter of an hour, once program and library are built.
+bench-peers: need-cargo need-gcc need-ar $(BENCH) library
 	$(say)
 	@bench/run-peers
 

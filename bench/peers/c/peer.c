@@ -1,4 +1,4 @@
-/* Answers the words of the protocol with the store of userspace RCU. */
+/* Answers the words of the protocol with the store that this is compiled with. */
 #include "memory.h"
 #include "runs.h"
 
@@ -8,8 +8,9 @@
 /* Prints the sum of all outcomes so far before each publication and in the end, and then the counts of outcomes. */
 static void check(uint64_t known, uint64_t count, uint64_t every, size_t batch)
 {
-    const struct event *events = events_of(0, known);
-    struct store *store = store_open(known);
+    const struct call *calls = calls_of(0, known);
+    struct store *store = store_open(known, 1);
+    struct session *session = store_session(store, 0);
     struct changes changes = changes_of(known);
     struct update *updates = checked(calloc(batch + 1, sizeof *updates));
     uint64_t sum = 0, kinds[KINDS] = { 0 };
@@ -19,7 +20,7 @@ static void check(uint64_t known, uint64_t count, uint64_t every, size_t batch)
             make_batch(&changes, updates, batch);
             store_publish(store, updates, batch);
         }
-        struct outcome outcome = store_decide(store, &events[place % count_of_events(known)]);
+        struct outcome outcome = store_decide(session, &calls[place % count_of_events(known)]);
         kinds[outcome.kind]++;
         sum += weighed(full(&outcome), place);
     }
@@ -56,7 +57,7 @@ int main(int count, char **words)
         struct measurement asked = measurement_of(words + 1);
         measure(&asked);
     } else {
-        fputs("urcu: not the words of the protocol\n", stderr);
+        fprintf(stderr, "%s: not the words of the protocol\n", words[0]);
         return 2;
     }
     store_leave();

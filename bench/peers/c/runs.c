@@ -23,7 +23,8 @@ struct run {
 
 struct reader {
     struct run *run;
-    const struct event *events;
+    struct session *session;
+    const struct call *calls;
     pthread_t thread;
     uint64_t decisions, checksum;
 };
@@ -87,18 +88,30 @@ static bool is_over(struct run *run)
     return atomic_load_explicit(&run->is_over, memory_order_relaxed);
 }
 
-static uint64_t sum_of_chunk(struct store *store, const struct event *events, size_t first)
+const struct call *calls_of(uint64_t reader, uint64_t known)
+{
+    size_t count = count_of_events(known);
+    struct call *calls = checked(aligned_alloc(64, count * sizeof *calls));
+    struct events events = events_of(reader, known);
+    for (size_t place = 0; place < count; place++) {
+        struct event event = next_event(&events);
+        calls[place] = call_of(&event);
+    }
+    return calls;
+}
+
+static uint64_t sum_of_chunk(struct session *session, const struct call *calls, size_t first)
 {
     uint64_t sum = 0;
     for (size_t place = first; place < first + CHUNK; place++) {
-        struct outcome outcome = store_decide(store, &events[place]);
+        struct outcome outcome = store_decide(session, &calls[place]);
         sum += weighed(stable(&outcome), place);
     }
     return sum;
 }
 
-/* Decides the events, again from the first after the last, until the run is over. */
-static void *read_events(void *argument)
+/* Decides the calls, again from the first after the last, until the run is over. */
+static void *read_calls(void *argument)
 {
     struct reader *reader = argument;
     struct run *run = reader->run;
@@ -106,7 +119,7 @@ static void *read_events(void *argument)
     uint64_t decisions = 0, checksum = 0;
     wait_for_start(run);
     while (!is_over(run)) {
-        checksum += sum_of_chunk(run->store, reader->events, decisions % count);
+        checksum += sum_of_chunk(reader->session, reader->calls, decisions % count);
         decisions += CHUNK;
     }
     store_leave();
@@ -178,7 +191,7 @@ static void run_once(struct run *run, struct reader *readers, int64_t taken)
     atomic_store(&run->is_over, false);
     pthread_barrier_init(&run->start, NULL, count + writes + 1);
     for (unsigned place = 0; place < count; place++)
-        start_thread(&readers[place].thread, read_events, &readers[place]);
+        start_thread(&readers[place].thread, read_calls, &readers[place]);
     if (writes)
         start_thread(&writer.thread, write_batches, &writer);
     pthread_barrier_wait(&run->start);
@@ -194,22 +207,23 @@ static void run_once(struct run *run, struct reader *readers, int64_t taken)
     print_run(readers, &writer, taken, reading);
 }
 
-static uint64_t weighed_probe(struct store *store, uint64_t subscriber, uint64_t place)
+static uint64_t weighed_probe(struct session *session, uint64_t subscriber, uint64_t place)
 {
     struct event probe = probe_of(subscriber);
-    struct outcome outcome = store_decide(store, &probe);
+    struct call call = call_of(&probe);
+    struct outcome outcome = store_decide(session, &call);
     return weighed(full(&outcome), place);
 }
 
 /* The sum over the data of all known subscribers, or of every tenth if there are more than 100,000, and of all that
  * come and go. */
-static uint64_t last_sum(struct store *store, uint64_t known)
+static uint64_t last_sum(struct session *session, uint64_t known)
 {
     uint64_t sum = 0, place = 0, step = known > 100000 ? 10 : 1;
     for (uint64_t subscriber = 0; subscriber < known; subscriber += step)
-        sum += weighed_probe(store, subscriber, place++);
+        sum += weighed_probe(session, subscriber, place++);
     for (uint64_t comer = 0; comer < comers_beside(known); comer++)
-        sum += weighed_probe(store, FIRST_COMER + comer, place++);
+        sum += weighed_probe(session, FIRST_COMER + comer, place++);
     return sum;
 }
 
@@ -218,14 +232,17 @@ void measure(const struct measurement *asked)
     struct run run = { .asked = asked, .changes = changes_of(asked->known) };
     struct reader *readers = checked(calloc(asked->readers + 1, sizeof *readers));
     for (unsigned place = 0; place < asked->readers; place++)
-        readers[place] = (struct reader){ .run = &run, .events = events_of(place, asked->known) };
+        readers[place] = (struct reader){ .run = &run, .calls = calls_of(place, asked->known) };
     int64_t before = resident();
-    run.store = store_open(asked->known);
+    /* One session more looks at the data in the end. */
+    run.store = store_open(asked->known, asked->readers + 1);
     int64_t taken = resident() - before;
+    for (unsigned place = 0; place < asked->readers; place++)
+        readers[place].session = store_session(run.store, place);
     store_pause();
     for (unsigned repeated = 0; repeated < asked->repeat; repeated++)
         run_once(&run, readers, taken);
     store_resume();
-    printf("final %016" PRIx64 "\n", last_sum(run.store, asked->known));
+    printf("final %016" PRIx64 "\n", last_sum(store_session(run.store, asked->readers), asked->known));
     free(readers);
 }

@@ -16,6 +16,9 @@ struct measurement {
 /* Makes a store, and prints a line for each run and one for the data that all of them leave. */
 void measure(const struct measurement *asked);
 
+/* The calls of a reader, which are never freed. */
+const struct call *calls_of(uint64_t reader, uint64_t known);
+
 /* Makes the next updates of a writer. */
 void make_batch(struct changes *changes, struct update *batch, size_t count);
 

@@ -1,19 +1,16 @@
-/* The store of the peer: a hash table of userspace RCU, whose readers take no lock and write nothing shared. */
+/* A store of subscribers. Each folder here has one, and with it the forms in which it takes calls and updates. */
 #ifndef STORE_H
 #define STORE_H
-#include "workload.h"
+#include "forms.h"
 
 struct store;
-struct subscriber;
+struct session;
 
-/* The record that an IMSI gets, or that none remains. */
-struct update {
-    uint64_t imsi;
-    struct subscriber *put;
-};
-
-/* A store with so many known subscribers, from a thread that has joined. It lasts as long as the program. */
-struct store *store_open(uint64_t known);
+/* A store with so many known subscribers and so many sessions, from a thread that has joined. It lasts as long as the
+ * program. */
+struct store *store_open(uint64_t known, unsigned sessions);
+/* By a session one thread at a time decides. */
+struct session *store_session(struct store *store, unsigned place);
 
 /* Each thread that reads or writes joins first, and leaves in the end. */
 void store_join(void);
@@ -22,10 +19,11 @@ void store_leave(void);
 void store_pause(void);
 void store_resume(void);
 
-struct outcome store_decide(struct store *store, const struct event *event);
+struct call call_of(const struct event *event);
+struct outcome store_decide(struct session *session, const struct call *call);
 
 struct update update_of(struct change change);
-/* Makes the updates one by one. Each decision that begins afterwards is made over all of them. */
+/* Makes the updates. Each decision that begins afterwards is made over all of them. */
 void store_publish(struct store *store, const struct update *updates, size_t count);
 
 #endif

@@ -191,21 +191,20 @@ size_t count_of_events(uint64_t known)
     return count;
 }
 
-/* Nine of ten events are of known subscribers. */
-const struct event *events_of(uint64_t reader, uint64_t known)
+struct events events_of(uint64_t reader, uint64_t known)
 {
-    size_t count = count_of_events(known);
-    struct event *events = checked(aligned_alloc(64, count * sizeof *events));
-    uint64_t state = state_of(0x5EED0000 + reader);
-    for (size_t place = 0; place < count; place++) {
-        uint64_t whose = draw(&state), choice = draw(&state), digits = draw(&state);
-        uint64_t subscriber = (whose >> 8) % known;
-        bool is_known = whose % 10 != 0;
-        if (!is_known)
-            subscriber += FIRST_NEVER_THERE;
-        events[place] = event_of(subscriber, choice, digits, is_known && (choice >> 7 & 1) == 1);
-    }
-    return events;
+    return (struct events){ .state = state_of(0x5EED0000 + reader), .known = known };
+}
+
+/* Nine of ten events are of known subscribers. */
+struct event next_event(struct events *events)
+{
+    uint64_t *state = &events->state, whose = draw(state), choice = draw(state), digits = draw(state);
+    uint64_t subscriber = (whose >> 8) % events->known;
+    bool is_known = whose % 10 != 0;
+    if (!is_known)
+        subscriber += FIRST_NEVER_THERE;
+    return event_of(subscriber, choice, digits, is_known && (choice >> 7 & 1) == 1);
 }
 
 struct event probe_of(uint64_t subscriber)
@@ -217,18 +216,32 @@ struct event probe_of(uint64_t subscriber)
 
 struct changes changes_of(uint64_t known)
 {
-    return (struct changes){ .state = state_of(0x0DDBA11), .known = known };
+    bool *are_there = checked(calloc(comers_beside(known), sizeof *are_there));
+    return (struct changes){ .state = state_of(0x0DDBA11), .known = known, .are_there = are_there };
+}
+
+/* Whether a subscriber that comes and goes had a record, which it has from now on or not. */
+static bool was_there(struct changes *changes, uint64_t comer, bool is_there)
+{
+    bool was_there = changes->are_there[comer];
+    changes->are_there[comer] = is_there;
+    return was_there;
 }
 
 struct change next_change(struct changes *changes)
 {
-    uint64_t choice = draw(&changes->state), comer = FIRST_COMER + (choice >> 8) % comers_beside(changes->known);
+    uint64_t choice = draw(&changes->state), comer = (choice >> 8) % comers_beside(changes->known);
     uint32_t version = ++changes->made & 0x7FF;
     switch (choice % 10) {
     case 0:
-        return (struct change){ .subscriber = comer, .version = version };
+        return (struct change){
+            .subscriber = FIRST_COMER + comer,
+            .is_new = !was_there(changes, comer, true),
+            .version = version,
+        };
     case 1:
-        return (struct change){ .subscriber = comer, .is_cancel = true };
+        was_there(changes, comer, false);
+        return (struct change){ .subscriber = FIRST_COMER + comer, .is_cancel = true };
     default:
         return (struct change){ .subscriber = (choice >> 8) % changes->known, .version = version };
     }

@@ -74,20 +74,30 @@ uint64_t imsi_of(uint64_t subscriber);
 struct record record_of(uint64_t subscriber, uint32_t version);
 
 size_t count_of_events(uint64_t known);
-/* The events of a reader, which are never freed. */
-const struct event *events_of(uint64_t reader, uint64_t known);
+
+/* The events of a reader, in their order. */
+struct events {
+    uint64_t state, known;
+};
+
+struct events events_of(uint64_t reader, uint64_t known);
+struct event next_event(struct events *events);
 /* The event by which the data of a subscriber are looked at in the end. */
 struct event probe_of(uint64_t subscriber);
 
 struct change {
     uint64_t subscriber;
     bool is_cancel;
+    /* Whether the subscriber has no record before. */
+    bool is_new;
     uint32_t version;
 };
 
 /* The changes that a writer publishes, without an end. */
 struct changes {
     uint64_t state, known, made;
+    /* Which of the subscribers that come and go have a record. It is never freed. */
+    bool *are_there;
 };
 
 struct changes changes_of(uint64_t known);

@@ -1,8 +1,8 @@
 use super::figures::Figures;
 use super::programs::Program;
 
-/// The store that the peers are compared with, which is none of them.
-const PRODUCT: &str = "camel_vlr";
+/// The programs of the store that the peers are compared with, which are none of them.
+const PRODUCT: [&str; 2] = ["camel_vlr", "libcamel"];
 
 const HEAD: &str = "\
 | Subscribers | Program | A publication is seen | ns a decision | 4 readers to 1 | µs a publication of 10 \
@@ -26,7 +26,7 @@ fn least_of_peers(programs: &[Program], all: &[Option<Figures>]) -> Figures {
     let peers = programs
         .iter()
         .zip(all)
-        .filter(|(program, _)| program.name != PRODUCT);
+        .filter(|(program, _)| !PRODUCT.contains(&program.name.as_str()));
     peers
         .filter_map(|(_, figures)| *figures)
         .fold(Figures::default(), |least, of| Figures {

@@ -1,3 +1,4 @@
+/* A hash table of userspace RCU, whose readers take no lock and write nothing shared. */
 /* Code that is compatible with the LGPL, as that under the MIT license, may have the read sections inlined. */
 #define _LGPL_SOURCE
 #ifdef QSBR
@@ -21,8 +22,13 @@ struct subscriber {
     struct flat_record record;
 };
 
-struct store {
+/* All threads have the same session: the library knows each thread by itself. */
+struct session {
     struct cds_lfht *table;
+};
+
+struct store {
+    struct session session;
     struct subscriber *retired;
     size_t retired_count;
 };
@@ -47,6 +53,12 @@ void store_pause(void)
 void store_resume(void)
 {
     rcu_thread_online();
+}
+
+struct session *store_session(struct store *store, unsigned place)
+{
+    (void)place;
+    return &store->session;
 }
 
 /* ---- looks ---- */
@@ -74,11 +86,16 @@ static struct cds_lfht_node *find(struct cds_lfht *table, const uint64_t *imsi)
     return cds_lfht_iter_get_node(&iterator);
 }
 
-struct outcome store_decide(struct store *store, const struct event *event)
+struct call call_of(const struct event *event)
+{
+    return (struct call){ *event };
+}
+
+struct outcome store_decide(struct session *session, const struct call *call)
 {
     rcu_read_lock();
-    struct cds_lfht_node *node = find(store->table, &event->imsi);
-    struct outcome outcome = decide(node == NULL ? NULL : &subscriber_of(node)->record, event);
+    struct cds_lfht_node *node = find(session->table, &call->event.imsi);
+    struct outcome outcome = decide(node == NULL ? NULL : &subscriber_of(node)->record, &call->event);
     rcu_read_unlock();
     rcu_quiescent_state();
     return outcome;
@@ -138,7 +155,7 @@ void store_publish(struct store *store, const struct update *updates, size_t cou
 {
     rcu_read_lock();
     for (size_t place = 0; place < count; place++) {
-        struct cds_lfht_node *node = replaced_by(store->table, &updates[place]);
+        struct cds_lfht_node *node = replaced_by(store->session.table, &updates[place]);
         if (node != NULL)
             retire(store, subscriber_of(node));
     }
@@ -149,13 +166,14 @@ void store_publish(struct store *store, const struct update *updates, size_t cou
 }
 
 /* The table counts its subscribers. If it has only the lengths of its chains to go by, it grows far too much. */
-struct store *store_open(uint64_t known)
+struct store *store_open(uint64_t known, unsigned sessions)
 {
+    (void)sessions;
     struct store *store = checked(calloc(1, sizeof *store));
     unsigned long size = 1;
     while (size < known)
         size *= 2;
-    store->table = checked(cds_lfht_new(size, 1, 0, CDS_LFHT_AUTO_RESIZE | CDS_LFHT_ACCOUNTING, NULL));
+    store->session.table = checked(cds_lfht_new(size, 1, 0, CDS_LFHT_AUTO_RESIZE | CDS_LFHT_ACCOUNTING, NULL));
     for (uint64_t subscriber = 0; subscriber < known; subscriber++) {
         struct update update = update_of((struct change){ .subscriber = subscriber });
         store_publish(store, &update, 1);
