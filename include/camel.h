@@ -5,8 +5,8 @@
  * and 14. The library is libcamel.a. C11 and C++17.
  *
  * Handles. A handle is some words of the caller's memory, empty if all of its bytes are 0 (CAMEL_EMPTY). The library
- * fills it, and camel_free or camel_close empties it. Never write its fields, and never copy a full one: to move it, copy
- * its bytes and forget the old ones.
+ * fills it, and camel_free or camel_close empties it. Never write its fields, and never copy a full one: to move it,
+ * copy its bytes and forget the old ones.
  *
  * Threads. The store's handle is the writer's, and each session's handle that of one thread. A handle moves to another
  * thread by a lock, by a thread's start or join, or by a sequentially consistent atomic. It is in one call at a time;
@@ -108,8 +108,8 @@ typedef struct { bool has_o; bool has_o_criteria; bool has_vt; bool has_t_criter
 /* What a Delete removes, each with its criteria. */
 typedef struct { bool o; bool vt; bool everything; } camel_withdrawal;
 
-/* A call event. The destination and is_forwarded are read at detection points 2 and 4, the cause (0 to 127) at 4, 13 and
- * 14. */
+/* A call event. The destination and is_forwarded are read at detection points 2 and 4, the cause (0 to 127) at 4, 13
+ * and 14. */
 typedef struct {
     camel_imsi imsi;
     camel_address destination;
@@ -128,8 +128,8 @@ enum {
     CAMEL_CRITERIA = 5   /* the criteria are not met */
 };
 
-/* An answer. If a service is invoked, key, scf, dp and is_release are those of the row, and reason is 0; else they are 0,
- * with no octets of an address. */
+/* An answer. If a service is invoked, key, scf, dp and is_release are those of the row, and reason is 0; else they are
+ * 0, with no octets of an address. */
 typedef struct {
     uint64_t front; /* how many updates the data have by which it was decided */
     uint32_t key;
@@ -191,14 +191,14 @@ camel_status camel_decide(camel_session *session, const camel_event *event, came
 camel_status camel_look(camel_session *session);
 camel_status camel_leave(camel_session *session);
 
-/* The row of a subscriber at a detection point, over the look that has begun, or else by a look of its own. is_there tells
- * whether there is one; if not, the row is as before. Its default call handling is 0, continue, or 1, release. */
+/* The row of a subscriber at a detection point, over the look that has begun, or else by a look of its own. is_there
+ * tells whether there is one; if not, the row is as before. Its default call handling is 0, continue, or 1, release. */
 camel_status camel_row_at(camel_session *session, const camel_imsi *imsi, uint8_t dp, camel_row *row, bool *is_there);
 
 /* Fills a handle with a copy of the record of a subscriber, which a call keeps from its set-up to its later detection
  * points; is_there tells whether there is a record, and if there is none, the handle stays empty. What is decided by it
- * has the front of the copy. The IMSI of an event is not compared: events are those of the same subscriber. If memory is
- * refused, the session may have seen a later front. */
+ * has the front of the copy. The IMSI of an event is not compared: events are those of the same subscriber. If memory
+ * is refused, the session may have seen a later front. */
 camel_status camel_keep(camel_session *session, const camel_imsi *imsi, camel_subscriber *subscriber, bool *is_there);
 camel_status camel_decide_kept(camel_subscriber *subscriber, const camel_event *event, camel_answer *answer);
 
@@ -206,8 +206,8 @@ camel_status camel_decide_kept(camel_subscriber *subscriber, const camel_event *
  * that the store has ended, the writer's other calls return CAMEL_WRONG_HANDLE, and this is to be called again. */
 camel_status camel_close(camel_store *store);
 
-/* Frees what a handle of any kind holds, and empties it; an empty one stays so. A store that is freed so leaves it to the
- * looks that are held to free the data. */
+/* Frees what a handle of any kind holds, and empties it; an empty one stays so. A store that is freed so leaves it to
+ * the looks that are held to free the data. */
 void camel_free(void *handle);
 
 /* The name of a status, as in this file; "CAMEL_?" of no status. */
