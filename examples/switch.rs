@@ -2,7 +2,7 @@
 //! publication that is held and tried again, the data of a call kept from detection point 2 to 4, and the end. It does
 //! what switch.c does, and prints the same. It ends with status 1 at the first call that does not do what is expected.
 //!
-//! In bindings/rust: `CAMEL_LIB_DIR=FOLDER cargo run --example switch`, with the folder of libcamel.a.
+//! In bindings/rust: `CAMEL_LIB_DIR=FOLDER cargo run --example switch`, with the whole path of libcamel.a's folder.
 use camel::{
     Address, Answer, BasicService, Cause, Csis, Error, Event, Imsi, IsdnAddress, MAX_UPDATES,
     MatchType, NumberCriterion, OCriteria, OnFailure, Outcome, Profile, Receipt, Row, Session,
