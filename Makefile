@@ -137,11 +137,7 @@ library: need-rt need-python3 need-ar
 
 ## Copies the library and its headers to PREFIX: a second, once it is built.
 install: library
-	@mkdir -p "$(PREFIX)/lib/pkgconfig" "$(PREFIX)/include"
-	@cp out/library/libcamel.a "$(PREFIX)/lib/"
-	@cp out/library/camel.h out/library/camel.hpp "$(PREFIX)/include/"
-	@cp out/library/camel.pc "$(PREFIX)/lib/pkgconfig/"
-	@echo "$(PREFIX) has libcamel.a, its headers and camel.pc" >&2
+	@.ci/install "$(PREFIX)"
 
 # The soak makes DECISIONS, and COUNT calls have random fields.
 ## Compiles and runs the tests, the examples and the bindings of the library: a minute, once it is built.
