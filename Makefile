@@ -119,11 +119,12 @@ streams: need-python3 $(PROGRAM)
 	@.ci/streams
 
 # The round trip is that of so many CALLS.
-## Runs the program as the child of a switch in C: seconds, once it is built.
-coprocess: need-cc $(PROGRAM)
+## Runs the program as the child of a switch in C, and of the first call through pipes: seconds, once it is built.
+coprocess: need-cc need-python3 $(PROGRAM)
 	$(say)
 	@$(CC) -std=c11 -O2 -Wall -Wextra -o $(COPROCESS) examples/coprocess.c
 	@$(COPROCESS) $(PROGRAM) $(CALLS)
+	@.ci/first-calls docs/INTEGRATION.md crates
 
 ## Refuses each request for memory in turn: some minutes, once its program is built.
 refusals: $(REFUSALS)
