@@ -119,11 +119,12 @@ streams: need-python3 $(PROGRAM)
 	@.ci/streams
 
 # The round trip is that of so many CALLS.
-## Runs the program as the child of a switch in C: seconds, once it is built.
-coprocess: need-cc $(PROGRAM)
+## Runs the program as the child of a switch in C, and of the first call through pipes: seconds, once it is built.
+coprocess: need-cc need-python3 $(PROGRAM)
 	$(say)
 	@$(CC) -std=c11 -O2 -Wall -Wextra -o $(COPROCESS) examples/coprocess.c
 	@$(COPROCESS) $(PROGRAM) $(CALLS)
+	@.ci/first-calls docs/INTEGRATION.md crates
 
 ## Refuses each request for memory in turn: some minutes, once its program is built.
 refusals: $(REFUSALS)
@@ -137,11 +138,7 @@ library: need-rt need-python3 need-ar
 
 ## Copies the library and its headers to PREFIX: a second, once it is built.
 install: library
-	@mkdir -p "$(PREFIX)/lib/pkgconfig" "$(PREFIX)/include"
-	@cp out/library/libcamel.a "$(PREFIX)/lib/"
-	@cp out/library/camel.h out/library/camel.hpp "$(PREFIX)/include/"
-	@cp out/library/camel.pc "$(PREFIX)/lib/pkgconfig/"
-	@echo "$(PREFIX) has libcamel.a, its headers and camel.pc" >&2
+	@.ci/install "$(PREFIX)"
 
 # The soak makes DECISIONS, and COUNT calls have random fields.
 ## Compiles and runs the tests, the examples and the bindings of the library: a minute, once it is built.

@@ -1,14 +1,15 @@
-//! A switch to begin with, over the crate `camel`: a writer, two call-control threads, receipts over channels, a
-//! publication that is held and tried again, the data of a call kept from detection point 2 to 4, and the end. It does
-//! what switch.c does, and prints the same. It ends with status 1 at the first call that does not do what is expected.
+//! A switch to begin with, over the crate `camel`: a writer, two call-control threads, receipts over a queue of the
+//! switch's own, a publication that is held and tried again, the data of a call kept from detection point 2 to 4, and
+//! the end. It does what switch.c does, and prints the same. It ends with status 1 at the first call that does not do
+//! what is expected.
 //!
-//! In bindings/rust: `CAMEL_LIB_DIR=FOLDER cargo run --example switch`, with the folder of libcamel.a.
+//! In bindings/rust: `CAMEL_LIB_DIR=FOLDER cargo run --example switch`, with the whole path of libcamel.a's folder.
 use camel::{
     Address, Answer, BasicService, Cause, Csis, Error, Event, Imsi, IsdnAddress, MAX_UPDATES,
     MatchType, NumberCriterion, OCriteria, OnFailure, Outcome, Profile, Receipt, Row, Session,
     Store, Update, Withdrawal,
 };
-use std::sync::mpsc::{Receiver, Sender, channel};
+use std::sync::{Arc, Mutex};
 use std::thread;
 
 const THREADS: usize = 2;
@@ -26,15 +27,27 @@ fn expect<T>(what: &str, result: Result<T, Error>, wanted: Error) -> Outcomes<()
     }
 }
 
+/// One receipt on its way to a thread: the writer puts it there, and the thread takes it.
+#[derive(Clone, Default)]
+struct Queue(Arc<Mutex<Option<Receipt>>>);
+
+impl Queue {
+    /// Puts a receipt in the place of one that was not taken, since a later receipt says more.
+    fn put(&self, receipt: Receipt) -> Outcomes<()> {
+        *self.0.lock().map_err(|_| "a thread panicked")? = Some(receipt);
+        Ok(())
+    }
+
+    fn take(&self) -> Outcomes<Option<Receipt>> {
+        Ok(self.0.lock().map_err(|_| "a thread panicked")?.take())
+    }
+}
+
 /// A call-control thread: its session, what comes from the writer, the call that it decides, and how many triggered.
-fn decide_calls(
-    session: &mut Session,
-    receipts: &Receiver<Receipt>,
-    event: &Event,
-) -> Outcomes<u64> {
+fn decide_calls(session: &mut Session, queue: &Queue, event: &Event) -> Outcomes<u64> {
     let (mut front, mut triggered) = (0, 0);
     for _ in 0..CALLS {
-        for receipt in receipts.try_iter() {
+        if let Some(receipt) = queue.take()? {
             session.learn(&receipt)?;
         }
         let answer = session.decide(event)?;
@@ -109,12 +122,10 @@ fn submit_data(store: &mut Store, imsi: Imsi) -> Result<(), Error> {
 }
 
 /// Publishes, and hands each thread a receipt.
-fn publish_to(store: &mut Store, threads: &[Sender<Receipt>]) -> Outcomes<()> {
+fn publish_to(store: &mut Store, queues: &[Queue]) -> Outcomes<()> {
     store.publish()?;
-    for thread in threads {
-        thread
-            .send(store.receipt()?)
-            .map_err(|_| "a thread has ended")?;
+    for queue in queues {
+        queue.put(store.receipt()?)?;
     }
     Ok(())
 }
@@ -122,12 +133,12 @@ fn publish_to(store: &mut Store, threads: &[Sender<Receipt>]) -> Outcomes<()> {
 /// Runs the call-control threads, each with its session, and gives back the sessions.
 fn run_calls(store: &mut Store, sessions: Vec<Session>, imsi: Imsi) -> Outcomes<Vec<Session>> {
     let event = set_up_of(imsi)?;
-    let (senders, receivers): (Vec<_>, Vec<_>) = sessions.iter().map(|_| channel()).unzip();
-    publish_to(store, &senders)?;
-    let threads: Vec<_> = (sessions.into_iter().zip(receivers))
-        .map(|(mut session, receipts)| {
+    let queues: Vec<_> = sessions.iter().map(|_| Queue::default()).collect();
+    publish_to(store, &queues)?;
+    let threads: Vec<_> = (sessions.into_iter().zip(queues.iter().cloned()))
+        .map(|(mut session, queue)| {
             thread::spawn(move || {
-                decide_calls(&mut session, &receipts, &event).map(|triggered| (session, triggered))
+                decide_calls(&mut session, &queue, &event).map(|triggered| (session, triggered))
             })
         })
         .collect();

@@ -2,11 +2,11 @@
  *
  * A store has the O-CSI and VT-CSI of each subscriber, with their criteria, as the HLR sends them. One writer submits
  * updates and publishes them; each call-control thread has a session, and asks at trigger detection points 2, 4, 12, 13
- * and 14. The library is libcamel.a. C11 and C++17.
+ * and 14. C11 and C++17. The library is libcamel.a, for Linux on x86-64, and needs the C library only.
  *
  * Handles. A handle is some words of the caller's memory, empty if all of its bytes are 0 (CAMEL_EMPTY). The library
- * fills it, and camel_free or camel_close empties it. Never write its fields, and never copy a full one: to move it, copy
- * its bytes and forget the old ones.
+ * fills it, and camel_free or camel_close empties it. Never write its fields, and never copy a full one: to move it,
+ * copy its bytes and forget the old ones.
  *
  * Threads. The store's handle is the writer's, and each session's handle that of one thread. A handle moves to another
  * thread by a lock, by a thread's start or join, or by a sequentially consistent atomic. It is in one call at a time;
@@ -31,7 +31,8 @@
 extern "C" {
 #endif
 
-/* The version of the layouts and of the functions below. camel_abi_version returns that of the library. */
+/* The version of the layouts and of the functions below. camel_abi_version returns that of the library: compare the two
+ * once, before all other calls. */
 #define CAMEL_ABI_VERSION 1
 
 /* What a call returns: CAMEL_OK, or why it did nothing. */
@@ -68,7 +69,8 @@ typedef struct { uint8_t length; uint8_t octets[20]; } camel_address;
 /* An ISDN-AddressString, as a gsmSCF address or a number of a criterion: the first `length` octets, 1 to 9. */
 typedef struct { uint8_t length; uint8_t octets[9]; } camel_isdn_address;
 
-/* A basic service: the first octet of its code. */
+/* A basic service: the first octet of its code, which is that of a bearer service, or else of a teleservice. Telephony
+ * is the teleservice 0x11. */
 typedef struct { bool is_bearer; uint8_t code; } camel_basic_service;
 
 /* A row of a CSI. Service keys are at most 2147483647; the default call handling is given as it was received. */
@@ -82,6 +84,8 @@ typedef struct {
 /* The criteria of an entry. A list of none is absent. */
 typedef struct { uint8_t count; camel_basic_service services[5]; } camel_basic_services;
 typedef struct { uint8_t count; uint8_t causes[5]; } camel_causes;
+
+/* The destination number criterion: up to 10 numbers, up to 3 lengths of 1 to 15 digits, and one of either at least. */
 typedef struct {
     bool is_enabling; /* else the criterion is met by a destination that is not listed */
     uint8_t number_count;
@@ -108,8 +112,8 @@ typedef struct { bool has_o; bool has_o_criteria; bool has_vt; bool has_t_criter
 /* What a Delete removes, each with its criteria. */
 typedef struct { bool o; bool vt; bool everything; } camel_withdrawal;
 
-/* A call event. The destination and is_forwarded are read at detection points 2 and 4, the cause (0 to 127) at 4, 13 and
- * 14. */
+/* A call event. The destination and is_forwarded are read at detection points 2 and 4, the cause (0 to 127) at 4, 13
+ * and 14. */
 typedef struct {
     camel_imsi imsi;
     camel_address destination;
@@ -128,8 +132,8 @@ enum {
     CAMEL_CRITERIA = 5   /* the criteria are not met */
 };
 
-/* An answer. If a service is invoked, key, scf, dp and is_release are those of the row, and reason is 0; else they are 0,
- * with no octets of an address. */
+/* An answer. If a service is invoked, key, scf, dp and is_release are those of the row, and reason is 0; else they are
+ * 0, with no octets of an address. */
 typedef struct {
     uint64_t front; /* how many updates the data have by which it was decided */
     uint32_t key;
@@ -152,15 +156,16 @@ camel_status camel_imsi_of_digits(const uint8_t *digits, size_t digit_count, cam
 camel_status camel_address_of(const uint8_t *octets, size_t octet_count, camel_address *address);
 camel_status camel_isdn_address_of(const uint8_t *octets, size_t octet_count, camel_isdn_address *address);
 
-/* Opens a store that takes at most `limit` updates (1 to 2^63 - 1), with 1 to 64 sessions, which decide under profile 1
- * or 2. The seed is secret and random. All handles are filled, or none is: CAMEL_MALFORMED, CAMEL_FULL_HANDLE,
- * CAMEL_OUT_OF_MEMORY, CAMEL_NO_PLACE. */
+/* Opens a store that takes at most `limit` updates in its life (1 to 2^63 - 1; a great limit takes no memory), with 1
+ * to 64 sessions, which decide under profile 1 or 2. The seed is secret and random. All handles are filled, or none is:
+ * CAMEL_MALFORMED, CAMEL_FULL_HANDLE, CAMEL_OUT_OF_MEMORY, CAMEL_NO_PLACE. */
 camel_status camel_open(camel_store *store, camel_session *sessions, size_t session_count, uint64_t limit,
                         uint8_t profile, uint64_t seed);
 
-/* The writer. No call sees an update before it is published. Each returns CAMEL_UNIDENTIFIED_SUBSCRIBER,
- * CAMEL_DATA_MISSING, CAMEL_HISTORY_FULL or CAMEL_OUT_OF_MEMORY if the store rejects it, and CAMEL_MALFORMED or
- * CAMEL_UNEXPECTED_DATA_VALUE for its data, which are looked at first. */
+/* The writer. No call sees an update before it is published. Each returns CAMEL_MALFORMED, CAMEL_UNEXPECTED_DATA_VALUE
+ * or CAMEL_DATA_MISSING for its data, which are looked at first, and CAMEL_UNIDENTIFIED_SUBSCRIBER, CAMEL_DATA_MISSING,
+ * CAMEL_HISTORY_FULL or CAMEL_OUT_OF_MEMORY if the store rejects it. The pointer of a list that an Insert does not send
+ * is not null either. */
 camel_status camel_submit_register(camel_store *store, const camel_imsi *imsi);
 camel_status camel_submit_insert(camel_store *store, const camel_imsi *imsi, const camel_insert *sent,
                                  const camel_row *o, size_t o_count,
@@ -171,18 +176,21 @@ camel_status camel_submit_delete(camel_store *store, const camel_imsi *imsi, con
 camel_status camel_submit_cancel(camel_store *store, const camel_imsi *imsi);
 camel_status camel_submit_clear_all(camel_store *store);
 
-/* Publishes all that is pending. CAMEL_HELD: a look that began before the last publication is held; all is pending as
- * before. */
+/* Publishes all that is pending, also if nothing is. CAMEL_HELD: a look that began before the last publication is held.
+ * CAMEL_OUT_OF_MEMORY. After both all is pending as before. */
 camel_status camel_publish(camel_store *store);
+
+/* How many updates are published, and how many are pending. */
 camel_status camel_published(camel_store *store, uint64_t *count);
 camel_status camel_pending(camel_store *store, uint64_t *count);
 
 /* Fills a handle with a receipt of all that is published. A session that learns it sees at least that from then on; any
- * number of sessions may learn it. camel_learn returns CAMEL_HELD while a look has begun. */
+ * number of sessions may learn it, before it is freed. camel_learn returns CAMEL_HELD while a look has begun. */
 camel_status camel_receipt_of(camel_store *store, camel_receipt *receipt);
 camel_status camel_learn(camel_session *session, camel_receipt *receipt);
 
-/* Decides an event, over the look that has begun, or else by a look of its own. */
+/* Decides an event, over the look that has begun, or else by a look of its own. CAMEL_MALFORMED: the event is none.
+ * CAMEL_NO_LOOK: the store has ended; so it is with the other calls that look. */
 camel_status camel_decide(camel_session *session, const camel_event *event, camel_answer *answer);
 
 /* Begins a look, so that all calls until camel_leave are over one front. It lets the next publication go through, and
@@ -191,8 +199,8 @@ camel_status camel_decide(camel_session *session, const camel_event *event, came
 camel_status camel_look(camel_session *session);
 camel_status camel_leave(camel_session *session);
 
-/* The row of a subscriber at a detection point, over the look that has begun, or else by a look of its own. is_there tells
- * whether there is one; if not, the row is as before. Its default call handling is 0, continue, or 1, release. */
+/* The row of a subscriber at a detection point, over the look that has begun, or else by a look of its own. is_there
+ * tells whether there is one; if not, the row is as before. Its default call handling is 0, continue, or 1, release. */
 camel_status camel_row_at(camel_session *session, const camel_imsi *imsi, uint8_t dp, camel_row *row, bool *is_there);
 
 /* The criteria of a subscriber at a detection point of the O-CSI, or of the VT-CSI, as camel_row_at. They are there even
@@ -204,8 +212,8 @@ camel_status camel_t_criteria_at(camel_session *session, const camel_imsi *imsi,
 
 /* Fills a handle with a copy of the record of a subscriber, which a call keeps from its set-up to its later detection
  * points; is_there tells whether there is a record, and if there is none, the handle stays empty. What is decided by it
- * has the front of the copy. The IMSI of an event is not compared: events are those of the same subscriber. If memory is
- * refused, the session may have seen a later front. */
+ * has the front of the copy. The IMSI of an event is not compared: events are those of the same subscriber. If memory
+ * is refused, the session may have seen a later front. */
 camel_status camel_keep(camel_session *session, const camel_imsi *imsi, camel_subscriber *subscriber, bool *is_there);
 camel_status camel_decide_kept(camel_subscriber *subscriber, const camel_event *event, camel_answer *answer);
 
@@ -213,8 +221,8 @@ camel_status camel_decide_kept(camel_subscriber *subscriber, const camel_event *
  * that the store has ended, the writer's other calls return CAMEL_WRONG_HANDLE, and this is to be called again. */
 camel_status camel_close(camel_store *store);
 
-/* Frees what a handle of any kind holds, and empties it; an empty one stays so. A store that is freed so leaves it to the
- * looks that are held to free the data. */
+/* Frees what a handle of any kind holds, and empties it; an empty one stays so. A session leaves its look. A store that
+ * is freed so leaves it to the looks that are held to free the data. */
 void camel_free(void *handle);
 
 /* The name of a status, as in this file; "CAMEL_?" of no status. */

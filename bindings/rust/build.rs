@@ -4,7 +4,7 @@ use std::path::PathBuf;
 fn main() {
     println!("cargo:rerun-if-env-changed=CAMEL_LIB_DIR");
     let folder = match std::env::var_os("CAMEL_LIB_DIR") {
-        Some(folder) => PathBuf::from(folder),
+        Some(folder) => absolute(PathBuf::from(folder)),
         None => PathBuf::from(env!("CARGO_MANIFEST_DIR")).join("../../out/library"),
     };
     let archive = folder.join("libcamel.a");
@@ -17,4 +17,14 @@ fn main() {
     }
     println!("cargo:rustc-link-search=native={}", folder.display());
     println!("cargo:rustc-link-lib=static=camel");
+}
+
+/// The path, if it does not depend on the folder that it is read in, which is another one here than in the shell.
+fn absolute(folder: PathBuf) -> PathBuf {
+    assert!(
+        folder.is_absolute(),
+        "CAMEL_LIB_DIR is not an absolute path: {}",
+        folder.display()
+    );
+    folder
 }

@@ -18,7 +18,8 @@ _Static_assert(sizeof(camel_event) == 40, "camel_event");
 _Static_assert(sizeof(camel_answer) == 32, "camel_answer");
 _Static_assert(offsetof(camel_row, scf) == 8 && offsetof(camel_row, dp) == 18, "camel_row");
 _Static_assert(offsetof(camel_number_criterion, numbers) == 6, "camel_number_criterion");
-_Static_assert(offsetof(camel_o_criteria, number) == 2 && offsetof(camel_o_criteria, causes) == 121, "camel_o_criteria");
+_Static_assert(offsetof(camel_o_criteria, number) == 2, "camel_o_criteria");
+_Static_assert(offsetof(camel_o_criteria, causes) == 121, "camel_o_criteria");
 _Static_assert(offsetof(camel_event, basic) == 29 && offsetof(camel_event, cause) == 33, "camel_event");
 _Static_assert(offsetof(camel_answer, scf) == 12 && offsetof(camel_answer, reason) == 25, "camel_answer");
 
@@ -142,6 +143,36 @@ static void fields_of_events(camel_session *session)
     }
 }
 
+/* The default call handling is sent as it was received, and comes back as what it stands for. By TS 29.002 0 and 2 to
+ * 31 are continue, and 1 and all above 31 are release. */
+static void received_handlings(camel_store *store, camel_session *session)
+{
+    static const struct { uint32_t received; bool is_release; } cases[] = {
+        { 0, false }, { 1, true }, { 2, false }, { 3, false }, { 30, false }, { 31, false }, { 32, true }, { 33, true },
+        { 255, true }, { 256, true }, { 257, true }, { 0x80000000u, true }, { UINT32_MAX, true },
+    };
+    camel_imsi imsi = imsi_of(3);
+    camel_event event = event_of(3, 2);
+
+    RETURNS(CAMEL_OK, camel_submit_register(store, &imsi));
+    for (size_t at = 0; at < sizeof cases / sizeof cases[0]; at++) {
+        camel_row sent = row_of(2, 105), row = { .handling = 7 };
+        camel_answer answer = { .is_release = !cases[at].is_release };
+        bool is_there = false;
+
+        sent.handling = cases[at].received;
+        RETURNS(CAMEL_OK, insert(store, 3, &sent, 1, NULL, 0, NULL, 0, NULL, 0));
+        RETURNS(CAMEL_OK, camel_publish(store));
+        RETURNS(CAMEL_OK, camel_row_at(session, &imsi, 2, &row, &is_there));
+        RETURNS(CAMEL_OK, camel_decide(session, &event, &answer));
+        IS(is_there && answer.is_trigger);
+        if (row.handling != cases[at].is_release || answer.is_release != cases[at].is_release) {
+            printf("handling %u: %u, %d\n", sent.handling, row.handling, answer.is_release);
+            failed++;
+        }
+    }
+}
+
 int main(void)
 {
     camel_store store = CAMEL_EMPTY;
@@ -156,9 +187,10 @@ int main(void)
 
     IS(camel_layouts(of_library, 16) == sizeof sizes / sizeof sizes[0]);
     IS(memcmp(of_library, sizes, sizeof sizes) == 0);
-    RETURNS(CAMEL_OK, camel_open(&store, &session, 1, 10, 1, 1));
+    RETURNS(CAMEL_OK, camel_open(&store, &session, 1, 100, 1, 1));
     fields_come_back(&store, &session);
     fields_of_events(&session);
+    received_handlings(&store, &session);
     camel_free(&session);
     RETURNS(CAMEL_OK, camel_close(&store));
     return ended("layouts");

@@ -59,7 +59,8 @@ static void rejected_updates(camel_store *store)
     RETURNS(CAMEL_UNIDENTIFIED_SUBSCRIBER, insert(store, 1, &row, 1, NULL, 0, NULL, 0, NULL, 0));
     RETURNS(CAMEL_OK, camel_submit_register(store, &imsi));
     RETURNS(CAMEL_DATA_MISSING, insert(store, 1, NULL, 0, &criteria, 1, NULL, 0, NULL, 0));
-    RETURNS(CAMEL_DATA_MISSING, camel_submit_insert(store, &imsi, &sent, &row, 0, &criteria, 0, &row, 0, &t_criteria, 0));
+    RETURNS(CAMEL_DATA_MISSING,
+            camel_submit_insert(store, &imsi, &sent, &row, 0, &criteria, 0, &row, 0, &t_criteria, 0));
     RETURNS(CAMEL_UNEXPECTED_DATA_VALUE, insert(store, 1, &many, 1, NULL, 0, NULL, 0, NULL, 0));
     RETURNS(CAMEL_UNEXPECTED_DATA_VALUE, insert(store, 1, &row, 1, &causes, 1, NULL, 0, NULL, 0));
     RETURNS(CAMEL_MALFORMED, insert(store, 1, &nowhere, 1, NULL, 0, NULL, 0, NULL, 0));
@@ -156,6 +157,22 @@ static void held_and_ended(camel_store *store, camel_session *session, camel_ses
     RETURNS(CAMEL_OK, camel_leave(session));
 }
 
+/* A session that is freed leaves its look, which holds nothing up any more. */
+static void freed_behind_a_look(void)
+{
+    camel_store store = CAMEL_EMPTY;
+    camel_session session = CAMEL_EMPTY;
+
+    RETURNS(CAMEL_OK, camel_open(&store, &session, 1, 1, 1, 1));
+    RETURNS(CAMEL_OK, camel_look(&session));
+    RETURNS(CAMEL_OK, camel_publish(&store));
+    RETURNS(CAMEL_HELD, camel_publish(&store));
+    camel_free(&session);
+    RETURNS(CAMEL_OK, camel_publish(&store));
+    RETURNS(CAMEL_OK, camel_publish(&store));
+    RETURNS(CAMEL_OK, camel_close(&store));
+}
+
 int main(void)
 {
     camel_store store = CAMEL_EMPTY;
@@ -171,6 +188,7 @@ int main(void)
     held_and_ended(&store, &sessions[0], &sessions[1]);
     camel_free(&sessions[0]);
     camel_free(&sessions[1]);
+    freed_behind_a_look();
     IS(strcmp(camel_status_name(CAMEL_HELD), "CAMEL_HELD") == 0);
     return ended("statuses");
 }

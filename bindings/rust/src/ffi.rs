@@ -234,6 +234,9 @@ pub type FindAt<T> =
 
 unsafe extern "C" {
     pub fn camel_abi_version() -> u32;
+    // Only tests/layouts.rs calls it.
+    #[allow(dead_code)]
+    pub fn camel_layouts(sizes: *mut u32, size_count: usize) -> u32;
 
     pub fn camel_imsi_of_tbcd(octets: *const u8, octet_count: usize, imsi: *mut Imsi) -> Status;
     pub fn camel_imsi_of_digits(digits: *const u8, digit_count: usize, imsi: *mut Imsi) -> Status;

@@ -35,6 +35,7 @@ impl<T: Handle> Drop for Owned<T> {
     }
 }
 
-// SAFETY: the library proves that what a handle holds may be used by another thread. Each way by which Rust sends a value
-// makes the calls before it happen before those behind it, as the ways that `camel.h` names do.
+// SAFETY: the library proves that what a handle holds may be used by another thread. Each way by which Rust sends a
+// value makes the calls before it happen before those behind it; docs/LIBRARY.md ("What nothing checks") says why that
+// suffices, and what the toolchain itself asks.
 unsafe impl<T: Handle> Send for Owned<T> {}

@@ -25,8 +25,8 @@
 //!
 //! # Building
 //!
-//! `libcamel.a` is in the folder that the environment variable `CAMEL_LIB_DIR` names, or else in `out/library` at the
-//! top of the repository:
+//! `libcamel.a` is in the folder whose absolute path the environment variable `CAMEL_LIB_DIR` is, or else in
+//! `out/library` at the top of the repository:
 //!
 //! ```text
 //! CAMEL_LIB_DIR=/usr/local/lib cargo build
