@@ -1,22 +1,19 @@
 # `make` lists the targets: a line `## ` says what the target below it does, and how long that takes. `make test` passes
 # all tests: the gate, then the programs that must not compile, each script of examples/ and tests/scripts/ with all
 # that it leaves, each request for memory that is refused in turn, the program over streams and with signals as a user
-# meets them, the switch in C that has it as a child, a short soak, and scripts of bad octets.
+# meets them, the switch in C that has it as a child, the programs over the library with a short soak, and scripts of bad
+# octets.
 
 SCRIPT ?= examples/first-call.csv
 LIMIT ?= 1000000
 SEED ?= 1
-COUNT ?= 100000
 CALLS ?= 100000
-SECONDS ?= 60
-SUBSCRIBERS ?= 100000
-DECISIONS ?= 1000000
+SUBSCRIBERS ?= 10000
 PREFIX ?= /usr/local
 
 PROGRAM := crates/camel_replay/out/camel_replay
 BENCH := crates/camel_vlr_bench/out/camel_vlr_bench
 REFUSALS := crates/camel_refusals/out/camel_refusals
-SOAK := crates/camel_soak/out/camel_soak
 COPROCESS := crates/camel_replay/out/coprocess
 
 # How long it takes to prove and build a program.
@@ -38,8 +35,8 @@ define targets
 endef
 say = $(call targets,$@) >&2
 
-.PHONY: help try replay program check script crate pages examples scripts streams coprocess refusals soak fuzz library \
-	install library-test bench bench-program bench-vlr bench-peers count-vlr test
+.PHONY: help try replay program check script crate pages examples scripts streams coprocess refusals fuzz library \
+	install library-test soak fuzz-c bench bench-program bench-vlr bench-peers count-vlr test
 # In order, so that what is missing is said before anything is built.
 .NOTPARALLEL:
 .SECONDEXPANSION:
@@ -67,13 +64,11 @@ crate:
 
 # Proves and builds a program if a source below it is newer, and runs it once. What `rt ci` has built is newer than
 # its sources.
-$(PROGRAM) $(BENCH) $(REFUSALS) $(SOAK): $$(shell .ci/sources $$(@F))
+$(PROGRAM) $(BENCH) $(REFUSALS): $$(shell .ci/sources $$(@F))
 	@.ci/need rt python3
 	@echo "$(@F): proved and built with all that it stands on, $(FIRST); log: $(@D)/build.log" >&2
-	@.ci/build $(@F) $(ARGUMENTS)
+	@.ci/build $(@F)
 	@touch $@
-
-$(SOAK): ARGUMENTS := 0 1000
 
 # The output comes at the end, and is at most 1 MiB; the program has 60 seconds. `.ci/try` ends with the program's
 # status, or with 125 if it gave none. `make` ends with status 2 if that is not 0, and names it.
@@ -141,10 +136,26 @@ install: library
 	@.ci/install "$(PREFIX)"
 
 # The soak makes DECISIONS, and COUNT calls have random fields.
+library-test: DECISIONS ?= 1000000
+library-test: COUNT ?= 100000
 ## Compiles and runs the tests, the examples and the bindings of the library: a minute, once it is built.
 library-test: need-cc need-c++ need-cargo library
 	$(say)
 	@.ci/library-test $(DECISIONS) $(COUNT)
+
+# It makes so many DECISIONS, or goes on for so many SECONDS if they are given. Another SEED gives other calls and
+# updates.
+soak: DECISIONS ?= 100000000
+## Uses the library as a switch does, with a plain model beside it: minutes, once it is built.
+soak: need-cargo library
+	$(say)
+	@.ci/soak $(if $(SECONDS),--seconds $(SECONDS),--decisions $(DECISIONS)) --subscribers $(SUBSCRIBERS) --seed $(SEED)
+
+fuzz-c: COUNT ?= 1000000
+## Makes COUNT calls of the library with the random fields of SEED: seconds, once it is built.
+fuzz-c: need-cc library
+	$(say)
+	@.ci/fuzz-c $(COUNT) $(SEED)
 
 ## Measures the program beside a plain one in Rust: some minutes, once it is built.
 bench: need-rustc $(PROGRAM)
@@ -170,15 +181,8 @@ count-vlr: need-valgrind $(BENCH)
 	$(say)
 	@bench/count-vlr
 
-# One store for so many seconds, with as many sessions as there are cores. Another seed gives other calls and updates.
-# The C library is set to give large pieces of memory back when they are freed. By itself it comes to keep larger and
-# larger ones, and they would count as memory that the store takes.
-## Uses one store as a switch does: SECONDS, once its program is built.
-soak: $(SOAK)
-	$(say)
-	@MALLOC_MMAP_THRESHOLD_=131072 $(SOAK) $(SECONDS) $(SUBSCRIBERS) $(SEED)
-
 # COUNT scripts of bad octets that SEED makes, scripts that are far too long, and each beginning of each script.
+fuzz: COUNT ?= 100000
 ## Replays COUNT scripts of bad octets: 2 to 5 minutes for 100,000, once the program is built.
 fuzz: need-python3 $(PROGRAM)
 	$(say)
@@ -194,5 +198,4 @@ test: need-rt need-python3 need-cc
 	@$(MAKE) --no-print-directory streams coprocess CALLS=1000
 	@$(MAKE) --no-print-directory library
 	@.ci/library-test 1000000 100000
-	@$(MAKE) --no-print-directory soak SECONDS=10 SUBSCRIBERS=5000
 	@$(MAKE) --no-print-directory fuzz COUNT=1000

@@ -1,149 +1,411 @@
-/* Each request for memory of each call, refused in turn: the call returns CAMEL_OUT_OF_MEMORY, is made again, and the end
- * is that of a run in which none was refused. Nothing is left allocated. Linked with --wrap of malloc, realloc and free. */
+/* Each request for memory in the life of a store, refused in turn. The call that it fails returns CAMEL_OUT_OF_MEMORY and
+ * has changed nothing; it is made again, or, of a publication, in a second sweep behind a further update. Each life ends
+ * as one in which no memory was refused, with nothing left allocated. Prints how many requests fail each call, and how
+ * many it does without. Linked with --wrap of malloc, realloc and free. */
 #include "check.h"
 
 void *__real_malloc(size_t size);
 void *__real_realloc(void *old, size_t size);
 void __real_free(void *block);
 
-static long requests;      /* of this run */
-static long refused_at;    /* which of them is refused; 0 is none */
-static long blocks;        /* how many are allocated */
-static bool is_counting;   /* only the requests of the library count */
+static long requests;    /* of this life, in the calls that are counted */
+static long refused_at;  /* which of them is refused; 0 is none */
+static bool is_counting; /* whether a call that is counted is being made */
+static bool was_refused; /* whether this call was refused a request */
+static long blocks;      /* how many are allocated */
 
 static bool is_refused(void)
 {
-    return is_counting && ++requests == refused_at;
+    bool is = is_counting && ++requests == refused_at;
+    was_refused |= is;
+    return is;
 }
 
 void *__wrap_malloc(size_t size)
 {
     void *block = is_refused() ? NULL : __real_malloc(size);
-    blocks += is_counting && block;
+    blocks += block != NULL;
     return block;
 }
 
 void *__wrap_realloc(void *old, size_t size)
 {
     void *block = is_refused() ? NULL : __real_realloc(old, size);
-    blocks += is_counting && !old && block;
+    blocks += !old && block;
     return block;
 }
 
 void __wrap_free(void *block)
 {
-    blocks -= is_counting && block;
+    blocks -= block != NULL;
     __real_free(block);
 }
 
-static long refusals; /* how many calls returned CAMEL_OUT_OF_MEMORY */
+enum kind {
+    OPEN, REGISTER, INSERT_ROWS, INSERT_FEW, INSERT_MANY, DELETE, CANCEL, CLEAR_ALL,
+    PUBLISH_INSERTS, PUBLISH_NOTHING, PUBLISH_DELETE, PUBLISH_CANCEL, PUBLISH_CLEAR_ALL, RECEIPT_OF, KEEP, KINDS
+};
 
-/* Makes a call, and makes it again if memory is refused. */
-#define AGAIN(call)                                                                                                 \
-    do {                                                                                                            \
-        is_counting = true;                                                                                         \
-        camel_status first_ = (call);                                                                               \
-        if (first_ == CAMEL_OUT_OF_MEMORY) {                                                                        \
-            refusals++;                                                                                             \
-            first_ = (call);                                                                                        \
-        }                                                                                                           \
-        is_counting = false;                                                                                        \
-        RETURNS(CAMEL_OK, first_);                                                                                  \
-    } while (0)
+static const char *const NAMES[KINDS] = {
+    [OPEN] = "`camel_open`, two sessions",
+    [REGISTER] = "`camel_submit_register`",
+    [INSERT_ROWS] = "`camel_submit_insert`, rows",
+    [INSERT_FEW] = "`camel_submit_insert`, rows, and criteria of three numbers and of causes",
+    [INSERT_MANY] = "`camel_submit_insert`, all lists, with criteria of ten numbers and all else",
+    [DELETE] = "`camel_submit_delete`",
+    [CANCEL] = "`camel_submit_cancel`",
+    [CLEAR_ALL] = "`camel_submit_clear_all`",
+    [PUBLISH_INSERTS] = "`camel_publish`, of registers and inserts, and the next one",
+    [PUBLISH_NOTHING] = "`camel_publish`, of nothing behind nothing",
+    [PUBLISH_DELETE] = "`camel_publish`, of a delete, and the next one",
+    [PUBLISH_CANCEL] = "`camel_publish`, of a cancel, and the next one",
+    [PUBLISH_CLEAR_ALL] = "`camel_publish`, of a clear of all, and the next one",
+    [RECEIPT_OF] = "`camel_receipt_of`",
+    [KEEP] = "`camel_keep`",
+};
 
-static void free_counted(void *handle)
+/* How often calls of each kind were made, how many requests failed one, and how many they did without. */
+struct tallies { long calls[KINDS], failed[KINDS], without[KINDS]; };
+static struct tallies tallies;
+
+/* Whether a call was refused memory, and is to be made again. */
+static bool has_failed(enum kind kind, camel_status status)
 {
-    is_counting = true;
-    camel_free(handle);
-    is_counting = false;
+    bool has = status == CAMEL_OUT_OF_MEMORY;
+    tallies.calls[kind]++;
+    IS(!has || was_refused);
+    if (was_refused)
+        (has ? tallies.failed : tallies.without)[kind]++;
+    was_refused = false;
+    return has;
 }
 
-/* An entry with all kinds of criteria, so that none of its blocks is left out. */
-static camel_o_criteria entry_of(uint8_t dp)
+static camel_status counted(camel_status status)
+{
+    is_counting = false;
+    return status;
+}
+
+/* Makes a call whose requests are counted. */
+#define COUNTED(call) (is_counting = true, counted(call))
+
+/* Makes a call, and makes it again if memory is refused; nothing has changed then. */
+#define AGAIN(kind, call, is_unchanged)                                                                             \
+    do {                                                                                                            \
+        camel_status made_ = COUNTED(call);                                                                         \
+        if (has_failed(kind, made_)) {                                                                              \
+            IS(is_unchanged);                                                                                       \
+            made_ = COUNTED(call);                                                                                  \
+        }                                                                                                           \
+        RETURNS(CAMEL_OK, made_);                                                                                   \
+    } while (0)
+
+/* Makes a call that asks for no memory. */
+#define NONE(wanted, call)                                                                                          \
+    do {                                                                                                            \
+        long before_ = requests;                                                                                    \
+        RETURNS(wanted, COUNTED(call));                                                                             \
+        IS(requests == before_);                                                                                    \
+    } while (0)
+
+static camel_status freed(void *handle)
+{
+    camel_free(handle);
+    return CAMEL_OK;
+}
+
+enum { LIMIT = 100, SUBSCRIBERS = 40, SHOWN = 6, FURTHER = 90, STRANGER = 91 };
+
+static camel_store store;
+static camel_session sessions[2];
+static uint64_t accepted;  /* how many updates */
+static bool submits_between; /* a further update, between a publication that is refused memory and the next */
+static const uint8_t DPS[] = { 2, 4, 12, 13, 14 };
+
+static uint64_t digest;
+
+static void add(uint64_t value)
+{
+    digest = (digest ^ value) * 0x100000001b3u;
+}
+
+static void add_address(const camel_isdn_address *address)
+{
+    add(address->length);
+    for (int at = 0; at < 9; at++)
+        add(at < address->length ? address->octets[at] : 0);
+}
+
+/* All that a session shows of a subscriber at a detection point. */
+static void add_shown(camel_session *session, unsigned number, uint8_t dp)
+{
+    camel_imsi imsi = imsi_of(number);
+    camel_event event = event_of(number, dp);
+    camel_answer answer = { 0 };
+    camel_row row = { 0 };
+    bool is_there = false;
+    NONE(CAMEL_OK, camel_decide(session, &event, &answer));
+    NONE(CAMEL_OK, camel_row_at(session, &imsi, dp, &row, &is_there));
+    add(answer.front), add(answer.key), add(answer.dp), add(answer.is_release), add(answer.is_trigger), add(answer.reason);
+    add_address(&answer.scf);
+    add(is_there), add(row.key), add(row.handling), add(row.dp);
+    add_address(&row.scf);
+}
+
+/* All that the store and a session show, in one number. */
+static uint64_t shown(void)
+{
+    uint64_t published = 0, pending = 0;
+    digest = 0xcbf29ce484222325u;
+    NONE(CAMEL_OK, camel_published(&store, &published));
+    NONE(CAMEL_OK, camel_pending(&store, &pending));
+    add(published), add(pending);
+    for (unsigned number = 1; number <= SHOWN; number++)
+        for (int dp = 0; dp < 5; dp++)
+            add_shown(&sessions[1], number, DPS[dp]);
+    return digest;
+}
+
+/* Criteria of so many numbers, and if they are many, of all other kinds too. */
+static camel_o_criteria o_criteria_of(uint8_t dp, uint8_t numbers)
 {
     static const uint8_t listed[] = { 0x91, 0x34 };
-    camel_o_criteria entry = {
-        .dp = dp,
-        .has_number = true,
-        .number = { .is_enabling = true, .number_count = 4, .length_count = 1, .lengths = { 6 } },
-        .basic = { .count = 1, .services = { { false, 0x11 } } },
-        .has_call_type = true,
-    };
-    for (int at = 0; at < 4; at++)
+    camel_o_criteria entry = { .dp = dp, .has_number = true, .number = { .is_enabling = true, .number_count = numbers } };
+    for (int at = 0; at < numbers; at++)
         entry.number.numbers[at] = isdn_of(listed, sizeof listed);
+    if (numbers > 3) {
+        entry.number.length_count = 1;
+        entry.number.lengths[0] = 6;
+        entry.basic = (camel_basic_services){ 1, { { false, 0x11 } } };
+        entry.has_call_type = true;
+    }
     return entry;
 }
 
-static void submit_all(camel_store *store)
+static const camel_t_criteria CAUSES = { .dp = 13, .causes = { 1, { 17 } } };
+
+/* Whether the store has no record of a subscriber: it rejects an Insert of a row. */
+static bool is_unknown(unsigned number)
+{
+    camel_row row = row_of(2, 100);
+    return insert(&store, number, &row, 1, NULL, 0, NULL, 0, NULL, 0) == CAMEL_UNIDENTIFIED_SUBSCRIBER;
+}
+
+/* Whether the store has no VT-CSI of a subscriber: it rejects an Insert of criteria. */
+static bool has_no_vt(unsigned number)
+{
+    return insert(&store, number, NULL, 0, NULL, 0, NULL, 0, &CAUSES, 1) == CAMEL_DATA_MISSING;
+}
+
+/* Whether the store has the O-CSI of a subscriber: it accepts an Insert of criteria. */
+static bool has_o(unsigned number)
+{
+    camel_o_criteria entry = o_criteria_of(2, 1);
+    bool has = insert(&store, number, NULL, 0, &entry, 1, NULL, 0, NULL, 0) == CAMEL_OK;
+    accepted += has;
+    return has;
+}
+
+static void submit_register(unsigned number)
+{
+    camel_imsi imsi = imsi_of(number);
+    uint64_t before = shown();
+    AGAIN(REGISTER, camel_submit_register(&store, &imsi), shown() == before && is_unknown(number));
+    accepted++;
+}
+
+/* Sends a subscriber who has just registered rows, or with them some criteria, or all lists. */
+static void submit_insert(unsigned number)
 {
     camel_row o[] = { row_of(2, 100), row_of(4, 101) }, vt[] = { row_of(12, 102), row_of(13, 103) };
-    camel_o_criteria entries[] = { entry_of(2), entry_of(4) };
-    camel_t_criteria t_entry = { .dp = 13, .causes = { 1, { 17 } } };
-    camel_withdrawal what = { .vt = true };
-
-    for (unsigned number = 1; number <= 40; number++) {
-        camel_imsi imsi = imsi_of(number);
-        AGAIN(camel_submit_register(store, &imsi));
-        AGAIN(insert(store, number, o, 2, entries, 2, vt, 2, &t_entry, 1));
+    camel_o_criteria few = o_criteria_of(2, 3), many[] = { o_criteria_of(2, 10), o_criteria_of(4, 4) };
+    camel_t_criteria causes[] = { CAUSES, { .dp = 12, .basic = { 1, { { true, 0x11 } } } } };
+    uint64_t before = shown();
+    switch (number % 3) {
+    case 0:
+        AGAIN(INSERT_ROWS, insert(&store, number, o, 2, NULL, 0, NULL, 0, NULL, 0),
+              shown() == before && has_no_vt(number));
+        break;
+    case 1:
+        AGAIN(INSERT_FEW, insert(&store, number, o, 1, &few, 1, vt, 2, causes, 1),
+              shown() == before && has_no_vt(number));
+        break;
+    default:
+        AGAIN(INSERT_MANY, insert(&store, number, o, 2, many, 2, vt, 2, causes, 2),
+              shown() == before && has_no_vt(number));
     }
+    accepted++;
+}
+
+static void come(unsigned first, unsigned last)
+{
+    for (unsigned number = first; number <= last; number++) {
+        submit_register(number);
+        submit_insert(number);
+    }
+}
+
+/* Publishes all that is pending. */
+static void publish(enum kind kind)
+{
+    uint64_t published = 0, pending = 1, before = shown();
+    camel_status status = COUNTED(camel_publish(&store));
+    if (has_failed(kind, status)) {
+        IS(shown() == before);
+        if (submits_between)
+            submit_register(FURTHER);
+        status = COUNTED(camel_publish(&store));
+    }
+    RETURNS(CAMEL_OK, status);
+    NONE(CAMEL_OK, camel_published(&store, &published));
+    NONE(CAMEL_OK, camel_pending(&store, &pending));
+    IS(published == accepted && pending == 0);
+}
+
+/* Publishes, and once more, which brings the other copy to the same. */
+static void publish_to_both(enum kind kind)
+{
+    publish(kind);
+    publish(kind);
+}
+
+/* Takes back one thing after the other: a CSI, a record, and all of them. */
+static void take_back(void)
+{
     camel_imsi first = imsi_of(1), second = imsi_of(2);
-    AGAIN(camel_submit_delete(store, &first, &what));
-    AGAIN(camel_submit_cancel(store, &second));
+    camel_withdrawal what = { .o = true };
+    uint64_t before = shown();
+    AGAIN(DELETE, camel_submit_delete(&store, &first, &what), shown() == before && has_o(1));
+    accepted++;
+    publish_to_both(PUBLISH_DELETE);
+    before = shown();
+    AGAIN(CANCEL, camel_submit_cancel(&store, &second), shown() == before && has_o(2));
+    accepted++;
+    publish_to_both(PUBLISH_CANCEL);
+    before = shown();
+    AGAIN(CLEAR_ALL, camel_submit_clear_all(&store), shown() == before && has_o(3));
+    accepted++;
+    publish_to_both(PUBLISH_CLEAR_ALL);
 }
 
-/* What is decided of these subscribers. */
-static void check_answers(camel_session *session, uint64_t front)
+/* What holds up a publication, a look and a receipt asks for no memory. */
+static void hold(camel_receipt *receipt)
 {
-    for (unsigned number = 1; number <= 40; number++) {
-        camel_event event = event_of(number, 2);
-        camel_answer answer = { 0 };
-        AGAIN(camel_decide(session, &event, &answer));
-        IS(answer.front == front);
-        IS(number == 2 ? answer.reason == CAMEL_UNKNOWN : answer.key == 100);
-    }
+    NONE(CAMEL_OK, camel_look(&sessions[0]));
+    publish(PUBLISH_NOTHING);
+    NONE(CAMEL_HELD, camel_publish(&store));
+    NONE(CAMEL_HELD, camel_look(&sessions[0]));
+    NONE(CAMEL_HELD, camel_learn(&sessions[0], receipt));
+    NONE(CAMEL_OK, camel_leave(&sessions[0]));
+    NONE(CAMEL_OK, camel_learn(&sessions[0], receipt));
 }
 
-static void run(void)
+static void make_data(void)
 {
-    camel_store store = CAMEL_EMPTY;
-    camel_session sessions[2] = { CAMEL_EMPTY, CAMEL_EMPTY };
+    static const uint8_t tbcd[] = { 0x62, 0x02, 0x01, 0x00, 0x00, 0x00, 0x00, 0xf1 };
+    camel_imsi imsi, same;
+    camel_address address;
+    camel_isdn_address isdn;
+    NONE(CAMEL_OK, camel_imsi_of_tbcd(tbcd, sizeof tbcd, &imsi));
+    NONE(CAMEL_OK, camel_imsi_of_digits((const uint8_t *)"262010000000001", 15, &same));
+    NONE(CAMEL_OK, camel_address_of(DESTINATION, sizeof DESTINATION, &address));
+    NONE(CAMEL_OK, camel_isdn_address_of(SCF, sizeof SCF, &isdn));
+    IS(imsi.number == same.number);
+}
+
+/* Submits as many updates as the limit allows, which change nothing: no refused call took a place of theirs. */
+static void fill(void)
+{
+    camel_imsi further = imsi_of(FURTHER), stranger = imsi_of(STRANGER);
+    RETURNS(CAMEL_OK, camel_submit_cancel(&store, &further));
+    for (accepted++; accepted < LIMIT; accepted++)
+        RETURNS(CAMEL_OK, camel_submit_cancel(&store, &stranger));
+    NONE(CAMEL_HISTORY_FULL, camel_submit_cancel(&store, &stranger));
+}
+
+static void end_store(void)
+{
+    NONE(CAMEL_OK, camel_look(&sessions[0]));
+    NONE(CAMEL_HELD, camel_close(&store));
+    NONE(CAMEL_OK, camel_leave(&sessions[0]));
+    NONE(CAMEL_OK, camel_close(&store));
+    NONE(CAMEL_OK, freed(&sessions[0]));
+    NONE(CAMEL_OK, freed(&sessions[1]));
+    IS(blocks == 0);
+}
+
+/* The life of a store. Returns what it shows in the end. */
+static uint64_t live(void)
+{
     camel_receipt receipt = CAMEL_EMPTY;
     camel_subscriber kept = CAMEL_EMPTY;
-    camel_imsi imsi = imsi_of(3);
+    camel_imsi imsi = imsi_of(5);
+    camel_event failure = event_of(5, 4);
+    camel_answer answer = { 0 };
     bool is_there = false;
 
-    AGAIN(camel_open(&store, sessions, 2, 1000, 1, 1));
-    submit_all(&store);
-    AGAIN(camel_publish(&store));
-    AGAIN(camel_receipt_of(&store, &receipt));
-    AGAIN(camel_learn(&sessions[0], &receipt));
-    check_answers(&sessions[0], 82);
-    AGAIN(camel_keep(&sessions[0], &imsi, &kept, &is_there));
-    IS(is_there);
-    AGAIN(camel_submit_clear_all(&store));
-    AGAIN(camel_publish(&store));
-    camel_event failure = event_of(3, 4);
-    camel_answer answer = { 0 };
-    AGAIN(camel_decide_kept(&kept, &failure, &answer));
-    IS(answer.key == 101 && answer.front == 82);
-    free_counted(&kept);
-    free_counted(&receipt);
-    free_counted(&sessions[0]);
-    AGAIN(camel_close(&store));
-    free_counted(&sessions[1]);
-    IS(blocks == 0);
+    requests = blocks = 0;
+    accepted = 0;
+    make_data();
+    AGAIN(OPEN, camel_open(&store, sessions, 2, LIMIT, 1, 1),
+          !store.is_full && !sessions[0].is_full && !sessions[1].is_full && blocks == 0);
+    come(1, SUBSCRIBERS / 2);
+    publish(PUBLISH_INSERTS);
+    come(SUBSCRIBERS / 2 + 1, SUBSCRIBERS);
+    publish_to_both(PUBLISH_INSERTS);
+    AGAIN(RECEIPT_OF, camel_receipt_of(&store, &receipt), !receipt.is_full);
+    hold(&receipt);
+    AGAIN(KEEP, camel_keep(&sessions[0], &imsi, &kept, &is_there), !kept.is_full && !is_there);
+    take_back();
+    NONE(CAMEL_OK, camel_decide_kept(&kept, &failure, &answer));
+    IS(is_there && answer.key == 101);
+    come(1, SHOWN);
+    publish_to_both(PUBLISH_INSERTS);
+    fill();
+    publish(PUBLISH_NOTHING);
+    uint64_t end = shown();
+    NONE(CAMEL_OK, freed(&kept));
+    NONE(CAMEL_OK, freed(&receipt));
+    end_store();
+    return end;
+}
+
+/* Refuses each of so many requests in turn. Each life is refused one, and ends as it has to. */
+static void sweep(long all, uint64_t wanted)
+{
+    memset(&tallies, 0, sizeof tallies);
+    for (refused_at = 1; refused_at <= all && !failed; refused_at++) {
+        long met = 0;
+        memset(tallies.calls, 0, sizeof tallies.calls);
+        IS(live() == wanted);
+        for (int kind = 0; kind < KINDS; kind++)
+            met += tallies.failed[kind] + tallies.without[kind];
+        IS(met == refused_at);
+    }
+}
+
+static void print(const char *call, const char *calls, long failing, long without)
+{
+    printf("| %s | %s | %ld | %s | %ld |\n", call, calls, failing, failing ? "102" : "as ever", without);
 }
 
 int main(void)
 {
-    run();
+    uint64_t wanted = live();
     long all = requests;
-    for (refused_at = 1; refused_at <= all && !failed; refused_at++) {
-        requests = 0;
-        blocks = 0;
-        run();
+    sweep(all, wanted);
+    struct tallies again = tallies;
+    submits_between = true;
+    sweep(all, wanted);
+    for (int kind = 0; kind < KINDS; kind++)
+        IS(again.failed[kind] == tallies.failed[kind] && again.without[kind] == tallies.without[kind]);
+
+    puts("| Call | Calls | Requests that fail one | What it answers | Requests that they do without |\n|---|---|---|---|---|");
+    for (int kind = 0; kind < KINDS; kind++) {
+        char calls[24];
+        snprintf(calls, sizeof calls, "%ld", again.calls[kind]);
+        print(NAMES[kind], calls, again.failed[kind], again.without[kind]);
     }
-    printf("%ld requests for memory, %ld refused to a call that was made again\n", all, refusals);
-    IS(refusals > 0 && refusals <= all);
+    print("all other calls, and a publication that is held", "", 0, 0);
     return ended("refused");
 }

@@ -36,10 +36,6 @@ pub(crate) enum Lost {
     Value,
     #[error("equal values differ")]
     Equality,
-    #[error("what the call is made of is used up")]
-    Argument,
-    #[error("a refused call changed the records")]
-    Records,
     #[error("a record is missing")]
     Record,
     #[error("a subscriber without a record is not unknown")]
@@ -52,12 +48,8 @@ pub(crate) enum Lost {
     Look,
     #[error("a refused call changed what the store shows")]
     Shown,
-    #[error("a refused Insert brought a CSI")]
-    Csi,
     #[error("an update has another number")]
     Number,
-    #[error("the store does not take as many updates as its limit, or takes more")]
-    Limit,
     #[error("a publication lacks updates")]
     Publication,
     #[error("a refused call left an answer")]

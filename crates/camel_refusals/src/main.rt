@@ -6,9 +6,9 @@
 //! is checked to leave all as it was, and is made again. Which step that was, and its answer, comes on standard error.
 #![tactic(auto)]
 
+mod addresses;
 mod attempts;
 mod calls;
-mod criteria;
 mod failure;
 mod openings;
 mod publications;
@@ -18,7 +18,6 @@ mod scripts;
 mod sessions;
 mod stage;
 mod stage_calls;
-mod submissions;
 mod values;
 mod workers;
 

@@ -17,7 +17,7 @@ use std::alloc::Global;
 use std::sync::Wait;
 
 /// How many updates a stage takes.
-pub(crate) const LIMIT: u64 = 16;
+const LIMIT: u64 = 16;
 
 /// The store `S` and a session of it.
 pub(crate) struct Stage<S: StoreName> {

@@ -7,8 +7,6 @@ use crate::failure::Failure;
 use crate::publications::{Next, publish};
 use crate::sessions::{answer_all, close, look};
 use crate::stage::{Stage, open};
-use crate::submissions::submit;
-use crate::values::Kind;
 use crate::workers::serve_jobs;
 use camel_vlr::{Session, StoreName, Vlr};
 use std::marker::Brand;
@@ -17,7 +15,6 @@ use std::sync::Wait;
 /// A call, or several that take no memory, on a stage.
 #[derive(Clone, Copy)]
 pub(crate) enum StageCall {
-    Submit(Kind),
     /// The publication of this number, from 1, and what comes next.
     Publish(u64, Next),
     Look,
@@ -49,7 +46,6 @@ fn make_of_store<S: StoreName, R: AllocGlobal + Print + Wait>(
 {
     let mut stage = Stage::<S>::new(store, session);
     let done = match call {
-        StageCall::Submit(kind) => submit(rt, refusals, &mut stage, kind),
         StageCall::Publish(number, next) => publish(rt, refusals, &mut stage, number, next),
         StageCall::Look => look(rt, refusals, &mut stage),
         StageCall::AnswerAll => answer_all(rt, refusals, &mut stage),

@@ -2,14 +2,12 @@
 
 use crate::failure::Failure;
 use camel_criteria::{BasicService, CallType, MatchType, NumberCriterion, OCriteria, TCriteria};
-use camel_fixtures::{O_ALONE, TELEPHONY, imsi_of, number_of, row_of};
+use camel_fixtures::{TELEPHONY, imsi_of, number_of, row_of};
 use camel_rows::{OCriteriaSet, OCsi, TCriteriaSet, Update, VtCsi};
 use camel_tbcd::{Imsi, IsdnAddress};
 use std::alloc::Global;
 
-/// The subscribers of a stage: the first has data, and the second registers. In a run that submits updates, the third
-/// is never known, and the others come before the second, so that a table asks for a bucket more when that one
-/// registers.
+/// The subscribers of a stage, of whom the first has data.
 pub(crate) const SUBSCRIBERS: [u64; 7] = [KNOWN, SECOND, STRANGER, FOURTH, FIFTH, SIXTH, SEVENTH];
 
 pub(crate) const KNOWN: u64 = 1;
@@ -26,35 +24,8 @@ pub(crate) const SIXTH: u64 = 6;
 
 pub(crate) const SEVENTH: u64 = 7;
 
-/// The kinds of update.
-#[derive(Clone, Copy)]
-pub(crate) enum Kind {
-    Register,
-    Insert,
-    Delete,
-    Cancel,
-    ClearAll,
-}
-
-/// The update of a kind: the second subscriber registers, and all others are of the known one.
-pub(crate) fn update_of(alloc: Global, kind: Kind) -> Result<Update, Failure> {
-    let imsi = imsi_of(KNOWN)?;
-    Ok(match kind {
-        Kind::Register => Update::Register {
-            imsi: imsi_of(SECOND)?,
-        },
-        Kind::Insert => full_insert(alloc, imsi)?,
-        Kind::Delete => Update::Delete {
-            imsi,
-            what: O_ALONE,
-        },
-        Kind::Cancel => Update::Cancel { imsi },
-        Kind::ClearAll => Update::ClearAll,
-    })
-}
-
 /// Ten numbers, as many as a criterion lists.
-pub(crate) fn ten_numbers() -> Result<[IsdnAddress; 10], Failure> {
+fn ten_numbers() -> Result<[IsdnAddress; 10], Failure> {
     let mut numbers = [number_of(&[0x91, 0x21, 0xf3])?; 10];
     for (number, octet) in numbers.iter_mut().skip(1).zip(0x40u8..) {
         *number = number_of(&[0x91, octet])?;
@@ -63,12 +34,12 @@ pub(crate) fn ten_numbers() -> Result<[IsdnAddress; 10], Failure> {
 }
 
 /// A criterion that lists ten numbers, of which the first is that of `DESTINATION`.
-pub(crate) fn ten_listed(alloc: Global) -> Result<NumberCriterion, Failure> {
+fn ten_listed(alloc: Global) -> Result<NumberCriterion, Failure> {
     Ok(NumberCriterion::new(alloc, MatchType::Enabling, &ten_numbers()?, &[4])?)
 }
 
 /// Entries of detection points 2 and 4, of which each lists ten numbers.
-pub(crate) fn o_entries(alloc: Global) -> Result<Vec<OCriteria>, Failure> {
+fn o_entries(alloc: Global) -> Result<Vec<OCriteria>, Failure> {
     let mut entries = Vec::new(alloc);
     for dp in [2, 4] {
         entries.push(o_entry(alloc, ten_listed(alloc)?, dp)?)?;
@@ -77,17 +48,13 @@ pub(crate) fn o_entries(alloc: Global) -> Result<Vec<OCriteria>, Failure> {
 }
 
 /// An entry of a detection point of the O-CSI.
-pub(crate) fn o_entry(
-    alloc: Global,
-    number: NumberCriterion,
-    dp: u8,
-) -> Result<OCriteria, Failure> {
+fn o_entry(alloc: Global, number: NumberCriterion, dp: u8) -> Result<OCriteria, Failure> {
     let call_type = Some(CallType::NotForwarded);
     Ok(OCriteria::new(alloc, dp, Some(number), &[TELEPHONY], call_type, &[])?)
 }
 
 /// Entries of detection points 12, 13 and 14.
-pub(crate) fn t_entries(alloc: Global) -> Result<Vec<TCriteria>, Failure> {
+fn t_entries(alloc: Global) -> Result<Vec<TCriteria>, Failure> {
     let mut entries = Vec::new(alloc);
     for dp in [12, 13, 14] {
         entries.push(t_entry(dp)?)?;
@@ -96,17 +63,17 @@ pub(crate) fn t_entries(alloc: Global) -> Result<Vec<TCriteria>, Failure> {
 }
 
 /// An entry of a detection point of the VT-CSI.
-pub(crate) fn t_entry(dp: u8) -> Result<TCriteria, Failure> {
+fn t_entry(dp: u8) -> Result<TCriteria, Failure> {
     Ok(TCriteria::new(dp, &[TELEPHONY, BasicService::Bearer(0x11)], &[])?)
 }
 
 /// An O-CSI with rows of detection points 2 and 4.
-pub(crate) fn o_csi() -> Result<OCsi, Failure> {
+fn o_csi() -> Result<OCsi, Failure> {
     Ok(OCsi::new(&[row_of(2, 100, 0)?, row_of(4, 104, 1)?])?)
 }
 
 /// A VT-CSI with a row of detection point 12.
-pub(crate) fn vt_csi() -> Result<VtCsi, Failure> {
+fn vt_csi() -> Result<VtCsi, Failure> {
     Ok(VtCsi::new(&[row_of(12, 112, 0)?])?)
 }
 
@@ -117,17 +84,6 @@ pub(crate) fn full_insert(alloc: Global, imsi: Imsi) -> Result<Update, Failure> 
         o: Some(o_csi()?),
         o_criteria: Some(OCriteriaSet::new(o_entries(alloc)?)?),
         vt: Some(vt_csi()?),
-        t_criteria: Some(TCriteriaSet::new(t_entries(alloc)?)?),
-    })
-}
-
-/// An Insert of criteria only, which is rejected if the known subscriber has no VT-CSI.
-pub(crate) fn t_criteria_update(alloc: Global) -> Result<Update, Failure> {
-    Ok(Update::Insert {
-        imsi: imsi_of(KNOWN)?,
-        o: None,
-        o_criteria: None,
-        vt: None,
         t_criteria: Some(TCriteriaSet::new(t_entries(alloc)?)?),
     })
 }

@@ -1,254 +1,193 @@
-//! A call-control thread, which checks each answer against the model of the answer's own front.
+//! A call-control thread: it asks its session in bursts, keeps what it gives with its front, and audits that behind them.
+use crate::audit::{At, Audit, Given, What};
 use crate::convert;
-use crate::model::{Model, Record, decide};
-use crate::plain::{self, SUBSCRIBERS};
+use crate::plain::{self, POINTS};
 use crate::random::Random;
-use crate::shared::{Checked, Counts, Shared};
-use camel::{Answer, Imsi, Look, Receipt, Session, Subscriber};
-use std::sync::Arc;
+use crate::shared::{Checked, Shared};
+use camel::{Imsi, Look, Receipt, Session};
 use std::sync::mpsc::Receiver;
 use std::thread::yield_now;
 
-/// How many records a caller keeps at once.
-const KEPT: usize = 8;
+/// How often a session is asked before what it gave is audited.
+const BURST: usize = 64;
 
-/// The record of a set-up, with that of the model and their front.
-pub struct Kept {
-    handle: Subscriber,
-    subscriber: plain::Subscriber,
-    record: Arc<Record>,
-    front: u64,
-}
+/// How many calls are decided over a look that is held for long, so that publications are held up.
+const HELD: usize = 400;
 
 pub struct Caller<'a> {
-    pub number: usize,
+    pub shared: &'a Shared,
     pub receipts: Receiver<(Receipt, u64)>,
     pub imsis: &'a [Imsi],
-    pub compares_plans: bool,
+    /// How many of them are known.
+    pub count: usize,
     pub random: Random,
-    pub seen: Seen<'a>,
-    pub kept: Vec<Kept>,
-    pub counts: Counts,
-}
-
-/// What a session has seen and learnt, and the model of its last front.
-pub struct Seen<'a> {
-    shared: &'a Shared,
-    number: usize,
-    front: u64,
-    learnt: u64,
-    /// What had been published before the session was asked: no receipt tells it, and the next look has it all the same.
-    published: u64,
-    model: Arc<Model>,
-}
-
-impl<'a> Seen<'a> {
-    pub fn new(shared: &'a Shared, number: usize) -> Seen<'a> {
-        Seen {
-            shared,
-            number,
-            front: 0,
-            learnt: 0,
-            published: 0,
-            model: Arc::default(),
-        }
-    }
-
-    /// The model of a front, which extends all that the session saw and learnt, and what was published.
-    fn model_at(&mut self, front: u64) -> Checked<Arc<Model>> {
-        for (least, what) in [
-            (self.front, "seen"),
-            (self.learnt, "learnt"),
-            (self.published, "published"),
-        ] {
-            if front < least {
-                return Err(format!(
-                    "caller {}: front {front}, and {least} was {what}",
-                    self.number
-                ));
-            }
-        }
-        if front > self.front {
-            let model = self.shared.model_at(front);
-            self.model = model.ok_or(format!(
-                "caller {}: front {front} was not published",
-                self.number
-            ))?;
-            self.front = front;
-            self.shared.has_seen(self.number, front);
-        }
-        Ok(self.model.clone())
-    }
+    /// The longest front that the session has learnt.
+    pub learnt: u64,
+    pub given: Vec<Given>,
+    pub audit: Audit<'a>,
 }
 
 impl Caller<'_> {
-    /// Decides so many calls, or fewer if a thread has met a difference.
+    /// Decides so many calls, or fewer if the time is over or a thread has met a difference.
     pub fn run(&mut self, session: &mut Session, decisions: u64) -> Checked<()> {
-        while self.counts.decisions < decisions
-            && (self.counts.decisions % 64 != 0 || self.seen.shared.difference().is_none())
-        {
-            for (receipt, front) in self.receipts.try_iter() {
-                session
-                    .learn(&receipt)
-                    .map_err(|error| format!("learn: {error}"))?;
-                self.seen.learnt = u64::max(self.seen.learnt, front);
-                self.counts.learnt += 1;
-            }
-            self.seen.published = self.seen.shared.published();
-            match self.random.below(10) {
-                0 => self.look(session)?,
-                1 => self.ask_kept()?,
-                _ => {
-                    let event = plain::event(&mut self.random);
-                    let answer = session
-                        .decide(&self.made(&event)?)
-                        .map_err(|error| format!("decide: {error}"))?;
-                    let model = self.seen.model_at(answer.front)?;
-                    self.check(
-                        &event,
-                        &answer,
-                        model.record(event.subscriber).map(Arc::as_ref),
-                    )?;
+        while self.audit.counts.decisions < decisions && !self.shared.is_over() {
+            for _ in 0..BURST {
+                self.learn(session)?;
+                match self.random.below(10) {
+                    0 => self.look(session)?,
+                    1 => self.ask_kept()?,
+                    _ => self.ask(session)?,
                 }
             }
+            self.audit.check_all(&mut self.given)?;
+        }
+        (0..BURST).try_for_each(|_| self.ask_kept())
+    }
+
+    fn learn(&mut self, session: &mut Session) -> Checked<()> {
+        for (receipt, front) in self.receipts.try_iter() {
+            session
+                .learn(&receipt)
+                .map_err(|error| format!("learn: {error}"))?;
+            self.learnt = u64::max(self.learnt, front);
+            self.audit.counts.learnt += 1;
         }
         Ok(())
+    }
+
+    /// The least front that the next look may have. What had been published before is told by no receipt, and the look
+    /// has it all the same.
+    fn least(&self) -> u64 {
+        u64::max(self.learnt, self.shared.published())
     }
 
     fn made(&self, event: &plain::Event) -> Checked<camel::Event> {
         convert::event(event, self.imsis).map_err(|error| format!("{event:?}: {error}"))
     }
 
-    /// Compares an answer with the decision by a record of the model.
-    fn check(
-        &mut self,
-        event: &plain::Event,
-        answer: &Answer,
-        record: Option<&Record>,
-    ) -> Checked<()> {
-        let decision = decide(record, event, self.compares_plans);
-        if !convert::agrees(answer, decision) {
-            let entry = record.and_then(|record| record.entry(event.dp));
-            return Err(format!(
-                "caller {}: {event:?}: {answer:?}, and not {decision:?}, with {entry:?}",
-                self.number
-            ));
-        }
-        self.counts.decisions += 1;
-        self.counts.outcomes[convert::place(&answer.outcome)] += 1;
+    fn give(&mut self, at: At, what: What) {
+        self.given.push(Given { at, what });
+    }
+
+    /// Decides a call by a look of its own.
+    fn ask(&mut self, session: &mut Session) -> Checked<()> {
+        let event = plain::event(&mut self.random, self.count);
+        let made = self.made(&event)?;
+        let least = self.least();
+        let answer = session
+            .decide(&made)
+            .map_err(|error| format!("decide: {error}"))?;
+        let front = answer.front;
+        self.give(At { front, least }, What::Answer(event, answer));
         Ok(())
     }
 
-    /// Several decisions and rows over one front.
+    /// Several decisions and rows over one front, and a record to be kept.
     fn look(&mut self, session: &mut Session) -> Checked<()> {
+        let least = self.least();
         let look = session.look().map_err(|error| format!("look: {error}"))?;
-        let mut front = None;
-        for _ in 0..1 + self.random.below(6) {
-            let event = plain::event(&mut self.random);
-            let answer = look
-                .decide(&self.made(&event)?)
-                .map_err(|error| format!("decide: {error}"))?;
-            if front.is_some_and(|front| front != answer.front) {
-                return Err(format!(
-                    "caller {}: a look at {front:?} answers at {}",
-                    self.number, answer.front
-                ));
+        let event = plain::event(&mut self.random, self.count);
+        let at = self.ask_over(&look, event, least)?;
+        let further = match self.random.below(200) {
+            0 => HELD,
+            _ => self.random.below(6),
+        };
+        for _ in 0..further {
+            let event = plain::event(&mut self.random, self.count);
+            if self.ask_over(&look, event, least)? != at {
+                return Err(format!("a look at {} answers at another front", at.front));
             }
-            front = Some(answer.front);
-            let model = self.seen.model_at(answer.front)?;
-            self.check(
-                &event,
-                &answer,
-                model.record(event.subscriber).map(Arc::as_ref),
-            )?;
             if self.random.once_in(4) {
                 yield_now();
             }
-            self.read(&look, &model)?;
+            let subscriber = plain::subscriber(&mut self.random, self.imsis.len());
+            let dp = self.random.of(&POINTS);
+            self.read(&look, subscriber, dp, at)?;
         }
-        self.keep(&look)?;
-        self.counts.looks += 1;
+        let subscriber = plain::subscriber(&mut self.random, self.imsis.len());
+        self.keep(&look, subscriber, at)?;
+        self.audit.counts.looks += 1;
         Ok(())
     }
 
-    /// Compares the row that is stored for a subscriber at a detection point.
-    fn read(&mut self, look: &Look<'_>, model: &Model) -> Checked<()> {
-        let subscriber = self.random.below(SUBSCRIBERS);
-        let (imsi, number) = (self.imsis[subscriber], self.random.of(&[2, 4, 12, 13, 14]));
-        let row = model
-            .record(subscriber)
-            .and_then(|record| record.row(number));
-        let compared = || {
-            let row = row.map(convert::stored).transpose()?;
-            Ok::<_, camel::Error>((look.row(imsi, convert::point(number)?)?, row))
-        };
-        self.counts.read += 1;
-        match compared() {
-            Ok((read, row)) if read == row => Ok(()),
-            what => Err(format!(
-                "caller {}: the row of {subscriber} at {number}, read and of the model: {what:?}",
-                self.number
-            )),
-        }
+    /// Decides a call over a look. Gives its front.
+    fn ask_over(&mut self, look: &Look<'_>, event: plain::Event, least: u64) -> Checked<At> {
+        let answer = look
+            .decide(&self.made(&event)?)
+            .map_err(|error| format!("decide: {error}"))?;
+        let front = answer.front;
+        let at = At { front, least };
+        self.give(at, What::Answer(event, answer));
+        Ok(at)
     }
 
-    /// Keeps a record of the look's front.
-    fn keep(&mut self, look: &Look<'_>) -> Checked<()> {
-        let subscriber = self.random.below(SUBSCRIBERS);
-        let (front, record) = (self.seen.front, self.seen.model.record(subscriber).cloned());
+    /// Reads the row that is stored for a subscriber at a detection point.
+    fn read(
+        &mut self,
+        look: &Look<'_>,
+        subscriber: plain::Subscriber,
+        dp: u8,
+        at: At,
+    ) -> Checked<()> {
+        let row = convert::point(dp)
+            .and_then(|point| look.row(self.imsis[subscriber], point))
+            .map_err(|error| format!("row: {error}"))?;
+        self.give(at, What::Row(subscriber, dp, row));
+        Ok(())
+    }
+
+    /// Keeps the record of a subscriber.
+    fn keep(&mut self, look: &Look<'_>, subscriber: plain::Subscriber, at: At) -> Checked<()> {
         let handle = look
             .keep(self.imsis[subscriber])
             .map_err(|error| format!("keep: {error}"))?;
-        match (handle, record) {
-            (Some(handle), Some(record)) => {
-                let kept = Kept {
-                    handle,
-                    subscriber,
-                    record,
-                    front,
-                };
-                if self.kept.len() < KEPT {
-                    self.kept.push(kept);
-                } else {
-                    self.kept[self.random.below(KEPT)] = kept;
-                }
-                Ok(())
-            }
-            (None, None) => Ok(()),
-            (handle, _) => Err(format!(
-                "caller {}: keep {subscriber} at {front}: {handle:?}",
-                self.number
-            )),
-        }
+        self.give(at, What::Record(subscriber, handle));
+        Ok(())
     }
 
     /// Decides by a record that was kept, over its front.
     fn ask_kept(&mut self) -> Checked<()> {
-        if self.kept.is_empty() {
+        if self.audit.kept.is_empty() {
             return Ok(());
         }
-        let at = self.random.below(self.kept.len());
-        self.ask(at)
-    }
-
-    /// Decides by the record that was kept at this place.
-    pub fn ask(&mut self, at: usize) -> Checked<()> {
-        let mut event = plain::event(&mut self.random);
-        event.subscriber = self.kept[at].subscriber;
-        let made = self.made(&event)?;
-        let kept = &self.kept[at];
+        let kept = &self.audit.kept[self.random.below(self.audit.kept.len())];
+        let dp = self.random.of(&POINTS);
+        let event = plain::event_of(&mut self.random, kept.subscriber, dp);
+        let made =
+            convert::event(&event, self.imsis).map_err(|error| format!("{event:?}: {error}"))?;
         let answer = kept
             .handle
             .decide(&made)
             .map_err(|error| format!("decide by a record: {error}"))?;
         if answer.front != kept.front {
             return Err(format!(
-                "caller {}: a record of {} answers at {}",
-                self.number, kept.front, answer.front
+                "a record of {} answers at {}",
+                kept.front, answer.front
             ));
         }
         let record = kept.record.clone();
-        self.counts.kept += 1;
-        self.check(&event, &answer, Some(&record))
+        self.audit.counts.kept += 1;
+        self.audit.check_answer(&event, &answer, Some(&record))
+    }
+
+    /// Asks for all that is stored of each subscriber, over one look, and audits it.
+    pub fn ask_for_all(&mut self, session: &mut Session) -> Checked<()> {
+        let least = self.least();
+        let look = session.look().map_err(|error| format!("look: {error}"))?;
+        for subscriber in 0..self.imsis.len() {
+            let mut last = None;
+            for dp in POINTS {
+                let event = plain::event_of(&mut self.random, subscriber, dp);
+                let at = self.ask_over(&look, event, least)?;
+                self.read(&look, subscriber, dp, at)?;
+                last = Some(at);
+            }
+            if let Some(at) = last {
+                self.keep(&look, subscriber, at)?;
+            }
+            self.audit.check_all(&mut self.given)?;
+        }
+        look.leave();
+        Ok(())
     }
 }

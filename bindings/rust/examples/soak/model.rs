@@ -1,12 +1,15 @@
 //! A plain model of the trigger rules, from nothing but the words of docs/RULES.md.
 use crate::plain::{Entry, Event, Numbers, Octets, Row, Sent, Service, Subscriber, Update};
-use std::collections::HashMap;
 use std::sync::Arc;
 
-/// The subscriber data: a map from IMSIs to records.
-#[derive(Clone, Default)]
+/// How many subscribers are in a block.
+const BLOCK: usize = 64;
+
+/// The subscriber data: a record or none for each subscriber, in blocks. A copy of the data has the same blocks until one
+/// of the two is changed.
+#[derive(Clone)]
 pub struct Model {
-    records: HashMap<Subscriber, Arc<Record>>,
+    blocks: Vec<Arc<Vec<Option<Arc<Record>>>>>,
 }
 
 #[derive(Clone, Default)]
@@ -37,8 +40,20 @@ fn is_of_vt(dp: u8) -> bool {
 }
 
 impl Model {
+    /// No data, with room for so many subscribers.
+    pub fn new(count: usize) -> Model {
+        let none = Arc::new(vec![None; BLOCK]);
+        Model {
+            blocks: vec![none; count.div_ceil(BLOCK)],
+        }
+    }
+
     pub fn record(&self, subscriber: Subscriber) -> Option<&Arc<Record>> {
-        self.records.get(&subscriber)
+        self.blocks[subscriber / BLOCK][subscriber % BLOCK].as_ref()
+    }
+
+    fn place(&mut self, subscriber: Subscriber) -> &mut Option<Arc<Record>> {
+        &mut Arc::make_mut(&mut self.blocks[subscriber / BLOCK])[subscriber % BLOCK]
     }
 
     /// Applies an update, or gives each number by which it may be refused.
@@ -48,13 +63,9 @@ impl Model {
             return Err(refusals);
         }
         match update {
-            Update::Register(subscriber) => {
-                self.records.insert(*subscriber, Arc::default());
-            }
-            Update::Cancel(subscriber) => {
-                self.records.remove(subscriber);
-            }
-            Update::ClearAll => self.records.clear(),
+            Update::Register(subscriber) => *self.place(*subscriber) = Some(Arc::default()),
+            Update::Cancel(subscriber) => *self.place(*subscriber) = None,
+            Update::ClearAll => *self = Model::new(self.blocks.len() * BLOCK),
             Update::Delete(subscriber, o, vt, everything) => self.change(*subscriber, |record| {
                 if *o || *everything {
                     record.o = None;
@@ -72,7 +83,7 @@ impl Model {
     }
 
     fn change(&mut self, subscriber: Subscriber, change: impl FnOnce(&mut Record)) {
-        if let Some(record) = self.records.get_mut(&subscriber) {
+        if let Some(record) = self.place(subscriber) {
             change(Arc::make_mut(record));
         }
     }

@@ -1,8 +1,12 @@
 //! Updates and calls as plain data, from which those of the crate and those of the model are made.
 use crate::random::Random;
+use std::collections::HashSet;
 
-/// How many subscribers there are.
-pub const SUBSCRIBERS: usize = 48;
+/// How many subscribers are never known: they are the last ones in the list of IMSIs.
+pub const STRANGERS: usize = 16;
+
+/// Half of all updates and calls are of the first so many subscribers, so that calls meet fresh updates.
+const OFTEN: usize = 48;
 
 /// The place of a subscriber in the list of IMSIs.
 pub type Subscriber = usize;
@@ -67,27 +71,41 @@ pub struct Event {
     pub cause: u8,
 }
 
+/// The detection points at which calls are asked for.
+pub const POINTS: [u8; 5] = [2, 4, 12, 13, 14];
+
 const O_POINTS: [u8; 2] = [2, 4];
 const VT_POINTS: [u8; 3] = [12, 13, 14];
 const OTHER_POINTS: [u8; 5] = [0, 1, 3, 15, 255];
 
 /// IMSIs of 5 to 15 digits, no two of which are equal; some begin with others, and some with zeros.
-pub fn imsis(random: &mut Random) -> Vec<String> {
+pub fn imsis(random: &mut Random, count: usize) -> Vec<String> {
     let mut imsis: Vec<String> = Vec::new();
-    while imsis.len() < SUBSCRIBERS {
+    let mut made = HashSet::new();
+    while imsis.len() < count {
         let mut digits = String::new();
         if !imsis.is_empty() && random.once_in(3) {
             digits = imsis[random.below(imsis.len())].clone();
         }
-        let count = usize::max(digits.len(), 5 + random.below(11));
-        while digits.len() < count {
+        let length = usize::max(digits.len(), 5 + random.below(11));
+        while digits.len() < length {
             digits.push(char::from(b'0' + random.below(10) as u8));
         }
-        if !imsis.contains(&digits) {
+        if made.insert(digits.clone()) {
             imsis.push(digits);
         }
     }
     imsis
+}
+
+/// One of so many subscribers, of whom the first come often.
+pub fn subscriber(random: &mut Random, count: usize) -> Subscriber {
+    let most = if random.once_in(2) {
+        count.min(OFTEN)
+    } else {
+        count
+    };
+    random.below(most)
 }
 
 /// Octets whose natures, plans and digits are few, so that they often agree. A filler may come anywhere.
@@ -151,10 +169,11 @@ fn points(random: &mut Random, counting: &[u8]) -> Vec<u8> {
 }
 
 fn row(random: &mut Random, dp: u8) -> Row {
-    let key = if random.once_in(200) {
-        0x8000_0000
-    } else {
-        random.of(&[0, 1, 100, 0x7fff_ffff])
+    // Two rows seldom have one key, so the answer of another front is seldom the right one.
+    let key = match random.below(200) {
+        0 => 0x8000_0000,
+        1..20 => random.of(&[0, 1, 0x7fff_ffff]),
+        _ => random.next() as u32 & 0x7fff_ffff,
     };
     Row {
         dp,
@@ -218,30 +237,36 @@ fn sent(random: &mut Random, counting: &[u8], is_o: bool) -> Sent {
     Sent { rows, entries }
 }
 
-pub fn update(random: &mut Random) -> Update {
-    let subscriber = random.below(SUBSCRIBERS);
-    match random.below(2000) {
-        0 => Update::ClearAll,
-        1..=40 => Update::Cancel(subscriber),
-        41..=120 => Update::Delete(
+/// An Insert of lists, of which any may be missing or refused.
+pub fn insert(random: &mut Random, subscriber: Subscriber) -> Update {
+    Update::Insert(
+        subscriber,
+        sent(random, &O_POINTS, true),
+        sent(random, &VT_POINTS, false),
+    )
+}
+
+/// An update of one of so many subscribers.
+pub fn update(random: &mut Random, count: usize) -> Update {
+    let subscriber = subscriber(random, count);
+    match random.below(50) {
+        0 => Update::Cancel(subscriber),
+        1..3 => Update::Delete(
             subscriber,
             random.once_in(3),
             random.once_in(3),
             random.once_in(6),
         ),
-        121..=320 => Update::Register(subscriber),
-        _ => Update::Insert(
-            subscriber,
-            sent(random, &O_POINTS, true),
-            sent(random, &VT_POINTS, false),
-        ),
+        3..8 => Update::Register(subscriber),
+        _ => insert(random, subscriber),
     }
 }
 
-pub fn event(random: &mut Random) -> Event {
+/// A call of a subscriber at a detection point.
+pub fn event_of(random: &mut Random, subscriber: Subscriber, dp: u8) -> Event {
     Event {
-        subscriber: random.below(SUBSCRIBERS),
-        dp: random.of(&[2, 2, 4, 4, 12, 13, 14]),
+        subscriber,
+        dp,
         basic: if random.once_in(3) {
             service(random)
         } else {
@@ -254,4 +279,15 @@ pub fn event(random: &mut Random) -> Event {
         is_forwarded: random.once_in(4),
         cause: cause(random),
     }
+}
+
+/// A call of one of so many subscribers, or now and then of one who is never known.
+pub fn event(random: &mut Random, count: usize) -> Event {
+    let caller = if random.once_in(16) {
+        count + random.below(STRANGERS)
+    } else {
+        subscriber(random, count)
+    };
+    let dp = random.of(&[2, 2, 4, 4, 12, 13, 14]);
+    event_of(random, caller, dp)
 }

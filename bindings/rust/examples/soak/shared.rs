@@ -1,11 +1,9 @@
 //! What the writer and the callers share: the model of each front that may be met, and the first difference.
-use crate::convert::OUTCOMES;
 use crate::model::Model;
 use std::collections::BTreeMap;
-use std::fmt;
-use std::ops::AddAssign;
 use std::sync::atomic::{AtomicU64, AtomicUsize, Ordering};
 use std::sync::{Arc, Mutex, MutexGuard, PoisonError};
+use std::time::{Duration, Instant};
 
 /// How many threads decide calls.
 pub const CALLERS: usize = 4;
@@ -17,18 +15,28 @@ pub struct Shared {
     fronts: Mutex<BTreeMap<u64, Arc<Model>>>,
     seen: [AtomicU64; CALLERS],
     published: AtomicU64,
+    decided: AtomicU64,
     at_work: AtomicUsize,
+    end: Option<Instant>,
     difference: Mutex<Option<String>>,
+}
+
+/// That a caller is at work, until it is dropped.
+pub struct AtWork<'a> {
+    shared: &'a Shared,
+    caller: usize,
 }
 
 impl Shared {
     /// At the beginning front 0 is published, which has no records.
-    pub fn new() -> Shared {
+    pub fn new(none: Model, time: Option<Duration>) -> Shared {
         Shared {
-            fronts: Mutex::new(BTreeMap::from([(0, Arc::default())])),
+            fronts: Mutex::new(BTreeMap::from([(0, Arc::new(none))])),
             seen: Default::default(),
             published: AtomicU64::new(0),
+            decided: AtomicU64::new(0),
             at_work: AtomicUsize::new(CALLERS),
+            end: time.map(|time| Instant::now() + time),
             difference: Mutex::new(None),
         }
     }
@@ -53,8 +61,8 @@ impl Shared {
         lock(&self.fronts).remove(&front);
     }
 
-    /// Forgets the fronts that all callers have gone past.
-    pub fn forget(&self) {
+    /// Forgets the fronts that all callers have gone past. Gives how many are left.
+    pub fn forget(&self) -> usize {
         let least = self
             .seen
             .iter()
@@ -64,26 +72,43 @@ impl Shared {
         let mut fronts = lock(&self.fronts);
         let later = fronts.split_off(&least);
         *fronts = later;
+        fronts.len()
     }
 
     pub fn model_at(&self, front: u64) -> Option<Arc<Model>> {
         lock(&self.fronts).get(&front).cloned()
     }
 
-    /// A caller meets no earlier front from now on.
+    /// What a caller audits from now on is of no earlier front.
     pub fn has_seen(&self, caller: usize, front: u64) {
         self.seen[caller].store(front, Ordering::SeqCst);
     }
 
-    /// A caller has ended.
-    pub fn leave(&self, caller: usize) {
-        self.has_seen(caller, u64::MAX);
-        self.at_work.fetch_sub(1, Ordering::SeqCst);
+    /// So many decisions more were audited.
+    pub fn has_decided(&self, decisions: u64) {
+        self.decided.fetch_add(decisions, Ordering::SeqCst);
+    }
+
+    /// How many decisions were audited.
+    pub fn decided(&self) -> u64 {
+        self.decided.load(Ordering::SeqCst)
+    }
+
+    pub fn begin(&self, caller: usize) -> AtWork<'_> {
+        AtWork {
+            shared: self,
+            caller,
+        }
     }
 
     /// Whether a caller is at work.
     pub fn is_at_work(&self) -> bool {
         self.at_work.load(Ordering::SeqCst) > 0
+    }
+
+    /// Whether the time is over, or a thread has met a difference.
+    pub fn is_over(&self) -> bool {
+        self.end.is_some_and(|end| Instant::now() >= end) || self.difference().is_some()
     }
 
     /// Keeps the first difference.
@@ -96,70 +121,13 @@ impl Shared {
     }
 }
 
+impl Drop for AtWork<'_> {
+    fn drop(&mut self) {
+        self.shared.has_seen(self.caller, u64::MAX);
+        self.shared.at_work.fetch_sub(1, Ordering::SeqCst);
+    }
+}
+
 fn lock<T>(mutex: &Mutex<T>) -> MutexGuard<'_, T> {
     mutex.lock().unwrap_or_else(PoisonError::into_inner)
-}
-
-/// What was done.
-#[derive(Clone, Default)]
-pub struct Counts {
-    pub decisions: u64,
-    pub outcomes: [u64; 6],
-    pub looks: u64,
-    pub kept: u64,
-    pub read: u64,
-    pub learnt: u64,
-    pub accepted: u64,
-    pub refused: u64,
-    pub publications: u64,
-    pub held: u64,
-}
-
-impl AddAssign<&Counts> for Counts {
-    fn add_assign(&mut self, other: &Counts) {
-        self.decisions += other.decisions;
-        self.outcomes
-            .iter_mut()
-            .zip(other.outcomes)
-            .for_each(|(count, more)| *count += more);
-        self.looks += other.looks;
-        self.kept += other.kept;
-        self.read += other.read;
-        self.learnt += other.learnt;
-        self.accepted += other.accepted;
-        self.refused += other.refused;
-        self.publications += other.publications;
-        self.held += other.held;
-    }
-}
-
-impl fmt::Display for Counts {
-    fn fmt(&self, out: &mut fmt::Formatter<'_>) -> fmt::Result {
-        let outcomes: Vec<_> = OUTCOMES
-            .iter()
-            .zip(self.outcomes)
-            .map(|(name, count)| format!("{name} {count}"))
-            .collect();
-        writeln!(out, "{} decisions: {}", self.decisions, outcomes.join(", "))?;
-        writeln!(
-            out,
-            "{} of them by kept records; {} looks held over several calls",
-            self.kept, self.looks
-        )?;
-        writeln!(
-            out,
-            "{} rows read; {} receipts learnt",
-            self.read, self.learnt
-        )?;
-        writeln!(
-            out,
-            "{} updates accepted, {} refused",
-            self.accepted, self.refused
-        )?;
-        write!(
-            out,
-            "{} publications, {} held",
-            self.publications, self.held
-        )
-    }
 }

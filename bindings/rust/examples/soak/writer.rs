@@ -1,58 +1,120 @@
 //! The writer: batches of updates, compared with the model, and publications that are tried again if they are held.
 use crate::convert;
+use crate::counts::Counts;
+use crate::memory::Memory;
 use crate::model::Model;
-use crate::plain;
+use crate::plain::{self, Update};
 use crate::random::Random;
-use crate::shared::{Checked, Counts, Shared};
+use crate::shared::{Checked, Shared};
 use camel::{Error, Imsi, Receipt, Store};
 use std::sync::Arc;
 use std::sync::mpsc::Sender;
-use std::thread::yield_now;
+use std::thread::{sleep, yield_now};
+use std::time::{Duration, Instant};
+
+/// How many fronts may be met before the writer waits for the audits.
+const FRONTS: usize = 256;
+
+/// The memory is looked at once in so many turns.
+const TURNS: u64 = 8;
+
+/// A line comes so often.
+const LINE: Duration = Duration::from_secs(10);
 
 pub struct Writer<'a> {
     pub store: &'a mut Store,
     pub shared: &'a Shared,
     pub imsis: &'a [Imsi],
+    /// How many of them are known.
+    pub count: usize,
+    /// The first subscriber who has not come since all were cleared.
+    pub missing: usize,
     pub callers: Vec<Sender<(Receipt, u64)>>,
     pub random: Random,
     pub model: Model,
+    pub memory: Memory,
     pub counts: Counts,
 }
 
 impl Writer<'_> {
-    /// Submits and publishes while callers are at work.
+    /// Submits and publishes while callers are at work. At the end nothing is pending.
     pub fn run(&mut self) -> Checked<()> {
+        let start = Instant::now();
+        let mut line = LINE;
+        let mut turn: u64 = 0;
         while self.shared.is_at_work() {
             self.batch()?;
             let receipt = self.publish()?;
             self.hand_out(receipt)?;
-            self.shared.forget();
-            if self.random.once_in(2) {
-                yield_now();
+            turn += 1;
+            if turn % TURNS == 0 {
+                self.memory.look();
             }
+            if start.elapsed() >= line {
+                let (seconds, publications) = (line.as_secs(), self.counts.publications);
+                let decisions = self.shared.decided();
+                eprintln!("{seconds} s: {decisions} decisions, {publications} publications");
+                line += LINE;
+            }
+            self.pause();
         }
         Ok(())
     }
 
-    /// Submits some updates. Each is refused or accepted as the model says.
+    /// Waits while the audits are far behind, and now and then for a while.
+    fn pause(&mut self) {
+        while self.shared.forget() > FRONTS && self.shared.is_at_work() {
+            yield_now();
+        }
+        match self.random.below(8) {
+            0 => sleep(Duration::from_micros(self.random.below(400) as u64)),
+            1..5 => yield_now(),
+            _ => {}
+        }
+    }
+
+    /// Submits some updates, and the first ones of some subscribers who are missing.
     fn batch(&mut self) -> Checked<()> {
-        let most = self.random.of(&[1, 1, 3, 10, 40, 200]);
-        for _ in 0..1 + self.random.below(most) {
-            let plain = plain::update(&mut self.random);
-            let update = convert::update(&plain, self.imsis)
-                .map_err(|error| format!("{plain:?}: {error}"))?;
-            let submitted = self.store.submit(&update);
-            match (self.model.apply(&plain), submitted) {
-                (Ok(()), Ok(())) => self.counts.accepted += 1,
-                (Err(refusals), Err(error)) if refusals.contains(&error.code()) => {
-                    self.counts.refused += 1
-                }
-                (wanted, _) => {
-                    return Err(format!(
-                        "writer: {plain:?}: {submitted:?}, and not {wanted:?}"
-                    ));
-                }
+        let most = self.random.of(&[0, 1, 1, 3, 10, 40, 200]);
+        for _ in 0..self.random.below(most + 1) {
+            let update = if self.random.once_in(usize::max(2000, 4 * self.count)) {
+                Update::ClearAll
+            } else {
+                plain::update(&mut self.random, self.count)
+            };
+            self.submit(&update)?;
+        }
+        for _ in 0..self.random.of(&[0, 1, 20, 200]) {
+            if self.missing == self.count {
+                break;
             }
+            let insert = plain::insert(&mut self.random, self.missing);
+            self.submit(&Update::Register(self.missing))?;
+            self.submit(&insert)?;
+            self.missing += 1;
+        }
+        Ok(())
+    }
+
+    /// Submits an update. It is refused or accepted as the model says.
+    fn submit(&mut self, plain: &Update) -> Checked<()> {
+        let update =
+            convert::update(plain, self.imsis).map_err(|error| format!("{plain:?}: {error}"))?;
+        let submitted = self.store.submit(&update);
+        match (self.model.apply(plain), submitted) {
+            (Ok(()), Ok(())) => self.counts.accepted += 1,
+            (Err(refusals), Err(error)) if refusals.contains(&error.code()) => {
+                self.counts.refused += 1
+            }
+            (wanted, _) => {
+                return Err(format!(
+                    "writer: {plain:?}: {submitted:?}, and not {wanted:?}"
+                ));
+            }
+        }
+        if matches!(plain, Update::ClearAll) {
+            self.missing = 0;
+            self.counts.clears += 1;
         }
         Ok(())
     }
