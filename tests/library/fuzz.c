@@ -1,9 +1,9 @@
 /* Random fields and octets of any kind through each function of camel.h: as many calls as the first argument says, with
  * the seed of the second. A caller's part is kept: a bool is 0 or 1, a pointer points to as much as is said, what is
- * passed does not overlap, and a receipt is of the session's own store. All else is any octet, and any handle stands for
- * any other now and then. Each call returns one of its statuses, leaves what it writes as it was if that is not CAMEL_OK,
- * and reports what was submitted. Behind the lists and octets that are passed lies memory that may not be touched. Prints
- * how often each function returned each status. */
+ * passed does not overlap, and a receipt is of the session's own store. All else is any octet, and any handle stands
+ * for any other now and then. Each call returns one of its statuses, leaves what it writes as it was if that is not
+ * CAMEL_OK, and reports what was submitted. Behind the lists and octets that are passed lies memory that may not be
+ * touched. Prints how often each function returned each status. */
 #define _DEFAULT_SOURCE
 #include "random.h"
 
@@ -180,7 +180,8 @@ static void f_submit_insert(void)
     unsigned slot = pick(STORE);
     camel_imsi imsi = any_imsi();
     camel_insert sent = { toss(), toss(), toss(), toss() };
-    size_t o_count = any_count(), o_criteria_count = any_count(), vt_count = any_count(), t_criteria_count = any_count();
+    size_t o_count = any_count(), o_criteria_count = any_count();
+    size_t vt_count = any_count(), t_criteria_count = any_count();
     camel_row o[12], vt[12];
     camel_o_criteria o_criteria[12];
     camel_t_criteria t_criteria[12];
@@ -393,7 +394,8 @@ static struct { const char *name; void (*make)(void); unsigned often; unsigned l
     EXPORT(submit_insert, 160), EXPORT(submit_delete, 20), EXPORT(submit_cancel, 20), EXPORT(submit_clear_all, 1),
     EXPORT(publish, 60), EXPORT(published, 20), EXPORT(pending, 20), EXPORT(receipt_of, 30), EXPORT(learn, 40),
     EXPORT(decide, 180), EXPORT(look, 25), EXPORT(leave, 40), EXPORT(row_at, 30),
-    EXPORT(o_criteria_at, 15), EXPORT(t_criteria_at, 15), EXPORT(keep, 40), EXPORT(decide_kept, 40), EXPORT(close, 2), EXPORT(free, 50),
+    EXPORT(o_criteria_at, 15), EXPORT(t_criteria_at, 15), EXPORT(keep, 40), EXPORT(decide_kept, 40), EXPORT(close, 2),
+    EXPORT(free, 50),
 };
 
 enum { EXPORTS = sizeof exports / sizeof *exports };

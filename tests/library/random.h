@@ -99,7 +99,8 @@ static camel_basic_services any_services(void)
 
 static camel_o_criteria any_o_criteria(unsigned dp)
 {
-    camel_o_criteria entry = { .dp = mostly(dp), .has_number = toss(), .has_call_type = toss(), .is_forwarded = toss() };
+    camel_o_criteria entry = { .dp = mostly(dp), .has_number = toss(), .has_call_type = toss() };
+    entry.is_forwarded = toss();
     entry.number.is_enabling = toss();
     entry.number.number_count = mostly(below(11));
     entry.number.length_count = mostly(1 + below(3));

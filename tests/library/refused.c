@@ -1,7 +1,7 @@
-/* Each request for memory in the life of a store, refused in turn. The call that it fails returns CAMEL_OUT_OF_MEMORY and
- * has changed nothing; it is made again, or, of a publication, in a second sweep behind a further update. Each life ends
- * as one in which no memory was refused, with nothing left allocated. Prints how many requests fail each call, and how
- * many it does without. Linked with --wrap of malloc, realloc and free. */
+/* Each request for memory in the life of a store, refused in turn. The call that it fails returns CAMEL_OUT_OF_MEMORY
+ * and has changed nothing; it is made again, or, of a publication, in a second sweep behind a further update. Each life
+ * ends as one in which no memory was refused, with nothing left allocated. Prints how many requests fail each call, and
+ * how many it does without. Linked with --wrap of malloc, realloc and free. */
 #include "check.h"
 
 void *__real_malloc(size_t size);
@@ -136,6 +136,24 @@ static void add_address(const camel_isdn_address *address)
         add(at < address->length ? address->octets[at] : 0);
 }
 
+static void add_octets(const void *at, size_t size)
+{
+    for (size_t i = 0; i < size; i++)
+        add(((const uint8_t *)at)[i]);
+}
+
+/* The criteria of a subscriber at a detection point. What they have none of is 0. */
+static void add_criteria(camel_session *session, const camel_imsi *imsi, uint8_t dp)
+{
+    camel_o_criteria of_o = { 0 };
+    camel_t_criteria of_t = { 0 };
+    bool is_there = false;
+    NONE(CAMEL_OK, camel_o_criteria_at(session, imsi, dp, &of_o, &is_there));
+    add(is_there), add_octets(&of_o, sizeof of_o);
+    NONE(CAMEL_OK, camel_t_criteria_at(session, imsi, dp, &of_t, &is_there));
+    add(is_there), add_octets(&of_t, sizeof of_t);
+}
+
 /* All that a session shows of a subscriber at a detection point. */
 static void add_shown(camel_session *session, unsigned number, uint8_t dp)
 {
@@ -146,10 +164,12 @@ static void add_shown(camel_session *session, unsigned number, uint8_t dp)
     bool is_there = false;
     NONE(CAMEL_OK, camel_decide(session, &event, &answer));
     NONE(CAMEL_OK, camel_row_at(session, &imsi, dp, &row, &is_there));
-    add(answer.front), add(answer.key), add(answer.dp), add(answer.is_release), add(answer.is_trigger), add(answer.reason);
+    add(answer.front), add(answer.key), add(answer.dp), add(answer.is_release), add(answer.is_trigger);
+    add(answer.reason);
     add_address(&answer.scf);
     add(is_there), add(row.key), add(row.handling), add(row.dp);
     add_address(&row.scf);
+    add_criteria(session, &imsi, dp);
 }
 
 /* All that the store and a session show, in one number. */
@@ -170,7 +190,9 @@ static uint64_t shown(void)
 static camel_o_criteria o_criteria_of(uint8_t dp, uint8_t numbers)
 {
     static const uint8_t listed[] = { 0x91, 0x34 };
-    camel_o_criteria entry = { .dp = dp, .has_number = true, .number = { .is_enabling = true, .number_count = numbers } };
+    camel_o_criteria entry = { .dp = dp, .has_number = true };
+    entry.number.is_enabling = true;
+    entry.number.number_count = numbers;
     for (int at = 0; at < numbers; at++)
         entry.number.numbers[at] = isdn_of(listed, sizeof listed);
     if (numbers > 3) {
@@ -400,7 +422,8 @@ int main(void)
     for (int kind = 0; kind < KINDS; kind++)
         IS(again.failed[kind] == tallies.failed[kind] && again.without[kind] == tallies.without[kind]);
 
-    puts("| Call | Calls | Requests that fail one | What it answers | Requests that they do without |\n|---|---|---|---|---|");
+    puts("| Call | Calls | Requests that fail one | What it answers | Requests that they do without |");
+    puts("|---|---|---|---|---|");
     for (int kind = 0; kind < KINDS; kind++) {
         char calls[24];
         snprintf(calls, sizeof calls, "%ld", again.calls[kind]);

@@ -4,8 +4,9 @@ use crate::counts::Counts;
 use crate::model::{Model, Record, decide};
 use crate::plain::{self, Event};
 use crate::shared::{Checked, Shared};
-use camel::{Answer, Row, Subscriber};
+use camel::{Answer, Error, OCriteria, Row, Subscriber, TCriteria};
 use std::collections::VecDeque;
+use std::fmt::Debug;
 use std::sync::Arc;
 
 /// How many records a caller keeps at once.
@@ -27,8 +28,10 @@ pub struct Given {
 
 pub enum What {
     Answer(Event, Answer),
-    /// The row of a subscriber at a detection point.
+    /// The row of a subscriber at a detection point, and the criteria.
     Row(plain::Subscriber, u8, Option<Row>),
+    OCriteria(plain::Subscriber, u8, Option<OCriteria>),
+    TCriteria(plain::Subscriber, u8, Option<TCriteria>),
     /// The record of a subscriber, to be kept.
     Record(plain::Subscriber, Option<Subscriber>),
 }
@@ -80,7 +83,21 @@ impl<'a> Audit<'a> {
                 let record = self.model.record(event.subscriber).cloned();
                 self.check_answer(&event, &answer, record.as_deref())
             }
-            What::Row(subscriber, dp, row) => self.check_row(subscriber, dp, row),
+            What::Row(subscriber, dp, row) => {
+                self.check_stored(subscriber, row, |record| record.row(dp), convert::stored)
+            }
+            What::OCriteria(subscriber, dp, entry) => self.check_stored(
+                subscriber,
+                entry,
+                |record| record.entry(dp),
+                convert::o_criteria,
+            ),
+            What::TCriteria(subscriber, dp, entry) => self.check_stored(
+                subscriber,
+                entry,
+                |record| record.entry(dp),
+                convert::t_criteria,
+            ),
             What::Record(subscriber, handle) => self.check_record(subscriber, handle),
         }
     }
@@ -121,24 +138,26 @@ impl<'a> Audit<'a> {
         Ok(())
     }
 
-    fn check_row(
+    /// Compares what is read of a subscriber with what is stored in the record of the model.
+    fn check_stored<P, T: PartialEq + Debug>(
         &mut self,
         subscriber: plain::Subscriber,
-        dp: u8,
-        row: Option<Row>,
+        read: Option<T>,
+        stored: impl Fn(&Record) -> Option<&P>,
+        made: fn(&P) -> Result<T, Error>,
     ) -> Checked<()> {
         let record = self.model.record(subscriber);
         let wanted = record
-            .and_then(|record| record.row(dp))
-            .map(convert::stored)
+            .and_then(|record| stored(record))
+            .map(made)
             .transpose()
-            .map_err(|error| format!("a row of the model: {error}"))?;
+            .map_err(|error| format!("data of the model: {error}"))?;
         self.counts.read += 1;
-        if row == wanted {
+        if read == wanted {
             Ok(())
         } else {
             Err(format!(
-                "the row of {subscriber} at {dp}: {row:?}, and not {wanted:?}"
+                "of {subscriber} is stored {read:?}, and not {wanted:?}"
             ))
         }
     }

@@ -121,7 +121,7 @@ impl Caller<'_> {
         Ok(at)
     }
 
-    /// Reads the row that is stored for a subscriber at a detection point.
+    /// Reads the row and the criteria that are stored for a subscriber at a detection point.
     fn read(
         &mut self,
         look: &Look<'_>,
@@ -129,10 +129,17 @@ impl Caller<'_> {
         dp: u8,
         at: At,
     ) -> Checked<()> {
-        let row = convert::point(dp)
-            .and_then(|point| look.row(self.imsis[subscriber], point))
-            .map_err(|error| format!("row: {error}"))?;
+        let refused = |error| format!("row or criteria: {error}");
+        let (imsi, point) = (self.imsis[subscriber], convert::point(dp).map_err(refused)?);
+        let row = look.row(imsi, point).map_err(refused)?;
         self.give(at, What::Row(subscriber, dp, row));
+        if matches!(dp, 2 | 4) {
+            let entry = look.o_criteria(imsi, point).map_err(refused)?;
+            self.give(at, What::OCriteria(subscriber, dp, entry));
+        } else {
+            let entry = look.t_criteria(imsi, point).map_err(refused)?;
+            self.give(at, What::TCriteria(subscriber, dp, entry));
+        }
         Ok(())
     }
 

@@ -58,7 +58,7 @@ impl fmt::Display for Counts {
         )?;
         writeln!(
             out,
-            "{} rows read; {} receipts learnt",
+            "{} rows and criteria read; {} receipts learnt",
             self.read, self.learnt
         )?;
         writeln!(
