@@ -54,6 +54,38 @@ static bool is_same_row(const camel_row *one, const camel_row *other)
         && is_same_isdn(&one->scf, &other->scf);
 }
 
+/* Both entries come back octet by octet, in place of octets that are all 1. */
+static void criteria_come_back(camel_session *session, const camel_imsi *imsi, const camel_o_criteria *o_entry,
+                               const camel_t_criteria *t_entry)
+{
+    camel_o_criteria of_o;
+    camel_t_criteria of_t;
+    bool is_there = false;
+
+    memset(&of_o, 1, sizeof of_o);
+    memset(&of_t, 1, sizeof of_t);
+    RETURNS(CAMEL_OK, camel_o_criteria_at(session, imsi, o_entry->dp, &of_o, &is_there));
+    IS(is_there && memcmp(&of_o, o_entry, sizeof of_o) == 0);
+    is_there = false;
+    RETURNS(CAMEL_OK, camel_t_criteria_at(session, imsi, t_entry->dp, &of_t, &is_there));
+    IS(is_there && memcmp(&of_t, t_entry, sizeof of_t) == 0);
+}
+
+/* So do entries with one criterion, and entries with none. */
+static void bare_criteria_come_back(camel_store *store, camel_session *session)
+{
+    camel_o_criteria o_criteria[] = { { .dp = 2, .basic = { 1, { { true, 0x18 } } } }, { .dp = 4 } };
+    camel_t_criteria t_criteria[] = { { .dp = 12, .basic = { 1, { { true, 0x18 } } } }, { .dp = 13 } };
+    camel_row o[] = { row_of(2, 100) }, vt[] = { row_of(12, 102) };
+    camel_imsi imsi = imsi_of(3);
+
+    RETURNS(CAMEL_OK, camel_submit_register(store, &imsi));
+    RETURNS(CAMEL_OK, insert(store, 3, o, 1, o_criteria, 2, vt, 1, t_criteria, 2));
+    RETURNS(CAMEL_OK, camel_publish(store));
+    for (int at = 0; at < 2; at++)
+        criteria_come_back(session, &imsi, &o_criteria[at], &t_criteria[at]);
+}
+
 /* There is no row at 3, no criteria of the O-CSI at 13 and none of the VT-CSI at 12: what stands is left. */
 static void nothing_is_there(camel_session *session, const camel_imsi *imsi)
 {
@@ -95,12 +127,7 @@ static void fields_come_back(camel_store *store, camel_session *session)
         IS(is_there && is_same_row(&row, sent));
     }
     for (int at = 0; at < 2; at++) {
-        camel_o_criteria of_o = { .dp = 7 };
-        camel_t_criteria of_t = { .dp = 7 };
-        RETURNS(CAMEL_OK, camel_o_criteria_at(session, &imsi, o_criteria[at].dp, &of_o, &is_there));
-        IS(is_there && memcmp(&of_o, &o_criteria[at], sizeof of_o) == 0);
-        RETURNS(CAMEL_OK, camel_t_criteria_at(session, &imsi, t_criteria[at].dp, &of_t, &is_there));
-        IS(is_there && memcmp(&of_t, &t_criteria[at], sizeof of_t) == 0);
+        criteria_come_back(session, &imsi, &o_criteria[at], &t_criteria[at]);
     }
     nothing_is_there(session, &imsi);
 }
@@ -190,6 +217,7 @@ int main(void)
     RETURNS(CAMEL_OK, camel_open(&store, &session, 1, 100, 1, 1));
     fields_come_back(&store, &session);
     fields_of_events(&session);
+    bare_criteria_come_back(&store, &session);
     received_handlings(&store, &session);
     camel_free(&session);
     RETURNS(CAMEL_OK, camel_close(&store));
