@@ -3,6 +3,7 @@
 ghost use Rattle.std.specs.Prelude.{◌≡◌, ◌≢◌, ◌⊎◌, Err, Some, IfErr, OnErr, OnOk};
 ghost use Rattle.camel_rows.specs.Store.{all_published};
 ghost use Rattle.camel_c.specs.Change.{ChangesUpdates};
+ghost use Rattle.camel_c.specs.Failure.{failure_of_publication};
 ghost use Rattle.camel_c.specs.Object.{HoldsLiveStore};
 ghost use Rattle.camel_c.specs.declared.failure.Failure.TheVariants as failure;
 
@@ -65,7 +66,7 @@ fn publish_held(held: &mut Object) -> Result<(), Failure>
 }
 
 fn unpublished(why: Unpublished) -> Failure
-    ensures { (result ≡ failure.Held) ⊎ (result ≡ failure.Refused Refusal.OutOfMemory) }
+    ensures { result ≡ failure_of_publication why }
 {
     match why {
         Unpublished::Held => Failure::Held,

@@ -52,8 +52,8 @@ pub extern "C" fn camel_row_at(
     show_at(alloc, session, imsi, dp, row, is_there)
 }
 
-/// Tells whether a subscriber has criteria of the O-CSI at a detection point, over the look that has begun, or else by a look of its
-/// own, and writes them if there is one. It takes no memory and does not wait.
+/// Tells whether a subscriber has criteria of the O-CSI at a detection point, over the look that has begun, or else by a
+/// look of its own, and writes them if there are any. It takes no memory and does not wait.
 ///
 /// Criteria are there even if the CSI has no row of the detection point; they have no effect then.
 ///
@@ -83,8 +83,8 @@ pub extern "C" fn camel_o_criteria_at(
     show_at(alloc, session, imsi, dp, criteria, is_there)
 }
 
-/// Tells whether a subscriber has criteria of the VT-CSI at a detection point, over the look that has begun, or else by a look of its
-/// own, and writes them if there is one. It takes no memory and does not wait.
+/// Tells whether a subscriber has criteria of the VT-CSI at a detection point, over the look that has begun, or else by a
+/// look of its own, and writes them if there are any. It takes no memory and does not wait.
 ///
 /// Criteria are there even if the CSI has no row of the detection point; they have no effect then.
 ///
