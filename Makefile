@@ -119,7 +119,7 @@ coprocess: need-cc need-python3 $(PROGRAM)
 	$(say)
 	@$(CC) -std=c11 -O2 -Wall -Wextra -o $(COPROCESS) examples/coprocess.c
 	@$(COPROCESS) $(PROGRAM) $(CALLS)
-	@.ci/first-calls docs/INTEGRATION.md crates
+	@.ci/first-calls docs/PIPES.md crates
 
 ## Refuses each request for memory in turn: some minutes, once its program is built.
 refusals: $(REFUSALS)
