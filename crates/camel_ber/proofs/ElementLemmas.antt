@@ -1,0 +1,60 @@
+-- An element by its identifier, its length and the way its contents end.
+use Rattle.std.proofs.Common.{◌≡◌, ℕ, zero, suc, ◌-◌, ◌+◌, ◌<◌, true, false, Option, None, List, length, take, Result, Ok, Err, refl, ◌∙◌, arith}
+use Rattle.camel_ber.specs.declared.fault.Fault.{Fault}
+use Rattle.camel_ber.specs.declared.fault.FaultKind.TheVariants.{IndefinitePrimitive, TooDeep}
+use Rattle.camel_ber.specs.Reading.{content_of, element_at, element_by, end_by, fault_at, identifier_at, is_constructed, length_at, place_of}
+
+-- the octets behind an end of contents, of indefinite forms at most so deep
+unfoldable pub ends_at : ℕ → ℕ → List ℕ → Result (List ℕ) Fault
+ends_at end zero rest = Err (fault_at TooDeep end rest)
+ends_at end (suc depth) rest = end_by end (element_at end depth) (length rest) rest
+
+pub ends_at-zero : (end : ℕ) (rest : List ℕ) → ends_at end 0 rest ≡ Err (fault_at TooDeep end rest)
+unfolding ends_at
+ends_at-zero end rest = refl
+
+pub ends_at-deeper : (end depth : ℕ) (rest : List ℕ) → 0 < depth
+    → ends_at end depth rest ≡ end_by end (element_at end (depth - 1)) (length rest) rest
+unfolding ends_at
+ends_at-deeper end zero rest some = absurd (omega arith)
+ends_at-deeper end (suc depth) rest some = let less : suc depth - 1 ≡ depth = omega arith in rw less refl
+
+pub element_at-by : (end depth : ℕ) (bytes : List ℕ) → element_at end depth bytes ≡ element_by end (ends_at end depth) bytes
+unfolding element_at ends_at
+element_at-by end zero bytes = refl
+element_at-by end (suc depth) bytes = refl
+
+pub no_identifier : (end depth : ℕ) (bytes : List ℕ) (fault : Fault) → identifier_at end bytes ≡ Err fault
+    → element_at end depth bytes ≡ Err fault
+no_identifier end depth bytes fault read = element_at-by end depth bytes ∙ rw read refl
+
+pub no_length : (end depth : ℕ) (bytes identifier rest : List ℕ) (fault : Fault) → identifier_at end bytes ≡ Ok (identifier, rest)
+    → length_at end rest ≡ Err fault → element_at end depth bytes ≡ Err fault
+no_length end depth bytes identifier rest fault read len = element_at-by end depth bytes ∙ rw (read, len) refl
+
+-- behind an identifier and a length, an element is what its contents make of it
+pub at_contents : (end depth : ℕ) (bytes identifier lengths : List ℕ) (len : Option ℕ) (rest : List ℕ)
+    → identifier_at end bytes ≡ Ok (identifier, lengths) → length_at end lengths ≡ Ok (len, rest)
+    → element_at end depth bytes ≡ content_of end (ends_at end depth) (place_of end bytes) identifier len rest
+at_contents end depth bytes identifier lengths len rest read has = element_at-by end depth bytes ∙ rw (read, has) refl
+
+pub is_primitive : (end : ℕ) (ends : List ℕ → Result (List ℕ) Fault) (place : ℕ) (identifier rest : List ℕ)
+    → is_constructed identifier ≡ false
+    → content_of end ends place identifier None rest ≡ Err (fault_at IndefinitePrimitive end rest)
+is_primitive end ends place identifier rest test = rw test refl
+
+pub has_no_end : (end : ℕ) (ends : List ℕ → Result (List ℕ) Fault) (place : ℕ) (identifier rest : List ℕ) (fault : Fault)
+    → is_constructed identifier ≡ true → ends rest ≡ Err fault → content_of end ends place identifier None rest ≡ Err fault
+has_no_end end ends place identifier rest fault test read = rw (test, read) refl
+
+pub has_end : (end : ℕ) (ends : List ℕ → Result (List ℕ) Fault) (place : ℕ) (identifier rest after : List ℕ)
+    → is_constructed identifier ≡ true → ends rest ≡ Ok after
+    → content_of end ends place identifier None rest ≡ Ok (
+      record {
+        element = record { identifier = identifier; content = take (length rest - (length after + 2)) rest };
+        place = place;
+        end = end - (length after + 2);
+      },
+      after,
+    )
+has_end end ends place identifier rest after test read = rw (test, read) refl

@@ -1,0 +1,11 @@
+pub mod ContentLemmas
+pub mod ContinuationLemmas
+pub mod ElementLemmas
+pub mod EndLemmas
+pub mod IdentifierLemmas
+pub mod LengthLemmas
+pub mod ListLemmas
+pub mod NestedLemmas
+pub mod SeriesLemmas
+pub mod SpelledEndLemmas
+pub mod StepLemmas
