@@ -1,18 +1,18 @@
 -- An element of either form, where the end of indefinite contents is found exactly where it is.
-use Rattle.std.proofs.Common.{◌≡◌, ◌≢◌, ◌⊎◌, inl, inr, ℕ, suc, ◌-◌, ◌+◌, ◌≤◌, true, false, ltb, Option, Some, None, List, [], ◌∷◌, ◌++◌, length, get_or, take, drop, Result, Ok, refl, sym, ap, subst, ◌∙◌, append_assoc, eq-eqb, arith}
-use Rattle.std.proofs.lemmas.Bool.{le-ltb, ltb-false, eqb-true}
-use Rattle.std.proofs.lemmas.List.{take_at, drop_at, length-append, length-take, take-append-drop}
-use Rattle.camel_ber.specs.declared.fault.Fault.{Fault}
+use Rattle.std.proofs.Common.{[], ◌++◌, ◌+◌, ◌-◌, ◌∙◌, ◌∷◌, ◌≡◌, ◌≢◌, ◌≤◌, ◌⊎◌, ap, append_assoc, arith, drop, eq-eqb, false, get_or, inl, inr, length, List, ltb, None, Ok, Option, refl, Some, subst, suc, sym, take, true, ℕ}
+use Rattle.std.proofs.lemmas.Bool.{eqb-true, le-ltb, ltb-false}
+use Rattle.std.proofs.lemmas.List.{drop_at, length-append, length-take, take-append-drop, take_at}
 use Rattle.camel_ber.specs.declared.fault.FaultKind.TheVariants.{IndefinitePrimitive, PastEnd}
 use Rattle.camel_ber.specs.Grammar.{ElementData, IsConstructed, IsDefinite, IsIdentifier, IsLength}
-use Rattle.camel_ber.specs.Reading.{◌>>=◌, PlacedData, content_of, element_by, fault_at, identifier_at, is_constructed, length_at, place_of}
+use Rattle.camel_ber.specs.Reading.{◌>>=◌, content_of, element_by, EndReader, fault_at, identifier_at, is_constructed, length_at, place_of, PlacedData}
+use Rattle.camel_ber.proofs.ContinuationLemmas.{ends}
 use Rattle.camel_ber.proofs.IdentifierLemmas.{identifier-begins, identifier-found, identifier-read, identifier-some}
 use Rattle.camel_ber.proofs.LengthLemmas.{IsLengthOrNone, length-found, length-read, length-read_none, length-some}
 use Rattle.camel_ber.proofs.SpelledEndLemmas.{BeginsWith, IsRead}
 use Rattle.camel_ber.proofs.StepLemmas.{done, first_done, held, passed, same_value}
 
 -- the end of contents is found exactly behind contents
-pub record ExactEnd (ends : List ℕ → Result (List ℕ) Fault) (Is : List ℕ → Type 0) : Type 0 where
+pub record ExactEnd (ends : EndReader) (Is : List ℕ → Type 0) : Type 0 where
   pub found : (rest after : List ℕ) → ends rest ≡ Ok after → (content : List ℕ) × Is content × (rest ≡ content ++ 0 ∷ 0 ∷ after)
   pub reads : (content after : List ℕ) → Is content → ends (content ++ 0 ∷ 0 ∷ after) ≡ Ok after
 
@@ -37,7 +37,7 @@ before_end content after rest parts =
     ap (λ (n : ℕ). take n rest) less ∙ ap (take (length content)) parts ∙ take_at content (0 ∷ 0 ∷ after) (length content) refl
 
 -- the contents octets of a definite length
-definite-found : (end : ℕ) (ends : List ℕ → Result (List ℕ) Fault) (Is : List ℕ → Type 0) (place : ℕ) (identifier rest lengths : List ℕ) (n : ℕ)
+definite-found : (end : ℕ) (ends : EndReader) (Is : List ℕ → Type 0) (place : ℕ) (identifier rest lengths : List ℕ) (n : ℕ)
     (read : PlacedData × List ℕ) → IsIdentifier identifier → IsLength lengths n → content_of end ends place identifier (Some n) rest ≡ Ok read
     → BeginsWith (IsEither Is) (identifier ++ (lengths ++ rest)) read
 definite-found end ends Is place identifier rest lengths n read is has e =
@@ -56,7 +56,7 @@ definite-found end ends Is place identifier rest lengths n read is has e =
     subst (BeginsWith (IsEither Is) (identifier ++ (lengths ++ rest))) (same_value made read there.1) (front, inl (lengths, is, fits, refl), whole)
 
 -- the contents octets before an end of contents
-indefinite-found : (end : ℕ) {ends : List ℕ → Result (List ℕ) Fault} {Is : List ℕ → Type 0} (exact : ExactEnd ends Is) (place : ℕ) (identifier rest lengths : List ℕ)
+indefinite-found : (end : ℕ) {ends : EndReader} {Is : List ℕ → Type 0} (exact : ExactEnd ends Is) (place : ℕ) (identifier rest lengths : List ℕ)
     (read : PlacedData × List ℕ) → IsIdentifier identifier → lengths ≡ 128 ∷ [] → content_of end ends place identifier None rest ≡ Ok read
     → BeginsWith (IsEither Is) (identifier ++ (lengths ++ rest)) read
 indefinite-found end {ends} {Is} exact place identifier rest lengths read is has e =
@@ -78,13 +78,13 @@ indefinite-found end {ends} {Is} exact place identifier rest lengths read is has
     (ap (λ (octets : List ℕ). made octets after) (sym same) ∙ same_value (made (taken after) after) read ended.2)
     (front, inr (is, constructed-is identifier (identifier-some identifier is) constructed.0, before.1, refl), whole)
 
-contents-found : (end : ℕ) {ends : List ℕ → Result (List ℕ) Fault} {Is : List ℕ → Type 0} (exact : ExactEnd ends Is) (place : ℕ) (identifier : List ℕ) (len : Option ℕ)
+contents-found : (end : ℕ) {ends : EndReader} {Is : List ℕ → Type 0} (exact : ExactEnd ends Is) (place : ℕ) (identifier : List ℕ) (len : Option ℕ)
     (rest lengths : List ℕ) (read : PlacedData × List ℕ) → IsIdentifier identifier → IsLengthOrNone lengths len
     → content_of end ends place identifier len rest ≡ Ok read → BeginsWith (IsEither Is) (identifier ++ (lengths ++ rest)) read
 contents-found end {ends} {Is} exact place identifier (Some n) rest lengths read is has e = definite-found end ends Is place identifier rest lengths n read is has e
 contents-found end exact place identifier None rest lengths read is has e = indefinite-found end exact place identifier rest lengths read is has e
 
-pub element-found : (end : ℕ) {ends : List ℕ → Result (List ℕ) Fault} {Is : List ℕ → Type 0} (exact : ExactEnd ends Is) (bytes : List ℕ) (read : PlacedData × List ℕ)
+pub element-found : (end : ℕ) {ends : EndReader} {Is : List ℕ → Type 0} (exact : ExactEnd ends Is) (bytes : List ℕ) (read : PlacedData × List ℕ)
     → element_by end ends bytes ≡ Ok read → BeginsWith (IsEither Is) bytes read
 element-found end {ends} exact bytes read e =
     let place = place_of end bytes in
@@ -95,7 +95,7 @@ element-found end {ends} exact bytes read e =
     let contents = contents-found end exact place first.0.0 second.0.0 second.0.1 lengths.0 read identifier.0 lengths.1 second.2 in
     (contents.0, contents.1, identifier.1 ∙ ap (λ (octets : List ℕ). first.0.0 ++ octets) lengths.2 ∙ contents.2)
 
-pub element-read : (end : ℕ) {ends : List ℕ → Result (List ℕ) Fault} {Is : List ℕ → Type 0} (exact : ExactEnd ends Is) (e : ElementData) (front rest : List ℕ)
+pub element-read : (end : ℕ) {ends : EndReader} {Is : List ℕ → Type 0} (exact : ExactEnd ends Is) (e : ElementData) (front rest : List ℕ)
     → IsEither Is e front → IsRead e rest (element_by end ends (front ++ rest))
 element-read end {ends} exact e front rest (inl is) =
     let octets : List ℕ = e.identifier ++ (is.0 ++ (e.content ++ rest)) in

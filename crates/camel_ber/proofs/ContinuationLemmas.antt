@@ -1,6 +1,6 @@
 -- The identifier octets behind the first, as a loop looks for their end.
-use Rattle.std.proofs.Common.{◌≡◌, ℕ, ◌+◌, ◌≤◌, ◌<◌, true, false, ltb, List, [], ◌∷◌, ◌++◌, length, get_or, take, drop, Result, Ok, Err, refl, sym, ap, ◌∙◌, append_assoc}
-use Rattle.std.proofs.lemmas.List.{drop_more, drop_all, take_more}
+use Rattle.std.proofs.Common.{[], ◌++◌, ◌+◌, ◌<◌, ◌∙◌, ◌∷◌, ◌≡◌, ◌≤◌, ap, append_assoc, drop, Err, false, get_or, length, List, ltb, Ok, refl, Result, sym, take, true, ℕ}
+use Rattle.std.proofs.lemmas.List.{drop_all, drop_more, take_more}
 use Rattle.camel_ber.specs.declared.fault.Fault.{Fault}
 use Rattle.camel_ber.specs.Reading.{◌>>=◌, continuation_at}
 

@@ -1,5 +1,5 @@
 -- An element by its identifier, its length and the way its contents end.
-use Rattle.std.proofs.Common.{◌≡◌, ℕ, zero, suc, ◌-◌, ◌+◌, ◌<◌, true, false, Option, None, List, length, take, Result, Ok, Err, refl, ◌∙◌, arith}
+use Rattle.std.proofs.Common.{◌+◌, ◌-◌, ◌<◌, ◌∙◌, ◌≡◌, ap, arith, Err, false, length, List, None, Ok, Option, refl, Result, suc, take, true, zero, ℕ}
 use Rattle.camel_ber.specs.declared.fault.Fault.{Fault}
 use Rattle.camel_ber.specs.declared.fault.FaultKind.TheVariants.{IndefinitePrimitive, TooDeep}
 use Rattle.camel_ber.specs.Reading.{content_of, element_at, element_by, end_by, fault_at, identifier_at, is_constructed, length_at, place_of}
@@ -28,33 +28,44 @@ pub no_identifier : (end depth : ℕ) (bytes : List ℕ) (fault : Fault) → ide
     → element_at end depth bytes ≡ Err fault
 no_identifier end depth bytes fault read = element_at-by end depth bytes ∙ rw read refl
 
-pub no_length : (end depth : ℕ) (bytes identifier rest : List ℕ) (fault : Fault) → identifier_at end bytes ≡ Ok (identifier, rest)
-    → length_at end rest ≡ Err fault → element_at end depth bytes ≡ Err fault
-no_length end depth bytes identifier rest fault read len = element_at-by end depth bytes ∙ rw (read, len) refl
+pub no_length : (end depth : ℕ) (bytes identifier lengths : List ℕ) (fault : Fault)
+    → identifier_at end bytes ≡ Ok (identifier, lengths) → length_at end lengths ≡ Err fault
+    → element_at end depth bytes ≡ Err fault
+no_length end depth bytes identifier lengths fault read len = element_at-by end depth bytes ∙ rw (read, len) refl
+
+-- an identifier and a length at the front of octets
+abbrev pub Begins : ℕ → List ℕ → List ℕ → Option ℕ → List ℕ → Type 0
+Begins end bytes identifier len rest = (lengths : List ℕ) × (identifier_at end bytes ≡ Ok (identifier, lengths))
+    × (length_at end lengths ≡ Ok (len, rest))
+
+pub begins : (end : ℕ) (bytes identifier lengths : List ℕ) (len form : Option ℕ) (rest : List ℕ)
+    → identifier_at end bytes ≡ Ok (identifier, lengths) → length_at end lengths ≡ Ok (len, rest) → len ≡ form
+    → Begins end bytes identifier form rest
+begins end bytes identifier lengths len form rest read has is =
+    (lengths, read, has ∙ ap (λ (some : Option ℕ). Ok (some, rest)) is)
 
 -- behind an identifier and a length, an element is what its contents make of it
-pub at_contents : (end depth : ℕ) (bytes identifier lengths : List ℕ) (len : Option ℕ) (rest : List ℕ)
-    → identifier_at end bytes ≡ Ok (identifier, lengths) → length_at end lengths ≡ Ok (len, rest)
+pub at_contents : (end depth : ℕ) (bytes identifier : List ℕ) (len : Option ℕ) (rest : List ℕ)
+    → Begins end bytes identifier len rest
     → element_at end depth bytes ≡ content_of end (ends_at end depth) (place_of end bytes) identifier len rest
-at_contents end depth bytes identifier lengths len rest read has = element_at-by end depth bytes ∙ rw (read, has) refl
+at_contents end depth bytes identifier len rest is = element_at-by end depth bytes ∙ rw (is.1, is.2) refl
 
-pub is_primitive : (end : ℕ) (ends : List ℕ → Result (List ℕ) Fault) (place : ℕ) (identifier rest : List ℕ)
-    → is_constructed identifier ≡ false
-    → content_of end ends place identifier None rest ≡ Err (fault_at IndefinitePrimitive end rest)
-is_primitive end ends place identifier rest test = rw test refl
+pub is_primitive : (end depth : ℕ) (bytes identifier rest : List ℕ) → Begins end bytes identifier None rest
+    → is_constructed identifier ≡ false → element_at end depth bytes ≡ Err (fault_at IndefinitePrimitive end rest)
+is_primitive end depth bytes identifier rest is test = at_contents end depth bytes identifier None rest is ∙ rw test refl
 
-pub has_no_end : (end : ℕ) (ends : List ℕ → Result (List ℕ) Fault) (place : ℕ) (identifier rest : List ℕ) (fault : Fault)
-    → is_constructed identifier ≡ true → ends rest ≡ Err fault → content_of end ends place identifier None rest ≡ Err fault
-has_no_end end ends place identifier rest fault test read = rw (test, read) refl
+pub has_no_end : (end depth : ℕ) (bytes identifier rest : List ℕ) (fault : Fault)
+    → Begins end bytes identifier None rest → is_constructed identifier ≡ true → ends_at end depth rest ≡ Err fault
+    → element_at end depth bytes ≡ Err fault
+has_no_end end depth bytes identifier rest fault is test read =
+    at_contents end depth bytes identifier None rest is ∙ rw (test, read) refl
 
-pub has_end : (end : ℕ) (ends : List ℕ → Result (List ℕ) Fault) (place : ℕ) (identifier rest after : List ℕ)
-    → is_constructed identifier ≡ true → ends rest ≡ Ok after
-    → content_of end ends place identifier None rest ≡ Ok (
-      record {
-        element = record { identifier = identifier; content = take (length rest - (length after + 2)) rest };
-        place = place;
-        end = end - (length after + 2);
-      },
-      after,
-    )
-has_end end ends place identifier rest after test read = rw (test, read) refl
+pub has_end : (end depth : ℕ) (bytes identifier rest after : List ℕ)
+    → Begins end bytes identifier None rest → is_constructed identifier ≡ true → ends_at end depth rest ≡ Ok after
+    → element_at end depth bytes ≡ Ok (record {
+      element = record { identifier = identifier; content = take (length rest - (length after + 2)) rest };
+      place = place_of end bytes;
+      end = end - (length after + 2);
+    }, after)
+has_end end depth bytes identifier rest after is test read =
+    at_contents end depth bytes identifier None rest is ∙ rw (test, read) refl

@@ -1,30 +1,26 @@
 -- The end of contents, as a loop looks for it.
-use Rattle.std.proofs.Common.{◌≡◌, ◌≢◌, ℕ, zero, suc, ◌+◌, ◌≤◌, ◌<◌, List, [], ◌∷◌, length, get_or, Result, Ok, Err, refl, sym, ap, subst, ◌∙◌, arith}
+use Rattle.std.proofs.Common.{[], ◌+◌, ◌<◌, ◌∙◌, ◌∷◌, ◌≡◌, ◌≢◌, ◌≤◌, ap, arith, Err, get_or, length, List, Ok, refl, Result, subst, suc, sym, zero, ℕ}
 use Rattle.std.specs.Prelude.{IfOk}
 use Rattle.camel_ber.specs.declared.fault.Fault.{Fault}
 use Rattle.camel_ber.specs.declared.fault.FaultKind.TheVariants.{PastEnd}
-use Rattle.camel_ber.specs.Reading.{◌>>=◌, Answers, PlacedData, end_by, fault_at}
-
--- a reader of one element
-abbrev pub Reader : Type 0
-Reader = List ℕ → Result (PlacedData × List ℕ) Fault
+use Rattle.camel_ber.specs.Reading.{◌>>=◌, Answers, ElementReader, end_by, fault_at, PlacedData, view}
 
 -- the end that is looked for from here is that from the beginning
-pub record Ends (end : ℕ) (one : Reader) (rest : List ℕ) (total : Result (List ℕ) Fault) : Type 0 where
+pub record Ends (end : ℕ) (one : ElementReader) (rest : List ℕ) (total : Result (List ℕ) Fault) : Type 0 where
   pub fuel : ℕ
   pub enough : length rest ≤ fuel
   pub ends : end_by end one fuel rest ≡ total
 
-pub end-begins : (end : ℕ) (one : Reader) (bytes : List ℕ) → Ends end one bytes (end_by end one (length bytes) bytes)
+pub end-begins : (end : ℕ) (one : ElementReader) (bytes : List ℕ) → Ends end one bytes (end_by end one (length bytes) bytes)
 end-begins end one bytes = record { fuel = length bytes; enough = omega arith; ends = refl }
 
 -- an element that is passed
-pub end-passes : (end : ℕ) (one : Reader) (fuel octet : ℕ) (more : List ℕ)
+pub end-passes : (end : ℕ) (one : ElementReader) (fuel octet : ℕ) (more : List ℕ)
     → end_by end one (suc fuel) (suc octet ∷ more) ≡ (one (suc octet ∷ more) >>= λ read. end_by end one fuel read.1)
 unfolding end_by
 end-passes end one fuel octet more = refl
 
-pub end-goes_on : (end : ℕ) (one : Reader) (rest : List ℕ) (element : PlacedData) (after : List ℕ) (total : Result (List ℕ) Fault)
+pub end-goes_on : (end : ℕ) (one : ElementReader) (rest : List ℕ) (element : PlacedData) (after : List ℕ) (total : Result (List ℕ) Fault)
     → 0 < length rest → get_or rest 0 0 ≢ 0 → one rest ≡ Ok (element, after) → length after < length rest
     → Ends end one rest total → Ends end one after total
 end-goes_on end one [] element after total some not_zero read shorter so_far = absurd (omega arith)
@@ -41,7 +37,7 @@ end-goes_on end one (suc octet ∷ more) element after total some not_zero read 
           ∙ ap (λ (reading : Result (PlacedData × List ℕ) Fault). reading >>= λ read. end_by end one fuel read.1) read) ∙ ends;
     }
 
-pub end-fails : (end : ℕ) (one : Reader) (rest : List ℕ) (fault : Fault) (total : Result (List ℕ) Fault)
+pub end-fails : (end : ℕ) (one : ElementReader) (rest : List ℕ) (fault : Fault) (total : Result (List ℕ) Fault)
     → 0 < length rest → get_or rest 0 0 ≢ 0 → one rest ≡ Err fault → Ends end one rest total → total ≡ Err fault
 end-fails end one [] fault total some not_zero read so_far = absurd (omega arith)
 end-fails end one (zero ∷ more) fault total some not_zero read so_far = absurd (not_zero refl)
@@ -52,7 +48,7 @@ end-fails end one (suc octet ∷ more) fault total some not_zero read so_far = f
     from (suc fuel) enough ends = sym ends ∙ end-passes end one fuel octet more
         ∙ ap (λ (reading : Result (PlacedData × List ℕ) Fault). reading >>= λ read. end_by end one fuel read.1) read
 
-pub end-is_missing : (end : ℕ) (one : Reader) (rest : List ℕ) (total : Result (List ℕ) Fault) → length rest ≡ 0
+pub end-is_missing : (end : ℕ) (one : ElementReader) (rest : List ℕ) (total : Result (List ℕ) Fault) → length rest ≡ 0
     → Ends end one rest total → total ≡ Err (fault_at PastEnd end rest)
 unfolding end_by
 end-is_missing end one [] total nothing so_far = sym so_far.ends ∙ no_end so_far.fuel
@@ -63,7 +59,7 @@ end-is_missing end one [] total nothing so_far = sym so_far.ends ∙ no_end so_f
 end-is_missing end one (octet ∷ more) total nothing so_far = absurd cc
 
 -- what is found at an octet 0
-pub end-found : {X : Type 0} (view : X → List ℕ) (end : ℕ) (one : Reader) (rest : List ℕ) (r : Result X Fault) (total : Result (List ℕ) Fault)
+pub end-found : {X : Type 0} (view : X → List ℕ) (end : ℕ) (one : ElementReader) (rest : List ℕ) (r : Result X Fault) (total : Result (List ℕ) Fault)
     → 0 < length rest → ((fuel : ℕ) → Answers view r (end_by end one (suc fuel) rest)) → Ends end one rest total
     → Answers view r total
 end-found {X} view end one rest r total some answer so_far = from so_far.fuel so_far.enough so_far.ends

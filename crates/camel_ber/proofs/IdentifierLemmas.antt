@@ -1,6 +1,6 @@
 -- Identifier octets that are read are an identifier, and an identifier is read.
-use Rattle.std.proofs.Common.{◌≡◌, ◌≢◌, inl, inr, ℕ, ◌+◌, ◌%◌, ◌≤◌, true, false, cond, ltb, eqb, List, [], ◌∷◌, ◌++◌, length, get_or, Ok, Err, refl, sym, ap, subst, ◌∙◌, eq-eqb, arith}
-use Rattle.std.proofs.lemmas.Bool.{lt-ltb, le-leb, le-ltb, leb-true, ltb-true, ltb-false, eqb-true, eqb-false, ne_eqb, not-true, not_from_false}
+use Rattle.std.proofs.Common.{[], ◌%◌, ◌++◌, ◌∙◌, ◌∷◌, ◌≡◌, ◌≢◌, ◌≤◌, ap, arith, cond, eq-eqb, eqb, Err, false, get_or, inl, inr, length, List, ltb, Ok, refl, subst, sym, true, ℕ}
+use Rattle.std.proofs.lemmas.Bool.{eqb-false, eqb-true, le-leb, le-ltb, leb-true, lt-ltb, ltb-false, ltb-true, ne_eqb, not-true, not_from_false}
 use Rattle.std.proofs.lemmas.List.{length-append}
 use Rattle.camel_ber.specs.declared.fault.Fault.{Fault}
 use Rattle.camel_ber.specs.declared.fault.FaultKind.TheVariants.{LoneEndOfContents, PastEnd, TagNumber}

@@ -1,7 +1,7 @@
 -- Length octets that are read are a length, and a length is read.
-use Rattle.std.proofs.Common.{◌≡◌, ◌≢◌, inl, inr, ℕ, ◌-◌, ◌+◌, ◌≤◌, true, false, ltb, eqb, Option, Some, None, List, [], ◌∷◌, ◌++◌, length, take, drop, Ok, refl, sym, ap, subst, arith}
-use Rattle.std.proofs.lemmas.Bool.{lt-ltb, le-ltb, ltb-true, ltb-false, eqb-true, eqb-false, ne_eqb}
-use Rattle.std.proofs.lemmas.List.{take_at, drop_at, length-append, length-take, take-append-drop}
+use Rattle.std.proofs.Common.{[], ◌++◌, ◌-◌, ◌∷◌, ◌≡◌, ◌≢◌, ◌≤◌, ap, arith, drop, eqb, false, inl, inr, length, List, ltb, None, Ok, Option, refl, Some, subst, sym, take, true, ℕ}
+use Rattle.std.proofs.lemmas.Bool.{eqb-false, eqb-true, le-ltb, lt-ltb, ltb-false, ltb-true, ne_eqb}
+use Rattle.std.proofs.lemmas.List.{drop_at, length-append, length-take, take-append-drop, take_at}
 use Rattle.camel_ber.specs.declared.fault.FaultKind.TheVariants.{LongLength, PastEnd}
 use Rattle.camel_ber.specs.Grammar.{IsLength, value_of}
 use Rattle.camel_ber.specs.Reading.{fault_at, length_at}

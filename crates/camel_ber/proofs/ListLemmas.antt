@@ -1,8 +1,8 @@
 -- Elements one behind the other, as a loop reads them.
-use Rattle.std.proofs.Common.{◌≡◌, ℕ, zero, suc, ◌≤◌, ◌<◌, List, [], ◌∷◌, ◌++◌, length, Result, Ok, Err, refl, sym, ap, ◌∙◌, append_assoc, arith}
+use Rattle.std.proofs.Common.{[], ◌++◌, ◌<◌, ◌∙◌, ◌∷◌, ◌≡◌, ◌≤◌, ap, append_assoc, arith, Err, length, List, Ok, refl, Result, suc, sym, zero, ℕ}
 use Rattle.std.proofs.lemmas.List.{append-nil}
 use Rattle.camel_ber.specs.declared.fault.Fault.{Fault}
-use Rattle.camel_ber.specs.Reading.{◌>>=◌, PlacedData, element_at, elements_of}
+use Rattle.camel_ber.specs.Reading.{◌>>=◌, element_at, elements_of, PlacedData}
 
 -- elements that were read, and then those that are read behind them
 abbrev pub behind : List PlacedData → Result (List PlacedData) Fault → Result (List PlacedData) Fault

@@ -1,11 +1,11 @@
 -- Elements with indefinite forms within one another are read exactly where octets spell them.
-use Rattle.std.proofs.Common.{◌≡◌, inl, inr, ℕ, zero, suc, List, ◌∷◌, [], ◌++◌, length, Ok, sym, subst, ◌∙◌, arith}
-use Rattle.std.proofs.lemmas.List.{length-append}
+use Rattle.std.proofs.Common.{◌++◌, ◌∙◌, ◌∷◌, arith, inl, inr, length, List, subst, suc, sym, zero, ℕ}
 use Rattle.camel_ber.specs.Grammar.{ElementData, IsElement, IsSeriesOf}
 use Rattle.camel_ber.specs.Reading.{element_at}
-use Rattle.camel_ber.proofs.ContentLemmas.{ExactEnd, IsEither, element-begins, element-found, element-read}
+use Rattle.camel_ber.proofs.ContentLemmas.{element-begins, element-found, element-read, ExactEnd, IsEither}
+use Rattle.camel_ber.proofs.ContinuationLemmas.{ends}
 use Rattle.camel_ber.proofs.ElementLemmas.{element_at-by, ends_at}
-use Rattle.camel_ber.proofs.SpelledEndLemmas.{Exact, IsRead, end-found, end-read}
+use Rattle.camel_ber.proofs.SpelledEndLemmas.{end-found, end-read, Exact, IsRead}
 
 -- indefinite contents, of which there are none at depth 0
 abbrev IsContents : ℕ → List ℕ → Type 0

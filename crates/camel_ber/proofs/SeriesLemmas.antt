@@ -1,14 +1,14 @@
 -- A series is read exactly where octets spell it.
-use Rattle.std.proofs.Common.{◌≡◌, ℕ, zero, suc, ◌+◌, ◌≤◌, List, [], ◌∷◌, ◌++◌, length, Result, Ok, Err, refl, sym, ap, subst, ◌∙◌, arith}
-use Rattle.std.specs.Prelude.{IfOk}
-use Rattle.std.specs.Global.{Vec}
+use Rattle.std.proofs.Common.{[], ◌+◌, ◌∙◌, ◌∷◌, ◌≡◌, ◌≤◌, ap, arith, Err, length, List, Ok, refl, Result, subst, suc, sym, zero, ℕ}
 use Rattle.std.proofs.lemmas.List.{length-append}
+use Rattle.std.specs.Global.{Vec}
+use Rattle.std.specs.Prelude.{IfOk}
 use Rattle.camel_ber.specs.declared.element.Element.{Element}
 use Rattle.camel_ber.specs.declared.fault.Fault.{Fault}
-use Rattle.camel_ber.specs.declared.fault.ReadError.{ReadError}
 use Rattle.camel_ber.specs.declared.fault.ReadError.TheVariants as errors
+use Rattle.camel_ber.specs.declared.fault.ReadError.{ReadError}
 use Rattle.camel_ber.specs.Grammar.{ElementData, IsSeries}
-use Rattle.camel_ber.specs.Reading.{◌>>=◌, Gives, OctetsData, PlacedData, element_at, elements, elements_of, series_of, views}
+use Rattle.camel_ber.specs.Reading.{◌>>=◌, element_at, elements, elements_of, Gives, OctetsData, PlacedData, series_of, views}
 use Rattle.camel_ber.proofs.ListLemmas.{list-first, list-none}
 use Rattle.camel_ber.proofs.NestedLemmas.{exact-element}
 use Rattle.camel_ber.proofs.StepLemmas.{first_done, same_value}

@@ -1,10 +1,10 @@
 -- What is before an end of contents, if a reader of one element reads what is spelled so, and nothing else.
-use Rattle.std.proofs.Common.{◌≡◌, ◌≢◌, ℕ, zero, suc, ◌+◌, ◌≤◌, List, [], ◌∷◌, ◌++◌, length, get_or, Result, Ok, refl, sym, ap, subst, ◌∙◌, append_assoc, arith}
+use Rattle.std.proofs.Common.{[], ◌++◌, ◌+◌, ◌∙◌, ◌∷◌, ◌≡◌, ◌≢◌, ◌≤◌, ap, append_assoc, arith, get_or, length, List, Ok, refl, Result, subst, suc, sym, zero, ℕ}
 use Rattle.std.proofs.lemmas.List.{length-append}
 use Rattle.camel_ber.specs.declared.fault.Fault.{Fault}
 use Rattle.camel_ber.specs.Grammar.{ElementData, IsSeriesOf}
-use Rattle.camel_ber.specs.Reading.{◌>>=◌, PlacedData, end_by}
-use Rattle.camel_ber.proofs.EndLemmas.{Reader, end-passes}
+use Rattle.camel_ber.specs.Reading.{◌>>=◌, ElementReader, end_by, PlacedData}
+use Rattle.camel_ber.proofs.EndLemmas.{end-passes}
 use Rattle.camel_ber.proofs.StepLemmas.{first_done, same_value}
 
 -- an element at the front of octets
@@ -16,7 +16,7 @@ abbrev pub IsRead : ElementData → List ℕ → Result (PlacedData × List ℕ)
 IsRead e rest reading = (one : PlacedData) × (reading ≡ Ok (one, rest)) × (one.element ≡ e)
 
 -- a reader reads an element exactly where octets spell it
-pub record Exact (one : Reader) (Is : ElementData → List ℕ → Type 0) : Type 0 where
+pub record Exact (one : ElementReader) (Is : ElementData → List ℕ → Type 0) : Type 0 where
   pub found : (bytes : List ℕ) (read : PlacedData × List ℕ) → one bytes ≡ Ok read → BeginsWith Is bytes read
   pub reads : (e : ElementData) (front rest : List ℕ) → Is e front → IsRead e rest (one (front ++ rest))
   pub begins : (e : ElementData) (front : List ℕ) → Is e front → (2 ≤ length front) × (get_or front 0 0 ≢ 0)
@@ -25,7 +25,7 @@ pub record Exact (one : Reader) (Is : ElementData → List ℕ → Type 0) : Typ
 abbrev pub EndsBehind : (ElementData → List ℕ → Type 0) → List ℕ → List ℕ → Type 0
 EndsBehind Is rest after = (es : List ElementData) × (content : List ℕ) × IsSeriesOf Is es content × (rest ≡ content ++ 0 ∷ 0 ∷ after)
 
-pub end-found : (end : ℕ) {one : Reader} {Is : ElementData → List ℕ → Type 0} (exact : Exact one Is) (fuel : ℕ) (rest after : List ℕ)
+pub end-found : (end : ℕ) {one : ElementReader} {Is : ElementData → List ℕ → Type 0} (exact : Exact one Is) (fuel : ℕ) (rest after : List ℕ)
     → end_by end one fuel rest ≡ Ok after → EndsBehind Is rest after
 unfolding end_by
 end-found end exact zero rest after e = absurd cc
@@ -44,7 +44,7 @@ end-found end {one} {Is} exact (suc fuel) (suc octet ∷ more) after e =
       first.2 ∙ ap (λ (octets : List ℕ). first.0 ++ octets) others.3 ∙ sym (append_assoc first.0 others.1 (0 ∷ 0 ∷ after)),
     )
 
-pub end-read : (end : ℕ) {one : Reader} {Is : ElementData → List ℕ → Type 0} (exact : Exact one Is) (es : List ElementData) (fuel : ℕ) (content after : List ℕ)
+pub end-read : (end : ℕ) {one : ElementReader} {Is : ElementData → List ℕ → Type 0} (exact : Exact one Is) (es : List ElementData) (fuel : ℕ) (content after : List ℕ)
     → length (content ++ 0 ∷ 0 ∷ after) ≤ fuel → IsSeriesOf Is es content → end_by end one fuel (content ++ 0 ∷ 0 ∷ after) ≡ Ok after
 unfolding end_by
 end-read end {one} exact [] fuel content after enough is =

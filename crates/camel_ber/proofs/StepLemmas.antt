@@ -1,5 +1,5 @@
 -- Steps and tests that came to a value.
-use Rattle.std.proofs.Common.{◌≡◌, ◌⊎◌, inl, inr, Bool, true, false, cond, Result, Ok, Err, refl}
+use Rattle.std.proofs.Common.{◌≡◌, ◌⊎◌, Bool, cond, Err, false, inl, inr, Ok, refl, Result, true}
 use Rattle.camel_ber.specs.declared.fault.Fault.{Fault}
 use Rattle.camel_ber.specs.Reading.{◌>>=◌}
 

@@ -69,6 +69,14 @@ place_of end bytes = end - length bytes
 abbrev pub fault_at : FaultKind → ℕ → List ℕ → Fault
 fault_at kind end bytes = record { kind = kind; place = place_of end bytes }
 
+-- reads an element at the front of octets, and gives the octets behind it too
+abbrev pub ElementReader : Type 0
+ElementReader = List ℕ → Result (PlacedData × List ℕ) Fault
+
+-- finds an end of contents, and gives the octets behind it
+abbrev pub EndReader : Type 0
+EndReader = List ℕ → Result (List ℕ) Fault
+
 -- the identifier octets behind the first, up to the first below 128; the fault if there is none
 unfoldable pub continuation_at : Fault → List ℕ → Result (List ℕ × List ℕ) Fault
 continuation_at endless [] = Err endless
@@ -108,8 +116,7 @@ is_constructed identifier = slice_index identifier 0 / 32 % 2 == 1
 
 -- the element of an identifier at a place, with so many contents octets, or those before the end that `ends` finds, and
 -- the octets behind it
-abbrev pub content_of : ℕ → (List ℕ → Result (List ℕ) Fault) → ℕ → List ℕ → Option ℕ → List ℕ
-    → Result (PlacedData × List ℕ) Fault
+abbrev pub content_of : ℕ → EndReader → ℕ → List ℕ → Option ℕ → ElementReader
 content_of end ends place identifier (Some len) rest =
     if nat_lt (length rest) len then Err (fault_at PastEnd end rest)
     else Ok (
@@ -134,14 +141,14 @@ content_of end ends place identifier None rest =
 
 -- the element at the front of octets that end at a place, where `ends` finds the end of indefinite contents, and the
 -- octets behind it
-abbrev pub element_by : ℕ → (List ℕ → Result (List ℕ) Fault) → List ℕ → Result (PlacedData × List ℕ) Fault
+abbrev pub element_by : ℕ → EndReader → ElementReader
 element_by end ends bytes = do
   identifier ← identifier_at end bytes
   len ← length_at end identifier.1
   content_of end ends (place_of end bytes) identifier.0 len.0 len.1
 
 -- the octets behind an end of contents, which is behind at most so many elements that `one` reads
-unfoldable pub end_by : ℕ → (List ℕ → Result (PlacedData × List ℕ) Fault) → ℕ → List ℕ → Result (List ℕ) Fault
+unfoldable pub end_by : ℕ → ElementReader → ℕ → EndReader
 end_by end one zero rest = Err (fault_at PastEnd end rest)
 end_by end one (suc fuel) [] = Err (fault_at PastEnd end [])
 end_by end one (suc fuel) (zero ∷ []) = Err (fault_at PastEnd end (zero ∷ []))
@@ -151,7 +158,7 @@ end_by end one (suc fuel) (suc octet ∷ rest) = one (suc octet ∷ rest) >>= λ
 
 -- the element at the front of octets that end at a place, with indefinite forms at most so deep within one another, and
 -- the octets behind it
-unfoldable pub element_at : ℕ → ℕ → List ℕ → Result (PlacedData × List ℕ) Fault
+unfoldable pub element_at : ℕ → ℕ → ElementReader
 element_at end zero bytes = element_by end (λ rest. Err (fault_at TooDeep end rest)) bytes
 element_at end (suc depth) bytes = element_by end (λ rest. end_by end (element_at end depth) (length rest) rest) bytes
 

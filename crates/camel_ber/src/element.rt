@@ -1,7 +1,7 @@
 ghost use Rattle.std.specs.Prelude.{◌≡◌, ◌≤◌, ◌<◌, ◌+◌, ℕ, suc, List, length, slice_index, Result, Ok, IfOk};
 ghost use Rattle.camel_ber.specs.declared.fault.Fault.{Fault};
 ghost use Rattle.camel_ber.specs.Grammar.{ElementData, IsSeries};
-ghost use Rattle.camel_ber.specs.Reading.{Answers, Gives, PlacedData, content_of, end_by, element_at, elements, octets_data, place_of, series_of, view, views};
+ghost use Rattle.camel_ber.specs.Reading.{Answers, ElementReader, EndReader, Gives, content_of, end_by, element_at, elements, octets_data, place_of, series_of, view, views};
 
 use crate::fault::{Fault, FaultKind, ReadError};
 use crate::identifier::read_identifier;
@@ -117,7 +117,7 @@ fn definite<'a>(
     len: usize,
 ) -> Result<(Element<'a>, &'a [u8]), Fault>
     requires { length rest.now ≤ end }
-    ensures answer { (ends : List ℕ → Result (List ℕ) Fault)
+    ensures answer { (ends : EndReader)
         → Answers (λ read. (view read.0, read.1.now)) result (content_of end ends place identifier.now (Some len) rest.now) }
     ensures shorter { IfOk result (λ read. length read.1.now ≤ length rest.now) }
 {
@@ -163,7 +163,7 @@ fn after_zero(bytes: &[u8], end: usize) -> Result<&[u8], Fault>
     requires within { length bytes.now ≤ end }
     requires some { 0 < length bytes.now }
     requires zero { slice_index bytes.now 0 ≡ 0 }
-    ensures answer { (one : List ℕ → Result (PlacedData × List ℕ) Fault) (fuel : ℕ)
+    ensures answer { (one : ElementReader) (fuel : ℕ)
         → Answers (λ read. read.now) result (end_by end one (suc fuel) bytes.now) }
     ensures shorter { IfOk result (λ read. length read.now + 2 ≡ length bytes.now) }
 {

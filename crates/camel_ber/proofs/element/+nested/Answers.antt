@@ -1,9 +1,9 @@
-use Rattle.std.proofs.Common.{◌≡◌, ◌∙◌, true, false, sym, ap, subst, eq-eqb, arith}
+use Rattle.std.proofs.Common.{◌∙◌, ◌≡◌, ap, arith, eq-eqb, false, subst, sym, true}
 use Rattle.std.proofs.lemmas.Bool.{ne_eqb}
 use Rattle.std.proofs.lemmas.Result.{err_from_is_err_and}
-use Rattle.camel_ber.specs.Reading.{Answers, content_of, element_at, is_constructed, place_of, view}
-use Rattle.camel_ber.proofs.ElementLemmas.{at_contents, ends_at, ends_at-deeper, ends_at-zero, has_end, has_no_end, is_primitive, no_identifier, no_length}
-use Rattle.camel_ber.proofs.EndLemmas.{end-fails, end-found, end-goes_on, end-is_missing, shorter_still}
+use Rattle.camel_ber.specs.Reading.{Answers, element_at, is_constructed, view}
+use Rattle.camel_ber.proofs.ElementLemmas.{at_contents, begins, ends_at, ends_at-deeper, ends_at-zero, has_end, has_no_end, is_primitive, no_identifier, no_length}
+use Rattle.camel_ber.proofs.EndLemmas.{end-fails, end-found, end-goes_on, end-is_missing}
 use Rattle.camel_ber.proofs.element.+nested.Goals as goal
 
 pub after_end-returns-then-rest-eq0-clause-answer : goal.after_end-returns-then-rest-eq0-clause-answer
@@ -44,68 +44,46 @@ next_element-returns-in_err-len-clause-answer t c =
 
 pub next_element-returns-then-identifier-ne1-clause-answer : goal.next_element-returns-then-identifier-ne1-clause-answer
 next_element-returns-then-identifier-ne1-clause-answer t c =
-    let end = c.args.end in
-    let ends = ends_at end c.args.depth in
-    let place = place_of end c.args.bytes.now in
     let identifier = c.in_ok-identifier.identifier.now in
     let rest = c.in_ok-len.rest.now in
+    let is = begins _ _ _ _ _ _ _ c.in_ok-identifier.ensures.answer c.in_ok-len.ensures.answer c.in-None.is in
     let test : is_constructed identifier ≡ false = ne_eqb _ _ c.if-identifier-ne1.true in
-    let form = ap (λ len. content_of end ends place identifier len rest) c.in-None.is in
-    rw c.of.ensures
-    (at_contents end c.args.depth c.args.bytes.now identifier _ _ rest c.in_ok-identifier.ensures.answer c.in_ok-len.ensures.answer
-    ∙ form ∙ is_primitive end ends place identifier rest test)
+    rw c.of.ensures (is_primitive c.args.end c.args.depth c.args.bytes.now identifier rest is test)
 
 pub next_element-returns-then-depth-eq0-clause-answer : goal.next_element-returns-then-depth-eq0-clause-answer
 next_element-returns-then-depth-eq0-clause-answer t c =
-    let end = c.args.end in
-    let ends = ends_at end c.args.depth in
-    let place = place_of end c.args.bytes.now in
     let identifier = c.in_ok-identifier.identifier.now in
     let rest = c.in_ok-len.rest.now in
+    let is = begins _ _ _ _ _ _ _ c.in_ok-identifier.ensures.answer c.in_ok-len.ensures.answer c.in-None.is in
     let test : is_constructed identifier ≡ true = eq-eqb _ _ c.if-identifier-ne1.false in
-    let form = ap (λ len. content_of end ends place identifier len rest) c.in-None.is in
-    let deep = ap (λ depth. ends_at end depth rest) c.if-depth-eq0.true ∙ ends_at-zero end rest in
+    let deep = ap (λ depth. ends_at c.args.end depth rest) c.if-depth-eq0.true ∙ ends_at-zero c.args.end rest in
     rw c.of-then-depth-eq0.ensures
-    (at_contents end c.args.depth c.args.bytes.now identifier _ _ rest c.in_ok-identifier.ensures.answer c.in_ok-len.ensures.answer
-    ∙ form ∙ has_no_end end ends place identifier rest _ test deep)
+    (has_no_end c.args.end c.args.depth c.args.bytes.now identifier rest _ is test deep)
 
 pub next_element-returns-in_err-after-in-None-clause-answer : goal.next_element-returns-in_err-after-in-None-clause-answer
 next_element-returns-in_err-after-in-None-clause-answer t c =
-    let end = c.args.end in
-    let ends = ends_at end c.args.depth in
-    let place = place_of end c.args.bytes.now in
     let identifier = c.in_ok-identifier.identifier.now in
     let rest = c.in_ok-len.rest.now in
     let p = err_from_is_err_and c.from_residual-in_err-after-in-None.result c.from_residual-in_err-after-in-None.ensures.1 in
+    let is = begins _ _ _ _ _ _ _ c.in_ok-identifier.ensures.answer c.in_ok-len.ensures.answer c.in-None.is in
     let test : is_constructed identifier ≡ true = eq-eqb _ _ c.if-identifier-ne1.false in
-    let form = ap (λ len. content_of end ends place identifier len rest) c.in-None.is in
-    let fails = ends_at-deeper end c.args.depth rest (omega arith) ∙ c.in_err-after-in-None.ensures.answer in
-    rw (p.1, p.2)
-    (at_contents end c.args.depth c.args.bytes.now identifier _ _ rest c.in_ok-identifier.ensures.answer c.in_ok-len.ensures.answer
-    ∙ form ∙ has_no_end end ends place identifier rest _ test fails)
+    let fails = ends_at-deeper c.args.end c.args.depth rest (omega arith) ∙ c.in_err-after-in-None.ensures.answer in
+    rw (p.1, p.2) (has_no_end c.args.end c.args.depth c.args.bytes.now identifier rest _ is test fails)
 
 pub next_element-returns-in-Some-clause-answer : goal.next_element-returns-in-Some-clause-answer
 next_element-returns-in-Some-clause-answer t c =
-    let end = c.args.end in
-    let ends = ends_at end c.args.depth in
     let identifier = c.in_ok-identifier.identifier.now in
     let rest = c.in_ok-len.rest.now in
-    let form = ap (λ len. content_of end ends (place_of end c.args.bytes.now) identifier len rest) c.in-Some.is in
+    let is = begins _ _ _ _ _ _ _ c.in_ok-identifier.ensures.answer c.in_ok-len.ensures.answer c.in-Some.is in
     subst (λ reading. Answers (λ read. (view read.0, read.1.now)) c.definite.result reading)
-    (sym (at_contents end c.args.depth c.args.bytes.now identifier _ _ rest c.in_ok-identifier.ensures.answer
-    c.in_ok-len.ensures.answer ∙ form)) (c.definite.ensures.answer ends)
+    (sym (at_contents c.args.end c.args.depth c.args.bytes.now identifier _ rest is))
+    (c.definite.ensures.answer (ends_at c.args.end c.args.depth))
 
 pub next_element-returns-in_ok-after-in-None-clause-answer : goal.next_element-returns-in_ok-after-in-None-clause-answer
 next_element-returns-in_ok-after-in-None-clause-answer t c =
-    let end = c.args.end in
-    let ends = ends_at end c.args.depth in
-    let place = place_of end c.args.bytes.now in
     let identifier = c.in_ok-identifier.identifier.now in
     let rest = c.in_ok-len.rest.now in
-    let after = c.in_ok-after-in-None.after.now in
+    let is = begins _ _ _ _ _ _ _ c.in_ok-identifier.ensures.answer c.in_ok-len.ensures.answer c.in-None.is in
     let test : is_constructed identifier ≡ true = eq-eqb _ _ c.if-identifier-ne1.false in
-    let form = ap (λ len. content_of end ends place identifier len rest) c.in-None.is in
-    let found = ends_at-deeper end c.args.depth rest (omega arith) ∙ c.in_ok-after-in-None.ensures.answer in
-    rw c.split_at.ensures.front
-    (at_contents end c.args.depth c.args.bytes.now identifier _ _ rest c.in_ok-identifier.ensures.answer c.in_ok-len.ensures.answer
-    ∙ form ∙ has_end end ends place identifier rest after test found)
+    let found = ends_at-deeper c.args.end c.args.depth rest (omega arith) ∙ c.in_ok-after-in-None.ensures.answer in
+    rw c.split_at.ensures.front (has_end c.args.end c.args.depth c.args.bytes.now identifier rest _ is test found)

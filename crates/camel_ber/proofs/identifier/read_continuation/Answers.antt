@@ -1,4 +1,4 @@
-use Rattle.std.proofs.lemmas.Bool.{lt-ltb, le-ltb}
+use Rattle.std.proofs.lemmas.Bool.{le-ltb, lt-ltb}
 use Rattle.camel_ber.proofs.ContinuationLemmas.{ends, goes_on, never_ends}
 use Rattle.camel_ber.proofs.identifier.read_continuation.Goals as goal
 

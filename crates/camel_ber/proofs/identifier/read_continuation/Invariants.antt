@@ -1,4 +1,4 @@
-use Rattle.std.proofs.Common.{◌≡◌, take, drop}
+use Rattle.std.proofs.Common.{◌≡◌, drop, take}
 use Rattle.camel_ber.specs.Reading.{continuation_at}
 use Rattle.camel_ber.proofs.ContinuationLemmas.{behind}
 use Rattle.camel_ber.proofs.identifier.read_continuation.Given as goal
