@@ -38,10 +38,10 @@ abbrev pub Begins : ℕ → List ℕ → List ℕ → Option ℕ → List ℕ �
 Begins end bytes identifier len rest = (lengths : List ℕ) × (identifier_at end bytes ≡ Ok (identifier, lengths))
     × (length_at end lengths ≡ Ok (len, rest))
 
-pub begins : (end : ℕ) (bytes identifier lengths : List ℕ) (len form : Option ℕ) (rest : List ℕ)
+pub Begins-form : (end : ℕ) (bytes identifier lengths : List ℕ) (len form : Option ℕ) (rest : List ℕ)
     → identifier_at end bytes ≡ Ok (identifier, lengths) → length_at end lengths ≡ Ok (len, rest) → len ≡ form
     → Begins end bytes identifier form rest
-begins end bytes identifier lengths len form rest read has is =
+Begins-form end bytes identifier lengths len form rest read has is =
     (lengths, read, has ∙ ap (λ (some : Option ℕ). Ok (some, rest)) is)
 
 -- behind an identifier and a length, an element is what its contents make of it
@@ -62,10 +62,13 @@ has_no_end end depth bytes identifier rest fault is test read =
 
 pub has_end : (end depth : ℕ) (bytes identifier rest after : List ℕ)
     → Begins end bytes identifier None rest → is_constructed identifier ≡ true → ends_at end depth rest ≡ Ok after
-    → element_at end depth bytes ≡ Ok (record {
-      element = record { identifier = identifier; content = take (length rest - (length after + 2)) rest };
-      place = place_of end bytes;
-      end = end - (length after + 2);
-    }, after)
+    → element_at end depth bytes ≡ Ok (
+      record {
+        element = record { identifier = identifier; content = take (length rest - (length after + 2)) rest };
+        place = place_of end bytes;
+        end = end - (length after + 2);
+      },
+      after,
+    )
 has_end end depth bytes identifier rest after is test read =
     at_contents end depth bytes identifier None rest is ∙ rw (test, read) refl

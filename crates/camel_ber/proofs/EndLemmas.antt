@@ -59,10 +59,10 @@ end-is_missing end one [] total nothing so_far = sym so_far.ends ∙ no_end so_f
 end-is_missing end one (octet ∷ more) total nothing so_far = absurd cc
 
 -- what is found at an octet 0
-pub end-found : {X : Type 0} (view : X → List ℕ) (end : ℕ) (one : ElementReader) (rest : List ℕ) (r : Result X Fault) (total : Result (List ℕ) Fault)
+pub end-at_zero : {X : Type 0} (view : X → List ℕ) (end : ℕ) (one : ElementReader) (rest : List ℕ) (r : Result X Fault) (total : Result (List ℕ) Fault)
     → 0 < length rest → ((fuel : ℕ) → Answers view r (end_by end one (suc fuel) rest)) → Ends end one rest total
     → Answers view r total
-end-found {X} view end one rest r total some answer so_far = from so_far.fuel so_far.enough so_far.ends
+end-at_zero {X} view end one rest r total some answer so_far = from so_far.fuel so_far.enough so_far.ends
   where
     from : (fuel : ℕ) → length rest ≤ fuel → end_by end one fuel rest ≡ total → Answers view r total
     from zero enough ends = absurd (omega arith)

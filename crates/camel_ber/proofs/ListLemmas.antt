@@ -5,30 +5,30 @@ use Rattle.camel_ber.specs.declared.fault.Fault.{Fault}
 use Rattle.camel_ber.specs.Reading.{◌>>=◌, element_at, elements_of, PlacedData}
 
 -- elements that were read, and then those that are read behind them
-abbrev pub behind : List PlacedData → Result (List PlacedData) Fault → Result (List PlacedData) Fault
-behind front reading = reading >>= λ others. Ok (front ++ others)
+abbrev pub behind_elements : List PlacedData → Result (List PlacedData) Fault → Result (List PlacedData) Fault
+behind_elements front reading = reading >>= λ others. Ok (front ++ others)
 
 -- an element that is read behind others is one of those that were read
-behind-regroup : (front : List PlacedData) (one : PlacedData) (reading : Result (List PlacedData) Fault)
-    → behind front (reading >>= λ others. Ok (one ∷ others)) ≡ behind (front ++ one ∷ []) reading
-behind-regroup front one (Ok others) = ap (λ (all : List PlacedData). Ok all) (simp append_assoc)
-behind-regroup front one (Err fault) = refl
+behind_elements-regroup : (front : List PlacedData) (one : PlacedData) (reading : Result (List PlacedData) Fault)
+    → behind_elements front (reading >>= λ others. Ok (one ∷ others)) ≡ behind_elements (front ++ one ∷ []) reading
+behind_elements-regroup front one (Ok others) = ap (λ (all : List PlacedData). Ok all) (simp append_assoc)
+behind_elements-regroup front one (Err fault) = refl
 
-behind-nil : (reading : Result (List PlacedData) Fault) → behind [] reading ≡ reading
-behind-nil (Ok others) = refl
-behind-nil (Err fault) = refl
+behind_elements-nil : (reading : Result (List PlacedData) Fault) → behind_elements [] reading ≡ reading
+behind_elements-nil (Ok others) = refl
+behind_elements-nil (Err fault) = refl
 
 -- what was read and what is read from here is what is read from the beginning
 pub record Reads (end depth : ℕ) (front : List PlacedData) (rest : List ℕ) (total : Result (List PlacedData) Fault) : Type 0 where
   pub fuel : ℕ
   pub enough : length rest ≤ fuel
-  pub reads : behind front (elements_of end depth fuel rest) ≡ total
+  pub reads : behind_elements front (elements_of end depth fuel rest) ≡ total
 
 pub list-begins : (end depth : ℕ) (bytes : List ℕ) → Reads end depth [] bytes (elements_of end depth (length bytes) bytes)
 list-begins end depth bytes = record {
   fuel = length bytes;
   enough = omega arith;
-  reads = behind-nil (elements_of end depth (length bytes) bytes);
+  reads = behind_elements-nil (elements_of end depth (length bytes) bytes);
 }
 
 -- an element and those behind it
@@ -51,14 +51,14 @@ pub list-goes_on : (end depth : ℕ) (front : List PlacedData) (rest : List ℕ)
 list-goes_on end depth front [] one after total some read shorter so_far = absurd (omega arith)
 list-goes_on end depth front (octet ∷ more) one after total some read shorter so_far = from so_far.fuel so_far.enough so_far.reads
   where
-    from : (fuel : ℕ) → length (octet ∷ more) ≤ fuel → behind front (elements_of end depth fuel (octet ∷ more)) ≡ total
+    from : (fuel : ℕ) → length (octet ∷ more) ≤ fuel → behind_elements front (elements_of end depth fuel (octet ∷ more)) ≡ total
         → Reads end depth (front ++ one ∷ []) after total
     from zero enough reads = absurd (omega arith)
     from (suc fuel) enough reads = record {
       fuel = fuel;
       enough = omega arith;
-      reads = sym (behind-regroup front one (elements_of end depth fuel after))
-          ∙ ap (behind front) (sym (list-first end depth fuel octet more ∙ ap (first_then end depth fuel) read)) ∙ reads;
+      reads = sym (behind_elements-regroup front one (elements_of end depth fuel after))
+          ∙ ap (behind_elements front) (sym (list-first end depth fuel octet more ∙ ap (first_then end depth fuel) read)) ∙ reads;
     }
 
 pub list-fails : (end depth : ℕ) (front : List PlacedData) (rest : List ℕ) (fault : Fault) (total : Result (List PlacedData) Fault)
@@ -66,14 +66,14 @@ pub list-fails : (end depth : ℕ) (front : List PlacedData) (rest : List ℕ) (
 list-fails end depth front [] fault total some read so_far = absurd (omega arith)
 list-fails end depth front (octet ∷ more) fault total some read so_far = from so_far.fuel so_far.enough so_far.reads
   where
-    from : (fuel : ℕ) → length (octet ∷ more) ≤ fuel → behind front (elements_of end depth fuel (octet ∷ more)) ≡ total → total ≡ Err fault
+    from : (fuel : ℕ) → length (octet ∷ more) ≤ fuel → behind_elements front (elements_of end depth fuel (octet ∷ more)) ≡ total → total ≡ Err fault
     from zero enough reads = absurd (omega arith)
     from (suc fuel) enough reads =
-        sym reads ∙ ap (behind front) (list-first end depth fuel octet more ∙ ap (first_then end depth fuel) read)
+        sym reads ∙ ap (behind_elements front) (list-first end depth fuel octet more ∙ ap (first_then end depth fuel) read)
 
 pub list-ends : (end depth : ℕ) (front : List PlacedData) (rest : List ℕ) (total : Result (List PlacedData) Fault)
     → length rest ≡ 0 → Reads end depth front rest total → total ≡ Ok front
 list-ends end depth front [] total nothing so_far =
-    sym so_far.reads ∙ ap (behind front) (list-none end depth so_far.fuel)
+    sym so_far.reads ∙ ap (behind_elements front) (list-none end depth so_far.fuel)
     ∙ ap (λ (all : List PlacedData). Ok all) (append-nil front)
 list-ends end depth front (octet ∷ more) total nothing so_far = absurd cc

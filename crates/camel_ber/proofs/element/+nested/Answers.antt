@@ -2,14 +2,14 @@ use Rattle.std.proofs.Common.{◌∙◌, ◌≡◌, ap, arith, eq-eqb, false, su
 use Rattle.std.proofs.lemmas.Bool.{ne_eqb}
 use Rattle.std.proofs.lemmas.Result.{err_from_is_err_and}
 use Rattle.camel_ber.specs.Reading.{Answers, element_at, is_constructed, view}
-use Rattle.camel_ber.proofs.ElementLemmas.{at_contents, begins, ends_at, ends_at-deeper, ends_at-zero, has_end, has_no_end, is_primitive, no_identifier, no_length}
-use Rattle.camel_ber.proofs.EndLemmas.{end-fails, end-found, end-goes_on, end-is_missing}
+use Rattle.camel_ber.proofs.ElementLemmas.{at_contents, Begins-form, ends_at, ends_at-deeper, ends_at-zero, has_end, has_no_end, is_primitive, no_identifier, no_length}
+use Rattle.camel_ber.proofs.EndLemmas.{end-at_zero, end-fails, end-goes_on, end-is_missing}
 use Rattle.camel_ber.proofs.element.+nested.Goals as goal
 
 pub after_end-returns-then-rest-eq0-clause-answer : goal.after_end-returns-then-rest-eq0-clause-answer
 after_end-returns-then-rest-eq0-clause-answer t c =
     let one = element_at c.args.end c.args.depth in
-    end-found _ c.args.end one c.loop-rest.rest.now c.after_zero.result _ (omega arith) (c.after_zero.ensures.answer one)
+    end-at_zero _ c.args.end one c.loop-rest.rest.now c.after_zero.result _ (omega arith) (c.after_zero.ensures.answer one)
     c.loop-rest.invariant.0
 
 pub after_end-returns-in_err-after-clause-answer : goal.after_end-returns-in_err-after-clause-answer
@@ -46,7 +46,7 @@ pub next_element-returns-then-identifier-ne1-clause-answer : goal.next_element-r
 next_element-returns-then-identifier-ne1-clause-answer t c =
     let identifier = c.in_ok-identifier.identifier.now in
     let rest = c.in_ok-len.rest.now in
-    let is = begins _ _ _ _ _ _ _ c.in_ok-identifier.ensures.answer c.in_ok-len.ensures.answer c.in-None.is in
+    let is = Begins-form _ _ _ _ _ _ _ c.in_ok-identifier.ensures.answer c.in_ok-len.ensures.answer c.in-None.is in
     let test : is_constructed identifier ≡ false = ne_eqb _ _ c.if-identifier-ne1.true in
     rw c.of.ensures (is_primitive c.args.end c.args.depth c.args.bytes.now identifier rest is test)
 
@@ -54,7 +54,7 @@ pub next_element-returns-then-depth-eq0-clause-answer : goal.next_element-return
 next_element-returns-then-depth-eq0-clause-answer t c =
     let identifier = c.in_ok-identifier.identifier.now in
     let rest = c.in_ok-len.rest.now in
-    let is = begins _ _ _ _ _ _ _ c.in_ok-identifier.ensures.answer c.in_ok-len.ensures.answer c.in-None.is in
+    let is = Begins-form _ _ _ _ _ _ _ c.in_ok-identifier.ensures.answer c.in_ok-len.ensures.answer c.in-None.is in
     let test : is_constructed identifier ≡ true = eq-eqb _ _ c.if-identifier-ne1.false in
     let deep = ap (λ depth. ends_at c.args.end depth rest) c.if-depth-eq0.true ∙ ends_at-zero c.args.end rest in
     rw c.of-then-depth-eq0.ensures
@@ -65,7 +65,7 @@ next_element-returns-in_err-after-in-None-clause-answer t c =
     let identifier = c.in_ok-identifier.identifier.now in
     let rest = c.in_ok-len.rest.now in
     let p = err_from_is_err_and c.from_residual-in_err-after-in-None.result c.from_residual-in_err-after-in-None.ensures.1 in
-    let is = begins _ _ _ _ _ _ _ c.in_ok-identifier.ensures.answer c.in_ok-len.ensures.answer c.in-None.is in
+    let is = Begins-form _ _ _ _ _ _ _ c.in_ok-identifier.ensures.answer c.in_ok-len.ensures.answer c.in-None.is in
     let test : is_constructed identifier ≡ true = eq-eqb _ _ c.if-identifier-ne1.false in
     let fails = ends_at-deeper c.args.end c.args.depth rest (omega arith) ∙ c.in_err-after-in-None.ensures.answer in
     rw (p.1, p.2) (has_no_end c.args.end c.args.depth c.args.bytes.now identifier rest _ is test fails)
@@ -74,7 +74,7 @@ pub next_element-returns-in-Some-clause-answer : goal.next_element-returns-in-So
 next_element-returns-in-Some-clause-answer t c =
     let identifier = c.in_ok-identifier.identifier.now in
     let rest = c.in_ok-len.rest.now in
-    let is = begins _ _ _ _ _ _ _ c.in_ok-identifier.ensures.answer c.in_ok-len.ensures.answer c.in-Some.is in
+    let is = Begins-form _ _ _ _ _ _ _ c.in_ok-identifier.ensures.answer c.in_ok-len.ensures.answer c.in-Some.is in
     subst (λ reading. Answers (λ read. (view read.0, read.1.now)) c.definite.result reading)
     (sym (at_contents c.args.end c.args.depth c.args.bytes.now identifier _ rest is))
     (c.definite.ensures.answer (ends_at c.args.end c.args.depth))
@@ -83,7 +83,7 @@ pub next_element-returns-in_ok-after-in-None-clause-answer : goal.next_element-r
 next_element-returns-in_ok-after-in-None-clause-answer t c =
     let identifier = c.in_ok-identifier.identifier.now in
     let rest = c.in_ok-len.rest.now in
-    let is = begins _ _ _ _ _ _ _ c.in_ok-identifier.ensures.answer c.in_ok-len.ensures.answer c.in-None.is in
+    let is = Begins-form _ _ _ _ _ _ _ c.in_ok-identifier.ensures.answer c.in_ok-len.ensures.answer c.in-None.is in
     let test : is_constructed identifier ≡ true = eq-eqb _ _ c.if-identifier-ne1.false in
     let found = ends_at-deeper c.args.end c.args.depth rest (omega arith) ∙ c.in_ok-after-in-None.ensures.answer in
     rw c.split_at.ensures.front (has_end c.args.end c.args.depth c.args.bytes.now identifier rest _ is test found)

@@ -1,14 +1,13 @@
--- An element of either form, where the end of indefinite contents is found exactly where it is.
-use Rattle.std.proofs.Common.{[], ◌++◌, ◌+◌, ◌-◌, ◌∙◌, ◌∷◌, ◌≡◌, ◌≢◌, ◌≤◌, ◌⊎◌, ap, append_assoc, arith, drop, eq-eqb, false, get_or, inl, inr, length, List, ltb, None, Ok, Option, refl, Some, subst, suc, sym, take, true, ℕ}
-use Rattle.std.proofs.lemmas.Bool.{eqb-true, le-ltb, ltb-false}
-use Rattle.std.proofs.lemmas.List.{drop_at, length-append, length-take, take-append-drop, take_at}
+-- Contents that are read are spelled so, where the end of indefinite contents is found exactly.
+use Rattle.std.proofs.Common.{[], ◌++◌, ◌+◌, ◌-◌, ◌∙◌, ◌∷◌, ◌≡◌, ◌≤◌, ◌⊎◌, ap, append_assoc, arith, drop, eq-eqb, inl, inr, length, List, ltb, None, Ok, Option, refl, Some, subst, suc, sym, take, true, ℕ}
+use Rattle.std.proofs.lemmas.Bool.{eqb-true, ltb-false}
+use Rattle.std.proofs.lemmas.List.{length-append, length-take, take-append-drop, take_at}
 use Rattle.camel_ber.specs.declared.fault.FaultKind.TheVariants.{IndefinitePrimitive, PastEnd}
 use Rattle.camel_ber.specs.Grammar.{ElementData, IsConstructed, IsDefinite, IsIdentifier, IsLength}
-use Rattle.camel_ber.specs.Reading.{◌>>=◌, content_of, element_by, EndReader, fault_at, identifier_at, is_constructed, length_at, place_of, PlacedData}
-use Rattle.camel_ber.proofs.ContinuationLemmas.{ends}
-use Rattle.camel_ber.proofs.IdentifierLemmas.{identifier-begins, identifier-found, identifier-read, identifier-some}
-use Rattle.camel_ber.proofs.LengthLemmas.{IsLengthOrNone, length-found, length-read, length-read_none, length-some}
-use Rattle.camel_ber.proofs.SpelledEndLemmas.{BeginsWith, IsRead}
+use Rattle.camel_ber.specs.Reading.{◌>>=◌, content_of, EndReader, fault_at, is_constructed, PlacedData}
+use Rattle.camel_ber.proofs.SpelledEnd.{BeginsWith}
+use Rattle.camel_ber.proofs.SpelledIdentifier.{identifier-some}
+use Rattle.camel_ber.proofs.SpelledLength.{IsLengthOrNone}
 use Rattle.camel_ber.proofs.StepLemmas.{done, first_done, held, passed, same_value}
 
 -- the end of contents is found exactly behind contents
@@ -25,12 +24,12 @@ constructed-is : (identifier : List ℕ) → 1 ≤ length identifier → is_cons
 constructed-is [] some test = absurd (omega arith)
 constructed-is (first ∷ more) some test = eqb-true _ _ test
 
-constructed-holds : (identifier : List ℕ) → IsConstructed identifier → is_constructed identifier ≡ true
+pub constructed-holds : (identifier : List ℕ) → IsConstructed identifier → is_constructed identifier ≡ true
 constructed-holds [] is = absurd is
 constructed-holds (first ∷ more) is = eq-eqb _ _ is
 
 -- the octets before an end of contents
-before_end : (content after rest : List ℕ) → rest ≡ content ++ 0 ∷ 0 ∷ after → take (length rest - (length after + 2)) rest ≡ content
+pub before_end : (content after rest : List ℕ) → rest ≡ content ++ 0 ∷ 0 ∷ after → take (length rest - (length after + 2)) rest ≡ content
 before_end content after rest parts =
     let count : length rest ≡ length content + suc (suc (length after)) = ap length parts ∙ length-append content (0 ∷ 0 ∷ after) in
     let less : length rest - (length after + 2) ≡ length content = omega (arith, count) in
@@ -78,52 +77,8 @@ indefinite-found end {ends} {Is} exact place identifier rest lengths read is has
     (ap (λ (octets : List ℕ). made octets after) (sym same) ∙ same_value (made (taken after) after) read ended.2)
     (front, inr (is, constructed-is identifier (identifier-some identifier is) constructed.0, before.1, refl), whole)
 
-contents-found : (end : ℕ) {ends : EndReader} {Is : List ℕ → Type 0} (exact : ExactEnd ends Is) (place : ℕ) (identifier : List ℕ) (len : Option ℕ)
+pub contents-found : (end : ℕ) {ends : EndReader} {Is : List ℕ → Type 0} (exact : ExactEnd ends Is) (place : ℕ) (identifier : List ℕ) (len : Option ℕ)
     (rest lengths : List ℕ) (read : PlacedData × List ℕ) → IsIdentifier identifier → IsLengthOrNone lengths len
     → content_of end ends place identifier len rest ≡ Ok read → BeginsWith (IsEither Is) (identifier ++ (lengths ++ rest)) read
 contents-found end {ends} {Is} exact place identifier (Some n) rest lengths read is has e = definite-found end ends Is place identifier rest lengths n read is has e
 contents-found end exact place identifier None rest lengths read is has e = indefinite-found end exact place identifier rest lengths read is has e
-
-pub element-found : (end : ℕ) {ends : EndReader} {Is : List ℕ → Type 0} (exact : ExactEnd ends Is) (bytes : List ℕ) (read : PlacedData × List ℕ)
-    → element_by end ends bytes ≡ Ok read → BeginsWith (IsEither Is) bytes read
-element-found end {ends} exact bytes read e =
-    let place = place_of end bytes in
-    let first = first_done (identifier_at end bytes) (λ identifier. length_at end identifier.1 >>= λ len. content_of end ends place identifier.0 len.0 len.1) read e in
-    let second = first_done (length_at end first.0.1) (λ len. content_of end ends place first.0.0 len.0 len.1) read first.2 in
-    let identifier = identifier-found end bytes first.0 first.1 in
-    let lengths = length-found end first.0.1 second.0 second.1 in
-    let contents = contents-found end exact place first.0.0 second.0.0 second.0.1 lengths.0 read identifier.0 lengths.1 second.2 in
-    (contents.0, contents.1, identifier.1 ∙ ap (λ (octets : List ℕ). first.0.0 ++ octets) lengths.2 ∙ contents.2)
-
-pub element-read : (end : ℕ) {ends : EndReader} {Is : List ℕ → Type 0} (exact : ExactEnd ends Is) (e : ElementData) (front rest : List ℕ)
-    → IsEither Is e front → IsRead e rest (element_by end ends (front ++ rest))
-element-read end {ends} exact e front rest (inl is) =
-    let octets : List ℕ = e.identifier ++ (is.0 ++ (e.content ++ rest)) in
-    let regrouped : front ++ rest ≡ octets =
-    ap (λ (y : List ℕ). y ++ rest) is.3 ∙ append_assoc e.identifier (is.0 ++ e.content) rest ∙ ap (λ (y : List ℕ). e.identifier ++ y) (append_assoc is.0 e.content rest) in
-    let there : ltb (length (e.content ++ rest)) (length e.content) ≡ false = le-ltb _ _ (omega (arith, length-append e.content rest)) in
-    let placed : PlacedData = record { element = e; place = place_of end octets; end = end - length rest } in (
-      placed,
-      ap (element_by end ends) regrouped
-          ∙ rw (identifier-read end e.identifier (is.0 ++ (e.content ++ rest)) is.1, length-read end is.0 (e.content ++ rest) (length e.content) is.2, there, take_at e.content rest (length e.content) refl, drop_at e.content rest (length e.content) refl) refl,
-      refl,
-    )
-element-read end {ends} exact e front rest (inr is) =
-    let behind : List ℕ = e.content ++ 0 ∷ 0 ∷ rest in
-    let octets : List ℕ = e.identifier ++ (128 ∷ behind) in
-    let regrouped : front ++ rest ≡ octets =
-    ap (λ (y : List ℕ). y ++ rest) is.3 ∙ append_assoc e.identifier (128 ∷ (e.content ++ 0 ∷ 0 ∷ [])) rest
-    ∙ ap (λ (y : List ℕ). e.identifier ++ (128 ∷ y)) (append_assoc e.content (0 ∷ 0 ∷ []) rest) in
-    let test : is_constructed e.identifier ≡ true = constructed-holds e.identifier is.1 in
-    let content : take (length behind - (length rest + 2)) behind ≡ e.content = before_end e.content rest behind refl in
-    let placed : PlacedData = record { element = e; place = place_of end octets; end = end - (length rest + 2) } in (
-      placed,
-      ap (element_by end ends) regrouped
-          ∙ rw (identifier-read end e.identifier (128 ∷ behind) is.0, length-read_none end behind, test, exact.reads e.content rest is.2, content) refl,
-      refl,
-    )
-
-pub element-begins : (Is : List ℕ → Type 0) (e : ElementData) (front : List ℕ) → IsEither Is e front → (2 ≤ length front) × (get_or front 0 0 ≢ 0)
-element-begins Is e front (inl is) =
-    identifier-begins e.identifier (is.0 ++ e.content) front is.1 (omega (arith, length-append is.0 e.content, length-some is.0 (length e.content) is.2)) is.3
-element-begins Is e front (inr is) = identifier-begins e.identifier (128 ∷ (e.content ++ 0 ∷ 0 ∷ [])) front is.0 (omega arith) is.3

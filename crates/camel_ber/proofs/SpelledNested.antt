@@ -2,10 +2,10 @@
 use Rattle.std.proofs.Common.{◌++◌, ◌∙◌, ◌∷◌, arith, inl, inr, length, List, subst, suc, sym, zero, ℕ}
 use Rattle.camel_ber.specs.Grammar.{ElementData, IsElement, IsSeriesOf}
 use Rattle.camel_ber.specs.Reading.{element_at}
-use Rattle.camel_ber.proofs.ContentLemmas.{element-begins, element-found, element-read, ExactEnd, IsEither}
-use Rattle.camel_ber.proofs.ContinuationLemmas.{ends}
 use Rattle.camel_ber.proofs.ElementLemmas.{element_at-by, ends_at}
-use Rattle.camel_ber.proofs.SpelledEndLemmas.{end-found, end-read, Exact, IsRead}
+use Rattle.camel_ber.proofs.SpelledContents.{ExactEnd, IsEither}
+use Rattle.camel_ber.proofs.SpelledElement.{element-begins, element-found, element-read}
+use Rattle.camel_ber.proofs.SpelledEnd.{end-found, end-read, Exact, IsRead}
 
 -- indefinite contents, of which there are none at depth 0
 abbrev IsContents : ℕ → List ℕ → Type 0
