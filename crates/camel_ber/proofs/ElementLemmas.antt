@@ -19,7 +19,8 @@ unfolding ends_at
 ends_at-deeper end zero rest some = absurd (omega arith)
 ends_at-deeper end (suc depth) rest some = let less : suc depth - 1 ≡ depth = omega arith in rw less refl
 
-pub element_at-by : (end depth : ℕ) (bytes : List ℕ) → element_at end depth bytes ≡ element_by end (ends_at end depth) bytes
+pub element_at-by : (end depth : ℕ) (bytes : List ℕ)
+    → element_at end depth bytes ≡ element_by end (ends_at end depth) bytes
 unfolding element_at ends_at
 element_at-by end zero bytes = refl
 element_at-by end (suc depth) bytes = refl
@@ -52,7 +53,8 @@ at_contents end depth bytes identifier len rest is = element_at-by end depth byt
 
 pub is_primitive : (end depth : ℕ) (bytes identifier rest : List ℕ) → Begins end bytes identifier None rest
     → is_constructed identifier ≡ false → element_at end depth bytes ≡ Err (fault_at IndefinitePrimitive end rest)
-is_primitive end depth bytes identifier rest is test = at_contents end depth bytes identifier None rest is ∙ rw test refl
+is_primitive end depth bytes identifier rest is test = at_contents end depth bytes identifier None rest is
+    ∙ rw test refl
 
 pub has_no_end : (end depth : ℕ) (bytes identifier rest : List ℕ) (fault : Fault)
     → Begins end bytes identifier None rest → is_constructed identifier ≡ true → ends_at end depth rest ≡ Err fault

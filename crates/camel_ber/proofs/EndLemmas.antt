@@ -11,7 +11,8 @@ pub record Ends (end : ℕ) (one : ElementReader) (rest : List ℕ) (total : Res
   pub enough : length rest ≤ fuel
   pub ends : end_by end one fuel rest ≡ total
 
-pub end-begins : (end : ℕ) (one : ElementReader) (bytes : List ℕ) → Ends end one bytes (end_by end one (length bytes) bytes)
+pub end-begins : (end : ℕ) (one : ElementReader) (bytes : List ℕ)
+    → Ends end one bytes (end_by end one (length bytes) bytes)
 end-begins end one bytes = record { fuel = length bytes; enough = omega arith; ends = refl }
 
 -- an element that is passed
@@ -20,7 +21,8 @@ pub end-passes : (end : ℕ) (one : ElementReader) (fuel octet : ℕ) (more : Li
 unfolding end_by
 end-passes end one fuel octet more = refl
 
-pub end-goes_on : (end : ℕ) (one : ElementReader) (rest : List ℕ) (element : PlacedData) (after : List ℕ) (total : Result (List ℕ) Fault)
+pub end-goes_on : (end : ℕ) (one : ElementReader) (rest : List ℕ) (element : PlacedData) (after : List ℕ)
+    (total : Result (List ℕ) Fault)
     → 0 < length rest → get_or rest 0 0 ≢ 0 → one rest ≡ Ok (element, after) → length after < length rest
     → Ends end one rest total → Ends end one after total
 end-goes_on end one [] element after total some not_zero read shorter so_far = absurd (omega arith)
@@ -28,13 +30,15 @@ end-goes_on end one (zero ∷ more) element after total some not_zero read short
 end-goes_on end one (suc octet ∷ more) element after total some not_zero read shorter so_far =
     from so_far.fuel so_far.enough so_far.ends
   where
-    from : (fuel : ℕ) → length (suc octet ∷ more) ≤ fuel → end_by end one fuel (suc octet ∷ more) ≡ total → Ends end one after total
+    from : (fuel : ℕ) → length (suc octet ∷ more) ≤ fuel → end_by end one fuel (suc octet ∷ more) ≡ total
+        → Ends end one after total
     from zero enough ends = absurd (omega arith)
     from (suc fuel) enough ends = record {
       fuel = fuel;
       enough = omega arith;
       ends = sym (end-passes end one fuel octet more
-          ∙ ap (λ (reading : Result (PlacedData × List ℕ) Fault). reading >>= λ read. end_by end one fuel read.1) read) ∙ ends;
+          ∙ ap (λ (reading : Result (PlacedData × List ℕ) Fault). reading >>= λ read. end_by end one fuel read.1)
+          read) ∙ ends;
     }
 
 pub end-fails : (end : ℕ) (one : ElementReader) (rest : List ℕ) (fault : Fault) (total : Result (List ℕ) Fault)
@@ -43,7 +47,8 @@ end-fails end one [] fault total some not_zero read so_far = absurd (omega arith
 end-fails end one (zero ∷ more) fault total some not_zero read so_far = absurd (not_zero refl)
 end-fails end one (suc octet ∷ more) fault total some not_zero read so_far = from so_far.fuel so_far.enough so_far.ends
   where
-    from : (fuel : ℕ) → length (suc octet ∷ more) ≤ fuel → end_by end one fuel (suc octet ∷ more) ≡ total → total ≡ Err fault
+    from : (fuel : ℕ) → length (suc octet ∷ more) ≤ fuel → end_by end one fuel (suc octet ∷ more) ≡ total
+        → total ≡ Err fault
     from zero enough ends = absurd (omega arith)
     from (suc fuel) enough ends = sym ends ∙ end-passes end one fuel octet more
         ∙ ap (λ (reading : Result (PlacedData × List ℕ) Fault). reading >>= λ read. end_by end one fuel read.1) read
@@ -59,7 +64,8 @@ end-is_missing end one [] total nothing so_far = sym so_far.ends ∙ no_end so_f
 end-is_missing end one (octet ∷ more) total nothing so_far = absurd cc
 
 -- what is found at an octet 0
-pub end-at_zero : {X : Type 0} (view : X → List ℕ) (end : ℕ) (one : ElementReader) (rest : List ℕ) (r : Result X Fault) (total : Result (List ℕ) Fault)
+pub end-at_zero : {X : Type 0} (view : X → List ℕ) (end : ℕ) (one : ElementReader) (rest : List ℕ)
+    (r : Result X Fault) (total : Result (List ℕ) Fault)
     → 0 < length rest → ((fuel : ℕ) → Answers view r (end_by end one (suc fuel) rest)) → Ends end one rest total
     → Answers view r total
 end-at_zero {X} view end one rest r total some answer so_far = from so_far.fuel so_far.enough so_far.ends
@@ -68,6 +74,7 @@ end-at_zero {X} view end one rest r total some answer so_far = from so_far.fuel 
     from zero enough ends = absurd (omega arith)
     from (suc fuel) enough ends = subst (λ (t : Result (List ℕ) Fault). Answers view r t) ends (answer fuel)
 
-pub shorter_still : {X : Type 0} (r : Result X Fault) (n : X → ℕ) (a b : ℕ) → IfOk r (λ x. n x + 2 ≡ a) → a ≤ b → IfOk r (λ x. n x + 2 ≤ b)
+pub shorter_still : {X : Type 0} (r : Result X Fault) (n : X → ℕ) (a b : ℕ) → IfOk r (λ x. n x + 2 ≡ a) → a ≤ b
+    → IfOk r (λ x. n x + 2 ≤ b)
 shorter_still (Ok x) n a b is le = omega arith
 shorter_still (Err fault) n a b is le = tt

@@ -19,12 +19,14 @@ behind_elements-nil (Ok others) = refl
 behind_elements-nil (Err fault) = refl
 
 -- what was read and what is read from here is what is read from the beginning
-pub record Reads (end depth : ℕ) (front : List PlacedData) (rest : List ℕ) (total : Result (List PlacedData) Fault) : Type 0 where
+pub record Reads (end depth : ℕ) (front : List PlacedData) (rest : List ℕ)
+    (total : Result (List PlacedData) Fault) : Type 0 where
   pub fuel : ℕ
   pub enough : length rest ≤ fuel
   pub reads : behind_elements front (elements_of end depth fuel rest) ≡ total
 
-pub list-begins : (end depth : ℕ) (bytes : List ℕ) → Reads end depth [] bytes (elements_of end depth (length bytes) bytes)
+pub list-begins : (end depth : ℕ) (bytes : List ℕ)
+    → Reads end depth [] bytes (elements_of end depth (length bytes) bytes)
 list-begins end depth bytes = record {
   fuel = length bytes;
   enough = omega arith;
@@ -33,7 +35,8 @@ list-begins end depth bytes = record {
 
 -- an element and those behind it
 abbrev pub first_then : ℕ → ℕ → ℕ → Result (PlacedData × List ℕ) Fault → Result (List PlacedData) Fault
-first_then end depth fuel reading = reading >>= λ one. elements_of end depth fuel one.1 >>= λ others. Ok (one.0 ∷ others)
+first_then end depth fuel reading = reading >>= λ one. elements_of end depth fuel one.1 >>= λ others. Ok
+    (one.0 ∷ others)
 
 pub list-first : (end depth fuel octet : ℕ) (more : List ℕ)
     → elements_of end depth (suc fuel) (octet ∷ more) ≡ first_then end depth fuel (element_at end depth (octet ∷ more))
@@ -45,31 +48,38 @@ unfolding elements_of
 list-none end depth zero = refl
 list-none end depth (suc fuel) = refl
 
-pub list-goes_on : (end depth : ℕ) (front : List PlacedData) (rest : List ℕ) (one : PlacedData) (after : List ℕ) (total : Result (List PlacedData) Fault)
+pub list-goes_on : (end depth : ℕ) (front : List PlacedData) (rest : List ℕ) (one : PlacedData) (after : List ℕ)
+    (total : Result (List PlacedData) Fault)
     → 0 < length rest → element_at end depth rest ≡ Ok (one, after) → length after < length rest
     → Reads end depth front rest total → Reads end depth (front ++ one ∷ []) after total
 list-goes_on end depth front [] one after total some read shorter so_far = absurd (omega arith)
-list-goes_on end depth front (octet ∷ more) one after total some read shorter so_far = from so_far.fuel so_far.enough so_far.reads
+list-goes_on end depth front (octet ∷ more) one after total some read shorter so_far =
+    from so_far.fuel so_far.enough so_far.reads
   where
-    from : (fuel : ℕ) → length (octet ∷ more) ≤ fuel → behind_elements front (elements_of end depth fuel (octet ∷ more)) ≡ total
+    from : (fuel : ℕ) → length (octet ∷ more) ≤ fuel
+        → behind_elements front (elements_of end depth fuel (octet ∷ more)) ≡ total
         → Reads end depth (front ++ one ∷ []) after total
     from zero enough reads = absurd (omega arith)
     from (suc fuel) enough reads = record {
       fuel = fuel;
       enough = omega arith;
       reads = sym (behind_elements-regroup front one (elements_of end depth fuel after))
-          ∙ ap (behind_elements front) (sym (list-first end depth fuel octet more ∙ ap (first_then end depth fuel) read)) ∙ reads;
+          ∙ ap (behind_elements front) (sym (list-first end depth fuel octet more
+          ∙ ap (first_then end depth fuel) read)) ∙ reads;
     }
 
-pub list-fails : (end depth : ℕ) (front : List PlacedData) (rest : List ℕ) (fault : Fault) (total : Result (List PlacedData) Fault)
+pub list-fails : (end depth : ℕ) (front : List PlacedData) (rest : List ℕ) (fault : Fault)
+    (total : Result (List PlacedData) Fault)
     → 0 < length rest → element_at end depth rest ≡ Err fault → Reads end depth front rest total → total ≡ Err fault
 list-fails end depth front [] fault total some read so_far = absurd (omega arith)
 list-fails end depth front (octet ∷ more) fault total some read so_far = from so_far.fuel so_far.enough so_far.reads
   where
-    from : (fuel : ℕ) → length (octet ∷ more) ≤ fuel → behind_elements front (elements_of end depth fuel (octet ∷ more)) ≡ total → total ≡ Err fault
+    from : (fuel : ℕ) → length (octet ∷ more) ≤ fuel
+        → behind_elements front (elements_of end depth fuel (octet ∷ more)) ≡ total → total ≡ Err fault
     from zero enough reads = absurd (omega arith)
     from (suc fuel) enough reads =
-        sym reads ∙ ap (behind_elements front) (list-first end depth fuel octet more ∙ ap (first_then end depth fuel) read)
+        sym reads ∙ ap (behind_elements front) (list-first end depth fuel octet more
+        ∙ ap (first_then end depth fuel) read)
 
 pub list-ends : (end depth : ℕ) (front : List PlacedData) (rest : List ℕ) (total : Result (List PlacedData) Fault)
     → length rest ≡ 0 → Reads end depth front rest total → total ≡ Ok front

@@ -12,15 +12,18 @@ use Rattle.camel_ber.proofs.StepLemmas.{done, first_done, held, passed, same_val
 
 -- the end of contents is found exactly behind contents
 pub record ExactEnd (ends : EndReader) (Is : List ℕ → Type 0) : Type 0 where
-  pub found : (rest after : List ℕ) → ends rest ≡ Ok after → (content : List ℕ) × Is content × (rest ≡ content ++ 0 ∷ 0 ∷ after)
+  pub found : (rest after : List ℕ) → ends rest ≡ Ok after
+      → (content : List ℕ) × Is content × (rest ≡ content ++ 0 ∷ 0 ∷ after)
   pub reads : (content after : List ℕ) → Is content → ends (content ++ 0 ∷ 0 ∷ after) ≡ Ok after
 
 -- an element of either form, where `Is` says what indefinite contents are
 abbrev pub IsEither : (List ℕ → Type 0) → ElementData → List ℕ → Type 0
 IsEither Is e bytes = IsDefinite e bytes
-    ⊎ (IsIdentifier e.identifier × IsConstructed e.identifier × Is e.content × (bytes ≡ e.identifier ++ (128 ∷ (e.content ++ 0 ∷ 0 ∷ []))))
+    ⊎ (IsIdentifier e.identifier × IsConstructed e.identifier × Is e.content
+    × (bytes ≡ e.identifier ++ (128 ∷ (e.content ++ 0 ∷ 0 ∷ []))))
 
-constructed-is : (identifier : List ℕ) → 1 ≤ length identifier → is_constructed identifier ≡ true → IsConstructed identifier
+constructed-is : (identifier : List ℕ) → 1 ≤ length identifier → is_constructed identifier ≡ true
+    → IsConstructed identifier
 constructed-is [] some test = absurd (omega arith)
 constructed-is (first ∷ more) some test = eqb-true _ _ test
 
@@ -29,15 +32,20 @@ constructed-holds [] is = absurd is
 constructed-holds (first ∷ more) is = eq-eqb _ _ is
 
 -- the octets before an end of contents
-pub before_end : (content after rest : List ℕ) → rest ≡ content ++ 0 ∷ 0 ∷ after → take (length rest - (length after + 2)) rest ≡ content
+pub before_end : (content after rest : List ℕ) → rest ≡ content ++ 0 ∷ 0 ∷ after
+    → take (length rest - (length after + 2)) rest ≡ content
 before_end content after rest parts =
-    let count : length rest ≡ length content + suc (suc (length after)) = ap length parts ∙ length-append content (0 ∷ 0 ∷ after) in
+    let count : length rest ≡ length content + suc (suc (length after)) = ap length parts
+    ∙ length-append content (0 ∷ 0 ∷ after) in
     let less : length rest - (length after + 2) ≡ length content = omega (arith, count) in
-    ap (λ (n : ℕ). take n rest) less ∙ ap (take (length content)) parts ∙ take_at content (0 ∷ 0 ∷ after) (length content) refl
+    ap (λ (n : ℕ). take n rest) less ∙ ap (take (length content)) parts
+    ∙ take_at content (0 ∷ 0 ∷ after) (length content) refl
 
 -- the contents octets of a definite length
-definite-found : (end : ℕ) (ends : EndReader) (Is : List ℕ → Type 0) (place : ℕ) (identifier rest lengths : List ℕ) (n : ℕ)
-    (read : PlacedData × List ℕ) → IsIdentifier identifier → IsLength lengths n → content_of end ends place identifier (Some n) rest ≡ Ok read
+definite-found : (end : ℕ) (ends : EndReader) (Is : List ℕ → Type 0) (place : ℕ) (identifier rest lengths : List ℕ)
+    (n : ℕ)
+    (read : PlacedData × List ℕ) → IsIdentifier identifier → IsLength lengths n
+    → content_of end ends place identifier (Some n) rest ≡ Ok read
     → BeginsWith (IsEither Is) (identifier ++ (lengths ++ rest)) read
 definite-found end ends Is place identifier rest lengths n read is has e =
     let content = take n rest in
@@ -50,19 +58,32 @@ definite-found end ends Is place identifier rest lengths n read is has e =
     let front = identifier ++ (lengths ++ content) in
     let fits : IsLength lengths (length content) = rw count has in
     let whole : identifier ++ (lengths ++ rest) ≡ front ++ after =
-    ap (λ (octets : List ℕ). identifier ++ octets) (ap (λ (octets : List ℕ). lengths ++ octets) (sym (take-append-drop n rest)) ∙ sym (append_assoc lengths content after))
+    ap (λ (octets : List ℕ). identifier ++ octets)
+    (ap (λ (octets : List ℕ). lengths ++ octets) (sym (take-append-drop n rest))
+    ∙ sym (append_assoc lengths content after))
     ∙ sym (append_assoc identifier (lengths ++ content) after) in
-    subst (BeginsWith (IsEither Is) (identifier ++ (lengths ++ rest))) (same_value made read there.1) (front, inl (lengths, is, fits, refl), whole)
+    subst (BeginsWith (IsEither Is) (identifier ++ (lengths ++ rest))) (same_value made read there.1)
+    (front, inl (lengths, is, fits, refl), whole)
 
 -- the contents octets before an end of contents
-indefinite-found : (end : ℕ) {ends : EndReader} {Is : List ℕ → Type 0} (exact : ExactEnd ends Is) (place : ℕ) (identifier rest lengths : List ℕ)
-    (read : PlacedData × List ℕ) → IsIdentifier identifier → lengths ≡ 128 ∷ [] → content_of end ends place identifier None rest ≡ Ok read
+indefinite-found : (end : ℕ) {ends : EndReader} {Is : List ℕ → Type 0} (exact : ExactEnd ends Is) (place : ℕ)
+    (identifier rest lengths : List ℕ)
+    (read : PlacedData × List ℕ) → IsIdentifier identifier → lengths ≡ 128 ∷ []
+    → content_of end ends place identifier None rest ≡ Ok read
     → BeginsWith (IsEither Is) (identifier ++ (lengths ++ rest)) read
 indefinite-found end {ends} {Is} exact place identifier rest lengths read is has e =
-    let made : List ℕ → List ℕ → PlacedData × List ℕ = λ content after.
-    (record { element = record { identifier = identifier; content = content }; place = place; end = end - (length after + 2) }, after) in
+    let made : List ℕ → List ℕ → PlacedData × List ℕ = λ content after. (
+      record {
+        element = record { identifier = identifier; content = content };
+        place = place;
+        end =
+            end - (length after + 2);
+      },
+      after,
+    ) in
     let taken : List ℕ → List ℕ = λ after. take (length rest - (length after + 2)) rest in
-    let constructed = held (is_constructed identifier) (fault_at IndefinitePrimitive end rest) (ends rest >>= λ after. Ok (made (taken after) after)) read e in
+    let constructed = held (is_constructed identifier) (fault_at IndefinitePrimitive end rest)
+    (ends rest >>= λ after. Ok (made (taken after) after)) read e in
     let ended = first_done (ends rest) (λ after. Ok (made (taken after) after)) read constructed.1 in
     let after = ended.0 in
     let before = exact.found rest after ended.1 in
@@ -77,8 +98,12 @@ indefinite-found end {ends} {Is} exact place identifier rest lengths read is has
     (ap (λ (octets : List ℕ). made octets after) (sym same) ∙ same_value (made (taken after) after) read ended.2)
     (front, inr (is, constructed-is identifier (identifier-some identifier is) constructed.0, before.1, refl), whole)
 
-pub contents-found : (end : ℕ) {ends : EndReader} {Is : List ℕ → Type 0} (exact : ExactEnd ends Is) (place : ℕ) (identifier : List ℕ) (len : Option ℕ)
+pub contents-found : (end : ℕ) {ends : EndReader} {Is : List ℕ → Type 0} (exact : ExactEnd ends Is) (place : ℕ)
+    (identifier : List ℕ) (len : Option ℕ)
     (rest lengths : List ℕ) (read : PlacedData × List ℕ) → IsIdentifier identifier → IsLengthOrNone lengths len
-    → content_of end ends place identifier len rest ≡ Ok read → BeginsWith (IsEither Is) (identifier ++ (lengths ++ rest)) read
-contents-found end {ends} {Is} exact place identifier (Some n) rest lengths read is has e = definite-found end ends Is place identifier rest lengths n read is has e
-contents-found end exact place identifier None rest lengths read is has e = indefinite-found end exact place identifier rest lengths read is has e
+    → content_of end ends place identifier len rest ≡ Ok read
+    → BeginsWith (IsEither Is) (identifier ++ (lengths ++ rest)) read
+contents-found end {ends} {Is} exact place identifier (Some n) rest lengths read is has e =
+    definite-found end ends Is place identifier rest lengths n read is has e
+contents-found end exact place identifier None rest lengths read is has e = indefinite-found end exact place
+    identifier rest lengths read is has e

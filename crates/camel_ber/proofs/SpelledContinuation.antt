@@ -15,25 +15,33 @@ IsContinuation-more : (octet : ℕ) (more : List ℕ) → 128 ≤ octet → IsCo
 IsContinuation-more octet [] high is = absurd is
 IsContinuation-more octet (next ∷ more) high is = (high, is)
 
-pub continuation-found : (endless : Fault) (bytes : List ℕ) (parts : List ℕ × List ℕ) → continuation_at endless bytes ≡ Ok parts
+pub continuation-found : (endless : Fault) (bytes : List ℕ) (parts : List ℕ × List ℕ)
+    → continuation_at endless bytes ≡ Ok parts
     → IsFront IsContinuation bytes parts
 unfolding continuation_at
 continuation-found endless [] parts e = absurd cc
 continuation-found endless (octet ∷ rest) parts e =
-    elim (chosen (ltb octet 128) (done (octet ∷ [], rest)) (continuation_at endless rest >>= λ more. Ok (octet ∷ more.0, more.1)) (Ok parts) e) [
-      | inl last ↦ subst (IsFront IsContinuation (octet ∷ rest)) (same_value (octet ∷ [], rest) parts last.1) (ltb-true _ _ last.0, refl)
+    elim (chosen (ltb octet 128) (done (octet ∷ [], rest))
+    (continuation_at endless rest >>= λ more. Ok (octet ∷ more.0, more.1)) (Ok parts) e) [
+      | inl last ↦ subst (IsFront IsContinuation (octet ∷ rest)) (same_value (octet ∷ [], rest) parts last.1)
+          (ltb-true _ _ last.0, refl)
       | inr more ↦
           let read = first_done (continuation_at endless rest) (λ more. Ok (octet ∷ more.0, more.1)) parts more.1 in
           let is = continuation-found endless rest read.0 read.1 in
-          subst (IsFront IsContinuation (octet ∷ rest)) (same_value (octet ∷ read.0.0, read.0.1) parts read.2)
-          (IsContinuation-more octet read.0.0 (ltb-false _ _ more.0) is.0, ap (λ (octets : List ℕ). octet ∷ octets) is.1)
+          subst (IsFront IsContinuation (octet ∷ rest)) (same_value (octet ∷ read.0.0, read.0.1) parts read.2) (
+            IsContinuation-more octet read.0.0 (ltb-false _ _ more.0) is.0,
+            ap (λ (octets : List ℕ). octet ∷ octets)
+                is.1,
+          )
     ]
 
-pub continuation-read : (endless : Fault) (octets rest : List ℕ) → IsContinuation octets → continuation_at endless (octets ++ rest) ≡ Ok (octets, rest)
+pub continuation-read : (endless : Fault) (octets rest : List ℕ) → IsContinuation octets
+    → continuation_at endless (octets ++ rest) ≡ Ok (octets, rest)
 continuation-read endless [] rest is = absurd is
 continuation-read endless (octet ∷ []) rest is = continuation-is_last endless octet rest (lt-ltb _ _ is)
 continuation-read endless (octet ∷ next ∷ more) rest is =
-    continuation-not_last endless octet (next ∷ (more ++ rest)) (le-ltb _ _ is.0) ∙ rw (continuation-read endless (next ∷ more) rest is.1) refl
+    continuation-not_last endless octet (next ∷ (more ++ rest)) (le-ltb _ _ is.0)
+    ∙ rw (continuation-read endless (next ∷ more) rest is.1) refl
 
 -- the test of a tag number
 pub tag_number-is : (octets : List ℕ) → is_tag_number octets ≡ true → IsTagNumber octets

@@ -23,9 +23,11 @@ pub record Exact (one : ElementReader) (Is : ElementData → List ℕ → Type 0
 
 -- elements, and an end of contents behind them
 abbrev pub EndsBehind : (ElementData → List ℕ → Type 0) → List ℕ → List ℕ → Type 0
-EndsBehind Is rest after = (es : List ElementData) × (content : List ℕ) × IsSeriesOf Is es content × (rest ≡ content ++ 0 ∷ 0 ∷ after)
+EndsBehind Is rest after = (es : List ElementData) × (content : List ℕ) × IsSeriesOf Is es content
+    × (rest ≡ content ++ 0 ∷ 0 ∷ after)
 
-pub end-found : (end : ℕ) {one : ElementReader} {Is : ElementData → List ℕ → Type 0} (exact : Exact one Is) (fuel : ℕ) (rest after : List ℕ)
+pub end-found : (end : ℕ) {one : ElementReader} {Is : ElementData → List ℕ → Type 0} (exact : Exact one Is) (fuel : ℕ)
+    (rest after : List ℕ)
     → end_by end one fuel rest ≡ Ok after → EndsBehind Is rest after
 unfolding end_by
 end-found end exact zero rest after e = absurd cc
@@ -41,14 +43,18 @@ end-found end {one} {Is} exact (suc fuel) (suc octet ∷ more) after e =
       read.0.0.element ∷ others.0,
       first.0 ++ others.1,
       (first.0, others.1, first.1, others.2, refl),
-      first.2 ∙ ap (λ (octets : List ℕ). first.0 ++ octets) others.3 ∙ sym (append_assoc first.0 others.1 (0 ∷ 0 ∷ after)),
+      first.2 ∙ ap (λ (octets : List ℕ). first.0 ++ octets) others.3
+          ∙ sym (append_assoc first.0 others.1 (0 ∷ 0 ∷ after)),
     )
 
-pub end-read : (end : ℕ) {one : ElementReader} {Is : ElementData → List ℕ → Type 0} (exact : Exact one Is) (es : List ElementData) (fuel : ℕ) (content after : List ℕ)
-    → length (content ++ 0 ∷ 0 ∷ after) ≤ fuel → IsSeriesOf Is es content → end_by end one fuel (content ++ 0 ∷ 0 ∷ after) ≡ Ok after
+pub end-read : (end : ℕ) {one : ElementReader} {Is : ElementData → List ℕ → Type 0} (exact : Exact one Is)
+    (es : List ElementData) (fuel : ℕ) (content after : List ℕ)
+    → length (content ++ 0 ∷ 0 ∷ after) ≤ fuel → IsSeriesOf Is es content
+    → end_by end one fuel (content ++ 0 ∷ 0 ∷ after) ≡ Ok after
 unfolding end_by
 end-read end {one} exact [] fuel content after enough is =
-    ap (λ (octets : List ℕ). end_by end one fuel (octets ++ 0 ∷ 0 ∷ after)) is ∙ at_end fuel (omega (arith, length-append content (0 ∷ 0 ∷ after)))
+    ap (λ (octets : List ℕ). end_by end one fuel (octets ++ 0 ∷ 0 ∷ after)) is
+    ∙ at_end fuel (omega (arith, length-append content (0 ∷ 0 ∷ after)))
   where
     at_end : (fuel : ℕ) → 2 ≤ fuel → end_by end one fuel (0 ∷ 0 ∷ after) ≡ Ok after
     at_end zero enough = absurd (omega arith)
@@ -64,12 +70,15 @@ end-read end {one} exact (e ∷ es) fuel content after enough is =
     ∙ passes is.0 (is.1 ++ 0 ∷ 0 ∷ after) fuel read.0 begins.0 begins.1 (omega (arith, count)) read.1
     (λ less le. end-read end exact es less is.1 after le is.3)
   where
-    passes : (front rest : List ℕ) (fuel : ℕ) (placed : PlacedData) → 2 ≤ length front → get_or front 0 0 ≢ 0 → length front + length rest ≤ fuel
-        → one (front ++ rest) ≡ Ok (placed, rest) → ((less : ℕ) → length rest ≤ less → end_by end one less rest ≡ Ok after)
+    passes : (front rest : List ℕ) (fuel : ℕ) (placed : PlacedData) → 2 ≤ length front → get_or front 0 0 ≢ 0
+        → length front + length rest ≤ fuel
+        → one (front ++ rest) ≡ Ok (placed, rest)
+        → ((less : ℕ) → length rest ≤ less → end_by end one less rest ≡ Ok after)
         → end_by end one fuel (front ++ rest) ≡ Ok after
     passes [] rest fuel placed some not_zero enough read onward = absurd (omega arith)
     passes (zero ∷ front) rest fuel placed some not_zero enough read onward = absurd (not_zero refl)
     passes (suc octet ∷ front) rest zero placed some not_zero enough read onward = absurd (omega arith)
     passes (suc octet ∷ front) rest (suc fuel) placed some not_zero enough read onward =
         end-passes end one fuel octet (front ++ rest)
-        ∙ ap (λ (reading : Result (PlacedData × List ℕ) Fault). reading >>= λ read. end_by end one fuel read.1) read ∙ onward fuel (omega arith)
+        ∙ ap (λ (reading : Result (PlacedData × List ℕ) Fault). reading >>= λ read. end_by end one fuel read.1) read
+        ∙ onward fuel (omega arith)

@@ -19,17 +19,22 @@ identifier-found end (first ∷ rest) parts e =
     let not_zero : first ≢ 0 = eqb-false _ _ begins.0 in
     elim (chosen (eqb (first % 32) 31) _ (done (first ∷ [], rest)) (Ok parts) begins.1) [
       | inl several ↦
-          let read = first_done (continuation_at endless rest) (λ more. cond (is_tag_number more.0) (Ok (first ∷ more.0, more.1)) (Err unneeded)) parts several.1 in
+          let read = first_done (continuation_at endless rest)
+          (λ more. cond (is_tag_number more.0) (Ok (first ∷ more.0, more.1)) (Err unneeded)) parts several.1 in
           let needed = held (is_tag_number read.0.0) unneeded (done (first ∷ read.0.0, read.0.1)) parts read.2 in
           let is = continuation-found endless rest read.0 read.1 in
-          subst (IsFront IsIdentifier (first ∷ rest)) (same_value (first ∷ read.0.0, read.0.1) parts needed.1)
-          ((not_zero, inr (eqb-true _ _ several.0, is.0, tag_number-is read.0.0 needed.0)), ap (λ (octets : List ℕ). first ∷ octets) is.1)
+          subst (IsFront IsIdentifier (first ∷ rest)) (same_value (first ∷ read.0.0, read.0.1) parts needed.1) (
+            (not_zero, inr (eqb-true _ _ several.0, is.0, tag_number-is read.0.0 needed.0)),
+            ap
+                (λ (octets : List ℕ). first ∷ octets) is.1,
+          )
       | inr one ↦
           subst (IsFront IsIdentifier (first ∷ rest)) (same_value (first ∷ [], rest) parts one.1)
           ((not_zero, inl (eqb-false _ _ one.0, refl)), refl)
     ]
 
-pub identifier-read : (end : ℕ) (octets rest : List ℕ) → IsIdentifier octets → identifier_at end (octets ++ rest) ≡ Ok (octets, rest)
+pub identifier-read : (end : ℕ) (octets rest : List ℕ) → IsIdentifier octets
+    → identifier_at end (octets ++ rest) ≡ Ok (octets, rest)
 unfolding identifier_at
 identifier-read end [] rest is = absurd is
 identifier-read end (first ∷ more) rest is =
@@ -47,7 +52,8 @@ identifier-some [] is = absurd is
 identifier-some (first ∷ more) is = omega arith
 
 -- octets that begin with an identifier and go on begin with no 0
-pub identifier-begins : (identifier rest front : List ℕ) → IsIdentifier identifier → 1 ≤ length rest → front ≡ identifier ++ rest
+pub identifier-begins : (identifier rest front : List ℕ) → IsIdentifier identifier → 1 ≤ length rest
+    → front ≡ identifier ++ rest
     → (2 ≤ length front) × (get_or front 0 0 ≢ 0)
 identifier-begins [] rest front is some parts = absurd is
 identifier-begins (first ∷ more) rest front is some parts = (

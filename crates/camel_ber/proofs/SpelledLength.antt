@@ -16,7 +16,8 @@ IsLengthOrNone octets None = octets ≡ 128 ∷ []
 abbrev pub BeginsWithLength : List ℕ → Option ℕ × List ℕ → Type 0
 BeginsWithLength bytes read = (octets : List ℕ) × IsLengthOrNone octets read.0 × (bytes ≡ octets ++ read.1)
 
-pub length-found : (end : ℕ) (bytes : List ℕ) (read : Option ℕ × List ℕ) → length_at end bytes ≡ Ok read → BeginsWithLength bytes read
+pub length-found : (end : ℕ) (bytes : List ℕ) (read : Option ℕ × List ℕ) → length_at end bytes ≡ Ok read
+    → BeginsWithLength bytes read
 unfolding length_at
 length-found end [] read e = absurd cc
 length-found end (first ∷ rest) read e =
@@ -33,13 +34,15 @@ length-found end (first ∷ rest) read e =
                 (128 ∷ [], refl, ap (λ (octet : ℕ). octet ∷ rest) (eqb-true _ _ indefinite.0))
             | inr long ↦
                 let few = passed (ltb 132 first) (fault_at LongLength end bytes) _ read long.1 in
-                let there = passed (ltb (length rest) count) (fault_at PastEnd end bytes) (done (Some (value_of (take count rest)), drop count rest)) read few.1 in
+                let there = passed (ltb (length rest) count) (fault_at PastEnd end bytes)
+                (done (Some (value_of (take count rest)), drop count rest)) read few.1 in
                 let from_128 : 128 ≤ first = ltb-false _ _ high.0 in
                 let not_128 : first ≢ 128 = eqb-false _ _ long.0 in
                 let to_132 : first ≤ 132 = ltb-false _ _ few.0 in
                 let enough : count ≤ length rest = ltb-false _ _ there.0 in
                 let taken : length (take count rest) ≡ count = omega (arith, length-take count rest) in
-                subst (BeginsWithLength bytes) (same_value (Some (value_of (take count rest)), drop count rest) read there.1) (
+                subst (BeginsWithLength bytes)
+                (same_value (Some (value_of (take count rest)), drop count rest) read there.1) (
                   first ∷ take count rest,
                   inr (omega (arith, taken), omega (arith, taken, not_128), omega (arith, taken), refl),
                   ap (λ (octets : List ℕ). first ∷ octets) (sym (take-append-drop count rest)),
@@ -47,7 +50,8 @@ length-found end (first ∷ rest) read e =
           ]
     ]
 
-pub length-read : (end : ℕ) (octets rest : List ℕ) (n : ℕ) → IsLength octets n → length_at end (octets ++ rest) ≡ Ok (Some n, rest)
+pub length-read : (end : ℕ) (octets rest : List ℕ) (n : ℕ) → IsLength octets n
+    → length_at end (octets ++ rest) ≡ Ok (Some n, rest)
 unfolding length_at
 length-read end [] rest n is = absurd is
 length-read end (first ∷ octets) rest n is =
@@ -58,8 +62,19 @@ length-read end (first ∷ octets) rest n is =
           let from_128 : ltb first 128 ≡ false = le-ltb _ _ (omega (arith, long.0)) in
           let not_128 : eqb first 128 ≡ false = ne_eqb _ _ (λ e. omega (arith, long.0, long.1, e)) in
           let to_132 : ltb 132 first ≡ false = le-ltb _ _ (omega (arith, long.0, long.2)) in
-          let there : ltb (length (octets ++ rest)) (length octets) ≡ false = le-ltb _ _ (omega (arith, length-append octets rest)) in
-          rw (from_128, not_128, to_132, count, there, take_at octets rest (length octets) refl, drop_at octets rest (length octets) refl, long.3) refl
+          let there : ltb (length (octets ++ rest)) (length octets) ≡ false =
+          le-ltb _ _ (omega (arith, length-append octets rest)) in
+          rw (
+            from_128,
+            not_128,
+            to_132,
+            count,
+            there,
+            take_at octets rest (length octets) refl,
+            drop_at octets rest
+                (length octets) refl,
+            long.3,
+          ) refl
     ]
 
 pub length-read_none : (end : ℕ) (rest : List ℕ) → length_at end (128 ∷ rest) ≡ Ok (None, rest)

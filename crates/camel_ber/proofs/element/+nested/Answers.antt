@@ -9,19 +9,22 @@ use Rattle.camel_ber.proofs.element.+nested.Goals as goal
 pub after_end-returns-then-rest-eq0-clause-answer : goal.after_end-returns-then-rest-eq0-clause-answer
 after_end-returns-then-rest-eq0-clause-answer t c =
     let one = element_at c.args.end c.args.depth in
-    end-at_zero _ c.args.end one c.loop-rest.rest.now c.after_zero.result _ (omega arith) (c.after_zero.ensures.answer one)
+    end-at_zero _ c.args.end one c.loop-rest.rest.now c.after_zero.result _ (omega arith)
+    (c.after_zero.ensures.answer one)
     c.loop-rest.invariant.0
 
 pub after_end-returns-in_err-after-clause-answer : goal.after_end-returns-in_err-after-clause-answer
 after_end-returns-in_err-after-clause-answer t c =
     let p = err_from_is_err_and c.from_residual.result c.from_residual.ensures.1 in
     rw (p.1, p.2)
-    (end-fails c.args.end (element_at c.args.end c.args.depth) c.loop-rest.rest.now _ _ (omega arith) c.if-rest-eq0.false
+    (end-fails c.args.end (element_at c.args.end c.args.depth) c.loop-rest.rest.now _ _ (omega arith)
+    c.if-rest-eq0.false
     c.in_err-after.ensures.answer c.loop-rest.invariant.0)
 
 pub after_end-loop-rest-preserved : goal.after_end-loop-rest-preserved
 after_end-loop-rest-preserved t c = (
-  end-goes_on c.args.end (element_at c.args.end c.args.depth) c.loop-rest.rest.now _ c.in_ok-after.after.now _ (omega arith)
+  end-goes_on c.args.end (element_at c.args.end c.args.depth) c.loop-rest.rest.now _ c.in_ok-after.after.now _
+      (omega arith)
       c.if-rest-eq0.false c.in_ok-after.ensures.answer c.in_ok-after.ensures.shorter c.loop-rest.invariant.0,
   omega (arith, c.in_ok-after.ensures.shorter, c.loop-rest.invariant.1),
 )
@@ -29,7 +32,8 @@ after_end-loop-rest-preserved t c = (
 pub after_end-returns-clause-answer : goal.after_end-returns-clause-answer
 after_end-returns-clause-answer t c =
     rw c.of.ensures
-    (end-is_missing c.args.end (element_at c.args.end c.args.depth) c.loop-rest.rest.now _ (omega arith) c.loop-rest.invariant.0)
+    (end-is_missing c.args.end (element_at c.args.end c.args.depth) c.loop-rest.rest.now _ (omega arith)
+    c.loop-rest.invariant.0)
 
 pub next_element-returns-in_err-identifier-clause-answer : goal.next_element-returns-in_err-identifier-clause-answer
 next_element-returns-in_err-identifier-clause-answer t c =
@@ -40,7 +44,8 @@ pub next_element-returns-in_err-len-clause-answer : goal.next_element-returns-in
 next_element-returns-in_err-len-clause-answer t c =
     let p = err_from_is_err_and c.from_residual-in_err-len.result c.from_residual-in_err-len.ensures.1 in
     rw (p.1, p.2)
-    (no_length c.args.end c.args.depth c.args.bytes.now _ _ _ c.in_ok-identifier.ensures.answer c.in_err-len.ensures.answer)
+    (no_length c.args.end c.args.depth c.args.bytes.now _ _ _ c.in_ok-identifier.ensures.answer
+    c.in_err-len.ensures.answer)
 
 pub next_element-returns-then-identifier-ne1-clause-answer : goal.next_element-returns-then-identifier-ne1-clause-answer
 next_element-returns-then-identifier-ne1-clause-answer t c =
@@ -64,7 +69,8 @@ pub next_element-returns-in_err-after-in-None-clause-answer : goal.next_element-
 next_element-returns-in_err-after-in-None-clause-answer t c =
     let identifier = c.in_ok-identifier.identifier.now in
     let rest = c.in_ok-len.rest.now in
-    let p = err_from_is_err_and c.from_residual-in_err-after-in-None.result c.from_residual-in_err-after-in-None.ensures.1 in
+    let p = err_from_is_err_and c.from_residual-in_err-after-in-None.result
+    c.from_residual-in_err-after-in-None.ensures.1 in
     let is = Begins-form _ _ _ _ _ _ _ c.in_ok-identifier.ensures.answer c.in_ok-len.ensures.answer c.in-None.is in
     let test : is_constructed identifier ≡ true = eq-eqb _ _ c.if-identifier-ne1.false in
     let fails = ends_at-deeper c.args.end c.args.depth rest (omega arith) ∙ c.in_err-after-in-None.ensures.answer in

@@ -11,7 +11,8 @@ decreases-next_element l = 2 * l.depth
 
 abbrev pub invariant-after_end-loop-rest : goal.invariant-after_end-loop-rest
 invariant-after_end-loop-rest l =
-    Ends l.end (element_at l.end l.depth) l.rest (end_by l.end (element_at l.end l.depth) (length l.fn.bytes) l.fn.bytes)
+    Ends l.end (element_at l.end l.depth) l.rest
+    (end_by l.end (element_at l.end l.depth) (length l.fn.bytes) l.fn.bytes)
     × (length l.rest ≤ length l.fn.bytes)
 
 abbrev pub decreases-after_end-loop-rest : goal.decreases-after_end-loop-rest

@@ -4,4 +4,5 @@ use Rattle.camel_ber.proofs.ContinuationLemmas.{behind_octets}
 use Rattle.camel_ber.proofs.identifier.read_continuation.Given as goal
 
 abbrev pub invariant-loop-at : goal.invariant-loop-at
-invariant-loop-at l = behind_octets (take l.at l.bytes) (continuation_at l.endless (drop l.at l.bytes)) ≡ continuation_at l.endless l.bytes
+invariant-loop-at l = behind_octets (take l.at l.bytes) (continuation_at l.endless (drop l.at l.bytes))
+    ≡ continuation_at l.endless l.bytes
