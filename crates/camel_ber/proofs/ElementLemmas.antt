@@ -53,8 +53,8 @@ at_contents end depth bytes identifier len rest is = element_at-by end depth byt
 
 pub is_primitive : (end depth : ℕ) (bytes identifier rest : List ℕ) → Begins end bytes identifier None rest
     → is_constructed identifier ≡ false → element_at end depth bytes ≡ Err (fault_at IndefinitePrimitive end rest)
-is_primitive end depth bytes identifier rest is test = at_contents end depth bytes identifier None rest is
-    ∙ rw test refl
+is_primitive end depth bytes identifier rest is test =
+    at_contents end depth bytes identifier None rest is ∙ rw test refl
 
 pub has_no_end : (end depth : ℕ) (bytes identifier rest : List ℕ) (fault : Fault)
     → Begins end bytes identifier None rest → is_constructed identifier ≡ true → ends_at end depth rest ≡ Err fault

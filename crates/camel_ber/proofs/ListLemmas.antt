@@ -35,8 +35,8 @@ list-begins end depth bytes = record {
 
 -- an element and those behind it
 abbrev pub first_then : ℕ → ℕ → ℕ → Result (PlacedData × List ℕ) Fault → Result (List PlacedData) Fault
-first_then end depth fuel reading = reading >>= λ one. elements_of end depth fuel one.1 >>= λ others. Ok
-    (one.0 ∷ others)
+first_then end depth fuel reading =
+    reading >>= λ one. elements_of end depth fuel one.1 >>= λ others. Ok (one.0 ∷ others)
 
 pub list-first : (end depth fuel octet : ℕ) (more : List ℕ)
     → elements_of end depth (suc fuel) (octet ∷ more) ≡ first_then end depth fuel (element_at end depth (octet ∷ more))

@@ -35,16 +35,16 @@ constructed-holds (first ∷ more) is = eq-eqb _ _ is
 pub before_end : (content after rest : List ℕ) → rest ≡ content ++ 0 ∷ 0 ∷ after
     → take (length rest - (length after + 2)) rest ≡ content
 before_end content after rest parts =
-    let count : length rest ≡ length content + suc (suc (length after)) = ap length parts
-    ∙ length-append content (0 ∷ 0 ∷ after) in
+    let count : length rest ≡ length content + suc (suc (length after)) =
+    ap length parts ∙ length-append content (0 ∷ 0 ∷ after) in
     let less : length rest - (length after + 2) ≡ length content = omega (arith, count) in
     ap (λ (n : ℕ). take n rest) less ∙ ap (take (length content)) parts
     ∙ take_at content (0 ∷ 0 ∷ after) (length content) refl
 
 -- the contents octets of a definite length
 definite-found : (end : ℕ) (ends : EndReader) (Is : List ℕ → Type 0) (place : ℕ) (identifier rest lengths : List ℕ)
-    (n : ℕ)
-    (read : PlacedData × List ℕ) → IsIdentifier identifier → IsLength lengths n
+    (n : ℕ) (read : PlacedData × List ℕ)
+    → IsIdentifier identifier → IsLength lengths n
     → content_of end ends place identifier (Some n) rest ≡ Ok read
     → BeginsWith (IsEither Is) (identifier ++ (lengths ++ rest)) read
 definite-found end ends Is place identifier rest lengths n read is has e =
@@ -67,8 +67,8 @@ definite-found end ends Is place identifier rest lengths n read is has e =
 
 -- the contents octets before an end of contents
 indefinite-found : (end : ℕ) {ends : EndReader} {Is : List ℕ → Type 0} (exact : ExactEnd ends Is) (place : ℕ)
-    (identifier rest lengths : List ℕ)
-    (read : PlacedData × List ℕ) → IsIdentifier identifier → lengths ≡ 128 ∷ []
+    (identifier rest lengths : List ℕ) (read : PlacedData × List ℕ)
+    → IsIdentifier identifier → lengths ≡ 128 ∷ []
     → content_of end ends place identifier None rest ≡ Ok read
     → BeginsWith (IsEither Is) (identifier ++ (lengths ++ rest)) read
 indefinite-found end {ends} {Is} exact place identifier rest lengths read is has e =
@@ -76,8 +76,7 @@ indefinite-found end {ends} {Is} exact place identifier rest lengths read is has
       record {
         element = record { identifier = identifier; content = content };
         place = place;
-        end =
-            end - (length after + 2);
+        end = end - (length after + 2);
       },
       after,
     ) in
@@ -99,11 +98,11 @@ indefinite-found end {ends} {Is} exact place identifier rest lengths read is has
     (front, inr (is, constructed-is identifier (identifier-some identifier is) constructed.0, before.1, refl), whole)
 
 pub contents-found : (end : ℕ) {ends : EndReader} {Is : List ℕ → Type 0} (exact : ExactEnd ends Is) (place : ℕ)
-    (identifier : List ℕ) (len : Option ℕ)
-    (rest lengths : List ℕ) (read : PlacedData × List ℕ) → IsIdentifier identifier → IsLengthOrNone lengths len
+    (identifier : List ℕ) (len : Option ℕ) (rest lengths : List ℕ) (read : PlacedData × List ℕ)
+    → IsIdentifier identifier → IsLengthOrNone lengths len
     → content_of end ends place identifier len rest ≡ Ok read
     → BeginsWith (IsEither Is) (identifier ++ (lengths ++ rest)) read
 contents-found end {ends} {Is} exact place identifier (Some n) rest lengths read is has e =
     definite-found end ends Is place identifier rest lengths n read is has e
-contents-found end exact place identifier None rest lengths read is has e = indefinite-found end exact place
-    identifier rest lengths read is has e
+contents-found end exact place identifier None rest lengths read is has e =
+    indefinite-found end exact place identifier rest lengths read is has e

@@ -16,8 +16,7 @@ IsContinuation-more octet [] high is = absurd is
 IsContinuation-more octet (next ∷ more) high is = (high, is)
 
 pub continuation-found : (endless : Fault) (bytes : List ℕ) (parts : List ℕ × List ℕ)
-    → continuation_at endless bytes ≡ Ok parts
-    → IsFront IsContinuation bytes parts
+    → continuation_at endless bytes ≡ Ok parts → IsFront IsContinuation bytes parts
 unfolding continuation_at
 continuation-found endless [] parts e = absurd cc
 continuation-found endless (octet ∷ rest) parts e =
@@ -30,8 +29,7 @@ continuation-found endless (octet ∷ rest) parts e =
           let is = continuation-found endless rest read.0 read.1 in
           subst (IsFront IsContinuation (octet ∷ rest)) (same_value (octet ∷ read.0.0, read.0.1) parts read.2) (
             IsContinuation-more octet read.0.0 (ltb-false _ _ more.0) is.0,
-            ap (λ (octets : List ℕ). octet ∷ octets)
-                is.1,
+            ap (λ (octets : List ℕ). octet ∷ octets) is.1,
           )
     ]
 

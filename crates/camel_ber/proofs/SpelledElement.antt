@@ -11,8 +11,8 @@ use Rattle.camel_ber.proofs.SpelledLength.{length-found, length-read, length-rea
 use Rattle.camel_ber.proofs.StepLemmas.{first_done}
 
 pub element-found : (end : ℕ) {ends : EndReader} {Is : List ℕ → Type 0} (exact : ExactEnd ends Is) (bytes : List ℕ)
-    (read : PlacedData × List ℕ)
-    → element_by end ends bytes ≡ Ok read → BeginsWith (IsEither Is) bytes read
+    (read : PlacedData × List ℕ) → element_by end ends bytes ≡ Ok read
+    → BeginsWith (IsEither Is) bytes read
 element-found end {ends} exact bytes read e =
     let place = place_of end bytes in
     let first = first_done (identifier_at end bytes)
@@ -26,8 +26,8 @@ element-found end {ends} exact bytes read e =
     (contents.0, contents.1, identifier.1 ∙ ap (λ (octets : List ℕ). first.0.0 ++ octets) lengths.2 ∙ contents.2)
 
 pub element-read : (end : ℕ) {ends : EndReader} {Is : List ℕ → Type 0} (exact : ExactEnd ends Is) (e : ElementData)
-    (front rest : List ℕ)
-    → IsEither Is e front → IsRead e rest (element_by end ends (front ++ rest))
+    (front rest : List ℕ) → IsEither Is e front
+    → IsRead e rest (element_by end ends (front ++ rest))
 element-read end {ends} exact e front rest (inl is) =
     let octets : List ℕ = e.identifier ++ (is.0 ++ (e.content ++ rest)) in
     let regrouped : front ++ rest ≡ octets =
@@ -40,12 +40,10 @@ element-read end {ends} exact e front rest (inl is) =
       ap (element_by end ends) regrouped
           ∙ rw (
             identifier-read end e.identifier (is.0 ++ (e.content ++ rest)) is.1,
-            length-read end is.0
-                (e.content ++ rest) (length e.content) is.2,
+            length-read end is.0 (e.content ++ rest) (length e.content) is.2,
             there,
             take_at e.content rest (length e.content) refl,
-            drop_at
-                e.content rest (length e.content) refl,
+            drop_at e.content rest (length e.content) refl,
           ) refl,
       refl,
     )
@@ -64,8 +62,7 @@ element-read end {ends} exact e front rest (inr is) =
             identifier-read end e.identifier (128 ∷ behind) is.0,
             length-read_none end behind,
             test,
-            exact.reads
-                e.content rest is.2,
+            exact.reads e.content rest is.2,
             content,
           ) refl,
       refl,
@@ -76,5 +73,5 @@ pub element-begins : (Is : List ℕ → Type 0) (e : ElementData) (front : List 
 element-begins Is e front (inl is) =
     identifier-begins e.identifier (is.0 ++ e.content) front is.1
     (omega (arith, length-append is.0 e.content, length-some is.0 (length e.content) is.2)) is.3
-element-begins Is e front (inr is) = identifier-begins e.identifier (128 ∷ (e.content ++ 0 ∷ 0 ∷ [])) front is.0
-    (omega arith) is.3
+element-begins Is e front (inr is) =
+    identifier-begins e.identifier (128 ∷ (e.content ++ 0 ∷ 0 ∷ [])) front is.0 (omega arith) is.3

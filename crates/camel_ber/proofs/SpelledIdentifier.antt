@@ -25,8 +25,7 @@ identifier-found end (first ∷ rest) parts e =
           let is = continuation-found endless rest read.0 read.1 in
           subst (IsFront IsIdentifier (first ∷ rest)) (same_value (first ∷ read.0.0, read.0.1) parts needed.1) (
             (not_zero, inr (eqb-true _ _ several.0, is.0, tag_number-is read.0.0 needed.0)),
-            ap
-                (λ (octets : List ℕ). first ∷ octets) is.1,
+            ap (λ (octets : List ℕ). first ∷ octets) is.1,
           )
       | inr one ↦
           subst (IsFront IsIdentifier (first ∷ rest)) (same_value (first ∷ [], rest) parts one.1)

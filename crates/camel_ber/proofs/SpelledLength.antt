@@ -71,8 +71,7 @@ length-read end (first ∷ octets) rest n is =
             count,
             there,
             take_at octets rest (length octets) refl,
-            drop_at octets rest
-                (length octets) refl,
+            drop_at octets rest (length octets) refl,
             long.3,
           ) refl
     ]

@@ -18,7 +18,7 @@ IsTagNumber [] = ⊥
 IsTagNumber (octet ∷ []) = 31 ≤ octet
 IsTagNumber (octet ∷ next ∷ more) = octet ≢ 128
 
--- an identifier of one octet, or of one whose five low bits are set and those of the tag number; 0 is of an end of contents
+-- identifier octets: one, or one whose five low bits are set and those of the tag number; 0 is of an end of contents
 abbrev pub IsIdentifier : List ℕ → Type 0
 IsIdentifier [] = ⊥
 IsIdentifier (first ∷ more) =
@@ -42,8 +42,8 @@ IsLength (first ∷ octets) n =
 
 -- the definite form: the length says how many contents octets there are
 abbrev pub IsDefinite : ElementData → List ℕ → Type 0
-IsDefinite element bytes = (lengths : List ℕ) × IsIdentifier element.identifier × IsLength lengths (length element.content)
-    × (bytes ≡ element.identifier ++ (lengths ++ element.content))
+IsDefinite element bytes = (lengths : List ℕ) × IsIdentifier element.identifier
+    × IsLength lengths (length element.content) × (bytes ≡ element.identifier ++ (lengths ++ element.content))
 
 -- elements one behind the other, and nothing else
 abbrev pub IsSeriesOf : (ElementData → List ℕ → Type 0) → List ElementData → List ℕ → Type 0
@@ -52,8 +52,9 @@ IsSeriesOf Is (e ∷ es) bytes = (front rest : List ℕ) × Is e front × IsSeri
 
 -- the indefinite form, of length octet 128: the contents are elements, and two octets 0 end them
 abbrev pub IsIndefinite : (ElementData → List ℕ → Type 0) → ElementData → List ℕ → Type 0
-IsIndefinite Is element bytes = (es : List ElementData) × IsIdentifier element.identifier × IsConstructed element.identifier
-    × IsSeriesOf Is es element.content × (bytes ≡ element.identifier ++ (128 ∷ (element.content ++ 0 ∷ 0 ∷ [])))
+IsIndefinite Is element bytes = (es : List ElementData) × IsIdentifier element.identifier
+    × IsConstructed element.identifier × IsSeriesOf Is es element.content
+    × (bytes ≡ element.identifier ++ (128 ∷ (element.content ++ 0 ∷ 0 ∷ [])))
 
 -- an element, with indefinite forms at most so deep within one another
 abbrev pub IsElement : ℕ → ElementData → List ℕ → Type 0

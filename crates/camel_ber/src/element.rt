@@ -36,7 +36,8 @@ pub fn series<'a>(
     depth: u32,
 ) -> Result<Vec<Element<'a>>, ReadError>
     // What is read is spelled so.
-    ensures found { IfOk result (λ read. IsSeries depth (elements (views read.items)) (octets_data octets.entry).bytes) }
+    ensures found { IfOk result (λ read.
+        IsSeries depth (elements (views read.items)) (octets_data octets.entry).bytes) }
     // What is spelled so is read, unless memory runs out.
     ensures only { (es : List ElementData) → IsSeries depth es (octets_data octets.entry).bytes
         → Gives (λ read. elements (views read.items)) result (Ok es) }
@@ -59,7 +60,7 @@ fn all_elements<'a>(
     requires { length bytes.now ≤ end }
     ensures { Gives (λ read. views read.items) result (series_of depth (record { bytes = bytes.now; end = end })) }
 {
-    let mut elements = Vec::new(alloc);
+    let mut elements = Vec::with_capacity(alloc, 8)?;
     let mut rest = bytes;
     while rest.len() > 0 {
         let (element, after) = next_element(rest, end, depth)?;
@@ -118,7 +119,8 @@ fn definite<'a>(
 ) -> Result<(Element<'a>, &'a [u8]), Fault>
     requires { length rest.now ≤ end }
     ensures answer { (ends : EndReader)
-        → Answers (λ read. (view read.0, read.1.now)) result (content_of end ends place identifier.now (Some len) rest.now) }
+        → Answers (λ read. (view read.0, read.1.now)) result
+        (content_of end ends place identifier.now (Some len) rest.now) }
     ensures shorter { IfOk result (λ read. length read.1.now ≤ length rest.now) }
 {
     if rest.len() < len {
@@ -143,7 +145,8 @@ fn definite<'a>(
 #[cycle(nested)]
 fn after_end(bytes: &[u8], end: usize, depth: u32) -> Result<&[u8], Fault>
     requires { length bytes.now ≤ end }
-    ensures answer { Answers (λ read. read.now) result (end_by end (element_at end depth) (length bytes.now) bytes.now) }
+    ensures answer { Answers (λ read. read.now) result
+        (end_by end (element_at end depth) (length bytes.now) bytes.now) }
     ensures shorter { IfOk result (λ read. length read.now + 2 ≤ length bytes.now) }
 {
     let mut rest = bytes;

@@ -22,8 +22,9 @@ pub enum FaultKind {
 pub struct Fault {
     /// What is wrong.
     pub kind: FaultKind,
-    /// Where the identifier, the length or the contents begin that are not as they must be, as a number of octets of the
-    /// argument. `IndefinitePrimitive` and `TooDeep` have the place of the contents.
+    /// Where the identifier, the length or the contents begin that are not as they must be: a number of octets of the
+    /// argument. `IndefinitePrimitive` and `TooDeep` have the place of the contents, and a missing end of contents is
+    /// missed behind the last octet.
     pub place: usize,
 }
 

@@ -7,7 +7,7 @@ use Rattle.camel_ber.proofs.element.all_elements.Goals as goal
 
 pub returns-in_err-element : goal.returns-in_err-element
 returns-in_err-element c =
-    let p = err_from_is_err_and c.from_residual.result c.from_residual.ensures.1 in
+    let p = err_from_is_err_and c.from_residual-in_err-element.result c.from_residual-in_err-element.ensures.1 in
     rw (p.1, p.2)
     (list-fails c.args.end c.args.depth (views c.loop-rest.elements.items) c.loop-rest.rest.now
     c.in_err-element.field-0.0 _
