@@ -23,8 +23,8 @@ pub struct Fault {
     /// What is wrong.
     pub kind: FaultKind,
     /// Where the identifier, the length or the contents begin that are not as they must be: a number of octets of the
-    /// argument. `IndefinitePrimitive` and `TooDeep` have the place of the contents, and a missing end of contents is
-    /// missed behind the last octet.
+    /// argument. `IndefinitePrimitive` and `TooDeep` are where the contents begin. An end of contents is missing behind
+    /// the last octet, or where its first octet is the last one.
     pub place: usize,
 }
 
