@@ -1,0 +1,63 @@
+-- The fields of a tag, as a loop finds them.
+use Rattle.std.proofs.Common.{◌≡◌, ◌∙◌, ℕ, suc, ◌≤◌, true, List, [], ◌∷◌, ◌++◌, length, drop, filter, Option, Some, None, is_some, Ok, Err, refl, sym, ap}
+use Rattle.std.proofs.lemmas.List.{append-nil, drop_all}
+use Rattle.camel_ber.specs.Reading.{PlacedData, view, views}
+use Rattle.camel_ber.specs.declared.element.Element.{Element}
+use Rattle.camel_map.specs.Field.{is_tagged, field_of, identified, only_field}
+use Rattle.camel_map.specs.Reading.{fails_at}
+use Rattle.camel_map.specs.declared.map_fault.MapFault.{MapFault}
+use Rattle.camel_map.specs.declared.map_fault.MapFaultKind.TheVariants.{FieldTwice}
+
+-- the field that was found, or none
+abbrev pub found_so_far : Option Element → List PlacedData
+found_so_far None = []
+found_so_far (Some field) = view field ∷ []
+
+-- the fields of the tag, at a place whose field has it
+here-tagged : (octet : ℕ) (fields : List Element) (at : ℕ) (field : Element)
+    → views (drop at fields) ≡ view field ∷ views (drop (suc at) fields) → is_tagged octet (view field) ≡ true
+    → filter (is_tagged octet) (views (drop at fields)) ≡ view field ∷ filter (is_tagged octet) (views (drop (suc at) fields))
+here-tagged octet fields at field here tagged = rw (here, tagged) refl
+
+-- one more of the tag is there twice
+pub twice : (octet : ℕ) (fields : List Element) (at : ℕ) (found : Option Element) (field : Element)
+    → views (drop at fields) ≡ view field ∷ views (drop (suc at) fields) → is_tagged octet (view field) ≡ true
+    → is_some found ≡ true
+    → found_so_far found ++ filter (is_tagged octet) (views (drop at fields)) ≡ filter (is_tagged octet) (views fields)
+    → field_of octet (views fields) ≡ fails_at field.place FieldTwice
+unfolding field_of
+twice octet fields at None field here tagged some so_far = absurd cc
+twice octet fields at (Some first) field here tagged some so_far =
+    ap (only_field octet) (sym so_far ∙ ap (λ left. view first ∷ left) (here-tagged octet fields at field here tagged))
+
+-- the fields of the tag, if none are left
+pub all_found : (octet : ℕ) (fields : List Element) (at : ℕ) (found : Option Element) → length fields ≤ at
+    → found_so_far found ++ filter (is_tagged octet) (views (drop at fields)) ≡ filter (is_tagged octet) (views fields)
+    → field_of octet (views fields) ≡ only_field octet (found_so_far found)
+unfolding field_of
+all_found octet fields at found le so_far =
+    let none : filter (is_tagged octet) (views (drop at fields)) ≡ [] = rw (drop_all at fields le) refl in
+    ap (only_field octet) (sym so_far ∙ ap (λ left. found_so_far found ++ left) none ∙ append-nil (found_so_far found))
+
+-- the field that was found has a fault
+pub found_fails : (octet : ℕ) (fields : List Element) (at : ℕ) (found : Option Element) (field : Element)
+    (fault : MapFault) → length fields ≤ at → found ≡ Some field → identified octet (view field) ≡ Err fault
+    → found_so_far found ++ filter (is_tagged octet) (views (drop at fields)) ≡ filter (is_tagged octet) (views fields)
+    → field_of octet (views fields) ≡ Err fault
+found_fails octet fields at found field fault le is fails so_far =
+    all_found octet fields at found le so_far ∙ rw (is, fails) refl
+
+-- the field that was found is one
+pub found_is : (octet : ℕ) (fields : List Element) (at : ℕ) (found : Option Element) (field : Element)
+    (value : PlacedData) → length fields ≤ at → found ≡ Some field → identified octet (view field) ≡ Ok value
+    → found_so_far found ++ filter (is_tagged octet) (views (drop at fields)) ≡ filter (is_tagged octet) (views fields)
+    → field_of octet (views fields) ≡ Ok (Some value)
+found_is octet fields at found field value le is gives so_far =
+    all_found octet fields at found le so_far ∙ rw (is, gives) refl
+
+-- no field was found
+pub found_none : (octet : ℕ) (fields : List Element) (at : ℕ) (found : Option Element) → length fields ≤ at
+    → found ≡ None
+    → found_so_far found ++ filter (is_tagged octet) (views (drop at fields)) ≡ filter (is_tagged octet) (views fields)
+    → field_of octet (views fields) ≡ Ok None
+found_none octet fields at found le is so_far = all_found octet fields at found le so_far ∙ rw is refl

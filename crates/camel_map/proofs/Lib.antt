@@ -1,0 +1,2 @@
+mod EachLemmas
+mod FieldLemmas

@@ -1,0 +1,215 @@
+-- The shortest encoding of each update that an operation can say: fields in the order of TS 29.002, definite lengths, and
+-- numbers and lengths in as few octets as hold them (ITU-T X.690).
+use Rattle.std.specs.Prelude.{◌≡◌, ◌<◌, ℕ, Bool, true, false, ◌/◌, ◌%◌, ◌+◌, ◌*◌, nat_lt, List, [], ◌∷◌, ◌++◌, length, map, Option, Some, None, IfSome, if◌then◌else◌}
+use Rattle.camel_ber.specs.Grammar.{ElementData}
+use Rattle.camel_criteria.specs.Criteria.{NumberCriterionData, OCriteriaData, TCriteriaData}
+use Rattle.camel_criteria.specs.declared.basic_service.BasicService.{BasicService}
+use Rattle.camel_criteria.specs.declared.basic_service.BasicService.TheVariants.{Bearer, Tele}
+use Rattle.camel_criteria.specs.declared.criteria.CallType.{CallType}
+use Rattle.camel_criteria.specs.declared.criteria.CallType.TheVariants.{Forwarded, NotForwarded}
+use Rattle.camel_criteria.specs.declared.criteria.MatchType.{MatchType}
+use Rattle.camel_criteria.specs.declared.criteria.MatchType.TheVariants.{Enabling, Inhibiting}
+use Rattle.camel_criteria.specs.declared.handling.Handling.{Handling}
+use Rattle.camel_criteria.specs.declared.handling.Handling.TheVariants.{Continue, Release}
+use Rattle.camel_rows.specs.TdpRow.{TdpRowData}
+use Rattle.camel_rows.specs.Update.{update_imsi}
+use Rattle.camel_rows.specs.declared.subscriber.update.Update.{Update}
+use Rattle.camel_rows.specs.declared.subscriber.update.Update.TheVariants as update
+use Rattle.camel_map.specs.Identifier.{constructed, enumerated, integer, octet_string, primitive, sequence}
+use Rattle.camel_map.specs.declared.operation.Operation.{Operation}
+use Rattle.camel_map.specs.declared.operation.Operation.TheVariants as operation
+
+-- a number in octets, the greatest place first, in as few as hold it below 2^32
+abbrev pub octets_of : ℕ → List ℕ
+octets_of number =
+    if nat_lt number 256 then number ∷ []
+    else if nat_lt number 65536 then number / 256 ∷ number % 256 ∷ []
+    else if nat_lt number 16777216 then number / 65536 ∷ number / 256 % 256 ∷ number % 256 ∷ []
+    else number / 16777216 ∷ number / 65536 % 256 ∷ number / 256 % 256 ∷ number % 256 ∷ []
+
+-- a length below 2^32: itself below 128, or how many octets follow, and these
+abbrev pub length_octets : ℕ → List ℕ
+length_octets count = if nat_lt count 128 then count ∷ [] else (128 + length (octets_of count)) ∷ octets_of count
+
+-- the octets of an element
+abbrev pub encoding : ElementData → List ℕ
+encoding one = one.identifier ++ (length_octets (length one.content) ++ one.content)
+
+-- the octets of elements, one behind the other
+unfoldable pub encodings : List ElementData → List ℕ
+encodings [] = []
+encodings (first ∷ more) = encoding first ++ encodings more
+
+-- an element of an identifier octet with these contents
+abbrev pub leaf : ℕ → List ℕ → ElementData
+leaf identifier content = record { identifier = identifier ∷ []; content = content }
+
+-- an element of an identifier octet whose contents are elements
+abbrev pub parent : ℕ → List ElementData → ElementData
+parent identifier parts = leaf identifier (encodings parts)
+
+-- a field that may be absent
+abbrev pub if_any : {A : Type 0} → (A → ElementData) → Option A → List ElementData
+if_any element_of None = []
+if_any element_of (Some value) = element_of value ∷ []
+
+-- a list that is absent if it has no items
+abbrev pub if_some : {A : Type 0} → ℕ → (A → ElementData) → List A → List ElementData
+if_some identifier element_of [] = []
+if_some identifier element_of (first ∷ more) = parent identifier (map element_of (first ∷ more)) ∷ []
+
+-- the contents of an INTEGER or ENUMERATED below 2^31: bit 8 of the first octet is clear
+abbrev pub number_octets : ℕ → List ℕ
+number_octets number =
+    if nat_lt number 128 then number ∷ []
+    else if nat_lt number 32768 then number / 256 ∷ number % 256 ∷ []
+    else if nat_lt number 8388608 then number / 65536 ∷ number / 256 % 256 ∷ number % 256 ∷ []
+    else number / 16777216 ∷ number / 65536 % 256 ∷ number / 256 % 256 ∷ number % 256 ∷ []
+
+-- TBCD octets of digits, with a filler behind an odd number of them
+unfoldable pub tbcd_octets : List ℕ → List ℕ
+tbcd_octets [] = []
+tbcd_octets (last ∷ []) = (240 + last) ∷ []
+tbcd_octets (low ∷ high ∷ more) = (high * 16 + low) ∷ tbcd_octets more
+
+-- DefaultCallHandling
+abbrev pub handling_number : Handling → ℕ
+handling_number Continue = 0
+handling_number Release = 1
+
+-- O-BcsmCamelTDPData and T-BcsmCamelTDPData
+abbrev pub row_element : TdpRowData → ElementData
+row_element row = parent sequence (
+    leaf enumerated (number_octets row.dp)
+    ∷ leaf integer (number_octets row.key)
+    ∷ leaf (primitive 0) row.scf
+    ∷ leaf (primitive 1) (handling_number row.handling ∷ [])
+    ∷ []
+    )
+
+-- a row that every receiver ignores
+abbrev pub ignored_row : TdpRowData
+ignored_row = record { dp = 255; key = 0; scf = 0 ∷ []; handling = Continue }
+
+-- the rows of a CSI, which has one at least
+abbrev pub sent_rows : List TdpRowData → List TdpRowData
+sent_rows [] = ignored_row ∷ []
+sent_rows (first ∷ more) = first ∷ more
+
+-- O-CSI and T-CSI
+abbrev pub csi_element : ℕ → List TdpRowData → ElementData
+csi_element identifier rows = parent identifier (parent sequence (map row_element (sent_rows rows)) ∷ [])
+
+-- MatchType
+abbrev pub match_type_number : MatchType → ℕ
+match_type_number Inhibiting = 0
+match_type_number Enabling = 1
+
+-- CallTypeCriteria
+abbrev pub call_type_number : CallType → ℕ
+call_type_number Forwarded = 0
+call_type_number NotForwarded = 1
+
+-- DestinationNumberCriteria
+abbrev pub number_element : NumberCriterionData → ElementData
+number_element criterion = parent (constructed 0) (
+    leaf (primitive 0) (match_type_number criterion.match_type ∷ [])
+    ∷ if_some (constructed 1) (leaf octet_string) criterion.numbers
+    ++ if_some (constructed 2) (λ count. leaf integer (count ∷ [])) criterion.lengths
+    )
+
+-- Ext-BasicServiceCode
+abbrev pub service_element : BasicService → ElementData
+service_element (Bearer octet) = leaf (primitive 2) (octet ∷ [])
+service_element (Tele octet) = leaf (primitive 3) (octet ∷ [])
+
+-- CauseValue
+abbrev pub cause_element : ℕ → ElementData
+cause_element cause = leaf octet_string (cause ∷ [])
+
+-- O-BcsmCamelTDP-Criteria
+abbrev pub o_entry_element : OCriteriaData → ElementData
+o_entry_element entry = parent sequence (
+    leaf enumerated (number_octets entry.dp)
+    ∷ if_any number_element entry.number
+    ++ if_some (constructed 1) service_element entry.basic
+    ++ if_any (λ call_type. leaf (primitive 2) (call_type_number call_type ∷ [])) entry.call_type
+    ++ if_some (constructed 3) cause_element entry.causes
+    )
+
+-- T-BCSM-CAMEL-TDP-Criteria
+abbrev pub t_entry_element : TCriteriaData → ElementData
+t_entry_element entry = parent sequence (
+    leaf enumerated (number_octets entry.dp)
+    ∷ if_some (constructed 0) service_element entry.basic
+    ++ if_some (constructed 1) cause_element entry.causes
+    )
+
+-- entries that every receiver ignores, in the place of none
+abbrev pub sent_o_entries : List OCriteriaData → List OCriteriaData
+sent_o_entries [] = record { dp = 255; number = None; basic = []; call_type = None; causes = [] } ∷ []
+sent_o_entries (first ∷ more) = first ∷ more
+
+abbrev pub sent_t_entries : List TCriteriaData → List TCriteriaData
+sent_t_entries [] = record { dp = 255; basic = []; causes = [] } ∷ []
+sent_t_entries (first ∷ more) = first ∷ more
+
+-- the fields of VlrCamelSubscriptionInfo
+abbrev pub camel_parts : Option (List TdpRowData) → Option (List OCriteriaData) → Option (List TdpRowData)
+    → Option (List TCriteriaData) → List ElementData
+camel_parts o o_criteria vt t_criteria =
+    if_any (csi_element (constructed 0)) o
+    ++ if_any (λ entries. parent (constructed 4) (map o_entry_element (sent_o_entries entries))) o_criteria
+    ++ if_any (csi_element (constructed 7)) vt
+    ++ if_any (λ entries. parent (constructed 8) (map t_entry_element (sent_t_entries entries))) t_criteria
+
+-- the specificCSI-Withdraw of the CSIs that a Delete names, if it names any
+abbrev pub specific_parts : Bool → Bool → List ElementData
+specific_parts false false = []
+specific_parts true false = leaf (primitive 15) (0 ∷ 0x80 ∷ []) ∷ []
+specific_parts false true = leaf (primitive 15) (0 ∷ 0x08 ∷ []) ∷ []
+specific_parts true true = leaf (primitive 15) (0 ∷ 0x88 ∷ []) ∷ []
+
+-- the camelSubscriptionInfoWithdraw of a Delete of everything
+abbrev pub everything_parts : Bool → List ElementData
+everything_parts false = []
+everything_parts true = leaf (primitive 9) [] ∷ []
+
+-- the argument of an operation
+pub record Argument : Type 0 where
+  pub operation : Operation
+  pub element : ElementData
+
+-- the operation that says an update, with its argument; there is none for a Register and a ClearAll
+abbrev pub argument_of : Update → Option Argument
+argument_of (update.Insert imsi o o_criteria vt t_criteria) = Some (record {
+  operation = operation.InsertSubscriberData;
+  element = parent sequence (
+      leaf (primitive 0) (tbcd_octets imsi)
+      ∷ parent (constructed 13) (camel_parts o o_criteria vt t_criteria)
+      ∷ []
+      );
+})
+argument_of (update.Delete imsi what) = Some (record {
+  operation = operation.DeleteSubscriberData;
+  element = parent sequence (
+      leaf (primitive 0) (tbcd_octets imsi) ∷ everything_parts what.everything ++ specific_parts what.o what.vt
+      );
+})
+argument_of (update.Cancel imsi) = Some (record {
+  operation = operation.CancelLocation;
+  element = parent (constructed 3) (leaf octet_string (tbcd_octets imsi) ∷ []);
+})
+argument_of (update.Register imsi) = None
+argument_of update.ClearAll = None
+
+-- octets are the encoding of an update, as the argument of an operation
+pub record Encodes (which : Operation) (update : Update) (octets : List ℕ) : Type 0 where
+  pub element : ElementData
+  pub said : argument_of update ≡ Some (record { operation = which; element = element })
+  pub spelled : octets ≡ encoding element
+  pub few : length octets < 4294967296
+
+-- an update concerns the subscriber of a dialogue, if the dialogue has one
+abbrev pub IsInDialogue : Option (List ℕ) → Update → Type 0
+IsInDialogue dialogue update = IfSome dialogue (λ imsi. update_imsi update ≡ Some imsi)

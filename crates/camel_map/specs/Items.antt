@@ -1,0 +1,17 @@
+-- The items of a SEQUENCE OF. That a list without items is refused, as TS 29.002 gives each at least one, is this
+-- product's own.
+use Rattle.std.specs.Prelude.{List, [], ◌∷◌, Result, Ok}
+use Rattle.camel_ber.specs.Reading.{◌>>=◌, PlacedData}
+use Rattle.camel_criteria.specs.declared.refusal.Refusal.TheVariants.{DataMissing}
+use Rattle.camel_map.specs.Reading.{contents, each_of, elements_in, fails_at}
+use Rattle.camel_map.specs.declared.map_fault.MapFault.{MapFault}
+use Rattle.camel_map.specs.declared.map_fault.MapFaultKind.TheVariants.{Refused}
+
+-- the items of a list that has any
+abbrev pub some_of : PlacedData → List PlacedData → Result (List PlacedData) MapFault
+some_of list [] = fails_at list.place (Refused DataMissing)
+some_of list (first ∷ more) = Ok (first ∷ more)
+
+-- what the items of a list are
+unfoldable pub items_as : {A : Type 0} → (PlacedData → Result A MapFault) → PlacedData → Result (List A) MapFault
+items_as value_of list = elements_in (contents list) >>= some_of list >>= each_of value_of

@@ -1,0 +1,14 @@
+pub mod Criteria
+pub mod Encoding
+pub mod Field
+pub mod Identifier
+pub mod Imsi
+pub mod Items
+pub mod Kept
+pub mod MapFault
+pub mod Operation
+pub mod Reading
+pub mod Row
+pub mod Update
+pub mod Value
+pub mod Withdrawal

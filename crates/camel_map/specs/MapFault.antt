@@ -1,0 +1,15 @@
+-- The numbers of the faults of arguments: from 401 on the product's own, and those of the refusals of data.
+use Rattle.std.specs.Prelude.{ℕ}
+use Rattle.camel_criteria.specs.Refusal.{refusal_code}
+use Rattle.camel_map.specs.declared.map_fault.MapFaultKind.{MapFaultKind}
+use Rattle.camel_map.specs.declared.map_fault.MapFaultKind.TheVariants.{Malformed, MissingField, FieldTwice, WrongTag, WrongLength, NoImsi, OtherImsi, Refused}
+
+abbrev pub map_fault_code : MapFaultKind → ℕ
+map_fault_code (Malformed kind) = 401
+map_fault_code MissingField = 402
+map_fault_code FieldTwice = 403
+map_fault_code WrongTag = 404
+map_fault_code WrongLength = 405
+map_fault_code NoImsi = 406
+map_fault_code OtherImsi = 407
+map_fault_code (Refused refusal) = refusal_code refusal

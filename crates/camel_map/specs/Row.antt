@@ -1,0 +1,43 @@
+-- O-CSI and T-CSI, and their rows O-BcsmCamelTDPData and T-BcsmCamelTDPData (TS 29.002), which are alike.
+use Rattle.std.specs.Prelude.{List, [], ◌∷◌, Result, Ok}
+use Rattle.camel_ber.specs.Reading.{◌>>=◌, PlacedData}
+use Rattle.camel_criteria.specs.Handling.{handling_of}
+use Rattle.camel_criteria.specs.declared.refusal.Refusal.{Refusal}
+use Rattle.camel_rows.specs.TdpRow.{TdpRowData, tdp_row_of}
+use Rattle.camel_map.specs.Field.{identified, mandatory}
+use Rattle.camel_map.specs.Identifier.{enumerated, integer, primitive, sequence}
+use Rattle.camel_map.specs.Items.{items_as}
+use Rattle.camel_map.specs.Reading.{contents, elements_in, fails_at, or_refused_at}
+use Rattle.camel_map.specs.Value.{detection_point_in, isdn_address_in, unsigned_in}
+use Rattle.camel_map.specs.declared.map_fault.MapFault.{MapFault}
+use Rattle.camel_map.specs.declared.map_fault.MapFaultKind.TheVariants.{MissingField}
+
+-- the detection point, serviceKey, gsmSCF-Address [0] and defaultCallHandling [1] of a row
+unfoldable pub row_of_fields : PlacedData → List PlacedData → Result TdpRowData MapFault
+row_of_fields item fields = do
+  dp ← mandatory item enumerated fields >>= detection_point_in
+  key ← mandatory item integer fields >>= unsigned_in
+  scf ← mandatory item (primitive 0) fields >>= isdn_address_in
+  received ← mandatory item (primitive 1) fields >>= unsigned_in
+  or_refused_at item.place (tdp_row_of dp key scf (handling_of received))
+
+unfoldable pub row_in : PlacedData → Result TdpRowData MapFault
+row_in item = do
+  row ← identified sequence item
+  fields ← elements_in (contents row)
+  row_of_fields row fields
+
+-- The list of rows is the first element of a CSI: an extension container with the tag of the list may follow.
+abbrev pub first_of : PlacedData → List PlacedData → Result PlacedData MapFault
+first_of element [] = fails_at element.place MissingField
+first_of element (first ∷ more) = Ok first
+
+unfoldable pub list_of_rows_in : PlacedData → Result PlacedData MapFault
+list_of_rows_in csi = elements_in (contents csi) >>= first_of csi >>= identified sequence
+
+-- the rows of a CSI, of which a CSI is made
+unfoldable pub csi_in : (List TdpRowData → Result (List TdpRowData) Refusal) → PlacedData → Result (List TdpRowData) MapFault
+csi_in csi_of csi = do
+  list ← list_of_rows_in csi
+  rows ← items_as row_in list
+  or_refused_at list.place (csi_of rows)

@@ -1,0 +1,194 @@
+//! The entries of criteria, and the lists of them.
+
+ghost use Rattle.std.specs.Prelude.{◌≡◌, Result};
+ghost use Rattle.std.specs.Fn.{FnReturnsAt};
+ghost use Rattle.std.specs.Option.{option_map};
+ghost use Rattle.camel_ber.specs.Reading.{PlacedData, view, views};
+ghost use Rattle.camel_map.specs.Criteria.{number_criterion_in, o_criteria_set_in, o_entry_in, o_entry_of_fields, t_criteria_set_in, t_entry_in, t_entry_of_fields};
+ghost use Rattle.camel_map.specs.Field.{if_listed, if_present};
+ghost use Rattle.camel_map.specs.Items.{items_as};
+ghost use Rattle.camel_map.specs.Reading.{AnswersAs, ReadsAs, ReadsList};
+ghost use Rattle.camel_map.specs.declared.map_fault.MapFault.{MapFault};
+ghost use Rattle.camel_map.specs.Value.{basic_service_in, call_type_in, cause_in, length_in, number_in};
+
+use crate::field::{find_field, identified, mandatory};
+use crate::identifier::{CONSTRUCTED, ENUMERATED, PRIMITIVE, SEQUENCE};
+use crate::items::read_items;
+use crate::map_fault::MapFault;
+use crate::reading::{or_refused_at, read_elements};
+use crate::value::{
+    read_basic_service, read_call_type, read_cause, read_detection_point, read_length,
+    read_match_type, read_number,
+};
+use camel_ber::Element;
+use camel_criteria::{BasicService, CallType, NumberCriterion, OCriteria, TCriteria};
+use camel_rows::{OCriteriaSet, TCriteriaSet};
+use camel_tbcd::IsdnAddress;
+use std::alloc::Global;
+
+/// A list that a field is, or no items if the field is absent.
+fn read_listed<T: Drop, F: Fn(&Element<'_>) -> Result<T, MapFault>>(
+    alloc: Global,
+    field: Option<Element<'_>>,
+    read: F,
+) -> Result<Vec<T>, MapFault>
+    requires { F.IsAlwaysCallable read }
+    ensures { (value_of : PlacedData → Result T MapFault)
+        → AnswersAs (FnReturnsAt F.Fn read) value_of
+        → ReadsList result (if_listed (items_as value_of) (option_map view field.entry)) }
+{
+    match field {
+        Some(list) => read_items(alloc, &list, read),
+        None => Ok(Vec::new(alloc)),
+    }
+}
+
+fn read_numbers(alloc: Global, field: Option<Element<'_>>) -> Result<Vec<IsdnAddress>, MapFault>
+    ensures { ReadsList result (if_listed (items_as number_in) (option_map view field.entry)) }
+{
+    read_listed(alloc, field, |item| read_number(item))
+}
+
+fn read_lengths(alloc: Global, field: Option<Element<'_>>) -> Result<Vec<u8>, MapFault>
+    ensures { ReadsList result (if_listed (items_as length_in) (option_map view field.entry)) }
+{
+    read_listed(alloc, field, |item| read_length(item))
+}
+
+fn read_services(alloc: Global, field: Option<Element<'_>>) -> Result<Vec<BasicService>, MapFault>
+    ensures { ReadsList result (if_listed (items_as basic_service_in) (option_map view field.entry)) }
+{
+    read_listed(alloc, field, |item| read_basic_service(item))
+}
+
+fn read_causes(alloc: Global, field: Option<Element<'_>>) -> Result<Vec<u8>, MapFault>
+    ensures { ReadsList result (if_listed (items_as cause_in) (option_map view field.entry)) }
+{
+    read_listed(alloc, field, |item| read_cause(item))
+}
+
+/// DestinationNumberCriteria.
+#[tactic(auto, unfolding(crate::specs::Criteria::number_criterion_in))]
+fn read_number_criterion(
+    alloc: Global,
+    criterion: &Element<'_>,
+) -> Result<NumberCriterion, MapFault>
+    ensures { ReadsAs result (number_criterion_in (view criterion.now)) }
+{
+    let fields = read_elements(alloc, criterion.content)?;
+    let match_type = read_match_type(&mandatory(criterion, PRIMITIVE, &fields)?)?;
+    let numbers = read_numbers(alloc, find_field(&fields, CONSTRUCTED + 1)?)?;
+    let lengths = read_lengths(alloc, find_field(&fields, CONSTRUCTED + 2)?)?;
+    let made = NumberCriterion::new(alloc, match_type, &numbers, &lengths);
+    or_refused_at(criterion.place, made)
+}
+
+fn read_number_field(
+    alloc: Global,
+    field: Option<Element<'_>>,
+) -> Result<Option<NumberCriterion>, MapFault>
+    ensures { ReadsAs result (if_present number_criterion_in (option_map view field.entry)) }
+{
+    match field {
+        Some(criterion) => Ok(Some(read_number_criterion(alloc, &criterion)?)),
+        None => Ok(None),
+    }
+}
+
+fn read_call_type_field(field: Option<Element<'_>>) -> Result<Option<CallType>, MapFault>
+    ensures { result ≡ if_present call_type_in (option_map view field.entry) }
+{
+    match field {
+        Some(call_type) => Ok(Some(read_call_type(&call_type)?)),
+        None => Ok(None),
+    }
+}
+
+/// An entry of the criteria of the O-CSI of its fields.
+#[tactic(auto, unfolding(crate::specs::Criteria::o_entry_of_fields))]
+fn read_o_fields(
+    alloc: Global,
+    item: &Element<'_>,
+    fields: &[Element<'_>],
+) -> Result<OCriteria, MapFault>
+    ensures { ReadsAs result (o_entry_of_fields (view item.now) (views fields.now)) }
+{
+    let dp = read_detection_point(&mandatory(item, ENUMERATED, fields)?)?;
+    let number = read_number_field(alloc, find_field(fields, CONSTRUCTED)?)?;
+    let basic = read_services(alloc, find_field(fields, CONSTRUCTED + 1)?)?;
+    let call_type = read_call_type_field(find_field(fields, PRIMITIVE + 2)?)?;
+    let causes = read_causes(alloc, find_field(fields, CONSTRUCTED + 3)?)?;
+    let made = OCriteria::new(alloc, dp, number, &basic, call_type, &causes);
+    or_refused_at(item.place, made)
+}
+
+/// An entry of the criteria of the O-CSI.
+#[tactic(auto, unfolding(crate::specs::Criteria::o_entry_in))]
+fn read_o_entry(alloc: Global, item: &Element<'_>) -> Result<OCriteria, MapFault>
+    ensures { ReadsAs result (o_entry_in (view item.now)) }
+{
+    let entry = identified(*item, SEQUENCE)?;
+    let fields = read_elements(alloc, entry.content)?;
+    read_o_fields(alloc, &entry, &fields)
+}
+
+/// An entry of the criteria of the VT-CSI of its fields.
+#[tactic(auto, unfolding(crate::specs::Criteria::t_entry_of_fields))]
+fn read_t_fields(
+    alloc: Global,
+    item: &Element<'_>,
+    fields: &[Element<'_>],
+) -> Result<TCriteria, MapFault>
+    ensures { ReadsAs result (t_entry_of_fields (view item.now) (views fields.now)) }
+{
+    let dp = read_detection_point(&mandatory(item, ENUMERATED, fields)?)?;
+    let basic = read_services(alloc, find_field(fields, CONSTRUCTED)?)?;
+    let causes = read_causes(alloc, find_field(fields, CONSTRUCTED + 1)?)?;
+    or_refused_at(item.place, TCriteria::new(dp, &basic, &causes))
+}
+
+/// An entry of the criteria of the VT-CSI.
+#[tactic(auto, unfolding(crate::specs::Criteria::t_entry_in))]
+fn read_t_entry(alloc: Global, item: &Element<'_>) -> Result<TCriteria, MapFault>
+    ensures { ReadsAs result (t_entry_in (view item.now)) }
+{
+    let entry = identified(*item, SEQUENCE)?;
+    let fields = read_elements(alloc, entry.content)?;
+    read_t_fields(alloc, &entry, &fields)
+}
+
+fn read_o_entries(alloc: Global, list: &Element<'_>) -> Result<Vec<OCriteria>, MapFault>
+    ensures { ReadsList result (items_as o_entry_in (view list.now)) }
+{
+    read_items(alloc, list, |item| read_o_entry(alloc, item))
+}
+
+fn read_t_entries(alloc: Global, list: &Element<'_>) -> Result<Vec<TCriteria>, MapFault>
+    ensures { ReadsList result (items_as t_entry_in (view list.now)) }
+{
+    read_items(alloc, list, |item| read_t_entry(alloc, item))
+}
+
+/// The criteria of the O-CSI.
+#[tactic(auto, unfolding(crate::specs::Criteria::o_criteria_set_in))]
+pub(crate) fn read_o_criteria_set(
+    alloc: Global,
+    list: &Element<'_>,
+) -> Result<OCriteriaSet, MapFault>
+    ensures { ReadsAs result (o_criteria_set_in (view list.now)) }
+{
+    let entries = read_o_entries(alloc, list)?;
+    or_refused_at(list.place, OCriteriaSet::new(entries))
+}
+
+/// The criteria of the VT-CSI.
+#[tactic(auto, unfolding(crate::specs::Criteria::t_criteria_set_in))]
+pub(crate) fn read_t_criteria_set(
+    alloc: Global,
+    list: &Element<'_>,
+) -> Result<TCriteriaSet, MapFault>
+    ensures { ReadsAs result (t_criteria_set_in (view list.now)) }
+{
+    let entries = read_t_entries(alloc, list)?;
+    or_refused_at(list.place, TCriteriaSet::new(entries))
+}

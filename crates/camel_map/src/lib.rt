@@ -1,0 +1,25 @@
+//! The arguments of the MAP operations by which an HLR changes subscriber data (3GPP TS 29.002), decoded from their
+//! octets: InsertSubscriberData, DeleteSubscriberData and CancelLocation.
+//!
+//! [`decode`] gives the [`Update`](camel_rows::Update) that an argument is, or the first fault with its place. TCAP, and
+//! the dialogue that an argument comes in, are the caller's.
+#![tactic(auto)]
+
+mod argument;
+mod cancel;
+mod criteria;
+mod delete;
+mod field;
+mod identifier;
+mod imsi;
+mod insert;
+mod items;
+mod map_fault;
+mod operation;
+mod reading;
+mod row;
+mod value;
+
+pub use argument::decode;
+pub use map_fault::{MapFault, MapFaultKind};
+pub use operation::Operation;
