@@ -16,7 +16,8 @@ found_so_far (Some field) = view field ∷ []
 -- the fields of the tag, at a place whose field has it
 here-tagged : (octet : ℕ) (fields : List Element) (at : ℕ) (field : Element)
     → views (drop at fields) ≡ view field ∷ views (drop (suc at) fields) → is_tagged octet (view field) ≡ true
-    → filter (is_tagged octet) (views (drop at fields)) ≡ view field ∷ filter (is_tagged octet) (views (drop (suc at) fields))
+    → filter (is_tagged octet) (views (drop at fields))
+    ≡ view field ∷ filter (is_tagged octet) (views (drop (suc at) fields))
 here-tagged octet fields at field here tagged = rw (here, tagged) refl
 
 -- one more of the tag is there twice

@@ -15,7 +15,8 @@ same_tag one other = one / 64 == other / 64 && one % 32 == other % 32
 
 -- the tag is that of this identifier octet
 abbrev pub is_tagged : ℕ → PlacedData → Bool
-is_tagged octet placed = length placed.element.identifier == 1 && same_tag (slice_index placed.element.identifier 0) octet
+is_tagged octet placed =
+    length placed.element.identifier == 1 && same_tag (slice_index placed.element.identifier 0) octet
 
 -- an element that has this identifier, and else a wrong tag
 abbrev pub identified : ℕ → PlacedData → Result PlacedData MapFault
@@ -46,6 +47,7 @@ if_present value_of None = Ok None
 if_present value_of (Some field) = value_of field >>= λ value. Ok (Some value)
 
 -- the list that a field is; absent, it has no items
-abbrev pub if_listed : {A : Type 0} → (PlacedData → Result (List A) MapFault) → Option PlacedData → Result (List A) MapFault
+abbrev pub if_listed : {A : Type 0} → (PlacedData → Result (List A) MapFault) → Option PlacedData
+    → Result (List A) MapFault
 if_listed value_of None = Ok []
 if_listed value_of (Some field) = value_of field

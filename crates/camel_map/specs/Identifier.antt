@@ -1,5 +1,5 @@
--- The identifier octets of the types and fields that are read (TS 29.002, encoded as in ITU-T X.690): bits 8 and 7 are the
--- class, bit 6 says that the contents are elements, and bits 5 to 1 are the tag number.
+-- The identifier octets of the types and fields that are read (TS 29.002, encoded as in ITU-T X.690): bits 8 and 7 are
+-- the class, bit 6 says that the contents are elements, and bits 5 to 1 are the tag number.
 use Rattle.std.specs.Prelude.{ℕ, ◌+◌}
 
 abbrev pub integer : ℕ

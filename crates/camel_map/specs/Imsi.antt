@@ -1,4 +1,4 @@
--- The IMSI that an argument concerns (TS 29.002): its own, or that of the dialogue; if both are there they are the same.
+-- The IMSI that an argument concerns (TS 29.002): its own, or that of the dialogue; if both are there, they are equal.
 use Rattle.std.specs.Prelude.{ℕ, List, Option, Some, None, Result, Ok, Err, if◌then◌else◌}
 use Rattle.std.specs.Str.{bytes_eq}
 use Rattle.camel_ber.specs.Reading.{◌>>=◌, PlacedData}

@@ -36,7 +36,8 @@ unfoldable pub list_of_rows_in : PlacedData → Result PlacedData MapFault
 list_of_rows_in csi = elements_in (contents csi) >>= first_of csi >>= identified sequence
 
 -- the rows of a CSI, of which a CSI is made
-unfoldable pub csi_in : (List TdpRowData → Result (List TdpRowData) Refusal) → PlacedData → Result (List TdpRowData) MapFault
+unfoldable pub csi_in : (List TdpRowData → Result (List TdpRowData) Refusal) → PlacedData
+    → Result (List TdpRowData) MapFault
 csi_in csi_of csi = do
   list ← list_of_rows_in csi
   rows ← items_as row_in list

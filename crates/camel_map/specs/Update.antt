@@ -40,7 +40,8 @@ insert_in dialogue element = do
   camel ← field_of (constructed 13) fields >>= camel_fields
   insert_of_fields imsi camel
 
--- DeleteSubscriberDataArg: imsi [0], and camelSubscriptionInfoWithdraw [9] and specificCSI-Withdraw [15] if they are there
+-- DeleteSubscriberDataArg: imsi [0], and each of camelSubscriptionInfoWithdraw [9] and specificCSI-Withdraw [15] if it is
+-- there
 unfoldable pub delete_in : Option (List ℕ) → PlacedData → Result Update MapFault
 delete_in dialogue element = do
   argument ← identified sequence element
@@ -73,7 +74,8 @@ first_identity_in dialogue argument = do
 -- the IMSI of CancelLocationArg; before version 3 the argument is the identity
 unfoldable pub cancelled_in : Option (List ℕ) → PlacedData → Result (List ℕ) MapFault
 cancelled_in dialogue argument =
-    if is_identified (constructed 3) argument then first_identity_in dialogue argument else identity_in dialogue argument
+    if is_identified (constructed 3) argument then first_identity_in dialogue argument
+    else identity_in dialogue argument
 
 -- CancelLocationArg
 unfoldable pub cancel_in : Option (List ℕ) → PlacedData → Result Update MapFault

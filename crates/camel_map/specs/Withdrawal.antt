@@ -1,4 +1,4 @@
--- What DeleteSubscriberData names (TS 29.002): all CSIs by camelSubscriptionInfoWithdraw, and each by specificCSI-Withdraw.
+-- What DeleteSubscriberData names (TS 29.002): all CSIs by camelSubscriptionInfoWithdraw, one by specificCSI-Withdraw.
 use Rattle.std.specs.Prelude.{ℕ, Bool, true, false, ◌==◌, ◌&&◌, ◌||◌, ◌/◌, ◌%◌, ◌+◌, ◌*◌, ◌-◌, nat_le, nat_lt, List, length, slice_index, Option, Some, None, Result, Ok, if◌then◌else◌}
 use Rattle.camel_ber.specs.Reading.{PlacedData}
 use Rattle.camel_rows.specs.declared.subscriber.update.Withdrawal.{Withdrawal}
@@ -22,7 +22,8 @@ unused_bits content = slice_index content 0
 -- a BIT STRING has a first octet of 0 to 7, and of 0 if there are no bits
 abbrev pub is_bit_string : List ℕ → Bool
 is_bit_string content =
-    nat_le 1 (length content) && (nat_le (unused_bits content) 7 && (nat_le 2 (length content) || unused_bits content == 0))
+    nat_le 1 (length content)
+    && (nat_le (unused_bits content) 7 && (nat_le 2 (length content) || unused_bits content == 0))
 
 -- one of the first eight bits, from 0 on, is set: it is there, and 1
 abbrev pub is_bit_set : ℕ → ℕ → List ℕ → Bool

@@ -31,8 +31,7 @@ pub(crate) fn read_items<T: Drop, F: Fn(&Element<'_>) -> Result<T, MapFault>>(
     read_each(alloc, &items, read)
 }
 
-/// What `read` returns for each element, in their order, or the first fault. It takes one block of memory, with room for
-/// no more.
+/// What `read` returns for each element, in their order, or the first fault. It takes one block of memory.
 fn read_each<T: Drop, F: Fn(&Element<'_>) -> Result<T, MapFault>>(
     alloc: Global,
     items: &[Element<'_>],

@@ -1,8 +1,8 @@
 //! The arguments of the MAP operations by which an HLR changes subscriber data (3GPP TS 29.002), decoded from their
 //! octets: InsertSubscriberData, DeleteSubscriberData and CancelLocation.
 //!
-//! [`decode`] gives the [`Update`](camel_rows::Update) that an argument is, or the first fault with its place. TCAP, and
-//! the dialogue that an argument comes in, are the caller's.
+//! [`decode`] gives the [`Update`](camel_rows::Update) that an argument is, or the first fault with its place. TCAP and
+//! the dialogue that an argument comes in are the caller's.
 #![tactic(auto)]
 
 mod argument;

@@ -16,8 +16,8 @@ pub returns-in_err-identified-in-Some : goal.returns-in_err-identified-in-Some
 returns-in_err-identified-in-Some c =
     let returned = err_from_is_err_and c.from_residual.result c.from_residual.ensures.1 in
     rw (returned.1, returned.2)
-    (found_fails c.args.octet c.args.fields.now c.loop-field.field-index c.loop-field.found c.in-Some.field _ (omega arith)
-    c.in-Some.is c.in_err-identified-in-Some.ensures c.loop-field.invariant)
+    (found_fails c.args.octet c.args.fields.now c.loop-field.field-index c.loop-field.found c.in-Some.field _
+    (omega arith) c.in-Some.is c.in_err-identified-in-Some.ensures c.loop-field.invariant)
 
 pub returns-in_ok-identified-in-Some : goal.returns-in_ok-identified-in-Some
 returns-in_ok-identified-in-Some c =
