@@ -1,0 +1,199 @@
+"""What tshark reads of arguments: each goes in a TCAP message of its own into a capture, and the tree of fields that
+tshark makes of it becomes a record of a script, with the marks of what it calls malformed."""
+
+import subprocess
+import tempfile
+from typing import NamedTuple
+from xml.parsers import expat
+
+from map_arguments import packets, transactions, updates
+
+VLR_ADDRESS = transactions.address(transactions.VLR, "491710000001")
+HLR_ADDRESS = transactions.address(transactions.HLR, "491710000002")
+
+
+class Node:
+    """A field of a tree: its name, its octets in hexadecimal, and the fields in it."""
+
+    __slots__ = ("name", "value", "show", "inner")
+
+    def __init__(self, attributes):
+        self.name = attributes.get("name", "")
+        self.value = attributes.get("value", "")
+        self.show = attributes.get("show", "")
+        self.inner = []
+
+    def octets(self):
+        return bytes.fromhex(self.value)
+
+    def integer(self):
+        return int.from_bytes(self.octets(), "big", signed=True)
+
+    def all(self, ending):
+        """The fields in it whose names end so."""
+        return [node for node in self.inner if node.name.endswith(ending)]
+
+    def first(self, ending):
+        return next(iter(self.all(ending)), None)
+
+    def everywhere(self):
+        for node in self.inner:
+            yield node
+            yield from node.everywhere()
+
+
+class Reading(NamedTuple):
+    """The record that tshark's fields make, or what is missing for one, and the marks that it puts."""
+
+    record: str
+    marks: frozenset
+
+
+class Trees:
+    """Gathers the tree of each packet."""
+
+    def __init__(self):
+        self.packets, self.open = [], []
+        self.parser = expat.ParserCreate()
+        self.parser.StartElementHandler, self.parser.EndElementHandler = self.start, self.end
+
+    def start(self, tag, attributes):
+        node = Node(attributes)
+        if tag == "packet":
+            self.packets.append(node)
+            self.open = [node]
+        elif self.open:
+            self.open[-1].inner.append(node)
+            self.open.append(node)
+
+    def end(self, tag):
+        if self.open:
+            self.open.pop()
+
+
+def trees_of(capture, protocols):
+    """The trees that tshark makes of the packets of a capture, as far as these protocols go."""
+    trees = Trees()
+    words = ["tshark", "-n", "-r", capture, "-T", "pdml", "-J", protocols]
+    with subprocess.Popen(words, stdout=subprocess.PIPE, stderr=subprocess.DEVNULL) as process:
+        trees.parser.ParseFile(process.stdout)
+    if process.returncode:
+        raise OSError(f"tshark ends with status {process.returncode}")
+    return trees.packets
+
+
+def version_of(line):
+    """The version of the application context: an identity without [3] is of an earlier one."""
+    return 2 if line.operation == "cancelLocation" and line.octets[:1] != b"\xa3" else 3
+
+
+def packet_of(number, line):
+    portion = transactions.dialogue(transactions.REQUEST, line.operation, version_of(line))
+    invoke = transactions.invoke(1, line.operation, line.octets)
+    message = transactions.message(transactions.BEGIN, number, None, portion, [invoke])
+    return transactions.long_unitdata(VLR_ADDRESS, HLR_ADDRESS, message)
+
+
+def row_of(name, node):
+    point = node.first("TriggerDetectionPoint")
+    key, address, handling = (node.first(ending) for ending in (".serviceKey", ".gsmSCF_Address", ".defaultCallHandling"))
+    return updates.Row(point.integer(), key.integer(), address.octets(), handling.integer())
+
+
+def number_of(node):
+    if node is None:
+        return None
+    numbers, lengths = node.first(".destinationNumberList"), node.first(".destinationNumberLengthList")
+    return updates.NumberCriterion(
+        node.first(".matchType").integer(),
+        numbers and [listed.octets() for listed in numbers.all(".ISDN_AddressString")],
+        lengths and [length.integer() for length in lengths.all(".DestinationNumberLengthList_item")],
+    )
+
+
+def service_of(node):
+    return int(node.show), node.octets()
+
+
+def entry_of(name, node):
+    basics, causes, call_type = (node.first(ending) for ending in (
+        ".basicServiceCriteria", "_CauseValueCriteria", ".callTypeCriteria"))
+    return updates.Entry(
+        node.first("TriggerDetectionPoint").integer(),
+        number_of(node.first(".destinationNumberCriteria_element")),
+        basics and [service_of(code) for code in basics.all(".Ext_BasicServiceCode")],
+        call_type and call_type.integer(),
+        causes and [cause.octets()[0] for cause in causes.all(".CauseValue")],
+    )
+
+
+def list_of(name, node):
+    read, ending = (entry_of, "Criteria_element") if name.endswith("c") else (row_of, "TDPData_element")
+    return [read(name, item) for item in node.all(ending)]
+
+
+def insert_of(invoke, imsi):
+    lists = {}
+    information = invoke.first(".vlrCamelSubscriptionInfo_element")
+    for name, ending, inner in (
+        ("o", ".o_CSI_element", ".o_BcsmCamelTDPDataList"),
+        ("oc", ".o_BcsmCamelTDP_CriteriaList", None),
+        ("t", ".vt_CSI_element", ".t_BcsmCamelTDPDataList"),
+        ("tc", ".t_BCSM_CAMEL_TDP_CriteriaList", None),
+    ):
+        node = information and information.first(ending)
+        if node:
+            lists[name] = list_of(name, node.first(inner) if inner else node)
+    return updates.Insert(imsi, lists)
+
+
+def delete_of(invoke, imsi):
+    bits = invoke.first(".specificCSI_Withdraw")
+    named = {node.name.rpartition("Withdraw.")[2]: node.show for node in bits.inner} if bits else {}
+    text = "000".join(named.get(name, "0") for name in ("o.csi", "vt.csi"))
+    return updates.Delete(imsi, bool(invoke.first(".camelSubscriptionInfoWithdraw_element")), text)
+
+
+def digits_of(node):
+    """The digits of an IMSI, of whatever octets it has."""
+    return "".join(f"{octet & 15:x}{octet >> 4:x}" for octet in node.octets()).removesuffix("f")
+
+
+def update_of(line, invoke):
+    shown = next((node for node in invoke.everywhere() if node.name in ("gsm_map.ms.imsi", "gsm_map.imsi")), None)
+    imsi = digits_of(shown) if shown else line.imsi
+    if line.operation == "cancelLocation":
+        return updates.Cancel(imsi)
+    return (insert_of if line.operation == "insertSubscriberData" else delete_of)(invoke, imsi)
+
+
+def marks_of(packet):
+    """The names of the marks of errors, and of those that a message names only in words."""
+    marks = set()
+    for node in packet.everywhere():
+        if node.name == "_ws.malformed":
+            marks.add("malformed")
+        if node.name == "_ws.expert" and node.inner and "not_implemented" not in node.inner[0].name:
+            marks.add(node.inner[0].name.removeprefix("ber.error."))
+    return frozenset(marks)
+
+
+def reading_of(line, packet):
+    """What tshark reads of a line. A field that it leaves out makes the record a text of its own."""
+    invoke = next((node for node in packet.everywhere() if node.name == "gsm_old.invoke_element"), None)
+    try:
+        record = updates.record_of(update_of(line, invoke)) if invoke else "nothing"
+    except (AttributeError, IndexError, ValueError):
+        record = "no record"
+    return Reading(record, marks_of(packet))
+
+
+def read(lines):
+    """What tshark reads of each line."""
+    with tempfile.NamedTemporaryFile(suffix=".pcap") as file:
+        file.write(packets.capture(packets.SCCP, [packet_of(*numbered) for numbered in enumerate(lines)]))
+        file.flush()
+        trees = trees_of(file.name, "gsm_map _ws.malformed")
+    if len(trees) != len(lines):
+        raise OSError(f"tshark shows {len(trees)} packets of {len(lines)}")
+    return [reading_of(line, packet) for line, packet in zip(lines, trees)]

@@ -1,0 +1,129 @@
+"""Traits of an argument that its model reads: what is in it that tshark reads in another way, or calls malformed."""
+
+from map_arguments.extensions import FIELDS
+
+from .reading import CONTEXT, UNIVERSAL, Fault, element, inner
+
+ENUMERATED, INTEGER, OCTET_STRING, SEQUENCE = ((UNIVERSAL, number) for number in (10, 2, 4, 16))
+ANY = None
+
+# The types of the fields of each type. Those of a list are under ANY.
+TYPES = {
+    "insert": {(CONTEXT, 0): "imsi", (CONTEXT, 13): "information"},
+    "information": {(CONTEXT, 0): "csi", (CONTEXT, 4): "o-entries", (CONTEXT, 7): "csi", (CONTEXT, 8): "t-entries"},
+    "csi": {SEQUENCE: "rows"},
+    "rows": {ANY: "row"},
+    "o-entries": {ANY: "o-entry"},
+    "t-entries": {ANY: "t-entry"},
+    "row": {ENUMERATED: "integer", INTEGER: "integer", (CONTEXT, 0): "address", (CONTEXT, 1): "integer"},
+    "o-entry": {ENUMERATED: "integer", (CONTEXT, 0): "number", (CONTEXT, 1): "services", (CONTEXT, 2): "integer",
+                (CONTEXT, 3): "causes"},
+    "t-entry": {ENUMERATED: "integer", (CONTEXT, 0): "services", (CONTEXT, 1): "causes"},
+    "number": {(CONTEXT, 0): "integer", (CONTEXT, 1): "addresses", (CONTEXT, 2): "integers"},
+    "addresses": {ANY: "address"},
+    "integers": {ANY: "integer"},
+    "services": {ANY: "service"},
+    "causes": {},
+    "delete": {(CONTEXT, 0): "imsi", (CONTEXT, 9): "null", (CONTEXT, 15): "bits"},
+    "cancel": {OCTET_STRING: "imsi", SEQUENCE: "cancel"},
+}
+OPERATION_TYPES = {"insertSubscriberData": "insert", "deleteSubscriberData": "delete", "cancelLocation": "cancel"}
+
+LAND_MOBILE, INTERNATIONAL_E164 = 6, 0x11
+
+
+def address_traits(content):
+    nibbles = [nibble for octet in content[1:] for nibble in (octet & 15, octet >> 4)]
+    if content and content[0] & 15 == LAND_MOBILE:
+        yield "plan-of-imsi"
+    if any(nibble > 9 for nibble in nibbles):
+        yield "no-decimal-digit"
+    if content and content[0] & 0x7F == INTERNATIONAL_E164 and nibbles[:2] == [8, 8]:
+        yield "shared-country-code"
+
+
+def imsi_traits(content):
+    if len(content) < 4:
+        yield "short-imsi"
+
+
+def service_traits(content):
+    if len(content) > 4:
+        yield "long-service"
+
+
+def integer_traits(content):
+    if len(content) > 4:
+        yield "long-integer"
+    if len(content) > 1 and (content[0], content[1] & 128) in ((0, 0), (255, 128)):
+        yield "padded-integer"
+
+
+def bits_traits(content):
+    if len(content) > 1:
+        unused = content[-1] & (1 << content[0]) - 1
+        if (len(content) - 1) * 8 - content[0] > 14:
+            yield "unnamed-bits"
+        if unused:
+            yield "unused-bits"
+        if content[0] > 7:
+            yield "unused-count"
+    if len(content) == 1:
+        yield "no-bits"
+
+
+LEAVES = {"address": address_traits, "imsi": imsi_traits, "service": service_traits, "integer": integer_traits,
+          "bits": bits_traits}
+
+
+def tag_traits(found):
+    """Whether a tag number is greater than tshark keeps."""
+    if any(field.tag[1] >= 2**32 for field in found):
+        yield "great-tag"
+
+
+def order_traits(type_name, found):
+    """Whether fields stand in another order than the type's, and which there are besides those that are read."""
+    order = {tag: place for place, tag in enumerate(FIELDS[type_name])}
+    if type_name in ("csi", "cancel"):
+        found = found[1:]
+    places = [order.get(field.tag, len(order)) for field in found]
+    if places != sorted(places):
+        yield "other-order"
+    for field in found:
+        if FIELDS[type_name].get(field.tag):
+            yield "skipped-field"
+        elif field.tag not in order:
+            yield "unknown-field"
+
+
+def traits_of_element(octets, found, type_name):
+    if type_name in LEAVES:
+        yield from LEAVES[type_name](found.octets(octets))
+        return
+    if not found.constructed:
+        return
+    fields = inner(octets, found)
+    types = TYPES.get(type_name, {})
+    yield from tag_traits(fields)
+    if type_name in FIELDS:
+        yield from order_traits(type_name, fields)
+    if type_name in ("csi", "cancel"):
+        fields = fields[:1]
+    for field in fields:
+        if inner_type := types.get(ANY) or types.get(field.tag):
+            yield from traits_of_element(octets, field, inner_type)
+
+
+def traits_of(line):
+    """The traits of a line that is read. If the elements are malformed, those that come before that place."""
+    traits = set()
+    type_name = OPERATION_TYPES[line.operation]
+    try:
+        whole = element(line.octets, 0, len(line.octets))
+        if type_name == "cancel" and whole.tag == (UNIVERSAL, 4):
+            type_name = "imsi"
+        traits.update(traits_of_element(line.octets, whole, type_name))
+    except Fault:
+        traits.add("malformed")
+    return traits

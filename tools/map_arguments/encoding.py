@@ -1,0 +1,115 @@
+"""The argument of an update as a tree of elements, straight from the types of TS 29.002."""
+
+from .ber import ENUMERATED, INTEGER, OCTET_STRING, SEQUENCE, context, integer_octets, universal
+from .updates import Cancel, Delete
+
+# The tags of the lists and CSIs in VlrCamelSubscriptionInfo.
+TAGS = {"o": 0, "oc": 4, "t": 7, "tc": 8}
+FILLER = "f"
+LMSI = bytes(4)
+
+
+def tbcd(digits):
+    """Two digits in an octet, the earlier one in the lower half."""
+    text = digits + FILLER * (len(digits) % 2)
+    return bytes(int(text[at + 1] + text[at], 16) for at in range(0, len(text), 2))
+
+
+def sequence(elements, type_name=""):
+    return universal(SEQUENCE, elements, type_name)
+
+
+def row_element(row):
+    return sequence([
+        universal(ENUMERATED, integer_octets(row.point)),
+        universal(INTEGER, integer_octets(row.key)),
+        context(0, row.address),
+        context(1, integer_octets(row.handling)),
+    ], "row")
+
+
+def number_element(tag, number):
+    elements = [context(0, integer_octets(number.match_type))]
+    if number.numbers is not None:
+        elements.append(context(1, [universal(OCTET_STRING, listed) for listed in number.numbers]))
+    if number.lengths is not None:
+        elements.append(context(2, [universal(INTEGER, integer_octets(length)) for length in number.lengths]))
+    return context(tag, elements, "number")
+
+
+def basics_element(tag, basics):
+    return context(tag, [context(kind, octets) for kind, octets in basics])
+
+
+def causes_element(tag, causes):
+    return context(tag, [universal(OCTET_STRING, bytes([cause])) for cause in causes])
+
+
+def o_entry_element(entry):
+    elements = [universal(ENUMERATED, integer_octets(entry.point))]
+    if entry.number is not None:
+        elements.append(number_element(0, entry.number))
+    if entry.basics is not None:
+        elements.append(basics_element(1, entry.basics))
+    if entry.call_type is not None:
+        elements.append(context(2, integer_octets(entry.call_type)))
+    if entry.causes is not None:
+        elements.append(causes_element(3, entry.causes))
+    return sequence(elements, "o-entry")
+
+
+def t_entry_element(entry):
+    elements = [universal(ENUMERATED, integer_octets(entry.point))]
+    if entry.basics is not None:
+        elements.append(basics_element(0, entry.basics))
+    if entry.causes is not None:
+        elements.append(causes_element(1, entry.causes))
+    return sequence(elements, "t-entry")
+
+
+def list_element(name, items):
+    """A CSI is a sequence whose first element is the list; criteria are the list itself."""
+    if name == "oc":
+        return context(TAGS[name], [o_entry_element(entry) for entry in items])
+    if name == "tc":
+        return context(TAGS[name], [t_entry_element(entry) for entry in items])
+    return context(TAGS[name], [sequence([row_element(row) for row in items])], "csi")
+
+
+def insert_element(insert):
+    elements = [context(0, tbcd(insert.imsi))] if insert.shows_imsi else []
+    if insert.lists:
+        lists = [list_element(name, insert.lists[name]) for name in TAGS if name in insert.lists]
+        elements.append(context(13, lists, "information"))
+    return sequence(elements, "insert")
+
+
+def bits_octets(bits):
+    """The count of unused bits, and the octets of a text of bits."""
+    unused = -len(bits) % 8
+    return bytes([unused]) + bytes(int(bits[at : at + 8].ljust(8, "0"), 2) for at in range(0, len(bits), 8))
+
+
+def delete_element(delete):
+    elements = [context(0, tbcd(delete.imsi))]
+    if delete.everything:
+        elements.append(context(9, b""))
+    if delete.bits is not None:
+        elements.append(context(15, bits_octets(delete.bits)))
+    return sequence(elements, "delete")
+
+
+def cancel_element(cancel):
+    identity = universal(OCTET_STRING, tbcd(cancel.imsi))
+    if cancel.with_lmsi:
+        identity = sequence([identity, universal(OCTET_STRING, LMSI)])
+    if cancel.version < 3:
+        return identity
+    return context(3, [identity], "cancel")
+
+
+def element_of(update):
+    """The argument of an update."""
+    if isinstance(update, Cancel):
+        return cancel_element(update)
+    return delete_element(update) if isinstance(update, Delete) else insert_element(update)

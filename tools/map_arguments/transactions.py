@@ -1,0 +1,91 @@
+"""TCAP messages (Q.773) with invokes and results of MAP, and the SCCP messages (Q.713) that carry them."""
+
+from .ber import (APPLICATION, INTEGER, OBJECT_IDENTIFIER, SEQUENCE, Element, context, identifier_octets, integer_octets,
+                  length_octets, minimal, universal)
+
+CODES = {"updateLocation": 2, "cancelLocation": 3, "insertSubscriberData": 7, "deleteSubscriberData": 8}
+
+# The last arcs of the application contexts, which lie below 0.4.0.0.1.0.
+CONTEXTS = {"updateLocation": (1, 3), "cancelLocation": (2, 3), "insertSubscriberData": (16, 3),
+            "deleteSubscriberData": (16, 3)}
+CONTEXT_PREFIX = bytes.fromhex("0400000100")
+DIALOGUE_AS_STRUCTURED = bytes.fromhex("00118605010101")
+VERSION_1 = bytes.fromhex("0780")
+
+BEGIN, END, CONTINUE = 2, 4, 5
+REQUEST, RESPONSE = 0, 1
+VLR, HLR = 7, 6
+
+
+def wrapped(element, octets):
+    """The element with these octets as the content, of whatever form they are."""
+    return identifier_octets(element) + length_octets(len(octets)) + octets
+
+
+def invoke(number, operation, argument):
+    """An invoke whose argument is octets, possibly malformed ones."""
+    head = minimal(universal(INTEGER, integer_octets(number)))
+    head += minimal(universal(INTEGER, integer_octets(CODES[operation])))
+    return wrapped(context(1, []), head + argument)
+
+
+def result(number, operation=None, argument=b""):
+    """The last result of an invoke, with an argument if there is an operation."""
+    content = minimal(universal(INTEGER, integer_octets(number)))
+    if operation:
+        head = minimal(universal(INTEGER, integer_octets(CODES[operation])))
+        content += wrapped(universal(SEQUENCE, []), head + argument)
+    return wrapped(context(2, []), content)
+
+
+def dialogue(kind, operation, version=None):
+    """The dialogue portion that asks for an application context, or accepts it."""
+    context_id, greatest = CONTEXTS[operation]
+    arcs = CONTEXT_PREFIX + bytes([context_id, version or greatest])
+    named = context(1, [universal(OBJECT_IDENTIFIER, arcs)])
+    elements = [context(0, VERSION_1), named]
+    if kind == RESPONSE:
+        accepted = universal(INTEGER, b"\0")
+        elements += [context(2, [accepted]), context(3, [context(1, [accepted])])]
+    unit = Element(APPLICATION, kind, elements)
+    external = universal(8, [universal(OBJECT_IDENTIFIER, DIALOGUE_AS_STRUCTURED), context(0, [unit])])
+    return minimal(Element(APPLICATION, 11, [external]))
+
+
+def message(kind, origin, destination, portion, components):
+    """A TCAP message. A transaction id that it has not is None, and a dialogue portion empty."""
+    content = b""
+    for number, transaction in ((8, origin), (9, destination)):
+        if transaction is not None:
+            content += minimal(Element(APPLICATION, number, transaction.to_bytes(4, "big")))
+    content += portion
+    if components:
+        content += wrapped(Element(APPLICATION, 12, []), b"".join(components))
+    return wrapped(Element(APPLICATION, kind, []), content)
+
+
+def address(subsystem, digits):
+    """An SCCP address that is routed on its global title, an international number of E.164."""
+    scheme = 1 if len(digits) % 2 else 2
+    text = digits + "0" * (len(digits) % 2)
+    swapped = "".join(text[at + 1] + text[at] for at in range(0, len(text), 2))
+    return bytes([0x12, subsystem, 0, 0x10 | scheme, 4]) + bytes.fromhex(swapped)
+
+
+def unitdata(called, calling, data):
+    """An SCCP message of at most 255 octets of data."""
+    parts = [bytes([len(part)]) + part for part in (called, calling, data)]
+    pointers = bytes([3, 2 + len(parts[0]), 1 + len(parts[0]) + len(parts[1])])
+    return b"\x09\x00" + pointers + b"".join(parts)
+
+
+def long_unitdata(called, calling, data):
+    """An SCCP message of up to 3952 octets of data."""
+    parts = [bytes([len(called)]) + called, bytes([len(calling)]) + calling, len(data).to_bytes(2, "little") + data]
+    pointers, at = [], 8
+    for place, part in enumerate(parts):
+        # A pointer counts from its own last octet.
+        pointers.append(at - 2 * place - 1)
+        at += len(part)
+    octets = b"".join(pointer.to_bytes(2, "little") for pointer in [*pointers, 0])
+    return b"\x13\x00\x0f" + octets + b"".join(parts)

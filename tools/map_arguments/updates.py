@@ -1,0 +1,122 @@
+"""Updates of subscriber data as values, and the records of scripts that they must decode to."""
+
+from dataclasses import dataclass, field
+
+O_POINTS, T_POINTS = (2, 4), (12, 13, 14)
+
+# What a list prints if it came with items of which each is ignored.
+IGNORED = {"o": "o:255:0:00:0", "oc": "oc:255::::", "t": "t:255:0:00:0", "tc": "tc:255::"}
+
+
+@dataclass
+class Row:
+    point: int
+    key: int
+    address: bytes
+    handling: int
+
+
+@dataclass
+class NumberCriterion:
+    """The match type is 0 (inhibiting) or 1 (enabling). A list is None if it is not there."""
+
+    match_type: int
+    numbers: list | None
+    lengths: list | None
+
+
+@dataclass
+class Entry:
+    """A basic service is its tag, 2 (bearer service) or 3 (teleservice), and its octets. A cause is an octet. The call
+    type is 0 (forwarded) or 1 (not forwarded). What is not there is None."""
+
+    point: int
+    number: NumberCriterion | None = None
+    basics: list | None = None
+    call_type: int | None = None
+    causes: list | None = None
+
+
+@dataclass
+class Insert:
+    """The lists by the names of their items: o, oc, t, tc. A list that is not there has no name here."""
+
+    imsi: str
+    lists: dict = field(default_factory=dict)
+    shows_imsi: bool = True
+
+
+@dataclass
+class Delete:
+    """The bits of specificCSI-Withdraw are a text of 0 and 1, or None if the field is not there."""
+
+    imsi: str
+    everything: bool = False
+    bits: str | None = None
+
+
+@dataclass
+class Cancel:
+    """The version is that of the operation, and says which form the argument has."""
+
+    imsi: str
+    version: int = 3
+    with_lmsi: bool = False
+
+
+OPERATIONS = {Insert: "insertSubscriberData", Delete: "deleteSubscriberData", Cancel: "cancelLocation"}
+
+
+def points_of(name):
+    """The detection points that count in the list of this name."""
+    return O_POINTS if name.startswith("o") else T_POINTS
+
+
+def is_release(handling):
+    return handling == 1 or handling > 31
+
+
+def row_text(name, row):
+    return f"{name}:{row.point}:{row.key}:{row.address.hex()}:{int(is_release(row.handling))}"
+
+
+def number_text(number):
+    if number is None:
+        return ""
+    numbers = "+".join(listed.hex() for listed in number.numbers or ())
+    return f"{'ie'[number.match_type]}/{numbers}/{'+'.join(map(str, number.lengths or ()))}"
+
+
+def entry_text(name, entry):
+    basics = "+".join(f"{'bt'[tag - 2]}{octets[0]:02x}" for tag, octets in entry.basics or ())
+    causes = "+".join(str(cause & 127) for cause in entry.causes or ())
+    if name == "tc":
+        return f"tc:{entry.point}:{basics}:{causes}"
+    call_type = "" if entry.call_type is None else "fn"[entry.call_type]
+    return f"oc:{entry.point}:{number_text(entry.number)}:{basics}:{call_type}:{causes}"
+
+
+def list_texts(name, items):
+    """The texts of the items that count, or that of a list of which all are ignored."""
+    text = entry_text if name.endswith("c") else row_text
+    return [text(name, item) for item in items if item.point in points_of(name)] or [IGNORED[name]]
+
+
+def withdrawn(delete):
+    """What a delete names: o, vt or all."""
+    if delete.everything:
+        return ["all"]
+    bits = delete.bits or ""
+    return [what for what, at in (("o", 0), ("vt", 4)) if bits[at : at + 1] == "1"]
+
+
+def record_of(update):
+    """The record of a script that the update decodes to."""
+    if isinstance(update, Cancel):
+        return f"cancel,{update.imsi}"
+    if isinstance(update, Delete):
+        # A delete that names nothing has no record of its own, and changes as little as an insert of nothing.
+        named = withdrawn(update)
+        return ",".join(["delete" if named else "insert", update.imsi, *named])
+    texts = [text for name in IGNORED if name in update.lists for text in list_texts(name, update.lists[name])]
+    return ",".join(["insert", update.imsi, *texts])
