@@ -171,8 +171,8 @@ def marks_of(packet):
     """The names of the marks of errors, and of those that a message names only in words."""
     marks = set()
     for node in packet.everywhere():
-        if node.name == "_ws.malformed":
-            marks.add("malformed")
+        if node.name in ("_ws.malformed", "_ws.unreassembled"):
+            marks.add(node.name.removeprefix("_ws."))
         if node.name == "_ws.expert" and node.inner and "not_implemented" not in node.inner[0].name:
             marks.add(node.inner[0].name.removeprefix("ber.error."))
     return frozenset(marks)
@@ -193,7 +193,7 @@ def read(lines):
     with tempfile.NamedTemporaryFile(suffix=".pcap") as file:
         file.write(packets.capture(packets.SCCP, [packet_of(*numbered) for numbered in enumerate(lines)]))
         file.flush()
-        trees = trees_of(file.name, "gsm_map _ws.malformed")
+        trees = trees_of(file.name, "gsm_map _ws.malformed _ws.unreassembled")
     if len(trees) != len(lines):
         raise OSError(f"tshark shows {len(trees)} packets of {len(lines)}")
     return [reading_of(line, packet) for line, packet in zip(lines, trees)]

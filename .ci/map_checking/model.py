@@ -3,11 +3,6 @@
 The rules are its own, written down apart from any code of the crates.
 """
 
-import sys
-from pathlib import Path
-
-sys.path.insert(0, str(Path(__file__).resolve().parents[2] / "tools"))
-
 from map_arguments import updates
 
 from .reading import (CONTEXT, DATA_MISSING, LENGTH, MISSING, NO_IMSI, OTHER_IMSI, TAG, TWICE, UNEXPECTED_DATA, UNIVERSAL,

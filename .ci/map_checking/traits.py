@@ -29,7 +29,13 @@ TYPES = {
 }
 OPERATION_TYPES = {"insertSubscriberData": "insert", "deleteSubscriberData": "delete", "cancelLocation": "cancel"}
 
+NAMED_BITS = 14
 LAND_MOBILE, INTERNATIONAL_E164 = 6, 0x11
+
+
+def is_shared(first, second, third):
+    """Whether tshark takes the first digits for a country code that several networks share, as 882."""
+    return (100 * first + 10 * second + third) // 10 == 88
 
 
 def address_traits(content):
@@ -38,7 +44,7 @@ def address_traits(content):
         yield "plan-of-imsi"
     if any(nibble > 9 for nibble in nibbles):
         yield "no-decimal-digit"
-    if content and content[0] & 0x7F == INTERNATIONAL_E164 and nibbles[:2] == [8, 8]:
+    if len(nibbles) > 2 and content[0] & 0x7F == INTERNATIONAL_E164 and is_shared(*nibbles[:3]):
         yield "shared-country-code"
 
 
@@ -53,16 +59,14 @@ def service_traits(content):
 
 
 def integer_traits(content):
-    if len(content) > 4:
+    if len(content) > 8:
         yield "long-integer"
-    if len(content) > 1 and (content[0], content[1] & 128) in ((0, 0), (255, 128)):
-        yield "padded-integer"
 
 
 def bits_traits(content):
     if len(content) > 1:
         unused = content[-1] & (1 << content[0]) - 1
-        if (len(content) - 1) * 8 - content[0] > 14:
+        if (len(content) - 1) * 8 > NAMED_BITS:
             yield "unnamed-bits"
         if unused:
             yield "unused-bits"
@@ -88,10 +92,11 @@ def order_traits(type_name, found):
     if type_name in ("csi", "cancel"):
         found = found[1:]
     places = [order.get(field.tag, len(order)) for field in found]
-    if places != sorted(places):
+    known = [place for place in places if place < len(order)]
+    if places != sorted(places) or len(known) > len(set(known)):
         yield "other-order"
     for field in found:
-        if FIELDS[type_name].get(field.tag):
+        if FIELDS[type_name].get(field.tag) or type_name in ("csi", "cancel") and field.tag in order:
             yield "skipped-field"
         elif field.tag not in order:
             yield "unknown-field"

@@ -6,7 +6,8 @@ from .ber import (APPLICATION, CONTEXT, ENUMERATED, OBJECT_IDENTIFIER, OCTET_STR
 
 MSISDN = bytes.fromhex("9194711032")
 EXTENSION_IDENTIFIER = bytes.fromhex("2a030405")
-STRANGE_NUMBERS = (57, 63, 100, 127, 128, 200, 16383, 16384, 2**21, 2**40)
+STRANGE_NUMBERS = (57, 63, 100, 127, 128, 200, 16383, 16384, 2**21, 2**31)
+GREAT_NUMBER = 2**40
 MAX_EXTRAS = 3
 
 
@@ -81,6 +82,8 @@ def strange(random, depth=0):
     """A field that no version of a type has, with elements in it if it is constructed."""
     tag_class = random.choice((CONTEXT, CONTEXT, APPLICATION, PRIVATE))
     number = random.choice(STRANGE_NUMBERS + (() if tag_class == CONTEXT else (0, 4, 16, 30, 31)))
+    if random.random() < 0.01:
+        number = GREAT_NUMBER
     if depth < 3 and random.random() < 0.4:
         content = [strange(random, depth + 1) for _ in range(random.randint(0, 2))]
     else:

@@ -1,0 +1,129 @@
+"""A run over many arguments, side by side on the cores of the machine."""
+
+import argparse
+import os
+import random
+import re
+import shutil
+import sys
+from collections import Counter
+from concurrent.futures import ProcessPoolExecutor
+from functools import partial
+from multiprocessing import get_context
+
+from map_arguments.lines import drawn_line, mutated_line
+from map_arguments.styles import STYLES
+from map_arguments.updates import record_of
+
+from . import dissection, scripts
+from .classes import classes_of
+from .model import answer
+from .programs import CHECK, REPLAY, Difference, Programs, answers_of
+
+# A worker takes so many arguments at a time, and so many differences are printed.
+CHUNK, SHOWN = 1000, 10
+
+
+def side_by_side(check, items):
+    with ProcessPoolExecutor(len(os.sched_getaffinity(0)), get_context("fork")) as pool:
+        yield from pool.map(check, items)
+
+
+def drawn_lines(seed, numbers, edited):
+    """The lines of these numbers, with the records that they were written of, or with None if they have edits."""
+    styles = [*STYLES.values()]
+    for number in numbers:
+        source = random.Random(f"{seed} {number}")
+        update, line = drawn_line(source, styles[number % len(styles)])
+        yield (mutated_line(source, line), None) if edited else (line, record_of(update))
+
+
+def kind_of(text):
+    """The word of a record, or the number of a fault."""
+    return text.rpartition(" ")[0] if text.startswith("fault") else text.partition(",")[0]
+
+
+def compared(line, record, read, reading):
+    """The classes of what a line leaves, or a difference."""
+    modelled, rule = answer(line)
+    if record is not None and read != record:
+        raise Difference(f"{line}\n  is read as {read}\n  and was written of {record}")
+    if read != modelled:
+        raise Difference(f"{line}\n  is read as {read}\n  and by the rules as {modelled} ({rule})")
+    classes = classes_of(line, read, rule, reading)
+    if classes is None:
+        raise Difference(f"{line}\n  is read as {read} ({rule})\n  and by tshark as {reading.record} "
+                         f"with the marks {', '.join(sorted(reading.marks)) or 'none'}, which nothing explains")
+    return classes
+
+
+def check_chunk(seed, programs, edited, numbers):
+    """Compares the lines of these numbers. Returns counts of answers, of classes, and the differences."""
+    lines, records = zip(*drawn_lines(seed, numbers, edited))
+    reads = answers_of(programs.check, lines)
+    kinds, classes, differences = Counter(), Counter(), []
+    for line, record, read, reading in zip(lines, records, reads, dissection.read(lines)):
+        kinds[kind_of(read)] += 1
+        try:
+            found = compared(line, record, read, reading)
+        except Difference as difference:
+            differences.append(str(difference))
+            continue
+        classes.update(found or ["as tshark"])
+    return kinds, classes, differences
+
+
+def run_arguments(seed, count, programs, edited):
+    """Compares so many arguments, and prints what they leave. Returns how many differ."""
+    chunks = [range(start, min(start + CHUNK, count)) for start in range(0, count, CHUNK)]
+    kinds, classes, differences = Counter(), Counter(), []
+    for some_kinds, some_classes, some in side_by_side(partial(check_chunk, seed, programs, edited), chunks):
+        kinds += some_kinds
+        classes += some_classes
+        differences += some
+    print(f"{count} {'edited' if edited else 'written'} arguments: {listed(kinds)}")
+    for name, number in sorted(classes.items(), key=lambda item: (item[0] != "as tshark", item)):
+        print(f"  {name}: {number}")
+    for difference in differences[:SHOWN]:
+        print(difference, file=sys.stderr)
+    return len(differences)
+
+
+def listed(counts):
+    return ", ".join(f"{counts[name]} {name}" for name in sorted(counts))
+
+
+def run_scripts(seed, programs):
+    """Compares what the scripts leave."""
+    triggers = sum(side_by_side(partial(scripts.check_script, seed, programs), range(scripts.SCRIPTS)))
+    print(f"{scripts.SCRIPTS} scripts, with {triggers} triggers")
+    if not triggers:
+        raise Difference("no script triggers a service")
+
+
+def command_line():
+    parser = argparse.ArgumentParser(prog="map-check", description="Compares what a decoder reads of MAP arguments with "
+                                     "what they were written of, with a model of its rules, and with tshark.")
+    parser.add_argument("seed", metavar="SEED", help="makes the arguments; the same seed makes the same ones")
+    parser.add_argument("count", metavar="COUNT", type=int, help="of arguments as written, and again of edited ones")
+    parser.add_argument("--check", default=CHECK, metavar="PROGRAM", help=f"the decoder, {CHECK} if it is not given")
+    parser.add_argument("--replay", default=REPLAY, metavar="PROGRAM", help=f"{REPLAY} if it is not given")
+    return parser
+
+
+def main():
+    parser = command_line()
+    given = parser.parse_args()
+    for program in (given.check, given.replay, "tshark"):
+        if not shutil.which(program):
+            parser.error(f"{program} is not there")
+    if not re.fullmatch("[0-9]+", given.seed) or given.count < 1:
+        parser.error("SEED and COUNT are numbers, and COUNT is at least 1")
+    programs = Programs(given.check, given.replay)
+    try:
+        differing = sum(run_arguments(given.seed, given.count, programs, edited) for edited in (False, True))
+        run_scripts(given.seed, programs)
+    except (Difference, OSError) as fault:
+        sys.exit(f"map-check: {fault}")
+    print(f"{differing} differences")
+    sys.exit(bool(differing))

@@ -1,0 +1,77 @@
+"""The classes of disagreement between the decoder and tshark, each explained by a rule or by a trait of the argument."""
+
+from .reading import MALFORMED
+from .traits import traits_of
+
+# Rules of the decoder that tshark doesn't have: it puts no mark where one of them refuses an argument.
+UNMARKED = {
+    "no-argument": "an operation without its argument",
+    "second-argument": "octets behind the argument",
+    "missing-field": "a field that must be there is not",
+    "empty-list": "a list without items",
+    "no-number": "a destination number criterion without numbers and lengths",
+    "long-list": "more items than a list may have",
+    "point-twice": "two items of one detection point",
+    "cause-at-first-point": "causes at detection point 2 or 12",
+    "range-of-value": "a number out of its range",
+    "octets-of-address": "no octets of an address, or too many",
+    "octets-of-imsi": "an IMSI of too few or too many octets",
+    "digits-of-imsi": "an IMSI of other digits than 0 to 9, or of too many",
+    "no-imsi": "no IMSI in argument and dialogue",
+    "other-imsi": "another IMSI than that of the dialogue",
+    "other-tag": "an element that its place can't have",
+    "other-form": "a primitive element that must be constructed, or the other way round",
+    "other-service": "a basic service code that is neither",
+    "octets-of-cause": "a cause of no octet, or of several",
+    "octets-of-bits": "a bit string without octets, or with more unused bits than it has",
+    "tag-of-end-of-contents": "the tag 0 where no indefinite length ends",
+    "primitive-of-indefinite-length": "a primitive element of indefinite length",
+    "deep-nesting": "more than 16 indefinite lengths in one another",
+    "long-form-of-tag": "a tag number below 31 in several octets",
+}
+
+# The identifier or the length of the argument itself is malformed. Then tshark shows no field of it, and no mark.
+MALFORMED_ARGUMENT = f"fault {MALFORMED} 0"
+
+# What explains a mark of tshark on an argument that the decoder reads, the more likely trait first.
+MARKS = {
+    "unknown_field": ("unknown-field", "other-order", "great-tag"),
+    "sequence.field_wrong": ("other-order", "great-tag"),
+    "length": ("long-service",),
+    "bits_unknown": ("unnamed-bits",),
+    "bits_set_padded": ("unused-bits",),
+    "e164.": ("no-decimal-digit",),
+    "e212.": ("plan-of-imsi", "short-imsi"),
+    "_ws.malformed.expert": ("plan-of-imsi", "shared-country-code", "short-imsi"),
+}
+
+# The decoder doesn't look into what it skips, and tshark does: any mark may come from there.
+SKIPPED = ("skipped-field", "unknown-field", "great-tag")
+
+# Traits by which tshark reads other values, or stops.
+READ_OTHERWISE = ("other-order", "plan-of-imsi", "shared-country-code", "long-integer", "unused-bits",
+                  *SKIPPED)
+
+
+def explaining_trait(mark, traits):
+    """The trait that explains a mark, or None."""
+    candidates = next((names for beginning, names in MARKS.items() if mark.startswith(beginning)), ())
+    return next((trait for trait in (*candidates, *SKIPPED) if trait in traits), None)
+
+
+def classes_of(line, answer, rule, reading):
+    """The classes by which tshark's reading differs from the decoder's answer; none if they agree; None if there is a
+    difference that no class explains. The rule is the one that refuses the argument, or None."""
+    if rule:
+        if reading.marks:
+            return []
+        if answer == MALFORMED_ARGUMENT:
+            return ["no mark: malformed-argument"]
+        return [f"no mark: {rule}"] if rule in UNMARKED else None
+    if reading.record == answer and not reading.marks:
+        return []
+    traits = traits_of(line)
+    found = {f"mark: {explaining_trait(mark, traits)}" for mark in reading.marks - {"malformed"}}
+    if reading.record != answer:
+        found.add(f"read otherwise: {next((trait for trait in READ_OTHERWISE if trait in traits), None)}")
+    return None if any(name.endswith("None") for name in found) else sorted(found) or None
