@@ -13,6 +13,7 @@ from multiprocessing import get_context
 
 from map_arguments.lines import drawn_line, mutated_line
 from map_arguments.styles import STYLES
+from map_arguments.trees import TsharkFailed
 from map_arguments.updates import record_of
 
 from . import dissection, scripts
@@ -123,7 +124,7 @@ def main():
     try:
         differing = sum(run_arguments(given.seed, given.count, programs, edited) for edited in (False, True))
         run_scripts(given.seed, programs)
-    except (Difference, OSError) as fault:
+    except (Difference, TsharkFailed, OSError) as fault:
         sys.exit(f"map-check: {fault}")
     print(f"{differing} differences")
     sys.exit(bool(differing))

@@ -1,45 +1,14 @@
 """What tshark reads of arguments: each goes in a TCAP message of its own into a capture, and the tree of fields that
 tshark makes of it becomes a record of a script, with the marks of what it calls malformed."""
 
-import subprocess
 import tempfile
 from typing import NamedTuple
-from xml.parsers import expat
 
 from map_arguments import packets, transactions, updates
+from map_arguments.trees import TsharkFailed, tbcd_digits, trees_of
 
 VLR_ADDRESS = transactions.address(transactions.VLR, "491710000001")
 HLR_ADDRESS = transactions.address(transactions.HLR, "491710000002")
-
-
-class Node:
-    """A field of a tree: its name, its octets in hexadecimal, and the fields in it."""
-
-    __slots__ = ("name", "value", "show", "inner")
-
-    def __init__(self, attributes):
-        self.name = attributes.get("name", "")
-        self.value = attributes.get("value", "")
-        self.show = attributes.get("show", "")
-        self.inner = []
-
-    def octets(self):
-        return bytes.fromhex(self.value)
-
-    def integer(self):
-        return int.from_bytes(self.octets(), "big", signed=True)
-
-    def all(self, ending):
-        """The fields in it whose names end so."""
-        return [node for node in self.inner if node.name.endswith(ending)]
-
-    def first(self, ending):
-        return next(iter(self.all(ending)), None)
-
-    def everywhere(self):
-        for node in self.inner:
-            yield node
-            yield from node.everywhere()
 
 
 class Reading(NamedTuple):
@@ -47,39 +16,6 @@ class Reading(NamedTuple):
 
     record: str
     marks: frozenset
-
-
-class Trees:
-    """Gathers the tree of each packet."""
-
-    def __init__(self):
-        self.packets, self.open = [], []
-        self.parser = expat.ParserCreate()
-        self.parser.StartElementHandler, self.parser.EndElementHandler = self.start, self.end
-
-    def start(self, tag, attributes):
-        node = Node(attributes)
-        if tag == "packet":
-            self.packets.append(node)
-            self.open = [node]
-        elif self.open:
-            self.open[-1].inner.append(node)
-            self.open.append(node)
-
-    def end(self, tag):
-        if self.open:
-            self.open.pop()
-
-
-def trees_of(capture, protocols):
-    """The trees that tshark makes of the packets of a capture, as far as these protocols go."""
-    trees = Trees()
-    words = ["tshark", "-n", "-r", capture, "-T", "pdml", "-J", protocols]
-    with subprocess.Popen(words, stdout=subprocess.PIPE, stderr=subprocess.DEVNULL) as process:
-        trees.parser.ParseFile(process.stdout)
-    if process.returncode:
-        raise OSError(f"tshark ends with status {process.returncode}")
-    return trees.packets
 
 
 def version_of(line):
@@ -154,14 +90,9 @@ def delete_of(invoke, imsi):
     return updates.Delete(imsi, bool(invoke.first(".camelSubscriptionInfoWithdraw_element")), text)
 
 
-def digits_of(node):
-    """The digits of an IMSI, of whatever octets it has."""
-    return "".join(f"{octet & 15:x}{octet >> 4:x}" for octet in node.octets()).removesuffix("f")
-
-
 def update_of(line, invoke):
-    shown = next((node for node in invoke.everywhere() if node.name in ("gsm_map.ms.imsi", "gsm_map.imsi")), None)
-    imsi = digits_of(shown) if shown else line.imsi
+    shown = invoke.named("gsm_map.ms.imsi", "gsm_map.imsi")
+    imsi = tbcd_digits(shown.octets()) if shown else line.imsi
     if line.operation == "cancelLocation":
         return updates.Cancel(imsi)
     return (insert_of if line.operation == "insertSubscriberData" else delete_of)(invoke, imsi)
@@ -180,7 +111,7 @@ def marks_of(packet):
 
 def reading_of(line, packet):
     """What tshark reads of a line. A field that it leaves out makes the record a text of its own."""
-    invoke = next((node for node in packet.everywhere() if node.name == "gsm_old.invoke_element"), None)
+    invoke = packet.named("gsm_old.invoke_element")
     try:
         record = updates.record_of(update_of(line, invoke)) if invoke else "nothing"
     except (AttributeError, IndexError, ValueError):
@@ -195,5 +126,5 @@ def read(lines):
         file.flush()
         trees = trees_of(file.name, "gsm_map _ws.malformed _ws.unreassembled")
     if len(trees) != len(lines):
-        raise OSError(f"tshark shows {len(trees)} packets of {len(lines)}")
+        raise TsharkFailed(f"tshark shows {len(trees)} packets of {len(lines)}")
     return [reading_of(line, packet) for line, packet in zip(lines, trees)]
