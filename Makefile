@@ -15,6 +15,7 @@ PROGRAM := crates/camel_replay/out/camel_replay
 BENCH := crates/camel_vlr_bench/out/camel_vlr_bench
 REFUSALS := crates/camel_refusals/out/camel_refusals
 COPROCESS := crates/camel_replay/out/coprocess
+MAP_CHECK := crates/camel_map_check/out/camel_map_check
 
 # How long it takes to prove and build a program.
 FIRST := about 14 minutes the first time, on four cores
@@ -35,8 +36,8 @@ define targets
 endef
 say = $(call targets,$@) >&2
 
-.PHONY: help try replay program check script crate pages examples scripts streams coprocess refusals fuzz library \
-	install library-test soak fuzz-c bench bench-program bench-vlr bench-peers count-vlr test
+.PHONY: help try replay program check script crate pages examples scripts streams coprocess refusals fuzz \
+	map-check library install library-test soak fuzz-c bench bench-program bench-vlr bench-peers count-vlr test
 # In order, so that what is missing is said before anything is built.
 .NOTPARALLEL:
 .SECONDEXPANSION:
@@ -64,7 +65,7 @@ crate:
 
 # Proves and builds a program if a source below it is newer, and runs it once. What `rt ci` has built is newer than
 # its sources.
-$(PROGRAM) $(BENCH) $(REFUSALS): $$(shell .ci/sources $$(@F))
+$(PROGRAM) $(BENCH) $(REFUSALS) $(MAP_CHECK): $$(shell .ci/sources $$(@F))
 	@.ci/need rt python3
 	@echo "$(@F): proved and built with all that it stands on, $(FIRST); log: $(@D)/build.log" >&2
 	@.ci/build $(@F)
@@ -188,6 +189,13 @@ fuzz: need-python3 $(PROGRAM)
 	$(say)
 	@.ci/fuzz $(SEED) $(COUNT)
 
+# COUNT arguments that SEED makes, in five styles, and COUNT of them with edits.
+map-check: COUNT ?= 100000
+## Compares what is read of COUNT MAP arguments with tshark: 4 minutes for 100,000, once the programs are built.
+map-check: need-python3 need-tshark $(PROGRAM) $(MAP_CHECK)
+	$(say)
+	@.ci/map-check $(SEED) $(COUNT)
+
 ## Passes every proof and every test: about 50 minutes the first time, on four cores.
 test: need-rt need-python3 need-cc
 	$(say)
@@ -199,3 +207,5 @@ test: need-rt need-python3 need-cc
 	@$(MAKE) --no-print-directory library
 	@.ci/library-test 1000000 100000
 	@$(MAKE) --no-print-directory fuzz COUNT=1000
+	@if command -v tshark > /dev/null; then $(MAKE) --no-print-directory map-check COUNT=2000; \
+		else echo 'map-check is left out: tshark is missing' >&2; fi

@@ -1,1 +1,1 @@
-"""The check of a decoder of MAP arguments: against what wrote them, against a model of its rules, and against tshark."""
+"""The check of a decoder of MAP arguments against what wrote them, against a model of its rules and against tshark."""

@@ -18,6 +18,7 @@ from map_arguments.updates import record_of
 
 from . import dissection, scripts
 from .classes import classes_of
+from .kept_capture import CAPTURE, check_capture
 from .model import answer
 from .programs import CHECK, REPLAY, Difference, Programs, answers_of
 
@@ -103,8 +104,11 @@ def run_scripts(seed, programs):
 
 
 def command_line():
-    parser = argparse.ArgumentParser(prog="map-check", description="Compares what a decoder reads of MAP arguments with "
-                                     "what they were written of, with a model of its rules, and with tshark.")
+    parser = argparse.ArgumentParser(
+        prog="map-check",
+        description="Compares what a decoder reads of MAP arguments with what they were written of, with a model of "
+        "its rules, and with tshark.",
+    )
     parser.add_argument("seed", metavar="SEED", help="makes the arguments; the same seed makes the same ones")
     parser.add_argument("count", metavar="COUNT", type=int, help="of arguments as written, and again of edited ones")
     parser.add_argument("--check", default=CHECK, metavar="PROGRAM", help=f"the decoder, {CHECK} if it is not given")
@@ -124,6 +128,7 @@ def main():
     try:
         differing = sum(run_arguments(given.seed, given.count, programs, edited) for edited in (False, True))
         run_scripts(given.seed, programs)
+        print(f"{CAPTURE}: {check_capture(programs)} messages, with the script that is kept")
     except (Difference, TsharkFailed, OSError) as fault:
         sys.exit(f"map-check: {fault}")
     print(f"{differing} differences")

@@ -1,4 +1,4 @@
-"""The classes of disagreement between the decoder and tshark, each explained by a rule or by a trait of the argument."""
+"""The classes of disagreement between the decoder and tshark, each explained by a rule or a trait of the argument."""
 
 from .reading import MALFORMED
 from .traits import traits_of
@@ -24,10 +24,21 @@ UNMARKED = {
     "other-service": "a basic service code that is neither",
     "octets-of-cause": "a cause of no octet, or of several",
     "octets-of-bits": "a bit string without octets, or with more unused bits than it has",
+}
+
+# Malformed BER of an element that tshark doesn't look into, or reads in a way of its own.
+UNMARKED |= {
     "tag-of-end-of-contents": "the tag 0 where no indefinite length ends",
     "primitive-of-indefinite-length": "a primitive element of indefinite length",
+    "no-end-of-contents": "an indefinite length without an end",
     "deep-nesting": "more than 16 indefinite lengths in one another",
     "long-form-of-tag": "a tag number below 31 in several octets",
+    "padded-tag": "a tag number that begins with a group of zeros",
+    "cut-tag": "a tag number that goes on beyond the end",
+    "no-length": "no length behind a tag",
+    "long-length": "a length of more than four octets",
+    "cut-length": "a length that goes beyond the end",
+    "cut-content": "content that goes beyond the end",
 }
 
 # The identifier or the length of the argument itself is malformed. Then tshark shows no field of it, and no mark.
@@ -49,8 +60,7 @@ MARKS = {
 SKIPPED = ("skipped-field", "unknown-field", "great-tag")
 
 # Traits by which tshark reads other values, or stops.
-READ_OTHERWISE = ("other-order", "plan-of-imsi", "shared-country-code", "long-integer", "unused-bits",
-                  *SKIPPED)
+READ_OTHERWISE = ("other-order", "plan-of-imsi", "shared-country-code", "long-integer", "unused-bits", *SKIPPED)
 
 
 def explaining_trait(mark, traits):

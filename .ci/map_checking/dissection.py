@@ -32,7 +32,8 @@ def packet_of(number, line):
 
 def row_of(name, node):
     point = node.first("TriggerDetectionPoint")
-    key, address, handling = (node.first(ending) for ending in (".serviceKey", ".gsmSCF_Address", ".defaultCallHandling"))
+    endings = (".serviceKey", ".gsmSCF_Address", ".defaultCallHandling")
+    key, address, handling = (node.first(ending) for ending in endings)
     return updates.Row(point.integer(), key.integer(), address.octets(), handling.integer())
 
 

@@ -5,8 +5,8 @@ The rules are its own, written down apart from any code of the crates.
 
 from map_arguments import updates
 
-from .reading import (CONTEXT, DATA_MISSING, LENGTH, MISSING, NO_IMSI, OTHER_IMSI, TAG, TWICE, UNEXPECTED_DATA, UNIVERSAL,
-                      Fault, element, inner)
+from .reading import (CONTEXT, DATA_MISSING, LENGTH, MISSING, NO_IMSI, OTHER_IMSI, TAG, TWICE, UNEXPECTED_DATA,
+                      UNIVERSAL, Fault, element, inner)
 
 PRIMITIVE, CONSTRUCTED = False, True
 INTEGER, OCTET_STRING, ENUMERATED, SEQUENCE = ((UNIVERSAL, number) for number in (2, 4, 10, 16))

@@ -25,7 +25,8 @@ def output_of(program, text):
     except subprocess.TimeoutExpired:
         raise Difference(f"{program} does not end within {TIMEOUT} seconds") from None
     if ended.returncode or ended.stderr:
-        raise Difference(f"{program} ends with status {ended.returncode}: {ended.stderr[-200:].decode(errors='replace')}")
+        said = ended.stderr[-200:].decode(errors="replace")
+        raise Difference(f"{program} ends with status {ended.returncode}: {said}")
     return ended.stdout.decode()
 
 

@@ -16,12 +16,13 @@ def row_text(name, row):
     return f"{name}:{row.point}:{row.key}:{row.address.hex()}:{row.handling}"
 
 
-def as_script_has_it(name, item):
-    """The item with numbers that a script can hold."""
-    item.point %= GREATEST_POINT + 1
-    if isinstance(item, updates.Row):
-        item.handling = min(item.handling, GREATEST_HANDLING)
-    return item
+def fitting(items):
+    """The items that a script can hold, with handlings that it can hold."""
+    kept = [item for item in items if 0 <= item.point <= GREATEST_POINT]
+    for item in kept:
+        if isinstance(item, updates.Row):
+            item.handling = min(item.handling, GREATEST_HANDLING)
+    return kept
 
 
 def record_text(update):
@@ -47,22 +48,13 @@ def draw_call(source, imsi, addresses):
 
 
 def drawn_update(source, imsi):
-    """An update of this subscriber. An insert has a list of which no two counting items have one point also after
-    their points are made to fit a script."""
+    """An update of this subscriber, whose lists have only items that a script can hold."""
     update = drawing.draw_update(source)
     update.imsi = imsi
     if isinstance(update, updates.Insert):
-        for name, items in update.lists.items():
-            fitting = [as_script_has_it(name, item) for item in items]
-            counting = [item.point for item in fitting if item.point in updates.points_of(name)]
-            if len(counting) > len(set(counting)) or any(has_early_cause(name, item) for item in fitting):
-                update.lists[name] = [item for item in fitting if item.point not in updates.points_of(name)] or fitting[:0]
-        update.lists = {name: items for name, items in update.lists.items() if items}
+        lists = {name: fitting(items) for name, items in update.lists.items()}
+        update.lists = {name: items for name, items in lists.items() if items}
     return update
-
-
-def has_early_cause(name, item):
-    return isinstance(item, updates.Entry) and item.causes and item.point == updates.points_of(name)[0]
 
 
 def addresses_of(update):

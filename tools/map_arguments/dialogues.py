@@ -116,8 +116,9 @@ def message_of(frame, protocols):
         return None
     kind = next((node.name.removeprefix("tcap.").removesuffix("_element") for node in tcap.inner
                  if node.name.endswith("_element")), "")
-    return Message(frame, kind, address_of(protocols, "calling", "mtp3.opc"), address_of(protocols, "called", "mtp3.dpc"),
-                   transaction(tcap, "tcap.otid"), transaction(tcap, "tcap.dtid"), [])
+    calling, called = address_of(protocols, "calling", "mtp3.opc"), address_of(protocols, "called", "mtp3.dpc")
+    origin, destination = transaction(tcap, "tcap.otid"), transaction(tcap, "tcap.dtid")
+    return Message(frame, kind, calling, called, origin, destination, [])
 
 
 def messages_of(packet, frame):

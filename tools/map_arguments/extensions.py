@@ -1,8 +1,8 @@
 """Fields that a decoder of CAMEL data skips: others of the types of TS 29.002, extension containers, and fields that no
 version of a type has."""
 
-from .ber import (APPLICATION, CONTEXT, ENUMERATED, OBJECT_IDENTIFIER, OCTET_STRING, PRIVATE, SEQUENCE, UNIVERSAL, Element,
-                  context, universal)
+from .ber import (APPLICATION, CONTEXT, ENUMERATED, OBJECT_IDENTIFIER, OCTET_STRING, PRIVATE, SEQUENCE, UNIVERSAL,
+                  Element, context, universal)
 
 MSISDN = bytes.fromhex("9194711032")
 EXTENSION_IDENTIFIER = bytes.fromhex("2a030405")

@@ -131,7 +131,7 @@ def swap_fields(random, octets):
 
 # Edits that leave the lengths right come more often, since most of the others leave malformed BER.
 EDITS = (flip_bit, cut, insert_octets, remove_octets, replace_octet, edit_length, nest_field, swap_fields)
-EDITS += (double_field, empty_field, drop_field, multiply_field, edit_content, edit_content, edit_content, change_tag) * 2
+EDITS += (double_field, empty_field, drop_field, multiply_field, change_tag) * 2 + (edit_content,) * 6
 
 
 def mutated(random, octets):

@@ -1,7 +1,7 @@
 """TCAP messages (Q.773) with invokes and results of MAP, and the SCCP messages (Q.713) that carry them."""
 
-from .ber import (APPLICATION, INTEGER, OBJECT_IDENTIFIER, SEQUENCE, Element, context, identifier_octets, integer_octets,
-                  length_octets, minimal, universal)
+from .ber import (APPLICATION, INTEGER, OBJECT_IDENTIFIER, SEQUENCE, Element, context, identifier_octets,
+                  integer_octets, length_octets, minimal, universal)
 
 CODES = {"updateLocation": 2, "cancelLocation": 3, "insertSubscriberData": 7, "deleteSubscriberData": 8}
 
