@@ -5,7 +5,8 @@ import tempfile
 from typing import NamedTuple
 
 from map_arguments import packets, transactions, updates
-from map_arguments.trees import TsharkFailed, tbcd_digits, trees_of
+from map_arguments.encoding import tbcd_digits
+from map_arguments.trees import TsharkFailed, trees_of
 
 VLR_ADDRESS = transactions.address(transactions.VLR, "491710000001")
 HLR_ADDRESS = transactions.address(transactions.HLR, "491710000002")

@@ -32,7 +32,13 @@ def output_of(program, text):
 
 def answers_of(program, lines):
     """What the program reads of each line."""
-    answers = output_of(program, "".join(f"{line}\n" for line in lines)).splitlines()
+    try:
+        answers = output_of(program, "".join(f"{line}\n" for line in lines)).splitlines()
+    except Difference as difference:
+        if len(lines) == 1:
+            raise Difference(f"{lines[0]}\n  {difference}") from None
+        # Each by itself, so that the line at which the program ends is named.
+        return [answer for line in lines for answer in answers_of(program, [line])]
     if len(answers) != len(lines):
         raise Difference(f"{program} answers {len(lines)} lines with {len(answers)}")
     return answers

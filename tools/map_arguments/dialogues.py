@@ -1,13 +1,18 @@
 """The dialogues of MAP in a capture: which operations each has, and of which subscriber it is."""
 
+import re
 from dataclasses import dataclass
 from typing import NamedTuple
 
-from .trees import tbcd_digits, trees_of
+from .encoding import tbcd_digits
+from .trees import trees_of
 
-PROTOCOLS = "m3ua mtp3 sccp tcap gsm_map"
+PROTOCOLS = "m3ua mtp3 sccp tcap"
 OPERATIONS = {2: "updateLocation", 3: "cancelLocation", 7: "insertSubscriberData", 8: "deleteSubscriberData"}
-INVOKE, SGSN = "1", "149"
+RESTORE_DATA, SGSN = 57, "149"
+
+# Identifiers of TCAP and of MAP: an invoke, its linked id, a local operation code, a sequence, and an IMSI.
+INVOKE, LINKED, LOCAL, SEQUENCE, UNTAGGED_IMSI, TAGGED_IMSI = 0xA1, 0x80, 0x02, 0x30, 0x04, 0x80
 END_OF_CONTENTS, INDEFINITE = b"\0\0", 0x80
 
 
@@ -56,41 +61,54 @@ def head(octets, at):
 
 
 def end_of(octets, at):
-    """Where the element at this place ends."""
-    at, end = head(octets, at)
+    """Where the content of the element at this place starts and ends, and where the next element starts."""
+    content, end = head(octets, at)
     if end is not None:
-        return end
+        return content, end, end
+    at = content
     while octets[at : at + 2] != END_OF_CONTENTS:
-        at = end_of(octets, at)
-    return at + 2
+        at = end_of(octets, at)[2]
+    return content, at, at + 2
 
 
-def argument_of(component):
-    """The octets behind the operation code of an invoke, without the end of an indefinite length of the invoke."""
+def elements(octets):
+    """The identifier, the content and the place behind it of each element of a series, up to one that is malformed."""
+    at = 0
     try:
-        at = end_of(component, 0)
-        if component[at : at + 1] == b"\x80":
-            at = end_of(component, at)
-        at = end_of(component, at)
-        argument = component[at:]
-        end = end_of(argument, 0) if argument else 0
+        while at < len(octets) and octets[at : at + 2] != END_OF_CONTENTS:
+            identifier, (content, end, at) = octets[at], end_of(octets, at)
+            if at > len(octets):
+                return
+            yield identifier, octets[content:end], at
     except (IndexError, RecursionError):
-        return component[at:]
-    return argument[:end] if argument[end:] == END_OF_CONTENTS else argument
+        return
+
+
+def imsi_of(code, argument):
+    """The IMSI in the argument of an operation that may have one, or nothing. The decoder looks for others."""
+    identifier, content, _ = next(elements(argument), (None, b"", 0))
+    if identifier != SEQUENCE or code not in (*OPERATIONS, RESTORE_DATA):
+        return ""
+    tag = UNTAGGED_IMSI if OPERATIONS.get(code) in (None, "updateLocation", "cancelLocation") else TAGGED_IMSI
+    digits = next((tbcd_digits(inner) for identifier, inner, _ in elements(content) if identifier == tag), "")
+    return digits if re.fullmatch("[0-9]{5,15}", digits) else ""
 
 
 def invoke_of(component):
-    """The invoke of a component, or None if it is none."""
-    invoke = component.first(".invoke_element")
-    code = invoke and invoke.named("gsm_old.localValue")
-    if component.show != INVOKE or not code:
-        return None
-    shown = invoke.first("gsm_map.ms.imsi")
-    identity = invoke.first("gsm_map.ms.identity")
-    if identity:
-        shown = identity.named("gsm_map.imsi")
-    imsi = tbcd_digits(shown.octets()) if shown else ""
-    return Invoke(OPERATIONS.get(code.integer(), ""), imsi, argument_of(component.octets()))
+    """The invoke that the content of a component is, or None if its operation code is not a local one."""
+    for place, (identifier, content, after) in enumerate(elements(component)):
+        # The first element is the id of the invoke, and the id of a linked one may come before the code.
+        if place and identifier != LINKED:
+            if identifier != LOCAL:
+                return None
+            code, argument = int.from_bytes(content, "big"), component[after:]
+            return Invoke(OPERATIONS.get(code, ""), imsi_of(code, argument), argument)
+    return None
+
+
+def invokes_of(components):
+    invokes = (invoke_of(content) for identifier, content, _ in elements(components) if identifier == INVOKE)
+    return [invoke for invoke in invokes if invoke]
 
 
 def address_of(protocols, side, point_code):
@@ -122,16 +140,17 @@ def message_of(frame, protocols):
 
 
 def messages_of(packet, frame):
-    """The TCAP messages of a packet, which may have several."""
+    """The TCAP messages of a packet, which may have several. The invokes of one are those of MAP if tshark says so; it
+    shows their octets also if it can't read them."""
     protocols, message, found = {}, None, []
     for tree in packet.inner:
         protocols[tree.name] = tree
         if tree.name == "tcap":
             message = message_of(frame, protocols)
             found += [message] if message else []
-        if tree.name == "gsm_map" and message:
-            components = [node for node in tree.everywhere() if node.name == "gsm_map.old.Component"]
-            message.invokes.extend(filter(None, map(invoke_of, components)))
+        if tree.name == "gsm_map" and message and not message.invokes:
+            components = protocols["tcap"].named("tcap.components")
+            message.invokes.extend(invokes_of(components.octets()) if components else ())
     return found
 
 

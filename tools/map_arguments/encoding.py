@@ -15,6 +15,11 @@ def tbcd(digits):
     return bytes(int(text[at + 1] + text[at], 16) for at in range(0, len(text), 2))
 
 
+def tbcd_digits(octets):
+    """The digits of an IMSI, the lower half of an octet first, without the filler at the end."""
+    return "".join(f"{octet & 15:x}{octet >> 4:x}" for octet in octets).removesuffix("f")
+
+
 def sequence(elements, type_name=""):
     return universal(SEQUENCE, elements, type_name)
 

@@ -78,8 +78,3 @@ def trees_of(capture, protocols):
     if process.returncode:
         raise TsharkFailed(said[-1] if said else f"tshark ends with status {process.returncode}")
     return trees.packets
-
-
-def tbcd_digits(octets):
-    """The digits of an IMSI, the lower half of an octet first, without the filler at the end."""
-    return "".join(f"{octet & 15:x}{octet >> 4:x}" for octet in octets).removesuffix("f")
