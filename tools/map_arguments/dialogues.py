@@ -114,11 +114,11 @@ def invokes_of(components):
 def address_of(protocols, side, point_code):
     """The global title of an SCCP address, or else its point code."""
     sccp, routing = protocols.get("sccp"), protocols.get("m3ua") or protocols.get("mtp3")
-    for node in (sccp and sccp.named(f"sccp.{side}.digits"), sccp and sccp.named(f"sccp.{side}.pc"),
-                 routing and routing.named(point_code)):
-        if node:
-            return f"{node.name.rpartition('.')[2]} {node.show}"
-    return ""
+    title = sccp and sccp.named(f"sccp.{side}.digits")
+    if title:
+        return f"title {title.show}"
+    code = sccp and sccp.named(f"sccp.{side}.pc") or routing and routing.named(point_code)
+    return f"code {code.show}" if code else ""
 
 
 def transaction(tcap, name):
