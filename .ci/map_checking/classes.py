@@ -60,7 +60,8 @@ MARKS = {
 SKIPPED = ("skipped-field", "unknown-field", "great-tag")
 
 # Traits by which tshark reads other values, or stops.
-READ_OTHERWISE = ("other-order", "plan-of-imsi", "shared-country-code", "long-integer", "unused-bits", *SKIPPED)
+READ_OTHERWISE = ("other-order", "plan-of-imsi", "shared-country-code", "long-integer", "unused-bits", "great-tag",
+                  "skipped-field", "unknown-field")
 
 
 def explaining_trait(mark, traits):
