@@ -1,2 +1,8 @@
 mod EachLemmas
+mod EncodedFields
+mod EncodedItems
+mod EncodedLengths
+mod EncodedNumbers
+mod EncodedParts
+mod EncodedSeries
 mod FieldLemmas
