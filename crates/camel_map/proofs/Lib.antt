@@ -1,8 +1,10 @@
 mod EachLemmas
 mod EncodedFields
 mod EncodedItems
+mod EncodedKept
 mod EncodedLengths
 mod EncodedNumbers
 mod EncodedParts
+mod EncodedRows
 mod EncodedSeries
 mod FieldLemmas
