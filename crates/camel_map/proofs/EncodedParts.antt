@@ -11,13 +11,16 @@ use Rattle.camel_map.proofs.EncodedSeries.{AreIdentified}
 module _ (octet : ℕ) where
   -- parts that are not of the tag
   pub others : (xs ys : List ElementData) → of_tag octet xs ≡ [] → of_tag octet (xs ++ ys) ≡ of_tag octet ys
-  others xs ys none = filter-append (has_tag octet) xs ys ∙ ap (λ front. front ++ of_tag octet ys) none
+  others xs ys other = filter-append (has_tag octet) xs ys ∙ ap (λ front. front ++ of_tag octet ys) other
 
-  -- the parts of the tag, and none behind them
-  pub own : (xs ys : List ElementData) → of_tag octet xs ≡ xs → of_tag octet ys ≡ [] → of_tag octet (xs ++ ys) ≡ xs
-  own xs ys all none =
-      filter-append (has_tag octet) xs ys ∙ ap (λ front. front ++ of_tag octet ys) all ∙ ap (λ rest. xs ++ rest) none
-      ∙ append-nil xs
+  -- none of the parts is of the tag
+  pub none : (xs ys : List ElementData) → of_tag octet xs ≡ [] → of_tag octet ys ≡ [] → of_tag octet (xs ++ ys) ≡ []
+  none xs ys first second = others xs ys first ∙ second
+
+  -- parts that none of the tag follow
+  pub before : (xs ys : List ElementData) → of_tag octet ys ≡ [] → of_tag octet (xs ++ ys) ≡ of_tag octet xs
+  before xs ys other =
+      filter-append (has_tag octet) xs ys ∙ ap (λ more. of_tag octet xs ++ more) other ∙ append-nil (of_tag octet xs)
 
   module _ {A : Type 0} (element_of : A → ElementData) where
     -- a field of another tag
@@ -44,9 +47,34 @@ module _ (octet : ℕ) where
     some_own identifier [] own = refl
     some_own identifier (x ∷ xs) own = rw own refl
 
+-- four lists of parts, of which at most one has elements of the tag
+module _ (octet : ℕ) (a b c d : List ElementData) where
+  pub fourth : of_tag octet a ≡ [] → of_tag octet b ≡ [] → of_tag octet c ≡ []
+      → of_tag octet (a ++ b ++ c ++ d) ≡ of_tag octet d
+  fourth no_a no_b no_c = others octet (a ++ b ++ c) d (none octet (a ++ b) c (none octet a b no_a no_b) no_c)
+
+  pub third : of_tag octet a ≡ [] → of_tag octet b ≡ [] → of_tag octet d ≡ []
+      → of_tag octet (a ++ b ++ c ++ d) ≡ of_tag octet c
+  third no_a no_b no_d = before octet (a ++ b ++ c) d no_d ∙ others octet (a ++ b) c (none octet a b no_a no_b)
+
+  pub second : of_tag octet a ≡ [] → of_tag octet c ≡ [] → of_tag octet d ≡ []
+      → of_tag octet (a ++ b ++ c ++ d) ≡ of_tag octet b
+  second no_a no_c no_d =
+      before octet (a ++ b ++ c) d no_d ∙ (before octet (a ++ b) c no_c ∙ others octet a b no_a)
+
+  pub first : of_tag octet b ≡ [] → of_tag octet c ≡ [] → of_tag octet d ≡ []
+      → of_tag octet (a ++ b ++ c ++ d) ≡ of_tag octet a
+  first no_b no_c no_d =
+      before octet (a ++ b ++ c) d no_d ∙ (before octet (a ++ b) c no_c ∙ before octet a b no_b)
+
 pub identified_append : (xs ys : List ElementData) → AreIdentified xs → AreIdentified ys → AreIdentified (xs ++ ys)
 identified_append [] ys first second = second
 identified_append (x ∷ xs) ys first second = (first.0, identified_append xs ys first.1 second)
+
+pub identified_four : (a b c d : List ElementData) → AreIdentified a → AreIdentified b → AreIdentified c
+    → AreIdentified d → AreIdentified (a ++ b ++ c ++ d)
+identified_four a b c d is_a is_b is_c is_d =
+    identified_append (a ++ b ++ c) d (identified_append (a ++ b) c (identified_append a b is_a is_b) is_c) is_d
 
 module _ {A : Type 0} (element_of : A → ElementData) where
   pub identified_any : (o : Option A) → ((x : A) → IsIdentifier (element_of x).identifier)

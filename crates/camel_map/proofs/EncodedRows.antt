@@ -8,7 +8,6 @@ use Rattle.camel_criteria.specs.declared.handling.Handling.{Handling}
 use Rattle.camel_criteria.specs.declared.handling.Handling.TheVariants.{Continue, Release}
 use Rattle.camel_criteria.specs.declared.refusal.Refusal.{Refusal}
 use Rattle.camel_rows.specs.TdpRow.{TdpRowData, max_service_key, tdp_row_of}
-use Rattle.camel_tbcd.specs.AddressLength.{IsAddress, max_isdn_address_length}
 use Rattle.camel_map.specs.Encoding.{csi_element, handling_number, ignored_row, leaf, number_octets, parent, row_element, sent_rows}
 use Rattle.camel_map.specs.Field.{identified, mandatory}
 use Rattle.camel_map.specs.Identifier.{enumerated, integer, primitive, sequence}
@@ -20,16 +19,8 @@ use Rattle.camel_map.specs.declared.map_fault.MapFault.{MapFault}
 use Rattle.camel_map.proofs.EncodedFields.{mandatory_read}
 use Rattle.camel_map.proofs.EncodedKept.{ignored_read, kept_in, kept_read}
 use Rattle.camel_map.proofs.EncodedNumbers.{detection_point, unsigned_number, unsigned_octet}
+use Rattle.camel_map.proofs.EncodedValues.{address_read}
 use Rattle.camel_map.proofs.EncodedSeries.{AreIdentified, AreRead, Decodes, IsShort, at, one_octet, parts_read}
-
--- an address is read as its octets
-pub address : (octet : ℕ) (octets : List ℕ) → IsAddress max_isdn_address_length octets
-    → Decodes isdn_address_in (leaf octet octets) octets
-unfolding isdn_address_in
-address octet octets is short place end =
-    let some : leb 1 (length octets) ≡ true = le-leb _ _ is.some in
-    let few : leb (length octets) 9 ≡ true = le-leb _ _ is.few in
-    rw (some, few) refl
 
 -- the number of a default call handling is one, and means it
 handling_known : (handling : Handling) → (handling_number handling < 128) × (handling_of (handling_number handling) ≡ handling)
@@ -66,7 +57,7 @@ row_fields_read row item fields is read =
     let key : (mandatory item integer fields >>= unsigned_in) ≡ Ok row.key =
     mandatory_read unsigned_in integer fields parts item _ row.key refl read refl (unsigned_number integer row.key is.key) in
     let scf : (mandatory item (primitive 0) fields >>= isdn_address_in) ≡ Ok row.scf =
-    mandatory_read isdn_address_in (primitive 0) fields parts item _ row.scf refl read refl (address (primitive 0) row.scf is.scf) in
+    mandatory_read isdn_address_in (primitive 0) fields parts item _ row.scf refl read refl (address_read (primitive 0) row.scf is.scf) in
     let handling : (mandatory item (primitive 1) fields >>= unsigned_in) ≡ Ok (handling_number row.handling) =
     mandatory_read unsigned_in (primitive 1) fields parts item _ (handling_number row.handling) refl read refl
     (unsigned_octet (primitive 1) (handling_number row.handling) known.0) in

@@ -1,10 +1,14 @@
 mod EachLemmas
+mod EncodedEntries
 mod EncodedFields
 mod EncodedItems
 mod EncodedKept
 mod EncodedLengths
+mod EncodedNumberCriterion
 mod EncodedNumbers
 mod EncodedParts
 mod EncodedRows
 mod EncodedSeries
+mod EncodedTests
+mod EncodedValues
 mod FieldLemmas

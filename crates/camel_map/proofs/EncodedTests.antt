@@ -1,0 +1,37 @@
+-- The tests that a constructor's result shows to be passed.
+use Rattle.std.proofs.Common.{◌≡◌, ℕ, ◌≤◌, ◌&&◌, ◌||◌, Bool, true, false, not, cond, eqb, leb, List, length, All, Result, Ok, Err, refl}
+use Rattle.std.proofs.lemmas.Bool.{leb-true}
+use Rattle.std.proofs.lemmas.List.Elements.{All-weaker}
+use Rattle.std.proofs.lemmas.List.Sums.{AllPass-from_list_all}
+use Rattle.std.specs.List.{list_all}
+use Rattle.camel_criteria.specs.Cause.{max_cause}
+use Rattle.camel_criteria.specs.Criteria.{are_causes_at}
+
+-- a test that was passed
+pub passed : {A E : Type 0} (test : Bool) (x z : A) (why : E) → cond test (Ok x) (Err why) ≡ Ok z → test ≡ true
+passed true x z why is = refl
+passed false x z why is = absurd cc
+
+-- a test that was passed behind one that refuses
+pub passed_next : {A E : Type 0} (refused test : Bool) (x z : A) (first why : E)
+    → cond refused (Err first) (cond test (Ok x) (Err why)) ≡ Ok z → test ≡ true
+passed_next true test x z first why is = absurd cc
+passed_next false test x z first why is = passed test x z why is
+
+pub right_of : (a b : Bool) → (a && b) ≡ true → b ≡ true
+right_of true b is = is
+right_of false b is = absurd cc
+
+left_of : (a b : Bool) → (a && b) ≡ true → a ≡ true
+left_of true b is = refl
+left_of false b is = is
+
+-- causes that are taken are at most the greatest
+pub causes_most : (without_release dp : ℕ) (causes : List ℕ) → are_causes_at without_release dp causes ≡ true
+    → All (λ (cause : ℕ). cause ≤ 127) causes
+causes_most without_release dp causes is =
+    let tests = right_of (leb (length causes) 5) _ is in
+    let all : list_all (λ cause. leb cause max_cause) causes ≡ true =
+    left_of (list_all (λ cause. leb cause max_cause) causes) (not (eqb dp without_release) || eqb (length causes) 0) tests in
+    All-weaker (λ (cause : ℕ). leb cause 127 ≡ true) (λ (cause : ℕ). cause ≤ 127) (λ cause is. leb-true _ _ is) causes
+    (AllPass-from_list_all (λ cause. leb cause max_cause) causes all)
