@@ -38,7 +38,7 @@ short_filter octet (e ∷ es) short = one (has_tag octet e) e (of_tag octet es) 
     one false e es first more = more
 
 -- the elements of a tag, where they were read
-pub tagged_read : (octet : ℕ) (ps : List PlacedData) (es : List ElementData) → AreRead ps es
+tagged_read : (octet : ℕ) (ps : List PlacedData) (es : List ElementData) → AreRead ps es
     → AreRead (filter (is_tagged octet) ps) (of_tag octet es)
 tagged_read octet ps es read = record {
   same = same_filter octet ps ∙ ap (of_tag octet) read.same;
@@ -46,7 +46,7 @@ tagged_read octet ps es read = record {
 }
 
 -- no field has the tag
-pub field_none : (octet : ℕ) (ps : List PlacedData) → AreRead ps [] → only_field octet ps ≡ Ok None
+field_none : (octet : ℕ) (ps : List PlacedData) → AreRead ps [] → only_field octet ps ≡ Ok None
 field_none octet [] read = refl
 field_none octet (p ∷ ps) read = let same = read.same in absurd cc
 
@@ -55,7 +55,7 @@ one_field : (octet : ℕ) (p : PlacedData) → p.element.identifier ≡ octet �
 one_field octet p is = let same : eqb octet octet ≡ true = eq-eqb _ _ refl in rw (is, same) refl
 
 -- one field has the tag
-pub field_one : (octet : ℕ) (e : ElementData) (ps : List PlacedData) → e.identifier ≡ octet ∷ []
+field_one : (octet : ℕ) (e : ElementData) (ps : List PlacedData) → e.identifier ≡ octet ∷ []
     → AreRead ps (e ∷ [])
     → (place end : ℕ) × (only_field octet ps ≡ Ok (Some (at e place end)))
 field_one octet e [] is read = let same = read.same in absurd cc
@@ -66,34 +66,42 @@ field_one octet e (p ∷ []) is read =
     (p.place, p.end, ap (λ (p : PlacedData). only_field octet (p ∷ [])) here ∙ one_field octet (at e p.place p.end) is)
 field_one octet e (p ∷ q ∷ ps) is read = let same = read.same in absurd cc
 
-module _ {A : Type 0} (value_of : PlacedData → Result A MapFault) (octet : ℕ) (ps : List PlacedData) (es : List ElementData) where
+-- a field is found, if none but it has its tag
+pub field_there : (octet : ℕ) (ps : List PlacedData) (es : List ElementData) (e : ElementData)
+    → e.identifier ≡ octet ∷ [] → AreRead ps es → of_tag octet es ≡ e ∷ []
+    → (place end : ℕ) × (field_of octet ps ≡ Ok (Some (at e place end))) × IsShort e
+unfolding field_of
+field_there octet ps es e is read found =
+    let own = subst (AreRead (filter (is_tagged octet) ps)) found (tagged_read octet ps es read) in
+    let one = field_one octet e (filter (is_tagged octet) ps) is own in
+    (one.0, one.1, one.2, own.short.0)
+
+-- no field is found, if none has the tag
+pub field_absent : (octet : ℕ) (ps : List PlacedData) (es : List ElementData) → AreRead ps es → of_tag octet es ≡ []
+    → field_of octet ps ≡ Ok None
+unfolding field_of
+field_absent octet ps es read found =
+    field_none octet _ (subst (AreRead (filter (is_tagged octet) ps)) found (tagged_read octet ps es read))
+
+module _ {A : Type 0} (value_of : PlacedData → Result A MapFault) (octet : ℕ) (ps : List PlacedData)
+    (es : List ElementData) where
   -- a field that must be there is read as what it encodes
   pub mandatory_read : (item : PlacedData) (e : ElementData) (x : A) → e.identifier ≡ octet ∷ [] → AreRead ps es
       → of_tag octet es ≡ e ∷ [] → Decodes value_of e x → (mandatory item octet ps >>= value_of) ≡ Ok x
-  unfolding mandatory field_of
+  unfolding mandatory
   mandatory_read item e x is read found decodes =
-      let fields = tagged_read octet ps es read in
-      let own : AreRead (filter (is_tagged octet) ps) (e ∷ []) = subst (AreRead (filter (is_tagged octet) ps)) found fields in
-      let one = field_one octet e (filter (is_tagged octet) ps) is own in
-      let there = one.2 in
-      ap (λ (field : Result (Option PlacedData) MapFault). (field >>= present_at item.place) >>= value_of) there
-      ∙ decodes own.short.0 one.0 one.1
+      let field = field_there octet ps es e is read found in
+      let there = field.2 in
+      rw there (decodes field.3 field.0 field.1)
 
   -- a field that may be absent is read as what it encodes
   pub optional_read : (element_of : A → ElementData) (o : Option A)
       → ((x : A) → (element_of x).identifier ≡ octet ∷ []) → AreRead ps es
       → of_tag octet es ≡ if_any element_of o → IfSome o (λ x. Decodes value_of (element_of x) x)
       → (field_of octet ps >>= if_present value_of) ≡ Ok o
-  unfolding field_of
-  optional_read element_of None is read found decodes =
-      let fields = tagged_read octet ps es read in
-      let own : AreRead (filter (is_tagged octet) ps) [] = subst (AreRead (filter (is_tagged octet) ps)) found fields in
-      ap (λ (field : Result (Option PlacedData) MapFault). field >>= if_present value_of) (field_none octet _ own)
+  optional_read element_of None is read found decodes = let none = field_absent octet ps es read found in rw none refl
   optional_read element_of (Some x) is read found decodes =
-      let fields = tagged_read octet ps es read in
-      let own : AreRead (filter (is_tagged octet) ps) (element_of x ∷ []) =
-      subst (AreRead (filter (is_tagged octet) ps)) found fields in
-      let one = field_one octet (element_of x) (filter (is_tagged octet) ps) (is x) own in
-      let there = one.2 in
-      ap (λ (field : Result (Option PlacedData) MapFault). field >>= if_present value_of) there
-      ∙ ap (λ (value : Result A MapFault). value >>= λ value. Ok (Some value)) (decodes own.short.0 one.0 one.1)
+      let field = field_there octet ps es (element_of x) (is x) read found in
+      let there = field.2 in
+      let value : value_of (at (element_of x) field.0 field.1) ≡ Ok x = decodes field.3 field.0 field.1 in
+      rw (there, value) refl

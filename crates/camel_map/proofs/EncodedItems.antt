@@ -8,7 +8,7 @@ use Rattle.camel_map.specs.Field.{field_of, if_listed, is_tagged, only_field}
 use Rattle.camel_map.specs.Items.{items_as, some_of}
 use Rattle.camel_map.specs.Reading.{contents, each_of, elements_in}
 use Rattle.camel_map.specs.declared.map_fault.MapFault.{MapFault}
-use Rattle.camel_map.proofs.EncodedFields.{field_none, field_one, of_tag, tagged_read}
+use Rattle.camel_map.proofs.EncodedFields.{field_absent, field_there, of_tag}
 use Rattle.camel_map.proofs.EncodedParts.{identified_map}
 use Rattle.camel_map.proofs.EncodedSeries.{AreRead, Decodes, at, parts_read}
 
@@ -57,16 +57,9 @@ module _ {A : Type 0} (value_of : PlacedData → Result A MapFault) (element_of 
       → ((x : A) → IsIdentifier (element_of x).identifier) → AreRead ps es
       → of_tag octet es ≡ if_some octet element_of xs → AreDecoded xs
       → (field_of octet ps >>= if_listed (items_as value_of)) ≡ Ok xs
-  unfolding field_of
   listed_read octet ps es [] identified read found decoded =
-      let fields = tagged_read octet ps es read in
-      let own : AreRead (filter (is_tagged octet) ps) [] = subst (AreRead (filter (is_tagged octet) ps)) found fields in
-      ap (λ (field : Result (Option PlacedData) MapFault). field >>= if_listed (items_as value_of)) (field_none octet _ own)
+      let none = field_absent octet ps es read found in rw none refl
   listed_read octet ps es (x ∷ xs) identified read found decoded =
-      let e = parent octet (map element_of (x ∷ xs)) in
-      let fields = tagged_read octet ps es read in
-      let own : AreRead (filter (is_tagged octet) ps) (e ∷ []) = subst (AreRead (filter (is_tagged octet) ps)) found fields in
-      let one = field_one octet e (filter (is_tagged octet) ps) refl own in
-      let there = one.2 in
-      ap (λ (field : Result (Option PlacedData) MapFault). field >>= if_listed (items_as value_of)) there
-      ∙ items_read octet x xs identified decoded own.short.0 one.0 one.1
+      let field = field_there octet ps es (parent octet (map element_of (x ∷ xs))) refl read found in
+      let there = field.2 in
+      rw there (items_read octet x xs identified decoded field.3 field.0 field.1)

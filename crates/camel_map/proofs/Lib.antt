@@ -1,6 +1,9 @@
 mod EachLemmas
+mod EncodedCriteria
 mod EncodedEntries
 mod EncodedFields
+mod EncodedImsis
+mod EncodedInserts
 mod EncodedItems
 mod EncodedKept
 mod EncodedLengths
