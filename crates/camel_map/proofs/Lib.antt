@@ -1,5 +1,6 @@
 mod EachLemmas
 mod EncodedCriteria
+mod EncodedDeletes
 mod EncodedEntries
 mod EncodedFields
 mod EncodedImsis
@@ -13,5 +14,6 @@ mod EncodedParts
 mod EncodedRows
 mod EncodedSeries
 mod EncodedTests
+mod EncodedUpdates
 mod EncodedValues
 mod FieldLemmas
