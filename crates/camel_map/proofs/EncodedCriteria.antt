@@ -1,5 +1,5 @@
 -- Encoded criteria are read as their entries.
-use Rattle.std.proofs.Common.{◌≡◌, ℕ, ◌≤◌, List, [], ◌∷◌, map, Option, None, Result, Ok, refl, arith}
+use Rattle.std.proofs.Common.{ℕ, List, [], ◌∷◌, map, None, refl, arith}
 use Rattle.camel_ber.specs.Grammar.{IsIdentifier}
 use Rattle.camel_criteria.specs.Criteria.{OCriteriaData, TCriteriaData}
 use Rattle.camel_rows.specs.Received.{o_criteria_set_of, t_criteria_set_of}

@@ -1,5 +1,5 @@
 -- An encoded DeleteSubscriberDataArg is read as its update.
-use Rattle.std.proofs.Common.{◌≡◌, ◌∙◌, ℕ, Bool, true, false, List, [], ◌∷◌, ◌++◌, IfSome, Option, None, Some, Result, Ok, refl, ap}
+use Rattle.std.proofs.Common.{◌≡◌, ◌∙◌, ℕ, Bool, true, false, List, [], ◌∷◌, ◌++◌, IfSome, Option, Ok, refl, ap}
 use Rattle.camel_ber.specs.Grammar.{ElementData}
 use Rattle.camel_ber.specs.Reading.{◌>>=◌, PlacedData}
 use Rattle.camel_rows.specs.declared.subscriber.update.Update.TheVariants as update
@@ -9,10 +9,8 @@ use Rattle.camel_map.specs.Encoding.{everything_parts, leaf, parent, specific_pa
 use Rattle.camel_map.specs.Field.{field_of, mandatory}
 use Rattle.camel_map.specs.Identifier.{primitive, sequence}
 use Rattle.camel_map.specs.Imsi.{own_imsi}
-use Rattle.camel_map.specs.Reading.{contents, elements_in}
 use Rattle.camel_map.specs.Update.{delete_in}
 use Rattle.camel_map.specs.Withdrawal.{is_named, withdrawal_in, withdrawal_with}
-use Rattle.camel_map.specs.declared.map_fault.MapFault.{MapFault}
 use Rattle.camel_map.proofs.EncodedFields.{field_absent, field_there, mandatory_read, of_tag}
 use Rattle.camel_map.proofs.EncodedImsis.{own_imsi_read}
 use Rattle.camel_map.proofs.EncodedParts.{before, identified_append, none, others}
@@ -94,7 +92,7 @@ module _ (imsi : List ℕ) (what : Withdrawal) where
   argument_identified = (
     one_octet (primitive 0) (refl, refl),
     identified_append (everything_parts what.everything) (specific_parts what.o what.vt)
-    (everything_identified what.everything) (specific_identified what.o what.vt),
+        (everything_identified what.everything) (specific_identified what.o what.vt),
   )
 
   the_everything : of_tag (primitive 9) argument_parts ≡ everything_parts what.everything

@@ -1,22 +1,21 @@
 -- An encoded criteria entry is read as itself.
-use Rattle.std.proofs.Common.{◌≡◌, ◌∙◌, ℕ, ◌≤◌, ◌&&◌, false, leb, List, [], ◌∷◌, ◌++◌, length, map, All, IfSome, Option, Some, None, Result, Ok, refl, ap}
+use Rattle.std.proofs.Common.{◌≡◌, ◌∙◌, ℕ, ◌≤◌, false, leb, List, [], ◌∷◌, ◌++◌, length, All, IfSome, Option, Some, None, Ok, refl, ap}
 use Rattle.std.proofs.lemmas.List.Elements.{All-weaker}
 use Rattle.std.proofs.lemmas.Option.{IfSome_then}
 use Rattle.camel_ber.specs.Grammar.{ElementData}
 use Rattle.camel_ber.specs.Reading.{◌>>=◌, PlacedData}
-use Rattle.camel_criteria.specs.Criteria.{OCriteriaData, TCriteriaData, are_causes_at}
+use Rattle.camel_criteria.specs.Criteria.{OCriteriaData, TCriteriaData}
 use Rattle.camel_criteria.specs.declared.basic_service.BasicService.{BasicService}
 use Rattle.camel_criteria.specs.declared.basic_service.BasicService.TheVariants.{Bearer, Tele}
 use Rattle.camel_criteria.specs.declared.criteria.CallType.{CallType}
 use Rattle.camel_map.specs.Criteria.{number_criterion_in, o_entry_in, o_entry_of_fields, t_entry_in, t_entry_of_fields}
-use Rattle.camel_map.specs.Encoding.{call_type_number, cause_element, if_any, if_some, leaf, number_element, number_octets, o_entry_element, parent, service_element, t_entry_element}
+use Rattle.camel_map.specs.Encoding.{call_type_number, cause_element, if_any, if_some, leaf, number_element, number_octets, o_entry_element, service_element, t_entry_element}
 use Rattle.camel_map.specs.Field.{field_of, if_listed, if_present, mandatory, same_tag}
 use Rattle.camel_map.specs.Identifier.{constructed, enumerated, octet_string, primitive, sequence}
 use Rattle.camel_map.specs.Items.{items_as}
 use Rattle.camel_map.specs.Kept.{IsOEntry, IsTEntry}
 use Rattle.camel_map.specs.Reading.{or_refused_at}
 use Rattle.camel_map.specs.Value.{basic_service_in, call_type_in, cause_in, detection_point_in}
-use Rattle.camel_map.specs.declared.map_fault.MapFault.{MapFault}
 use Rattle.camel_map.proofs.EncodedFields.{mandatory_read, of_tag, optional_read}
 use Rattle.camel_map.proofs.EncodedItems.{AreDecoded, listed_read}
 use Rattle.camel_map.proofs.EncodedNumberCriterion.{criterion_read}
@@ -66,10 +65,10 @@ module _ (entry : OCriteriaData) where
   o_identified = (
     one_octet enumerated (refl, refl),
     identified_four number_part basic_part call_type_part causes_part
-    (identified_any number_element entry.number (λ x. one_octet (constructed 0) (refl, refl)))
-    (identified_some service_element (constructed 1) entry.basic (one_octet (constructed 1) (refl, refl)))
-    (identified_any call_type_element entry.call_type (λ x. one_octet (primitive 2) (refl, refl)))
-    (identified_some cause_element (constructed 3) entry.causes (one_octet (constructed 3) (refl, refl))),
+        (identified_any number_element entry.number (λ x. one_octet (constructed 0) (refl, refl)))
+        (identified_some service_element (constructed 1) entry.basic (one_octet (constructed 1) (refl, refl)))
+        (identified_any call_type_element entry.call_type (λ x. one_octet (primitive 2) (refl, refl)))
+        (identified_some cause_element (constructed 3) entry.causes (one_octet (constructed 3) (refl, refl))),
   )
 
   module _ (octet : ℕ) where
@@ -166,8 +165,8 @@ module _ (entry : TCriteriaData) where
   t_identified = (
     one_octet enumerated (refl, refl),
     identified_append t_basic_part t_causes_part
-    (identified_some service_element (constructed 0) entry.basic (one_octet (constructed 0) (refl, refl)))
-    (identified_some cause_element (constructed 1) entry.causes (one_octet (constructed 1) (refl, refl))),
+        (identified_some service_element (constructed 0) entry.basic (one_octet (constructed 0) (refl, refl)))
+        (identified_some cause_element (constructed 1) entry.causes (one_octet (constructed 1) (refl, refl))),
   )
 
   t_dp : of_tag enumerated t_parts ≡ t_dp_part ∷ []

@@ -1,11 +1,10 @@
 -- A field of an encoded element is found by its identifier octet.
-use Rattle.std.proofs.Common.{◌≡◌, ◌∙◌, ℕ, ◌&&◌, Bool, true, false, cond, eqb, List, [], ◌∷◌, ◌++◌, length, filter, slice_index, All, IfSome, Option, Some, None, Result, Ok, refl, sym, ap, subst}
+use Rattle.std.proofs.Common.{◌≡◌, ◌∙◌, ℕ, ◌&&◌, Bool, true, false, cond, eqb, List, [], ◌∷◌, length, filter, slice_index, IfSome, Option, Some, None, Result, Ok, refl, ap, subst}
 use Rattle.std.proofs.lemmas.Bool.{eq-eqb}
-use Rattle.std.proofs.lemmas.List.Elements.{filter-append}
 use Rattle.camel_ber.specs.Grammar.{ElementData}
 use Rattle.camel_ber.specs.Reading.{◌>>=◌, PlacedData, elements}
-use Rattle.camel_map.specs.Encoding.{if_any, if_some, leaf, parent}
-use Rattle.camel_map.specs.Field.{field_of, if_listed, if_present, is_tagged, mandatory, only_field, present_at, same_tag}
+use Rattle.camel_map.specs.Encoding.{if_any}
+use Rattle.camel_map.specs.Field.{field_of, if_present, is_tagged, mandatory, only_field, same_tag}
 use Rattle.camel_map.specs.declared.map_fault.MapFault.{MapFault}
 use Rattle.camel_map.proofs.EncodedSeries.{AreRead, AreShort, Decodes, IsShort, at}
 

@@ -1,19 +1,17 @@
 -- An encoded IMSI is read as its digits.
-use Rattle.std.proofs.Common.{◌≡◌, ◌∙◌, ◌⊎◌, ℕ, ◌+◌, ◌-◌, ◌*◌, ◌/◌, ◌%◌, ◌<◌, ◌≤◌, true, false, cond, eqb, leb, ltb, List, [], ◌∷◌, ◌++◌, length, take, get_or, slice_index, position, All, IfSome, Option, Some, None, Result, Ok, bytes_eq, inl, inr, refl, sym, ap, ap₂, arith}
-use Rattle.std.proofs.lemmas.Bool.{cases_lt, eq-eqb, le-leb, le-ltb, ne_eqb}
+use Rattle.std.proofs.Common.{◌≡◌, ◌∙◌, ◌⊎◌, ℕ, ◌+◌, ◌-◌, ◌*◌, ◌/◌, ◌%◌, ◌≤◌, true, false, eqb, leb, ltb, List, [], ◌∷◌, ◌++◌, length, take, get_or, position, All, IfSome, Option, Some, None, Ok, bytes_eq, inl, inr, refl, sym, ap, arith}
+use Rattle.std.proofs.lemmas.Bool.{le-leb, le-ltb, ne_eqb}
 use Rattle.std.proofs.lemmas.List.{length-append, take_at}
 use Rattle.std.proofs.lemmas.List.Elements.{All-head, All-tail}
 use Rattle.std.proofs.lemmas.List.Sums.{position_or_len_is}
 use Rattle.std.proofs.Math.Seq.{get_or-append_seam}
 use Rattle.std.proofs.lemmas.Slice.Eq.{bytes_eq-Decides}
 use Rattle.std.specs.List.{position_or_len}
-use Rattle.camel_ber.specs.Reading.{◌>>=◌, PlacedData}
 use Rattle.camel_tbcd.proofs.DigitLemmas.{length-nibbles}
 use Rattle.camel_tbcd.specs.Digits.{nibbles}
 use Rattle.camel_tbcd.specs.Imsi.{IsImsi, imsi_of_nibbles, imsi_of_tbcd, without_filler}
 use Rattle.camel_map.specs.Encoding.{leaf, tbcd_octets}
 use Rattle.camel_map.specs.Imsi.{imsi_in, own_imsi}
-use Rattle.camel_map.specs.declared.map_fault.MapFault.{MapFault}
 use Rattle.camel_map.proofs.EncodedSeries.{Decodes, at}
 
 abbrev IsDigit : ℕ → Type 0

@@ -1,5 +1,5 @@
 -- An encoded InsertSubscriberDataArg is read as its update.
-use Rattle.std.proofs.Common.{◌≡◌, ◌∙◌, ℕ, false, List, [], ◌∷◌, ◌++◌, map, IfSome, Option, Some, Result, Ok, refl, ap}
+use Rattle.std.proofs.Common.{◌≡◌, ◌∙◌, ℕ, false, List, [], ◌∷◌, ◌++◌, map, IfSome, Option, Ok, refl}
 use Rattle.std.proofs.lemmas.Option.{IfSome_then}
 use Rattle.camel_ber.specs.Grammar.{ElementData}
 use Rattle.camel_ber.specs.Reading.{◌>>=◌, PlacedData}
@@ -9,21 +9,19 @@ use Rattle.camel_rows.specs.TdpRow.{TdpRowData}
 use Rattle.camel_rows.specs.declared.subscriber.update.Update.{Update}
 use Rattle.camel_rows.specs.declared.subscriber.update.Update.TheVariants as update
 use Rattle.camel_map.specs.Criteria.{o_criteria_set_in, t_criteria_set_in}
-use Rattle.camel_map.specs.Encoding.{camel_parts, csi_element, if_any, leaf, o_entry_element, parent, sent_o_entries, sent_t_entries, t_entry_element, tbcd_octets}
+use Rattle.camel_map.specs.Encoding.{csi_element, if_any, leaf, o_entry_element, parent, sent_o_entries, sent_t_entries, t_entry_element, tbcd_octets}
 use Rattle.camel_map.specs.Field.{field_of, if_present, same_tag}
 use Rattle.camel_map.specs.Identifier.{constructed, primitive, sequence}
 use Rattle.camel_map.specs.Imsi.{imsi_or_of_dialogue}
 use Rattle.camel_map.specs.Kept.{IsKept}
-use Rattle.camel_map.specs.Reading.{contents, elements_in}
 use Rattle.camel_map.specs.Row.{csi_in}
-use Rattle.camel_map.specs.Update.{camel_fields, insert_in, insert_of_fields}
-use Rattle.camel_map.specs.declared.map_fault.MapFault.{MapFault}
+use Rattle.camel_map.specs.Update.{insert_in, insert_of_fields}
 use Rattle.camel_map.proofs.EncodedCriteria.{o_criteria_read, t_criteria_read}
 use Rattle.camel_map.proofs.EncodedFields.{field_there, of_tag, optional_read}
 use Rattle.camel_map.proofs.EncodedImsis.{own_imsi_read}
 use Rattle.camel_map.proofs.EncodedParts.{any_other, any_own, first, fourth, identified_any, identified_four, second, third}
 use Rattle.camel_map.proofs.EncodedRows.{csi_read}
-use Rattle.camel_map.proofs.EncodedSeries.{AreIdentified, AreRead, Decodes, at, one_octet, parts_read}
+use Rattle.camel_map.proofs.EncodedSeries.{AreIdentified, AreRead, Decodes, one_octet, parts_read}
 
 module _ (o : Option (List TdpRowData)) (o_criteria : Option (List OCriteriaData)) (vt : Option (List TdpRowData))
     (t_criteria : Option (List TCriteriaData)) where

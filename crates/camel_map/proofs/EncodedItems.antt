@@ -1,10 +1,10 @@
 -- The items of an encoded list are read as what they encode.
-use Rattle.std.proofs.Common.{◌≡◌, ◌∙◌, ℕ, List, [], ◌∷◌, filter, map, All, Result, Option, None, Ok, refl, ap, subst}
+use Rattle.std.proofs.Common.{◌≡◌, ◌∙◌, ℕ, List, [], ◌∷◌, map, All, Result, Ok, refl, ap}
 use Rattle.std.proofs.lemmas.List.Elements.{All-head, All-tail}
 use Rattle.camel_ber.specs.Grammar.{ElementData, IsIdentifier}
 use Rattle.camel_ber.specs.Reading.{◌>>=◌, PlacedData}
-use Rattle.camel_map.specs.Encoding.{encodings, if_some, parent}
-use Rattle.camel_map.specs.Field.{field_of, if_listed, is_tagged, only_field}
+use Rattle.camel_map.specs.Encoding.{if_some, parent}
+use Rattle.camel_map.specs.Field.{field_of, if_listed}
 use Rattle.camel_map.specs.Items.{items_as, some_of}
 use Rattle.camel_map.specs.Reading.{contents, each_of, elements_in}
 use Rattle.camel_map.specs.declared.map_fault.MapFault.{MapFault}

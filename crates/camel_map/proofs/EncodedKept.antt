@@ -1,5 +1,5 @@
 -- An encoded list is read as the items that its constructor keeps.
-use Rattle.std.proofs.Common.{◌≡◌, ◌∙◌, ◌⊎◌, ℕ, List, [], ◌∷◌, map, All, Result, Ok, inl, inr, ap}
+use Rattle.std.proofs.Common.{◌≡◌, ◌∙◌, ℕ, List, [], ◌∷◌, map, All, Result, Ok, inl, inr, ap}
 use Rattle.std.proofs.lemmas.List.Elements.{All-cons, All-nil, All-weaker}
 use Rattle.camel_ber.specs.Grammar.{ElementData, IsIdentifier}
 use Rattle.camel_ber.specs.Reading.{◌>>=◌, PlacedData}
@@ -39,4 +39,4 @@ module _ {Item : Type 0} (value_of : PlacedData → Result Item MapFault) (eleme
   pub kept_read : (octet : ℕ) (x : Item) (xs : List Item) → IsKeptList Is kept_of (x ∷ xs)
       → Decodes kept_in (parent octet (map element_of (x ∷ xs))) (x ∷ xs)
   kept_read octet x xs kept =
-      elim kept.1 [ | inl none ↦ absurd cc | inr whole ↦ received octet x xs (x ∷ xs) kept.0 whole ]
+      elim kept.1 [ inl none ↦ absurd cc | inr whole ↦ received octet x xs (x ∷ xs) kept.0 whole ]

@@ -1,5 +1,5 @@
 -- The length octets of an encoding say its length.
-use Rattle.std.proofs.Common.{◌≡◌, ℕ, suc, ◌+◌, ◌*◌, ◌/◌, ◌%◌, ◌<◌, ◌≤◌, true, false, ltb, List, [], ◌∷◌, length, inl, inr, refl, arith}
+use Rattle.std.proofs.Common.{◌≡◌, ℕ, ◌/◌, ◌%◌, ◌≤◌, true, false, ltb, List, [], ◌∷◌, length, inl, inr, refl, arith}
 use Rattle.std.proofs.lemmas.Bool.{cases_lt, le-ltb, lt-ltb}
 use Rattle.camel_ber.specs.Grammar.{IsLength, value_of}
 use Rattle.camel_map.specs.Encoding.{length_octets, octets_of}

@@ -1,24 +1,21 @@
 -- An encoded destination number criterion is read as itself.
-use Rattle.std.proofs.Common.{◌≡◌, ◌∙◌, ℕ, ◌≤◌, ◌&&◌, Bool, true, false, not, cond, eqb, leb, List, [], ◌∷◌, ◌++◌, length, map, All, IfSome, Option, Some, None, Result, Ok, Err, refl, ap, arith}
+use Rattle.std.proofs.Common.{◌≡◌, ◌∙◌, ℕ, ◌≤◌, ◌&&◌, true, eqb, leb, List, [], ◌∷◌, ◌++◌, length, All, Ok, refl, ap}
 use Rattle.std.proofs.lemmas.Bool.{leb-true}
 use Rattle.std.proofs.lemmas.List.Elements.{All-weaker}
 use Rattle.std.proofs.lemmas.List.Sums.{AllPass-from_list_all}
-use Rattle.std.proofs.lemmas.Option.{IfSome_then}
 use Rattle.std.specs.List.{list_all}
 use Rattle.camel_ber.specs.Grammar.{ElementData}
-use Rattle.camel_ber.specs.Reading.{◌>>=◌, PlacedData}
-use Rattle.camel_criteria.specs.Cause.{max_cause}
-use Rattle.camel_criteria.specs.Criteria.{NumberCriterionData, OCriteriaData, TCriteriaData, is_length, number_criterion_of, o_criteria_of, t_criteria_of}
+use Rattle.camel_ber.specs.Reading.{◌>>=◌}
+use Rattle.camel_criteria.specs.Criteria.{NumberCriterionData, is_length}
 use Rattle.camel_tbcd.specs.AddressLength.{IsAddress, max_isdn_address_length}
 use Rattle.camel_map.specs.Criteria.{number_criterion_in}
-use Rattle.camel_map.specs.Encoding.{if_any, if_some, leaf, match_type_number, number_element, parent}
+use Rattle.camel_map.specs.Encoding.{if_some, leaf, match_type_number, number_element}
 use Rattle.camel_map.specs.Field.{field_of, if_listed, mandatory}
 use Rattle.camel_map.specs.Identifier.{constructed, integer, octet_string, primitive}
 use Rattle.camel_map.specs.Items.{items_as}
 use Rattle.camel_map.specs.Kept.{IsNumberCriterion}
 use Rattle.camel_map.specs.Reading.{or_refused_at}
 use Rattle.camel_map.specs.Value.{length_in, match_type_in, number_in}
-use Rattle.camel_map.specs.declared.map_fault.MapFault.{MapFault}
 use Rattle.camel_map.proofs.EncodedFields.{mandatory_read, of_tag}
 use Rattle.camel_map.proofs.EncodedItems.{listed_read}
 use Rattle.camel_map.proofs.EncodedParts.{before, identified_append, identified_some, others, some_other, some_own}
@@ -49,7 +46,7 @@ number_identified : (criterion : NumberCriterionData) → AreIdentified (number_
 number_identified criterion = (
   one_octet (primitive 0) (refl, refl),
   identified_append _ _ (identified_some (leaf octet_string) (constructed 1) criterion.numbers (one_octet (constructed 1) (refl, refl)))
-  (identified_some (λ count. leaf integer (count ∷ [])) (constructed 2) criterion.lengths (one_octet (constructed 2) (refl, refl))),
+      (identified_some (λ count. leaf integer (count ∷ [])) (constructed 2) criterion.lengths (one_octet (constructed 2) (refl, refl))),
 )
 
 -- a criterion is read as itself

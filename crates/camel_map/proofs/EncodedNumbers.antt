@@ -1,10 +1,10 @@
 -- The contents of an INTEGER or ENUMERATED are read as the number that they encode.
-use Rattle.std.proofs.Common.{◌≡◌, ℕ, suc, ◌+◌, ◌*◌, ◌/◌, ◌%◌, ◌<◌, ◌≤◌, true, false, eqb, leb, ltb, min, List, [], ◌∷◌, length, slice_index, Ok, inl, inr, refl, ap, arith}
+use Rattle.std.proofs.Common.{◌≡◌, ℕ, ◌/◌, ◌%◌, ◌<◌, ◌≤◌, true, false, eqb, leb, ltb, List, [], ◌∷◌, length, slice_index, Ok, inl, inr, refl, ap, arith}
 use Rattle.std.proofs.lemmas.Bool.{cases_lt, le-ltb, lt-ltb}
 use Rattle.std.proofs.lemmas.Bool.Decides.{nat_tests}
 use Rattle.camel_ber.specs.Grammar.{value_of}
 use Rattle.camel_map.specs.Encoding.{leaf, number_octets}
-use Rattle.camel_map.specs.Value.{detection_point_in, greatest, unsigned_in}
+use Rattle.camel_map.specs.Value.{detection_point_in, unsigned_in}
 use Rattle.camel_map.proofs.EncodedSeries.{Decodes}
 
 -- contents say a number that is not below 0

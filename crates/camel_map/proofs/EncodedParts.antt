@@ -1,9 +1,9 @@
 -- The elements of a tag among the parts of an encoding, and the identifiers of the parts.
-use Rattle.std.proofs.Common.{◌≡◌, ◌∙◌, ℕ, Bool, true, false, List, [], ◌∷◌, ◌++◌, filter, map, Option, Some, None, refl, sym, ap}
+use Rattle.std.proofs.Common.{◌≡◌, ◌∙◌, ℕ, true, false, List, [], ◌∷◌, ◌++◌, map, Option, Some, None, refl, ap}
 use Rattle.std.proofs.lemmas.List.{append-nil}
 use Rattle.std.proofs.lemmas.List.Elements.{filter-append}
 use Rattle.camel_ber.specs.Grammar.{ElementData, IsIdentifier}
-use Rattle.camel_map.specs.Encoding.{if_any, if_some, parent}
+use Rattle.camel_map.specs.Encoding.{if_any, if_some}
 use Rattle.camel_map.specs.Field.{same_tag}
 use Rattle.camel_map.proofs.EncodedFields.{has_tag, of_tag}
 use Rattle.camel_map.proofs.EncodedSeries.{AreIdentified}

@@ -1,5 +1,5 @@
 -- An encoded CSI is read as its rows.
-use Rattle.std.proofs.Common.{◌≡◌, ◌∙◌, ℕ, ◌<◌, ◌≤◌, ◌&&◌, true, leb, List, [], ◌∷◌, length, map, Result, Ok, refl, ap, arith}
+use Rattle.std.proofs.Common.{◌≡◌, ℕ, ◌<◌, ◌≤◌, true, leb, List, [], ◌∷◌, map, Result, Ok, refl, ap, arith}
 use Rattle.std.proofs.lemmas.Bool.{le-leb}
 use Rattle.camel_ber.specs.Grammar.{ElementData, IsIdentifier}
 use Rattle.camel_ber.specs.Reading.{◌>>=◌, PlacedData}
@@ -9,10 +9,10 @@ use Rattle.camel_criteria.specs.declared.handling.Handling.TheVariants.{Continue
 use Rattle.camel_criteria.specs.declared.refusal.Refusal.{Refusal}
 use Rattle.camel_rows.specs.TdpRow.{TdpRowData, max_service_key, tdp_row_of}
 use Rattle.camel_map.specs.Encoding.{csi_element, handling_number, ignored_row, leaf, number_octets, parent, row_element, sent_rows}
-use Rattle.camel_map.specs.Field.{identified, mandatory}
+use Rattle.camel_map.specs.Field.{mandatory}
 use Rattle.camel_map.specs.Identifier.{enumerated, integer, primitive, sequence}
 use Rattle.camel_map.specs.Kept.{IsKeptList, IsRow}
-use Rattle.camel_map.specs.Reading.{contents, elements_in, or_refused_at}
+use Rattle.camel_map.specs.Reading.{or_refused_at}
 use Rattle.camel_map.specs.Row.{csi_in, first_of, list_of_rows_in, row_in, row_of_fields}
 use Rattle.camel_map.specs.Value.{detection_point_in, isdn_address_in, unsigned_in}
 use Rattle.camel_map.specs.declared.map_fault.MapFault.{MapFault}

@@ -1,11 +1,11 @@
 -- The contents of an encoded element are read as the elements that they encode.
-use Rattle.std.proofs.Common.{◌≡◌, ◌≢◌, ◌∙◌, ℕ, zero, suc, ◌+◌, ◌<◌, ◌&&◌, ◌%◌, Bool, true, false, not, eqb, List, [], ◌∷◌, ◌++◌, length, map, Result, Ok, inl, inr, refl, ap, arith}
+use Rattle.std.proofs.Common.{◌≡◌, ℕ, zero, suc, ◌<◌, ◌%◌, false, eqb, List, [], ◌∷◌, ◌++◌, length, Result, Ok, inl, refl, ap, arith}
 use Rattle.std.proofs.lemmas.Bool.{eqb-false}
-use Rattle.std.proofs.lemmas.List.{append_assoc, length-append}
+use Rattle.std.proofs.lemmas.List.{length-append}
 use Rattle.camel_ber.specs.Grammar.{ElementData, IsDefinite, IsElement, IsIdentifier, IsSeries}
-use Rattle.camel_ber.specs.Reading.{OctetsData, PlacedData, elements, series_of}
+use Rattle.camel_ber.specs.Reading.{OctetsData, PlacedData, elements}
 use Rattle.camel_ber.proofs.SeriesLemmas.{series_read}
-use Rattle.camel_map.specs.Encoding.{encoding, encodings, leaf, length_octets, parent}
+use Rattle.camel_map.specs.Encoding.{encoding, encodings, length_octets, parent}
 use Rattle.camel_map.specs.Reading.{contents, elements_in, max_depth, or_malformed}
 use Rattle.camel_map.specs.declared.map_fault.MapFault.{MapFault}
 use Rattle.camel_map.proofs.EncodedLengths.{length-said}

@@ -1,15 +1,14 @@
 -- Each update that an operation can say is read where it is encoded.
-use Rattle.std.proofs.Common.{◌≡◌, ◌∙◌, ℕ, ◌<◌, List, [], ◌∷◌, ◌++◌, length, IfSome, Option, None, Some, Result, Ok, refl, sym, ap, subst}
+use Rattle.std.proofs.Common.{◌≡◌, ◌∙◌, ℕ, ◌<◌, List, [], ◌∷◌, length, IfSome, Option, Some, Result, Ok, refl, sym, ap, subst}
 use Rattle.std.proofs.lemmas.List.{append-nil}
 use Rattle.std.proofs.lemmas.Option.{IfSome_then}
 use Rattle.camel_ber.specs.Grammar.{ElementData, IsIdentifier}
-use Rattle.camel_ber.specs.Reading.{◌>>=◌, OctetsData, PlacedData}
-use Rattle.camel_rows.specs.Update.{update_imsi}
+use Rattle.camel_ber.specs.Reading.{◌>>=◌, PlacedData}
 use Rattle.camel_rows.specs.declared.subscriber.update.Update.{Update}
 use Rattle.camel_rows.specs.declared.subscriber.update.Update.TheVariants as update
 use Rattle.camel_tbcd.specs.Imsi.{IsImsi}
 use Rattle.camel_map.specs.Encoding.{Argument, Encodes, IsInDialogue, argument_of, encoding, encodings, leaf, parent, tbcd_octets}
-use Rattle.camel_map.specs.Identifier.{constructed, octet_string, sequence}
+use Rattle.camel_map.specs.Identifier.{constructed, octet_string}
 use Rattle.camel_map.specs.Imsi.{own_imsi}
 use Rattle.camel_map.specs.Kept.{IsKept}
 use Rattle.camel_map.specs.Reading.{elements_in, whole}
@@ -17,12 +16,11 @@ use Rattle.camel_map.specs.Row.{first_of}
 use Rattle.camel_map.specs.Update.{cancel_in, cancelled_in, first_identity_in, identity_in, one_of, update_in, update_of}
 use Rattle.camel_map.specs.declared.map_fault.MapFault.{MapFault}
 use Rattle.camel_map.specs.declared.operation.Operation.{Operation}
-use Rattle.camel_map.specs.declared.operation.Operation.TheVariants as operation
 use Rattle.camel_map.proofs.EncodedDeletes.{delete_read}
 use Rattle.camel_map.proofs.EncodedImsis.{own_imsi_read}
 use Rattle.camel_map.proofs.EncodedInserts.{insert_read}
 use Rattle.camel_map.proofs.EncodedRows.{a_sequence, first_read}
-use Rattle.camel_map.proofs.EncodedSeries.{AreIdentified, AreRead, Decodes, IsShort, at, one_octet, parts_read}
+use Rattle.camel_map.proofs.EncodedSeries.{AreRead, Decodes, IsShort, at, one_octet, parts_read}
 
 -- a CancelLocationArg is read as its update
 cancel_read : (dialogue : Option (List ℕ)) (imsi : List ℕ) → IsImsi imsi → IfSome dialogue (λ other. imsi ≡ other)

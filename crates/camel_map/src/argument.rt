@@ -1,8 +1,12 @@
 //! Which update the octets of an argument are.
 
+ghost use Rattle.std.specs.Prelude.{Ok};
 ghost use Rattle.camel_ber.specs.Reading.{views};
+ghost use Rattle.camel_map.specs.Encoding.{Encodes, IsInDialogue};
+ghost use Rattle.camel_map.specs.Kept.{IsKept};
 ghost use Rattle.camel_map.specs.Reading.{LendsElement, ReadsAs, whole};
 ghost use Rattle.camel_map.specs.Update.{one_of, update_of};
+ghost use Rattle.camel_rows.specs.declared.subscriber.update.Update.{Update};
 
 use crate::cancel::read_cancel;
 use crate::delete::read_delete;
@@ -29,15 +33,37 @@ fn one_of<'a>(elements: &[Element<'a>]) -> Result<Element<'a>, MapFault>
 /// The update that octets are, as the argument of an operation in a dialogue of this IMSI, if the dialogue has one.
 ///
 /// The octets are those of the parameter of a TCAP invoke, in BER (ITU-T X.690) of any form. They are borrowed, and
-/// nothing of them is kept. Fields are known by their tags. Those that are not needed, and extensions, are skipped.
-#[tactic(auto, unfolding(crate::specs::Update::update_of))]
+/// nothing of them is kept. Fields are known by their tags (TS 29.002); those that are not needed, and extensions, are
+/// skipped. It takes memory for lists, and gives back all but that of the update. Its steps are at most a constant times
+/// the number of octets.
+///
+/// Fails with the first fault, and says where it is: `Malformed` (401), `MissingField` (402), `FieldTwice` (403),
+/// `WrongTag` (404), `WrongLength` (405), `NoImsi` (406) or `OtherImsi` (407) of the octets, and with `DataMissing` (35),
+/// `UnexpectedDataValue` (36) or `OutOfMemory` (102) if the data are refused. Nothing was made then.
 pub fn decode(
     alloc: Global,
     operation: Operation,
     dialogue_imsi: Option<Imsi>,
     octets: &[u8],
 ) -> Result<Update, MapFault>
+    // It is the update that the octets are.
     ensures answer { ReadsAs result (update_of operation dialogue_imsi (whole octets.now)) }
+    // Each update that an operation can say has an encoding that is decoded to it.
+    ensures encoded { (update : Update) → IsKept update → Encodes operation update octets.now
+        → IsInDialogue dialogue_imsi update → ReadsAs result (Ok update) }
+{
+    read_argument(alloc, operation, dialogue_imsi, octets)
+}
+
+/// The update that an argument is.
+#[tactic(auto, unfolding(crate::specs::Update::update_of))]
+fn read_argument(
+    alloc: Global,
+    operation: Operation,
+    dialogue_imsi: Option<Imsi>,
+    octets: &[u8],
+) -> Result<Update, MapFault>
+    ensures { ReadsAs result (update_of operation dialogue_imsi (whole octets.now)) }
 {
     let elements = read_elements(alloc, Octets::new(octets))?;
     let argument = one_of(&elements)?;
