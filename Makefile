@@ -14,6 +14,7 @@ PREFIX ?= /usr/local
 PROGRAM := crates/camel_replay/out/camel_replay
 BENCH := crates/camel_vlr_bench/out/camel_vlr_bench
 REFUSALS := crates/camel_refusals/out/camel_refusals
+MAP_CHECK := crates/camel_map_check/out/camel_map_check
 COPROCESS := crates/camel_replay/out/coprocess
 MAP_CHECK := crates/camel_map_check/out/camel_map_check
 

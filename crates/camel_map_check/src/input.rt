@@ -1,0 +1,71 @@
+//! The lines of the input.
+
+use camel_map::Operation;
+use camel_tbcd::Imsi;
+use csv::ByteRecord;
+use hex::FromHexError;
+use std::alloc::Global;
+
+/// An argument of an operation.
+#[derive(Drop)]
+pub(crate) struct Argument {
+    pub(crate) operation: Operation,
+    /// The IMSI of the dialogue, if it has one.
+    pub(crate) imsi: Option<Imsi>,
+    pub(crate) octets: Vec<u8>,
+}
+
+/// Why a line gives no argument.
+#[derive(Clone, Copy)]
+pub(crate) enum LineFault {
+    /// It is no `OPERATION,IMSI,HEX`.
+    Form,
+    Memory,
+}
+
+/// The argument that a line gives.
+pub(crate) fn argument_of(alloc: Global, fields: &ByteRecord) -> Result<Argument, LineFault> {
+    if fields.len() != 3 {
+        return Err(LineFault::Form);
+    }
+    Ok(Argument {
+        operation: operation_of(field_of(fields, 0))?,
+        imsi: imsi_of(field_of(fields, 1))?,
+        octets: octets_of(alloc, field_of(fields, 2))?,
+    })
+}
+
+/// The field at a place, from 0; one that is not there is empty.
+fn field_of(fields: &ByteRecord, at: usize) -> &[u8] {
+    fields.get(at).unwrap_or(&[])
+}
+
+/// The operation of this name.
+fn operation_of(name: &[u8]) -> Result<Operation, LineFault> {
+    match name {
+        b"insertSubscriberData" => Ok(Operation::InsertSubscriberData),
+        b"deleteSubscriberData" => Ok(Operation::DeleteSubscriberData),
+        b"cancelLocation" => Ok(Operation::CancelLocation),
+        _ => Err(LineFault::Form),
+    }
+}
+
+/// The IMSI of these digits, or none if there are none.
+fn imsi_of(digits: &[u8]) -> Result<Option<Imsi>, LineFault> {
+    if digits.is_empty() {
+        return Ok(None);
+    }
+    match Imsi::from_ascii(digits) {
+        Ok(imsi) => Ok(Some(imsi)),
+        Err(_) => Err(LineFault::Form),
+    }
+}
+
+/// The octets that hexadecimal digits are.
+fn octets_of(alloc: Global, digits: &[u8]) -> Result<Vec<u8>, LineFault> {
+    match hex::decode(alloc, digits) {
+        Ok(octets) => Ok(octets),
+        Err(FromHexError::OutOfMemory) => Err(LineFault::Memory),
+        Err(_) => Err(LineFault::Form),
+    }
+}
