@@ -1,37 +1,22 @@
 """The model of a decoder of MAP arguments: what its rules make of a line, as a record of a script or a fault.
 
-The rules are its own, written down apart from any code of the crates.
+The rules are those of "MAP arguments" in `docs/RULES.md`, written down apart from any code of the crates.
 """
 
 from map_arguments import updates
 
 from .reading import (CONTEXT, DATA_MISSING, LENGTH, MISSING, NO_IMSI, OTHER_IMSI, TAG, TWICE, UNEXPECTED_DATA,
-                      UNIVERSAL, Fault, element, inner)
+                      UNIVERSAL, Fault, inner, series)
 
 PRIMITIVE, CONSTRUCTED = False, True
 INTEGER, OCTET_STRING, ENUMERATED, SEQUENCE = ((UNIVERSAL, number) for number in (2, 4, 10, 16))
 
-MAX_ITEMS, MAX_SERVICES, MAX_CAUSES, MAX_NUMBERS, MAX_LENGTHS = 10, 5, 5, 10, 3
-MAX_KEY = 2**31 - 1
+MAX_ITEMS, MAX_SERVICES, MAX_CAUSES, MAX_NUMBERS, MAX_LENGTHS, MAX_LENGTH = 10, 5, 5, 10, 3, 15
+MAX_KEY, MAX_NUMBER = 2**31 - 1, 2**32 - 1
 
 
 def context(number):
     return CONTEXT, number
-
-
-def fields(octets, parent, forms, needed=()):
-    """The fields of a sequence by their tags, of those that have a form here. Others are skipped."""
-    found = {}
-    for field in inner(octets, parent):
-        if field.tag in found:
-            raise Fault(TWICE, field.start, "field-twice")
-        if field.tag in forms:
-            expect(field, field.tag, forms[field.tag])
-            found[field.tag] = field
-    for tag in needed:
-        if tag not in found:
-            raise Fault(MISSING, parent.start, "missing-field")
-    return found
 
 
 def expect(field, tag, constructed):
@@ -39,6 +24,36 @@ def expect(field, tag, constructed):
         raise Fault(TAG, field.start, "other-tag")
     if field.constructed != constructed:
         raise Fault(TAG, field.start, "other-form")
+
+
+class Fields:
+    """The fields of a sequence, which are known by their tags. Those that nobody asks for are skipped."""
+
+    def __init__(self, octets, parent):
+        self.parent, self.found = parent, inner(octets, parent)
+
+    def optional(self, tag, constructed):
+        """The field with this tag, or None."""
+        tagged = [field for field in self.found if field.tag == tag]
+        if len(tagged) > 1:
+            raise Fault(TWICE, tagged[1].start, "field-twice")
+        if not tagged:
+            return None
+        expect(tagged[0], tag, constructed)
+        return tagged[0]
+
+    def mandatory(self, tag, constructed):
+        field = self.optional(tag, constructed)
+        if field is None:
+            raise Fault(MISSING, self.parent.start, "missing-field")
+        return field
+
+
+def first(octets, parent):
+    found = inner(octets, parent)
+    if not found:
+        raise Fault(MISSING, parent.start, "missing-field")
+    return found[0]
 
 
 def items(octets, parent):
@@ -49,21 +64,32 @@ def items(octets, parent):
     return found
 
 
+def when_there(read, octets, field):
+    return None if field is None else read(octets, field)
+
+
 def unless(refused, field, rule):
     if refused:
         raise Fault(UNEXPECTED_DATA, field.start, rule)
 
 
-def integer(octets, field):
+def signed(octets, field):
     content = field.octets(octets)
     if not content:
         raise Fault(LENGTH, field.start, "empty-integer")
     return int.from_bytes(content, "big", signed=True)
 
 
-def ranged(octets, field, least, greatest):
-    value = integer(octets, field)
-    unless(value < least or greatest is not None and value > greatest, field, "range-of-value")
+def natural(octets, field):
+    value = signed(octets, field)
+    unless(value < 0, field, "range-of-value")
+    return min(value, MAX_NUMBER)
+
+
+def choice(octets, field):
+    """A value of two."""
+    value = natural(octets, field)
+    unless(value > 1, field, "range-of-value")
     return value
 
 
@@ -97,37 +123,43 @@ def agreed(octets, field, given):
 
 def row(octets, parent):
     expect(parent, SEQUENCE, CONSTRUCTED)
-    forms = dict.fromkeys((ENUMERATED, INTEGER, context(0), context(1)), PRIMITIVE)
-    found = fields(octets, parent, forms, forms)
-    return updates.Row(integer(octets, found[ENUMERATED]), ranged(octets, found[INTEGER], 0, MAX_KEY),
-                       address(octets, found[context(0)]), ranged(octets, found[context(1)], 0, None))
+    fields = Fields(octets, parent)
+    made = updates.Row(
+        signed(octets, fields.mandatory(ENUMERATED, PRIMITIVE)),
+        natural(octets, fields.mandatory(INTEGER, PRIMITIVE)),
+        address(octets, fields.mandatory(context(0), PRIMITIVE)),
+        natural(octets, fields.mandatory(context(1), PRIMITIVE)),
+    )
+    unless(made.key > MAX_KEY, parent, "great-service-key")
+    return made
 
 
-def counted(octets, parent, tag, read, greatest):
-    """What is read of each element of a list of primitive elements with this tag, of which there are only so many."""
+def tagged_items(octets, parent, tag, read):
+    """What is read of each element of a list of primitive elements with this tag."""
     values = []
     for item in items(octets, parent):
         expect(item, tag, PRIMITIVE)
         values.append(read(octets, item))
-    unless(len(values) > greatest, parent, "long-list")
     return values
 
 
-def number_length(octets, field):
-    return ranged(octets, field, 1, 15)
+def addresses(octets, parent):
+    return tagged_items(octets, parent, OCTET_STRING, address)
+
+
+def number_lengths(octets, parent):
+    return tagged_items(octets, parent, INTEGER, natural)
 
 
 def number(octets, parent):
-    found = fields(octets, parent, {context(0): PRIMITIVE, context(1): CONSTRUCTED, context(2): CONSTRUCTED},
-                   [context(0)])
-    match_type = ranged(octets, found[context(0)], 0, 1)
-    numbers = lengths = None
-    if listed := found.get(context(1)):
-        numbers = counted(octets, listed, OCTET_STRING, address, MAX_NUMBERS)
-    if listed := found.get(context(2)):
-        lengths = counted(octets, listed, INTEGER, number_length, MAX_LENGTHS)
+    fields = Fields(octets, parent)
+    match_type = choice(octets, fields.mandatory(context(0), PRIMITIVE))
+    numbers = when_there(addresses, octets, fields.optional(context(1), CONSTRUCTED))
+    lengths = when_there(number_lengths, octets, fields.optional(context(2), CONSTRUCTED))
     if numbers is lengths is None:
         raise Fault(DATA_MISSING, parent.start, "no-number")
+    unless(len(numbers or ()) > MAX_NUMBERS or len(lengths or ()) > MAX_LENGTHS, parent, "long-list")
+    unless(not all(1 <= length <= MAX_LENGTH for length in lengths or ()), parent, "range-of-length")
     return updates.NumberCriterion(match_type, numbers, lengths)
 
 
@@ -141,9 +173,7 @@ def service(octets, field):
 
 
 def services(octets, parent):
-    found = [service(octets, item) for item in items(octets, parent)]
-    unless(len(found) > MAX_SERVICES, parent, "long-list")
-    return found
+    return [service(octets, item) for item in items(octets, parent)]
 
 
 def cause(octets, field):
@@ -154,44 +184,35 @@ def cause(octets, field):
 
 
 def causes(octets, parent):
-    return counted(octets, parent, OCTET_STRING, cause, MAX_CAUSES)
+    return tagged_items(octets, parent, OCTET_STRING, cause)
 
 
-def optional(read, octets, field):
-    return None if field is None else read(octets, field)
-
-
-def call_type(octets, field):
-    return ranged(octets, field, 0, 1)
+def made_entry(entry, parent, first_point):
+    unless(len(entry.basics or ()) > MAX_SERVICES or len(entry.causes or ()) > MAX_CAUSES, parent, "long-list")
+    unless(entry.point == first_point and entry.causes, parent, "cause-at-first-point")
+    return entry
 
 
 def o_entry(octets, parent):
     expect(parent, SEQUENCE, CONSTRUCTED)
-    forms = {ENUMERATED: PRIMITIVE, context(0): CONSTRUCTED, context(1): CONSTRUCTED, context(2): PRIMITIVE,
-             context(3): CONSTRUCTED}
-    found = fields(octets, parent, forms, [ENUMERATED])
-    entry = updates.Entry(
-        integer(octets, found[ENUMERATED]),
-        optional(number, octets, found.get(context(0))),
-        optional(services, octets, found.get(context(1))),
-        optional(call_type, octets, found.get(context(2))),
-        optional(causes, octets, found.get(context(3))),
-    )
-    unless(entry.point == 2 and entry.causes, found.get(context(3)), "cause-at-first-point")
-    return entry
+    fields = Fields(octets, parent)
+    return made_entry(updates.Entry(
+        signed(octets, fields.mandatory(ENUMERATED, PRIMITIVE)),
+        when_there(number, octets, fields.optional(context(0), CONSTRUCTED)),
+        when_there(services, octets, fields.optional(context(1), CONSTRUCTED)),
+        when_there(choice, octets, fields.optional(context(2), PRIMITIVE)),
+        when_there(causes, octets, fields.optional(context(3), CONSTRUCTED)),
+    ), parent, updates.O_POINTS[0])
 
 
 def t_entry(octets, parent):
     expect(parent, SEQUENCE, CONSTRUCTED)
-    forms = {ENUMERATED: PRIMITIVE, context(0): CONSTRUCTED, context(1): CONSTRUCTED}
-    found = fields(octets, parent, forms, [ENUMERATED])
-    entry = updates.Entry(
-        integer(octets, found[ENUMERATED]),
-        basics=optional(services, octets, found.get(context(0))),
-        causes=optional(causes, octets, found.get(context(1))),
-    )
-    unless(entry.point == 12 and entry.causes, found.get(context(1)), "cause-at-first-point")
-    return entry
+    fields = Fields(octets, parent)
+    return made_entry(updates.Entry(
+        signed(octets, fields.mandatory(ENUMERATED, PRIMITIVE)),
+        basics=when_there(services, octets, fields.optional(context(0), CONSTRUCTED)),
+        causes=when_there(causes, octets, fields.optional(context(1), CONSTRUCTED)),
+    ), parent, updates.T_POINTS[0])
 
 
 def received(octets, parent, read, name):
@@ -203,32 +224,40 @@ def received(octets, parent, read, name):
     return found
 
 
-def csi(octets, parent, name):
-    found = inner(octets, parent)
-    if not found:
-        raise Fault(MISSING, parent.start, "missing-field")
-    expect(found[0], SEQUENCE, CONSTRUCTED)
-    return received(octets, found[0], row, name)
+def rows(octets, parent, name):
+    listed = first(octets, parent)
+    expect(listed, SEQUENCE, CONSTRUCTED)
+    return received(octets, listed, row, name)
+
+
+def entries(octets, parent, name):
+    return received(octets, parent, o_entry if name == "oc" else t_entry, name)
+
+
+LISTS = {"o": (context(0), rows), "oc": (context(4), entries), "t": (context(7), rows), "tc": (context(8), entries)}
 
 
 def information(octets, parent):
     """The lists of vlrCamelSubscriptionInfo by their names."""
-    tags = {"o": context(0), "oc": context(4), "t": context(7), "tc": context(8)}
-    found = fields(octets, parent, dict.fromkeys(tags.values(), CONSTRUCTED))
-    lists = {}
-    for name, tag in tags.items():
-        if tag in found and name in ("o", "t"):
-            lists[name] = csi(octets, found[tag], name)
-        elif tag in found:
-            lists[name] = received(octets, found[tag], o_entry if name == "oc" else t_entry, name)
+    fields, lists = Fields(octets, parent), {}
+    for name, (tag, read) in LISTS.items():
+        if field := fields.optional(tag, CONSTRUCTED):
+            lists[name] = read(octets, field, name)
     return lists
 
 
 def insert(octets, whole, given):
     expect(whole, SEQUENCE, CONSTRUCTED)
-    found = fields(octets, whole, {context(0): PRIMITIVE, context(13): CONSTRUCTED})
-    subscriber = agreed(octets, found.get(context(0)), given)
-    return updates.Insert(subscriber, optional(information, octets, found.get(context(13))) or {})
+    fields = Fields(octets, whole)
+    subscriber = agreed(octets, fields.optional(context(0), PRIMITIVE), given)
+    lists = when_there(information, octets, fields.optional(context(13), CONSTRUCTED))
+    return updates.Insert(subscriber, lists or {})
+
+
+def null(octets, field):
+    if field.octets(octets):
+        raise Fault(LENGTH, field.start, "content-of-null")
+    return True
 
 
 def bits(octets, field):
@@ -242,19 +271,11 @@ def bits(octets, field):
 
 def delete(octets, whole, given):
     expect(whole, SEQUENCE, CONSTRUCTED)
-    found = fields(octets, whole, dict.fromkeys((context(0), context(9), context(15)), PRIMITIVE), [context(0)])
-    subscriber = agreed(octets, found[context(0)], given)
-    everything = found.get(context(9))
-    if everything and everything.octets(octets):
-        raise Fault(LENGTH, everything.start, "content-of-null")
-    return updates.Delete(subscriber, bool(everything), optional(bits, octets, found.get(context(15))))
-
-
-def first(octets, parent):
-    found = inner(octets, parent)
-    if not found:
-        raise Fault(MISSING, parent.start, "missing-field")
-    return found[0]
+    fields = Fields(octets, whole)
+    subscriber = agreed(octets, fields.mandatory(context(0), PRIMITIVE), given)
+    everything = when_there(null, octets, fields.optional(context(9), PRIMITIVE))
+    named = when_there(bits, octets, fields.optional(context(15), PRIMITIVE))
+    return updates.Delete(subscriber, bool(everything), named)
 
 
 def cancel(octets, whole, given):
@@ -275,12 +296,12 @@ READERS = {"insertSubscriberData": insert, "deleteSubscriberData": delete, "canc
 def update_of(line):
     """The update of a line, or a fault that is raised."""
     octets = line.octets
-    if not octets:
+    found = series(octets, 0, len(octets))
+    if not found:
         raise Fault(MISSING, 0, "no-argument")
-    whole = element(octets, 0, len(octets))
-    if whole.after < len(octets):
-        raise Fault(LENGTH, whole.after, "second-argument")
-    return READERS[line.operation](octets, whole, line.imsi)
+    if len(found) > 1:
+        raise Fault(LENGTH, found[1].start, "second-argument")
+    return READERS[line.operation](octets, found[0], line.imsi)
 
 
 def answer(line):

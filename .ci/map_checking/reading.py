@@ -55,10 +55,10 @@ def identifier(octets, at, end):
     return (first >> 6, number), bool(first & 32), at
 
 
-def length(octets, at, end, start):
+def length(octets, at, end):
     """The length at this place, or None if it is indefinite, and where it ends."""
     if at >= end:
-        raise Fault(MALFORMED, start, "no-length")
+        raise Fault(MALFORMED, at, "no-length")
     first = octets[at]
     if first < 128:
         return first, at + 1
@@ -66,9 +66,9 @@ def length(octets, at, end, start):
         return None, at + 1
     after = at + 1 + first - 128
     if first - 128 > 4:
-        raise Fault(MALFORMED, start, "long-length")
+        raise Fault(MALFORMED, at, "long-length")
     if after > end:
-        raise Fault(MALFORMED, start, "cut-length")
+        raise Fault(MALFORMED, at, "cut-length")
     return int.from_bytes(octets[at + 1 : after], "big"), after
 
 
@@ -76,18 +76,18 @@ def element(octets, at, end, depth=0):
     """The element at this place. Indefinite lengths around it are so many."""
     if at >= end:
         raise Fault(MALFORMED, at, "no-end-of-contents")
-    tag, constructed, content = identifier(octets, at, end)
-    size, content = length(octets, content, end, at)
-    if tag == (UNIVERSAL, 0):
+    if octets[at] == 0:
         raise Fault(MALFORMED, at, "tag-of-end-of-contents")
+    tag, constructed, content = identifier(octets, at, end)
+    size, content = length(octets, content, end)
     if size is not None:
         if content + size > end:
-            raise Fault(MALFORMED, at, "cut-content")
+            raise Fault(MALFORMED, content, "cut-content")
         return Found(tag, constructed, at, content, content + size, content + size)
     if not constructed:
-        raise Fault(MALFORMED, at, "primitive-of-indefinite-length")
+        raise Fault(MALFORMED, content, "primitive-of-indefinite-length")
     if depth == MAX_DEPTH:
-        raise Fault(MALFORMED, at, "deep-nesting")
+        raise Fault(MALFORMED, content, "deep-nesting")
     inner = content
     while octets[inner : inner + 2] != b"\0\0" or inner + 2 > end:
         inner = element(octets, inner, end, depth + 1).after
