@@ -103,11 +103,10 @@ def list_texts(name, items):
 
 
 def withdrawn(delete):
-    """What a delete names: o, vt or all."""
-    if delete.everything:
-        return ["all"]
+    """What a delete names: o, vt and all."""
     bits = delete.bits or ""
-    return [what for what, at in (("o", 0), ("vt", 4)) if bits[at : at + 1] == "1"]
+    named = {"o": bits[:1] == "1", "vt": bits[4:5] == "1", "all": delete.everything}
+    return [what for what, is_named in named.items() if is_named]
 
 
 def record_of(update):
