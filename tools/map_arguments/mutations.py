@@ -1,7 +1,14 @@
 """Edits of the octets of an argument. Those of fields find the elements by their lengths, and leave what has none."""
 
+from .ber import CONSTRUCTED, ENUMERATED
+from .updates import O_POINTS, T_POINTS
+
 MAX_EDITS = 3
 TELLING_OCTETS = bytes.fromhex("000102030405060a0f101f20303f7f80818283848590a0a1a2a3a4a7a8adafb0bfff")
+# Detection points and other numbers, at their limits and beyond.
+TELLING_VALUES = [bytes.fromhex(text) for text in (
+    "00", "01", "02", "03", "04", "0c", "0d", "0e", "0f", "10", "ff", "ff01", "0100", "0102", "010c", "7fffffff",
+    "0080000000", "00ffffffff", "0100000002", "ff0000000c")]
 
 
 def elements_of(octets, start, end, found, depth=0):
@@ -75,20 +82,24 @@ def edit_length(random, octets):
     return octets[:at] + bytes([length]) + octets[at + 1 :]
 
 
-def replace_field(random, octets, make):
-    """Puts in the place of an element what is made of its octets, with the lengths around it."""
-    fields = fields_of(octets)
+def replace_field(random, octets, make, identifiers=range(256)):
+    """Puts in the place of an element, that begins with one of these identifiers, what is made of its octets, with the
+    lengths around it."""
+    fields = [field for field in fields_of(octets) if octets[field[0]] in identifiers]
     if not fields:
         return insert_octets(random, octets)
     # The whole argument is edited by the other edits often enough.
-    start, content, end = random.choice(fields[1:] or fields)
+    start, content, end = random.choice([field for field in fields if field[0]] or fields)
     made = make(octets[start:content], octets[content:end])
     right = lengthened(octets, start, end, len(made) - (end - start))
     return right[:start] + made + right[end:]
 
 
 def double_field(random, octets):
-    return replace_field(random, octets, lambda head, content: (head + content) * 2)
+    """Has an element twice, of which one may be constructed and the other primitive."""
+    bits = random.choice((0, 0, 0, CONSTRUCTED)), random.choice((0, 0, 0, CONSTRUCTED))
+    return replace_field(random, octets, lambda head, content: b"".join(
+        bytes([head[0] ^ bit]) + head[1:] + content for bit in bits))
 
 
 def empty_field(random, octets):
@@ -106,6 +117,17 @@ def multiply_field(random, octets):
 def edit_content(random, octets):
     made = random.randbytes(random.choice((0, 1, 1, 2, 5, 9, 10)))
     return replace_field(random, octets, lambda head, content: head[:1] + bytes([len(made)]) + made)
+
+
+def edit_value(random, octets):
+    made = random.choice(TELLING_VALUES)
+    return replace_field(random, octets, lambda head, content: head[:1] + bytes([len(made)]) + made)
+
+
+def edit_point(random, octets):
+    """Changes a detection point, so that two items may have one, or the first one may have causes."""
+    made = bytes([1, random.choice(O_POINTS + T_POINTS)])
+    return replace_field(random, octets, lambda head, content: head[:1] + made, [ENUMERATED])
 
 
 def change_tag(random, octets):
@@ -131,7 +153,8 @@ def swap_fields(random, octets):
 
 # Edits that leave the lengths right come more often, since most of the others leave malformed BER.
 EDITS = (flip_bit, cut, insert_octets, remove_octets, replace_octet, edit_length, nest_field, swap_fields)
-EDITS += (double_field, empty_field, drop_field, multiply_field, change_tag) * 2 + (edit_content,) * 6
+EDITS += (double_field, empty_field, drop_field, multiply_field, change_tag, edit_point) * 2
+EDITS += (edit_content, edit_value) * 4
 
 
 def mutated(random, octets):
