@@ -1,9 +1,26 @@
 """The classes of disagreement between the decoder and tshark, each explained by a rule or a trait of the argument."""
 
-from .reading import MALFORMED
 from .traits import traits_of
 
-# Rules of the decoder that tshark doesn't have: it puts no mark where one of them refuses an argument.
+# What the marks begin with that tshark puts where one of these rules refuses an argument.
+MARKED = {
+    "field-twice": ("unknown_field", "sequence.field_wrong"),
+    "missing-field": ("sequence.field_wrong",),
+    "other-tag": ("expected", "unknown_field", "sequence.field_wrong"),
+    "other-form": ("expected", "_ws.unreassembled", "_ws.malformed"),
+    "other-service": ("_ws.unreassembled",),
+    "second-argument": ("unknown_field", "expected", "sequence.field_wrong", "_ws.malformed"),
+    "empty-integer": ("length",),
+    "octets-of-service": ("length",),
+    "octets-of-cause": ("length", "_ws.malformed"),
+    "octets-of-bits": ("constr_bitstr.len", "illegal_padding"),
+    "content-of-null": ("unknown_field", "_ws.malformed"),
+    "octets-of-address": ("_ws.malformed",),
+    "octets-of-imsi": ("e212.", "_ws.malformed"),
+    "digits-of-imsi": ("e212.",),
+}
+
+# Rules of the decoder that tshark doesn't have, at least in some places: it puts no mark of theirs there.
 UNMARKED = {
     "no-argument": "an operation without its argument",
     "second-argument": "octets behind the argument",
@@ -13,7 +30,9 @@ UNMARKED = {
     "long-list": "more items than a list may have",
     "point-twice": "two items of one detection point",
     "cause-at-first-point": "causes at detection point 2 or 12",
-    "range-of-value": "a number out of its range",
+    "range-of-value": "a number that is negative, or a type that none has",
+    "range-of-length": "a length of a destination number that is 0 or over 15",
+    "great-service-key": "a service key of more than 31 bits",
     "octets-of-address": "no octets of an address, or too many",
     "octets-of-imsi": "an IMSI of too few or too many octets",
     "digits-of-imsi": "an IMSI of other digits than 0 to 9, or of too many",
@@ -26,8 +45,9 @@ UNMARKED = {
     "octets-of-bits": "a bit string without octets, or with more unused bits than it has",
 }
 
-# Malformed BER of an element that tshark doesn't look into, or reads in a way of its own.
-UNMARKED |= {
+# Malformed BER. Where tshark looks into it, and doesn't read it in a way of its own, it puts some mark. Of an argument
+# whose own identifier or length is malformed it shows no field, and puts no mark.
+MALFORMED = {
     "tag-of-end-of-contents": "the tag 0 where no indefinite length ends",
     "primitive-of-indefinite-length": "a primitive element of indefinite length",
     "no-end-of-contents": "an indefinite length without an end",
@@ -41,9 +61,6 @@ UNMARKED |= {
     "cut-content": "content that goes beyond the end",
 }
 
-# The identifier or the length of the argument itself is malformed. Then tshark shows no field of it, and no mark.
-MALFORMED_ARGUMENT = f"fault {MALFORMED} 0"
-
 # What explains a mark of tshark on an argument that the decoder reads, the more likely trait first.
 MARKS = {
     "unknown_field": ("unknown-field", "other-order", "great-tag"),
@@ -55,6 +72,9 @@ MARKS = {
     "e212.": ("plan-of-imsi", "short-imsi"),
     "_ws.malformed.expert": ("plan-of-imsi", "shared-country-code", "short-imsi"),
 }
+
+# Marks that come with others, which say more.
+SUMMARIES = {"malformed", "unreassembled"}
 
 # The decoder doesn't look into what it skips, and tshark does: any mark may come from there.
 SKIPPED = ("skipped-field", "unknown-field", "great-tag")
@@ -70,19 +90,27 @@ def explaining_trait(mark, traits):
     return next((trait for trait in (*candidates, *SKIPPED) if trait in traits), None)
 
 
+def refusal_classes(rule, marks):
+    """The classes of a refusal by this rule. Marks that are not of its kind may be of another fault, before or behind
+    it: tshark goes on behind most faults, and stops at some that the decoder finds later."""
+    own = MARKED.get(rule, ("",) if rule in MALFORMED else ())
+    if any(mark.startswith(own) for mark in marks):
+        return []
+    if marks:
+        return [f"other mark: {rule}"]
+    return [f"no mark: {rule}"] if rule in UNMARKED or rule in MALFORMED else None
+
+
 def classes_of(line, answer, rule, reading):
     """The classes by which tshark's reading differs from the decoder's answer; none if they agree; None if there is a
     difference that no class explains. The rule is the one that refuses the argument, or None."""
+    marks = reading.marks - SUMMARIES
     if rule:
-        if reading.marks:
-            return []
-        if answer == MALFORMED_ARGUMENT:
-            return ["no mark: malformed-argument"]
-        return [f"no mark: {rule}"] if rule in UNMARKED else None
-    if reading.record == answer and not reading.marks:
+        return refusal_classes(rule, marks)
+    if reading.record == answer and not marks:
         return []
     traits = traits_of(line)
-    found = {f"mark: {explaining_trait(mark, traits)}" for mark in reading.marks - {"malformed"}}
+    found = {f"mark: {explaining_trait(mark, traits)}" for mark in marks}
     if reading.record != answer:
         found.add(f"read otherwise: {next((trait for trait in READ_OTHERWISE if trait in traits), None)}")
     return None if any(name.endswith("None") for name in found) else sorted(found) or None
