@@ -38,7 +38,7 @@ endef
 say = $(call targets,$@) >&2
 
 .PHONY: help try replay program check script crate pages examples scripts streams coprocess refusals fuzz \
-	map-check library install library-test soak fuzz-c bench bench-program bench-vlr bench-peers count-vlr test
+	map-check library install library-test soak fuzz-c bench bench-program bench-vlr bench-peers bench-map count-vlr test
 # In order, so that what is missing is said before anything is built.
 .NOTPARALLEL:
 .SECONDEXPANSION:
@@ -177,6 +177,11 @@ bench-vlr: need-python3 $(BENCH)
 bench-peers: need-cargo need-gcc need-ar $(BENCH) library
 	$(say)
 	@bench/run-peers
+
+## Times a decoded argument of MAP, beside other decoders if they are there: a minute, once its program is built.
+bench-map: $(BENCH)
+	$(say)
+	@bench/run-map
 
 ## Counts what an update costs, by a simulator: some minutes, once its program is built.
 count-vlr: need-valgrind $(BENCH)

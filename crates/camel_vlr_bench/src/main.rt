@@ -1,8 +1,9 @@
-//! Measures looks, decisions and publications of the store in `camel_vlr`, and decisions over plain records.
-//! `bench/run-vlr` starts it, and so does `bench/run-peers`, with the words of the protocol in `bench/peers`. Without
-//! words it does nothing.
+//! Measures looks, decisions and publications of the store in `camel_vlr`, decisions over plain records, and decoded
+//! arguments of MAP. `bench/run-vlr` and `bench/run-map` start it, and so does `bench/run-peers`, with the words of the
+//! protocol in `bench/peers`. Without words it does nothing.
 #![tactic(auto)]
 
+mod arguments;
 mod data;
 mod harness;
 mod looks;
@@ -52,7 +53,7 @@ fn request(words: &[String]) -> Option<Request> {
     Request::from_words(asked)
 }
 
-// The figure of what `bench/run-vlr` names, and 0 if nothing is named.
+// The figure of what `bench/run-vlr` or `bench/run-map` names, and 0 if nothing is named.
 fn measured<R: AllocGlobal + Clock + Threads + Wait + Sync>(
     rt: &R,
     words: &[String],
@@ -72,6 +73,7 @@ fn measured<R: AllocGlobal + Clock + Threads + Wait + Sync>(
             let (updates, rounds) = (number(words, 3), number(words, 4));
             publications::time_publications(rt, rt.alloc(), &concerned, updates, rounds)
         }
+        "decodes" => arguments::time_decodes(rt, rt.alloc(), subscribers),
         "registers" => registers::slowest_to_median(rt, rt.alloc(), subscribers),
         _ => None,
     }
