@@ -1,30 +1,26 @@
 -- Encoded criteria are read as their entries.
 use Rattle.std.proofs.Common.{ℕ, List, [], ◌∷◌, map, None, refl, arith}
-use Rattle.camel_ber.specs.Grammar.{IsIdentifier}
 use Rattle.camel_criteria.specs.Criteria.{OCriteriaData, TCriteriaData}
 use Rattle.camel_rows.specs.Received.{o_criteria_set_of, t_criteria_set_of}
 use Rattle.camel_map.specs.Criteria.{o_criteria_set_in, o_entry_in, t_criteria_set_in, t_entry_in}
 use Rattle.camel_map.specs.Encoding.{o_entry_element, parent, sent_o_entries, sent_t_entries, t_entry_element}
-use Rattle.camel_map.specs.Identifier.{sequence}
 use Rattle.camel_map.specs.Kept.{IsKeptList, IsOEntry, IsTEntry}
-use Rattle.camel_map.proofs.EncodedEntries.{o_entry_read, t_entry_read}
+use Rattle.camel_map.proofs.EncodedOEntries.{o_entry_read}
+use Rattle.camel_map.proofs.EncodedTEntries.{t_entry_read}
 use Rattle.camel_map.proofs.EncodedKept.{ignored_read, kept_read}
-use Rattle.camel_map.proofs.EncodedSeries.{Decodes, one_octet}
-
-a_sequence : IsIdentifier (sequence ∷ [])
-a_sequence = one_octet sequence (refl, refl)
+use Rattle.camel_map.proofs.EncodedSeries.{a_sequence, Decodes}
 
 -- the entry that is sent for none
-abbrev ignored_o_entry : OCriteriaData
+abbrev pub ignored_o_entry : OCriteriaData
 ignored_o_entry = record { dp = 255; number = None; basic = []; call_type = None; causes = [] }
 
-abbrev ignored_t_entry : TCriteriaData
+abbrev pub ignored_t_entry : TCriteriaData
 ignored_t_entry = record { dp = 255; basic = []; causes = [] }
 
-is_ignored_o_entry : IsOEntry ignored_o_entry
+pub is_ignored_o_entry : IsOEntry ignored_o_entry
 is_ignored_o_entry = record { dp = omega arith; number = tt; whole = refl }
 
-is_ignored_t_entry : IsTEntry ignored_t_entry
+pub is_ignored_t_entry : IsTEntry ignored_t_entry
 is_ignored_t_entry = record { dp = omega arith; whole = refl }
 
 -- the criteria of the O-CSI are read as their entries
@@ -35,8 +31,8 @@ o_criteria_read octet [] kept =
     ignored_read o_entry_in o_entry_element IsOEntry o_criteria_set_of (λ entry. a_sequence) o_entry_read octet
     ignored_o_entry is_ignored_o_entry refl
 o_criteria_read octet (entry ∷ entries) kept =
-    kept_read o_entry_in o_entry_element IsOEntry o_criteria_set_of (λ entry. a_sequence) o_entry_read octet entry entries
-    kept
+    kept_read o_entry_in o_entry_element IsOEntry o_criteria_set_of (λ entry. a_sequence) o_entry_read octet entry
+    entries kept
 
 -- the criteria of the VT-CSI are read as their entries
 pub t_criteria_read : (octet : ℕ) (entries : List TCriteriaData) → IsKeptList IsTEntry t_criteria_set_of entries
@@ -46,5 +42,5 @@ t_criteria_read octet [] kept =
     ignored_read t_entry_in t_entry_element IsTEntry t_criteria_set_of (λ entry. a_sequence) t_entry_read octet
     ignored_t_entry is_ignored_t_entry refl
 t_criteria_read octet (entry ∷ entries) kept =
-    kept_read t_entry_in t_entry_element IsTEntry t_criteria_set_of (λ entry. a_sequence) t_entry_read octet entry entries
-    kept
+    kept_read t_entry_in t_entry_element IsTEntry t_criteria_set_of (λ entry. a_sequence) t_entry_read octet entry
+    entries kept

@@ -1,7 +1,7 @@
 -- An encoded DeleteSubscriberDataArg is read as its update.
 use Rattle.std.proofs.Common.{◌≡◌, ◌∙◌, ℕ, Bool, true, false, List, [], ◌∷◌, ◌++◌, IfSome, Option, Ok, refl, ap}
 use Rattle.camel_ber.specs.Grammar.{ElementData}
-use Rattle.camel_ber.specs.Reading.{◌>>=◌, PlacedData}
+use Rattle.camel_ber.specs.Reading.{◌>>=◌}
 use Rattle.camel_rows.specs.declared.subscriber.update.Update.TheVariants as update
 use Rattle.camel_rows.specs.declared.subscriber.update.Withdrawal.{Withdrawal}
 use Rattle.camel_tbcd.specs.Imsi.{IsImsi}
@@ -10,73 +10,14 @@ use Rattle.camel_map.specs.Field.{field_of, mandatory}
 use Rattle.camel_map.specs.Identifier.{primitive, sequence}
 use Rattle.camel_map.specs.Imsi.{own_imsi}
 use Rattle.camel_map.specs.Update.{delete_in}
-use Rattle.camel_map.specs.Withdrawal.{is_named, withdrawal_in, withdrawal_with}
-use Rattle.camel_map.proofs.EncodedFields.{field_absent, field_there, mandatory_read, of_tag}
+use Rattle.camel_map.specs.Withdrawal.{is_named, withdrawal_with}
+use Rattle.camel_map.proofs.EncodedFields.{mandatory_read}
+use Rattle.camel_map.proofs.EncodedTags.{of_tag}
 use Rattle.camel_map.proofs.EncodedImsis.{own_imsi_read}
-use Rattle.camel_map.proofs.EncodedParts.{before, identified_append, none, others}
-use Rattle.camel_map.proofs.EncodedSeries.{AreIdentified, AreRead, Decodes, at, one_octet, parts_read}
-
-everything_identified : (everything : Bool) → AreIdentified (everything_parts everything)
-everything_identified false = tt
-everything_identified true = (one_octet (primitive 9) (refl, refl), tt)
-
-specific_identified : (o vt : Bool) → AreIdentified (specific_parts o vt)
-specific_identified false false = tt
-specific_identified true false = (one_octet (primitive 15) (refl, refl), tt)
-specific_identified false true = (one_octet (primitive 15) (refl, refl), tt)
-specific_identified true true = (one_octet (primitive 15) (refl, refl), tt)
-
--- the camelSubscriptionInfoWithdraw among its own, and among others
-own_everything : (everything : Bool) → of_tag (primitive 9) (everything_parts everything) ≡ everything_parts everything
-own_everything false = refl
-own_everything true = refl
-
-no_everything : (everything : Bool) → of_tag (primitive 15) (everything_parts everything) ≡ []
-no_everything false = refl
-no_everything true = refl
-
--- the specificCSI-Withdraw
-own_specific : (o vt : Bool) → of_tag (primitive 15) (specific_parts o vt) ≡ specific_parts o vt
-own_specific false false = refl
-own_specific true false = refl
-own_specific false true = refl
-own_specific true true = refl
-
-no_specific : (o vt : Bool) → of_tag (primitive 9) (specific_parts o vt) ≡ []
-no_specific false false = refl
-no_specific true false = refl
-no_specific false true = refl
-no_specific true true = refl
-
-module _ (fields : List PlacedData) (es : List ElementData) (read : AreRead fields es) where
-  -- everything is named, or not
-  everything_read : (everything : Bool) → of_tag (primitive 9) es ≡ everything_parts everything
-      → (field_of (primitive 9) fields >>= is_named) ≡ Ok everything
-  everything_read false found = let absent = field_absent (primitive 9) fields es read found in rw absent refl
-  everything_read true found =
-      let field = field_there (primitive 9) fields es (leaf (primitive 9) []) refl read found in
-      let there = field.2 in
-      rw there refl
-
-  -- the CSIs that are named
-  specific_read : (everything o vt : Bool) → of_tag (primitive 15) es ≡ specific_parts o vt
-      → (field_of (primitive 15) fields >>= withdrawal_with everything)
-      ≡ Ok (record { o = o; vt = vt; everything = everything })
-  unfolding withdrawal_in
-  specific_read everything false false found =
-      let absent = field_absent (primitive 15) fields es read found in rw absent refl
-  specific_read everything true false found =
-      let field = field_there (primitive 15) fields es (leaf (primitive 15) (0 ∷ 0x80 ∷ [])) refl read found in
-      let there = field.2 in
-      rw there refl
-  specific_read everything false true found =
-      let field = field_there (primitive 15) fields es (leaf (primitive 15) (0 ∷ 0x08 ∷ [])) refl read found in
-      let there = field.2 in
-      rw there refl
-  specific_read everything true true found =
-      let field = field_there (primitive 15) fields es (leaf (primitive 15) (0 ∷ 0x88 ∷ [])) refl read found in
-      let there = field.2 in
-      rw there refl
+use Rattle.camel_map.proofs.EncodedIdentifiers.{identified_append}
+use Rattle.camel_map.proofs.EncodedParts.{before, none, others}
+use Rattle.camel_map.proofs.EncodedSeries.{AreIdentified, Decodes, at, one_octet, parts_read}
+use Rattle.camel_map.proofs.EncodedWithdrawals.{everything_identified, everything_read, no_everything, no_specific, own_everything, own_specific, specific_identified, specific_read}
 
 module _ (imsi : List ℕ) (what : Withdrawal) where
   abbrev imsi_part : ElementData
@@ -97,7 +38,8 @@ module _ (imsi : List ℕ) (what : Withdrawal) where
 
   the_everything : of_tag (primitive 9) argument_parts ≡ everything_parts what.everything
   the_everything =
-      before (primitive 9) (everything_parts what.everything) (specific_parts what.o what.vt) (no_specific what.o what.vt)
+      before (primitive 9) (everything_parts what.everything) (specific_parts what.o what.vt)
+      (no_specific what.o what.vt)
       ∙ own_everything what.everything
 
   the_specific : of_tag (primitive 15) argument_parts ≡ specific_parts what.o what.vt
@@ -132,7 +74,8 @@ module _ (imsi : List ℕ) (what : Withdrawal) where
       let fields = parts.0 in
       let all = parts.1 in
       let own : (mandatory argument (primitive 0) fields >>= own_imsi dialogue) ≡ Ok imsi =
-      mandatory_read (own_imsi dialogue) (primitive 0) fields argument_parts argument imsi_part imsi refl parts.2 the_imsi
+      mandatory_read (own_imsi dialogue) (primitive 0) fields argument_parts argument imsi_part imsi refl parts.2
+      the_imsi
       (own_imsi_read dialogue (primitive 0) imsi is same) in
       let everything : (field_of (primitive 9) fields >>= is_named) ≡ Ok what.everything =
       everything_read fields argument_parts parts.2 what.everything the_everything in

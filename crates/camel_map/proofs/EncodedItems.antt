@@ -8,8 +8,9 @@ use Rattle.camel_map.specs.Field.{field_of, if_listed}
 use Rattle.camel_map.specs.Items.{items_as, some_of}
 use Rattle.camel_map.specs.Reading.{contents, each_of, elements_in}
 use Rattle.camel_map.specs.declared.map_fault.MapFault.{MapFault}
-use Rattle.camel_map.proofs.EncodedFields.{field_absent, field_there, of_tag}
-use Rattle.camel_map.proofs.EncodedParts.{identified_map}
+use Rattle.camel_map.proofs.EncodedFields.{field_absent, field_there}
+use Rattle.camel_map.proofs.EncodedTags.{of_tag}
+use Rattle.camel_map.proofs.EncodedIdentifiers.{identified_map}
 use Rattle.camel_map.proofs.EncodedSeries.{AreRead, Decodes, at, parts_read}
 
 module _ {A : Type 0} (value_of : PlacedData → Result A MapFault) (element_of : A → ElementData) where
@@ -46,7 +47,8 @@ module _ {A : Type 0} (value_of : PlacedData → Result A MapFault) (element_of 
   unfolding items_as
   items_read octet x xs identified decoded short place end =
       let list = at (parent octet (map element_of (x ∷ xs))) place end in
-      let parts = parts_read octet (map element_of (x ∷ xs)) place end (identified_map element_of (x ∷ xs) identified) short in
+      let items = identified_map element_of (x ∷ xs) identified in
+      let parts = parts_read octet (map element_of (x ∷ xs)) place end items short in
       let all : elements_in (contents list) ≡ Ok parts.0 = parts.1 in
       ap (λ (ps : Result (List PlacedData) MapFault). (ps >>= some_of list) >>= each_of value_of) all
       ∙ ap (λ (ps : Result (List PlacedData) MapFault). ps >>= each_of value_of) (some_read list parts.0 x xs parts.2)

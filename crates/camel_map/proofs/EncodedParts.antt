@@ -1,12 +1,11 @@
--- The elements of a tag among the parts of an encoding, and the identifiers of the parts.
-use Rattle.std.proofs.Common.{◌≡◌, ◌∙◌, ℕ, true, false, List, [], ◌∷◌, ◌++◌, map, Option, Some, None, refl, ap}
+-- The elements of a tag among the parts of an encoding.
+use Rattle.std.proofs.Common.{◌≡◌, ◌∙◌, ℕ, true, false, List, [], ◌∷◌, ◌++◌, Option, Some, None, refl, ap}
 use Rattle.std.proofs.lemmas.List.{append-nil}
 use Rattle.std.proofs.lemmas.List.Elements.{filter-append}
-use Rattle.camel_ber.specs.Grammar.{ElementData, IsIdentifier}
+use Rattle.camel_ber.specs.Grammar.{ElementData}
 use Rattle.camel_map.specs.Encoding.{if_any, if_some}
 use Rattle.camel_map.specs.Field.{same_tag}
-use Rattle.camel_map.proofs.EncodedFields.{has_tag, of_tag}
-use Rattle.camel_map.proofs.EncodedSeries.{AreIdentified}
+use Rattle.camel_map.proofs.EncodedTags.{has_tag, of_tag}
 
 module _ (octet : ℕ) where
   -- parts that are not of the tag
@@ -66,28 +65,3 @@ module _ (octet : ℕ) (a b c d : List ElementData) where
       → of_tag octet (a ++ b ++ c ++ d) ≡ of_tag octet a
   first no_b no_c no_d =
       before octet (a ++ b ++ c) d no_d ∙ (before octet (a ++ b) c no_c ∙ before octet a b no_b)
-
-pub identified_append : (xs ys : List ElementData) → AreIdentified xs → AreIdentified ys → AreIdentified (xs ++ ys)
-identified_append [] ys first second = second
-identified_append (x ∷ xs) ys first second = (first.0, identified_append xs ys first.1 second)
-
-pub identified_four : (a b c d : List ElementData) → AreIdentified a → AreIdentified b → AreIdentified c
-    → AreIdentified d → AreIdentified (a ++ b ++ c ++ d)
-identified_four a b c d is_a is_b is_c is_d =
-    identified_append (a ++ b ++ c) d (identified_append (a ++ b) c (identified_append a b is_a is_b) is_c) is_d
-
-module _ {A : Type 0} (element_of : A → ElementData) where
-  pub identified_any : (o : Option A) → ((x : A) → IsIdentifier (element_of x).identifier)
-      → AreIdentified (if_any element_of o)
-  identified_any None is = tt
-  identified_any (Some x) is = (is x, tt)
-
-  pub identified_some : (octet : ℕ) (xs : List A) → IsIdentifier (octet ∷ [])
-      → AreIdentified (if_some octet element_of xs)
-  identified_some octet [] is = tt
-  identified_some octet (x ∷ xs) is = (is, tt)
-
-  pub identified_map : (xs : List A) → ((x : A) → IsIdentifier (element_of x).identifier)
-      → AreIdentified (map element_of xs)
-  identified_map [] is = tt
-  identified_map (x ∷ xs) is = (is x, identified_map xs is)

@@ -6,6 +6,7 @@ use Rattle.camel_ber.specs.Grammar.{ElementData, IsDefinite, IsElement, IsIdenti
 use Rattle.camel_ber.specs.Reading.{OctetsData, PlacedData, elements}
 use Rattle.camel_ber.proofs.SeriesLemmas.{series_read}
 use Rattle.camel_map.specs.Encoding.{encoding, encodings, length_octets, parent}
+use Rattle.camel_map.specs.Identifier.{sequence}
 use Rattle.camel_map.specs.Reading.{contents, elements_in, max_depth, or_malformed}
 use Rattle.camel_map.specs.declared.map_fault.MapFault.{MapFault}
 use Rattle.camel_map.proofs.EncodedLengths.{length-said}
@@ -34,6 +35,10 @@ AreIdentified (first ∷ more) = IsIdentifier first.identifier × AreIdentified 
 -- an octet that is an identifier
 pub one_octet : (octet : ℕ) → (eqb octet 0 ≡ false) × (eqb (octet % 32) 31 ≡ false) → IsIdentifier (octet ∷ [])
 one_octet octet is = (eqb-false _ _ is.0, inl (eqb-false _ _ is.1, refl))
+
+-- the octet of a SEQUENCE is an identifier
+pub a_sequence : IsIdentifier (sequence ∷ [])
+a_sequence = one_octet sequence (refl, refl)
 
 -- elements that were read where these are encoded
 pub record AreRead (ps : List PlacedData) (es : List ElementData) : Type 0 where

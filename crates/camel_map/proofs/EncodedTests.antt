@@ -5,7 +5,8 @@ use Rattle.std.proofs.lemmas.List.Elements.{All-weaker}
 use Rattle.std.proofs.lemmas.List.Sums.{AllPass-from_list_all}
 use Rattle.std.specs.List.{list_all}
 use Rattle.camel_criteria.specs.Cause.{max_cause}
-use Rattle.camel_criteria.specs.Criteria.{are_causes_at}
+use Rattle.camel_criteria.specs.Criteria.{NumberCriterionData, are_causes_at, is_length}
+use Rattle.camel_map.specs.Kept.{IsNumberCriterion}
 
 -- a test that was passed
 pub passed : {A E : Type 0} (test : Bool) (x z : A) (why : E) → cond test (Ok x) (Err why) ≡ Ok z → test ≡ true
@@ -22,7 +23,7 @@ pub right_of : (a b : Bool) → (a && b) ≡ true → b ≡ true
 right_of true b is = is
 right_of false b is = absurd cc
 
-left_of : (a b : Bool) → (a && b) ≡ true → a ≡ true
+pub left_of : (a b : Bool) → (a && b) ≡ true → a ≡ true
 left_of true b is = refl
 left_of false b is = is
 
@@ -32,6 +33,29 @@ pub causes_most : (without_release dp : ℕ) (causes : List ℕ) → are_causes_
 causes_most without_release dp causes is =
     let tests = right_of (leb (length causes) 5) _ is in
     let all : list_all (λ cause. leb cause max_cause) causes ≡ true =
-    left_of (list_all (λ cause. leb cause max_cause) causes) (not (eqb dp without_release) || eqb (length causes) 0) tests in
+    left_of (list_all (λ cause. leb cause max_cause) causes) (not (eqb dp without_release) || eqb (length causes) 0)
+    tests in
     All-weaker (λ (cause : ℕ). leb cause 127 ≡ true) (λ (cause : ℕ). cause ≤ 127) (λ cause is. leb-true _ _ is) causes
     (AllPass-from_list_all (λ cause. leb cause max_cause) causes all)
+
+-- a criterion that is taken has ten numbers and three lengths at most, each of at most 15 digits
+pub record FewListed (criterion : NumberCriterionData) : Type 0 where
+  pub numbers : length criterion.numbers ≤ 10
+  pub lengths : length criterion.lengths ≤ 3
+  pub digits : All (λ (count : ℕ). count ≤ 15) criterion.lengths
+
+pub few_listed : (criterion : NumberCriterionData) → IsNumberCriterion criterion → FewListed criterion
+few_listed criterion is =
+    let numbers = criterion.numbers in
+    let lengths = criterion.lengths in
+    let tests = passed_next (eqb (length numbers) 0 && eqb (length lengths) 0)
+    (leb (length numbers) 10 && (leb (length lengths) 3 && list_all is_length lengths)) _ criterion _ _ is.0 in
+    let next = right_of (leb (length numbers) 10) _ tests in
+    let all : list_all is_length lengths ≡ true = right_of (leb (length lengths) 3) _ next in
+    record {
+      numbers = leb-true _ _ (left_of (leb (length numbers) 10) _ tests);
+      lengths = leb-true _ _ (left_of (leb (length lengths) 3) _ next);
+      digits = All-weaker (λ (count : ℕ). is_length count ≡ true) (λ (count : ℕ). count ≤ 15)
+          (λ count is. leb-true _ _ (right_of (leb 1 count) _ is)) lengths
+          (AllPass-from_list_all is_length lengths all);
+    }
