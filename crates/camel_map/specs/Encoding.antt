@@ -1,6 +1,6 @@
 -- The shortest encoding of each update that an operation can say: fields in the order of TS 29.002, definite lengths,
 -- and numbers and lengths in as few octets as hold them (ITU-T X.690).
-use Rattle.std.specs.Prelude.{◌≡◌, ◌<◌, ℕ, Bool, true, false, ◌/◌, ◌%◌, ◌+◌, ◌*◌, nat_lt, List, [], ◌∷◌, ◌++◌, length, map, Option, Some, None, IfSome, if◌then◌else◌}
+use Rattle.std.specs.Prelude.{◌≡◌, ℕ, Bool, true, false, ◌/◌, ◌%◌, ◌+◌, ◌*◌, nat_lt, List, [], ◌∷◌, ◌++◌, length, map, Option, Some, None, IfSome, if◌then◌else◌}
 use Rattle.camel_ber.specs.Grammar.{ElementData}
 use Rattle.camel_criteria.specs.Criteria.{NumberCriterionData, OCriteriaData, TCriteriaData}
 use Rattle.camel_criteria.specs.declared.basic_service.BasicService.{BasicService}
@@ -208,7 +208,6 @@ pub record Encodes (which : Operation) (update : Update) (octets : List ℕ) : T
   pub element : ElementData
   pub said : argument_of update ≡ Some (record { operation = which; element = element })
   pub spelled : octets ≡ encoding element
-  pub few : length octets < 4294967296
 
 -- an update concerns the subscriber of a dialogue, if the dialogue has one
 abbrev pub IsInDialogue : Option (List ℕ) → Update → Type 0
