@@ -30,6 +30,7 @@ o_entry_of_fields item fields = do
   causes ← field_of (constructed 3) fields >>= if_listed (items_as cause_in)
   or_refused_at item.place (o_criteria_of dp number basic call_type causes)
 
+-- an entry of the O-CSI, with all of its fields
 unfoldable pub o_entry_in : PlacedData → Result OCriteriaData MapFault
 o_entry_in item = do
   entry ← identified sequence item
@@ -44,6 +45,7 @@ t_entry_of_fields item fields = do
   causes ← field_of (constructed 1) fields >>= if_listed (items_as cause_in)
   or_refused_at item.place (t_criteria_of dp basic causes)
 
+-- an entry of the VT-CSI, with all of its fields
 unfoldable pub t_entry_in : PlacedData → Result TCriteriaData MapFault
 t_entry_in item = do
   entry ← identified sequence item

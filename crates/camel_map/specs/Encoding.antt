@@ -1,5 +1,5 @@
--- The shortest encoding of each update that an operation can say: fields in the order of TS 29.002, definite lengths,
--- and numbers and lengths in as few octets as hold them (ITU-T X.690).
+-- An encoding of each update that an operation can say: fields in the order of TS 29.002, definite lengths, and numbers
+-- and lengths in as few octets as hold them (ITU-T X.690).
 use Rattle.std.specs.Prelude.{◌≡◌, ℕ, Bool, true, false, ◌/◌, ◌%◌, ◌+◌, ◌*◌, nat_lt, List, [], ◌∷◌, ◌++◌, length, map, Option, Some, None, IfSome, if◌then◌else◌}
 use Rattle.camel_ber.specs.Grammar.{ElementData}
 use Rattle.camel_criteria.specs.Criteria.{NumberCriterionData, OCriteriaData, TCriteriaData}

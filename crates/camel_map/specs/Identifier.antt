@@ -15,10 +15,10 @@ enumerated = 0x0a
 abbrev pub sequence : ℕ
 sequence = 0x30
 
--- a field of this tag number whose contents are octets
+-- a field of this tag number, 0 to 30, whose contents are octets
 abbrev pub primitive : ℕ → ℕ
 primitive number = 0x80 + number
 
--- a field of this tag number whose contents are elements
+-- a field of this tag number, 0 to 30, whose contents are elements
 abbrev pub constructed : ℕ → ℕ
 constructed number = 0xa0 + number

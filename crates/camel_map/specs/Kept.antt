@@ -1,4 +1,4 @@
--- The updates that can be made: their data are those that the constructors keep.
+-- The updates whose data are those that the constructors keep.
 use Rattle.std.specs.Prelude.{◌≡◌, ◌≤◌, ◌⊎◌, ℕ, List, [], All, IfSome, Result, Ok}
 use Rattle.camel_criteria.specs.Criteria.{NumberCriterionData, OCriteriaData, TCriteriaData, number_criterion_of, o_criteria_of, t_criteria_of}
 use Rattle.camel_criteria.specs.declared.refusal.Refusal.{Refusal}
@@ -9,6 +9,7 @@ use Rattle.camel_rows.specs.declared.subscriber.update.Update.TheVariants as upd
 use Rattle.camel_tbcd.specs.AddressLength.{IsAddress, max_isdn_address_length}
 use Rattle.camel_tbcd.specs.Imsi.{IsImsi}
 
+-- an octet
 abbrev pub IsOctet : ℕ → Type 0
 IsOctet value = value ≤ 255
 
@@ -18,16 +19,19 @@ pub record IsRow (row : TdpRowData) : Type 0 where
   pub key : row.key ≤ max_service_key
   pub scf : IsAddress max_isdn_address_length row.scf
 
+-- a number criterion that its constructor keeps, of addresses
 abbrev pub IsNumberCriterion : NumberCriterionData → Type 0
 IsNumberCriterion criterion =
     (number_criterion_of criterion.match_type criterion.numbers criterion.lengths ≡ Ok criterion)
     × All (IsAddress max_isdn_address_length) criterion.numbers
 
+-- an entry of the O-CSI of an octet, of a number criterion, and of what its constructor keeps
 pub record IsOEntry (entry : OCriteriaData) : Type 0 where
   pub dp : IsOctet entry.dp
   pub number : IfSome entry.number IsNumberCriterion
   pub whole : o_criteria_of entry.dp entry.number entry.basic entry.call_type entry.causes ≡ Ok entry
 
+-- an entry of the VT-CSI of an octet, and of what its constructor keeps
 pub record IsTEntry (entry : TCriteriaData) : Type 0 where
   pub dp : IsOctet entry.dp
   pub whole : t_criteria_of entry.dp entry.basic entry.causes ≡ Ok entry

@@ -21,17 +21,19 @@ row_of_fields item fields = do
   received ← mandatory item (primitive 1) fields >>= unsigned_in
   or_refused_at item.place (tdp_row_of dp key scf (handling_of received))
 
+-- a row, with all of its fields
 unfoldable pub row_in : PlacedData → Result TdpRowData MapFault
 row_in item = do
   row ← identified sequence item
   fields ← elements_in (contents row)
   row_of_fields row fields
 
--- The list of rows is the first element of a CSI: an extension container with the tag of the list may follow.
+-- the first element of the contents of another, which must have one
 abbrev pub first_of : PlacedData → List PlacedData → Result PlacedData MapFault
 first_of element [] = fails_at element.place MissingField
 first_of element (first ∷ more) = Ok first
 
+-- the list of rows: the first element of a CSI, since an extension container with the tag of a list may follow
 unfoldable pub list_of_rows_in : PlacedData → Result PlacedData MapFault
 list_of_rows_in csi = elements_in (contents csi) >>= first_of csi >>= identified sequence
 

@@ -46,7 +46,7 @@ pub fn decode(
     dialogue_imsi: Option<Imsi>,
     octets: &[u8],
 ) -> Result<Update, MapFault>
-    // It is the update that the octets are.
+    // It is the update that the octets are, or has their first fault, unless memory runs out.
     ensures answer { ReadsAs result (update_of operation dialogue_imsi (whole octets.now)) }
     // Each update that an operation can say has an encoding that is decoded to it.
     ensures encoded { (update : Update) → IsKept update → Encodes operation update octets.now

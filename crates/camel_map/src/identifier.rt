@@ -12,7 +12,7 @@ pub(crate) const ENUMERATED: u8 = 0x0a;
 /// SEQUENCE, and SEQUENCE OF.
 pub(crate) const SEQUENCE: u8 = 0x30;
 
-/// The identifier of a field of this tag number whose contents are octets.
+/// The identifier of a field of tag number 0 whose contents are octets: a greater number is added to it.
 pub(crate) const PRIMITIVE: u8 = 0x80;
 
 /// The identifier of a field of tag number 0 whose contents are elements: a greater number is added to it.

@@ -9,8 +9,8 @@ use std::fmt;
 
 /// Why an argument is not taken. Nothing was made, and no memory is held.
 ///
-/// The numbers from 401 on are this product's own: TS 29.002 has the error UnexpectedDataValue or a rejection of the
-/// argument for them, as a switch sees fit.
+/// The numbers from 401 on are this product's own. TS 29.002 has a rejection of the argument for 401 to 406, and the
+/// error UnexpectedDataValue for 407.
 #[derive(Clone, Copy, Debug, PartialEq, Eq)]
 pub enum MapFaultKind {
     /// 401: the octets are no elements (ITU-T X.690).
@@ -69,6 +69,7 @@ impl fmt::Display for MapFaultKind {
 /// Why an argument is not taken, and where: the first fault, in the order in which a decoder comes to the fields.
 #[derive(Clone, Copy, Debug, PartialEq, Eq)]
 pub struct MapFault {
+    /// What is wrong.
     pub kind: MapFaultKind,
     /// The octet of the argument, from 0, at which the element begins that is not as it must be, or that lacks a field.
     /// For malformed octets it is that of the fault itself ([`camel_ber::Fault`]), and out of memory it says nothing.
