@@ -49,7 +49,14 @@ enum {
     CAMEL_HELD = 105,                  /* a look is held: try again once it is left */
     CAMEL_MALFORMED = 201,             /* an argument or a field is none of what it stands for, or out of its range */
     CAMEL_WRONG_HANDLE = 202,          /* the handle is empty, or of another kind, or the store has ended */
-    CAMEL_FULL_HANDLE = 203            /* the handle that is to be filled is not empty; 204 and 205 are for bindings */
+    CAMEL_FULL_HANDLE = 203,           /* the handle that is to be filled is not empty; 204 and 205 are for bindings */
+    CAMEL_MALFORMED_OCTETS = 401,      /* from here on of camel_submit_map: the octets are no elements (ITU-T X.690) */
+    CAMEL_MISSING_FIELD = 402,         /* a field that must be there is missing */
+    CAMEL_FIELD_TWICE = 403,           /* a field comes twice */
+    CAMEL_WRONG_TAG = 404,             /* an element is none of the type that must be there */
+    CAMEL_WRONG_LENGTH = 405,          /* contents have a wrong length for their type, or octets follow the argument */
+    CAMEL_NO_IMSI = 406,               /* neither the argument nor the dialogue has an IMSI */
+    CAMEL_OTHER_IMSI = 407             /* the argument has another IMSI than the dialogue */
 };
 
 /* Handles. They have one layout, and each has a type of its own so that a compiler tells them apart. */
@@ -108,6 +115,9 @@ typedef struct { uint8_t dp; camel_basic_services basic; camel_causes causes; } 
 
 /* Which lists an Insert sends. One that is not sent is not looked at; one that is sent has 1 to 10 items. */
 typedef struct { bool has_o; bool has_o_criteria; bool has_vt; bool has_t_criteria; } camel_insert;
+
+/* The local codes of the operations of MAP by which an HLR changes subscriber data (TS 29.002). */
+enum { CAMEL_CANCEL_LOCATION = 3, CAMEL_INSERT_SUBSCRIBER_DATA = 7, CAMEL_DELETE_SUBSCRIBER_DATA = 8 };
 
 /* What a Delete removes, each with its criteria. */
 typedef struct { bool o; bool vt; bool everything; } camel_withdrawal;
@@ -176,6 +186,14 @@ camel_status camel_submit_delete(camel_store *store, const camel_imsi *imsi, con
 camel_status camel_submit_cancel(camel_store *store, const camel_imsi *imsi);
 camel_status camel_submit_clear_all(camel_store *store);
 
+/* Submits what an operation of MAP brings, by the octets of its argument: the parameter of the TCAP invoke, in BER of
+ * any form. The IMSI is that of the dialogue, in TBCD octets, of which there are 0 if the dialogue has none. If the
+ * argument is not taken, the call returns CAMEL_MALFORMED_OCTETS to CAMEL_OTHER_IMSI, CAMEL_DATA_MISSING or
+ * CAMEL_UNEXPECTED_DATA_VALUE, and place is the octet, from 0, at which its first fault is. Else place is 0.
+ * CAMEL_MALFORMED is of the operation or the IMSI, and a store rejects an update as above. */
+camel_status camel_submit_map(camel_store *store, uint8_t operation, const uint8_t *imsi, size_t imsi_octet_count,
+                              const uint8_t *argument, size_t argument_octet_count, uint64_t *place);
+
 /* Publishes all that is pending, also if nothing is. CAMEL_HELD: a look that began before the last publication is held.
  * CAMEL_OUT_OF_MEMORY. After both all is pending as before. */
 camel_status camel_publish(camel_store *store);
@@ -241,6 +259,13 @@ static inline const char *camel_status_name(camel_status status)
     case CAMEL_MALFORMED: return "CAMEL_MALFORMED";
     case CAMEL_WRONG_HANDLE: return "CAMEL_WRONG_HANDLE";
     case CAMEL_FULL_HANDLE: return "CAMEL_FULL_HANDLE";
+    case CAMEL_MALFORMED_OCTETS: return "CAMEL_MALFORMED_OCTETS";
+    case CAMEL_MISSING_FIELD: return "CAMEL_MISSING_FIELD";
+    case CAMEL_FIELD_TWICE: return "CAMEL_FIELD_TWICE";
+    case CAMEL_WRONG_TAG: return "CAMEL_WRONG_TAG";
+    case CAMEL_WRONG_LENGTH: return "CAMEL_WRONG_LENGTH";
+    case CAMEL_NO_IMSI: return "CAMEL_NO_IMSI";
+    case CAMEL_OTHER_IMSI: return "CAMEL_OTHER_IMSI";
     default: return "CAMEL_?";
     }
 }

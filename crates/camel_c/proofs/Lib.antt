@@ -4,6 +4,7 @@ pub mod BoxRows
 pub mod LayoutLemmas
 pub mod ObjectDrop
 pub mod ObjectLemmas
+pub mod OctetsLemmas
 pub mod ReadingLemmas
 pub mod SubmissionLemmas
 pub mod Values

@@ -21,7 +21,7 @@ if_some : {A : Type 0} (P Q : A → Type 0) (value : Option A) → ((a : A) → 
 if_some P Q None holds before = tt
 if_some P Q (Some a) holds before = holds a before
 
-always : {A : Type 0} (Q : A → Type 0) (value : Option A) → ((a : A) → Q a) → IfSome value Q
+pub always : {A : Type 0} (Q : A → Type 0) (value : Option A) → ((a : A) → Q a) → IfSome value Q
 always Q None holds = tt
 always Q (Some a) holds = holds a
 
@@ -37,11 +37,11 @@ same_fault : {A E : Type 0} (a b : E) → ◌≡◌ {A = Result A E} (Err a) (Er
 unfolding fault_or
 same_fault a b e = ap (fault_or a) e
 
-same_value : {A E : Type 0} (a b : A) → ◌≡◌ {A = Result A E} (Ok a) (Ok b) → a ≡ b
+pub same_value : {A E : Type 0} (a b : A) → ◌≡◌ {A = Result A E} (Ok a) (Ok b) → a ≡ b
 unfolding value_or
 same_value a b e = ap (value_or a) e
 
-no_fault : {A E : Type 0} (a : A) (b : E) → ◌≡◌ {A = Result A E} (Ok a) (Err b) → ⊥
+pub no_fault : {A E : Type 0} (a : A) (b : E) → ◌≡◌ {A = Result A E} (Ok a) (Err b) → ⊥
 no_fault a b e = true≢false (ap is_ok e)
 
 -- what is submitted as read is submitted as the fields are

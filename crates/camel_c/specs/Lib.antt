@@ -5,6 +5,7 @@ pub mod Handle
 pub mod Kept
 pub mod Layouts
 pub mod Object
+pub mod OctetsSubmission
 pub mod Opening
 pub mod Shown
 pub mod Shows

@@ -1,7 +1,8 @@
 //! The store of `camel_vlr` for switches in C and Rust: a static library.
 //!
 //! C keeps stores, sessions and receipts by handles, and a [`CamelHandle`] says what one is. A call returns 0 if it did
-//! what it says, and else the number of a [`Failure`]: then nothing is changed, unless the call says otherwise.
+//! what it says, and else the number of a [`Failure`], or of the fault of an argument of MAP: then nothing is changed,
+//! unless the call says otherwise.
 //!
 //! What no check reaches, the caller owes: a handle is empty, that is all zeros, or as a call left it; one call at a time
 //! takes a handle, and none takes the same one twice; pointers are not null; and `malloc`, `realloc` and `free` are those
@@ -28,6 +29,7 @@ mod receipts;
 mod showing;
 mod shown_at;
 mod submitting;
+mod submitting_map;
 
 pub use failure::Failure;
 pub use handle::CamelHandle;

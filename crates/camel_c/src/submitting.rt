@@ -124,7 +124,7 @@ fn read_cancel(imsi: &CamelImsi) -> Result<Update, DataFault>
     Ok(Update::Cancel { imsi: imsi.read()? })
 }
 
-fn submit(alloc: Global, store: &mut CamelHandle, read: Result<Update, DataFault>) -> u32
+pub(crate) fn submit(alloc: Global, store: &mut CamelHandle, read: Result<Update, DataFault>) -> u32
     ensures { Submits read result store.old.value store.new.value }
 {
     match read {

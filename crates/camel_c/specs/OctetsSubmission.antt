@@ -1,0 +1,71 @@
+-- Submissions of the octets of an argument of MAP: the update that they are, and what the store makes of it.
+use Rattle.std.specs.Prelude.{◌≡◌, ◌≢◌, ◌⊎◌, ℕ, List, [], ◌∷◌, Option, Some, None, Result, Ok, Err, IsOk}
+use Rattle.camel_tbcd.specs.Imsi.{imsi_of_tbcd}
+use Rattle.camel_rows.specs.declared.subscriber.update.Update.{Update}
+use Rattle.camel_map.specs.MapFault.{map_fault_code}
+use Rattle.camel_map.specs.Operation.{operation_of}
+use Rattle.camel_map.specs.Reading.{whole}
+use Rattle.camel_map.specs.Update.{update_of}
+use Rattle.camel_map.specs.declared.map_fault.MapFault.{MapFault}
+use Rattle.camel_map.specs.declared.operation.Operation.{Operation}
+use Rattle.camel_c.specs.Submission.{Submits}
+use Rattle.camel_c.specs.declared.object.Object.{Object}
+use Rattle.camel_c.specs.declared.submitting_map.OctetsFault.{OctetsFault}
+use Rattle.camel_c.specs.declared.submitting_map.OctetsFault.TheVariants.{Argument, Malformed, OutOfMemory}
+
+-- the number of a fault
+abbrev pub octets_fault_code : OctetsFault → ℕ
+octets_fault_code Malformed = 201
+octets_fault_code OutOfMemory = 102
+octets_fault_code (Argument fault) = map_fault_code fault.kind
+
+-- the octet of the argument at which a fault is; what is no fault of the argument is at none
+abbrev pub octets_fault_place : OctetsFault → ℕ
+octets_fault_place Malformed = 0
+octets_fault_place OutOfMemory = 0
+octets_fault_place (Argument fault) = fault.place
+
+-- a step, and the next one if the first has no fault
+infixl 10 ◌>>=◌
+abbrev pub ◌>>=◌ : {A B : Type 0} → Result A OctetsFault → (A → Result B OctetsFault) → Result B OctetsFault
+Ok value >>= next = next value
+Err fault >>= next = Err fault
+
+-- the operation of a code
+abbrev pub operation_in : ℕ → Result Operation OctetsFault
+operation_in code = elim (operation_of code) [ None ↦ Err Malformed | Some operation ↦ Ok operation ]
+
+-- the IMSI of a dialogue, of which no octets say that it has none
+abbrev pub dialogue_in : List ℕ → Result (Option (List ℕ)) OctetsFault
+dialogue_in [] = Ok None
+dialogue_in (first ∷ more) =
+    elim (imsi_of_tbcd (first ∷ more)) [ Ok imsi ↦ Ok (Some imsi) | Err fault ↦ Err Malformed ]
+
+-- a fault is one of the argument
+abbrev pub in_argument : {A : Type 0} → Result A MapFault → Result A OctetsFault
+in_argument (Ok value) = Ok value
+in_argument (Err fault) = Err (Argument fault)
+
+-- the update that octets are, as the argument of the operation of a code in the dialogue of an IMSI
+unfoldable pub octets_in : ℕ → List ℕ → List ℕ → Result Update OctetsFault
+octets_in code imsi argument = do
+  operation ← operation_in code
+  dialogue ← dialogue_in imsi
+  in_argument (update_of operation dialogue (whole argument))
+
+-- a function returns what its octets are, or is out of memory
+abbrev pub ReadsOctets : {A : Type 0} → Result A OctetsFault → Result A OctetsFault → Type 0
+ReadsOctets (Ok value) reading = reading ≡ Ok value
+ReadsOctets (Err fault) reading = (fault ≡ OutOfMemory) ⊎ (reading ≡ Err fault)
+
+-- Octets that read so are submitted to what a handle held before; this is the status, and this the place that is told.
+-- Memory may be refused (102) while the octets are read, and while the store takes the update.
+pub record SubmitsOctets (reading : Result Update OctetsFault) (status place : ℕ) (before after : Option Object) : Type 0 where
+  -- what the store has taken is an update
+  pub submitted : status ≡ 0 → IsOk reading
+  pub unchanged : status ≢ 0 → after ≡ before
+  -- the octets are an update, which is submitted as one of fields is, and the fault is at no octet
+  pub update : (update : Update) → reading ≡ Ok update → Submits (Ok update) status before after × (place ≡ 0)
+  -- the octets are none
+  pub faulty : (fault : OctetsFault) → reading ≡ Err fault
+      → ((status ≡ octets_fault_code fault) × (place ≡ octets_fault_place fault)) ⊎ ((status ≡ 102) × (place ≡ 0))
