@@ -2,8 +2,8 @@
  * the seed of the second. A caller's part is kept: a bool is 0 or 1, a pointer points to as much as is said, what is
  * passed does not overlap, and a receipt is of the session's own store. All else is any octet, and any handle stands
  * for any other now and then. Each call returns one of its statuses, leaves what it writes as it was if that is not
- * CAMEL_OK, and reports what was submitted. Behind the lists and octets that are passed lies memory that may not be
- * touched. Prints how often each function returned each status. */
+ * CAMEL_OK, but for the place of a fault, and reports what was submitted. Behind the lists and octets that are passed
+ * lies memory that may not be touched. Prints how often each function returned each status. */
 #define _DEFAULT_SOURCE
 #include "random.h"
 
@@ -45,13 +45,15 @@ static unsigned pick_session(void)
 
 enum {
     OK = 1, UNIDENTIFIED = 2, MISSING = 4, UNEXPECTED = 8, FULL = 16, NO_LOOK = 32, HELD = 64, MALFORMED = 128,
-    WRONG_HANDLE = 256, FULL_HANDLE = 512, STATUSES = 10
+    WRONG_HANDLE = 256, FULL_HANDLE = 512, MALFORMED_OCTETS = 1024, MISSING_FIELD = 2048, FIELD_TWICE = 4096,
+    WRONG_TAG = 8192, WRONG_LENGTH = 16384, NO_IMSI = 32768, OTHER_IMSI = 65536, STATUSES = 17
 };
 
 /* In the order of their bits. Memory and places are never refused. */
 static const camel_status STATUS[STATUSES] = {
     CAMEL_OK, CAMEL_UNIDENTIFIED_SUBSCRIBER, CAMEL_DATA_MISSING, CAMEL_UNEXPECTED_DATA_VALUE, CAMEL_HISTORY_FULL,
-    CAMEL_NO_LOOK, CAMEL_HELD, CAMEL_MALFORMED, CAMEL_WRONG_HANDLE, CAMEL_FULL_HANDLE
+    CAMEL_NO_LOOK, CAMEL_HELD, CAMEL_MALFORMED, CAMEL_WRONG_HANDLE, CAMEL_FULL_HANDLE, CAMEL_MALFORMED_OCTETS,
+    CAMEL_MISSING_FIELD, CAMEL_FIELD_TWICE, CAMEL_WRONG_TAG, CAMEL_WRONG_LENGTH, CAMEL_NO_IMSI, CAMEL_OTHER_IMSI
 };
 
 static unsigned long counts[STATUSES]; /* of the function that is called */
@@ -218,6 +220,56 @@ static void f_submit_clear_all(void)
 {
     unsigned slot = pick(STORE);
     note_update(slot, OK | FULL | WRONG_HANDLE, camel_submit_clear_all(AS(store, slot)));
+}
+
+/* The TBCD octets of the IMSI of an argument or of another one, none, or any octets. */
+static size_t any_dialogue(const uint8_t *own, uint8_t *imsi)
+{
+    unsigned kind = below(8);
+    if (kind == 0)
+        return any_octets(imsi);
+    memcpy(imsi, own, IMSI_OCTETS);
+    if (kind == 1)
+        write_tbcd(below(40), imsi);
+    return kind < 5 ? IMSI_OCTETS : 0;
+}
+
+/* The octets of an argument as they come, or with some that are changed, left out or added. */
+static size_t any_argument(struct argument *argument, uint8_t *octets)
+{
+    size_t count = argument->count;
+    fill(octets, LONGEST + 8);
+    memcpy(octets, argument->octets, count);
+    for (unsigned changes = toss() ? below(4) : 0; changes > 0; changes--) {
+        size_t at = below(count);
+        octets[at] = toss() ? octet() : (uint8_t)(octets[at] ^ 1u << below(8));
+    }
+    return below(8) ? count : below(4) ? below(count) : count + below(8);
+}
+
+/* The faults of an argument have a place in it, and all other statuses none; 35 and 36 may be either. */
+static bool is_placed(camel_status status, size_t count, uint64_t place)
+{
+    bool is_of_argument = status == CAMEL_DATA_MISSING || status == CAMEL_UNEXPECTED_DATA_VALUE ||
+                          status >= CAMEL_MALFORMED_OCTETS;
+    return is_of_argument ? place <= count : place == 0;
+}
+
+static void f_submit_map(void)
+{
+    unsigned slot = pick(STORE);
+    struct argument argument = ARGUMENT[below(ARGUMENTS)];
+    uint8_t imsi[300], octets[300];
+    write_tbcd(below(40), argument.octets + IMSI_AT);
+    size_t imsi_count = any_dialogue(argument.octets + IMSI_AT, imsi);
+    size_t count = below(16) ? any_argument(&argument, octets) : any_octets(octets);
+    uint64_t any = next(), *place = at_edge(2, &any, sizeof any);
+    camel_status status = camel_submit_map(
+        AS(store, slot), mostly(below(16) ? argument.operation : ARGUMENT[below(ARGUMENTS)].operation),
+        at_edge(0, imsi, imsi_count), imsi_count, at_edge(1, octets, count), count, place);
+    note_update(slot, REFUSES | UNIDENTIFIED | MISSING | UNEXPECTED | MALFORMED_OCTETS | MISSING_FIELD | FIELD_TWICE |
+                WRONG_TAG | WRONG_LENGTH | NO_IMSI | OTHER_IMSI, status);
+    IS(is_placed(status, count, *place));
 }
 
 static void f_publish(void)
@@ -391,9 +443,10 @@ static struct { const char *name; void (*make)(void); unsigned often; unsigned l
 #define EXPORT(name, often) { "camel_" #name, f_##name, often, { 0 } }
     EXPORT(abi_version, 1), EXPORT(layouts, 1), EXPORT(imsi_of_tbcd, 20), EXPORT(imsi_of_digits, 20),
     EXPORT(address_of, 20), EXPORT(isdn_address_of, 20), EXPORT(open, 30), EXPORT(submit_register, 80),
-    EXPORT(submit_insert, 160), EXPORT(submit_delete, 20), EXPORT(submit_cancel, 20), EXPORT(submit_clear_all, 1),
+    EXPORT(submit_insert, 130), EXPORT(submit_delete, 20), EXPORT(submit_cancel, 20), EXPORT(submit_clear_all, 1),
+    EXPORT(submit_map, 60),
     EXPORT(publish, 60), EXPORT(published, 20), EXPORT(pending, 20), EXPORT(receipt_of, 30), EXPORT(learn, 40),
-    EXPORT(decide, 180), EXPORT(look, 25), EXPORT(leave, 40), EXPORT(row_at, 30),
+    EXPORT(decide, 150), EXPORT(look, 25), EXPORT(leave, 40), EXPORT(row_at, 30),
     EXPORT(o_criteria_at, 15), EXPORT(t_criteria_at, 15), EXPORT(keep, 40), EXPORT(decide_kept, 40), EXPORT(close, 2),
     EXPORT(free, 50),
 };

@@ -2,7 +2,7 @@
 #ifndef RANDOM_H
 #define RANDOM_H
 
-#include "check.h"
+#include "octets.h"
 
 #include <sys/mman.h>
 

@@ -2,7 +2,7 @@
  * and has changed nothing; it is made again, or, of a publication, in a second sweep behind a further update. Each life
  * ends as one in which no memory was refused, with nothing left allocated. Prints how many requests fail each call, and
  * how many it does without. Linked with --wrap of malloc, realloc and free. */
-#include "check.h"
+#include "octets.h"
 
 void *__real_malloc(size_t size);
 void *__real_realloc(void *old, size_t size);
@@ -42,7 +42,7 @@ void __wrap_free(void *block)
 }
 
 enum kind {
-    OPEN, REGISTER, INSERT_ROWS, INSERT_FEW, INSERT_MANY, DELETE, CANCEL, CLEAR_ALL,
+    OPEN, REGISTER, INSERT_ROWS, INSERT_FEW, INSERT_MANY, INSERT_OCTETS, DELETE, CANCEL, CLEAR_ALL,
     PUBLISH_INSERTS, PUBLISH_NOTHING, PUBLISH_DELETE, PUBLISH_CANCEL, PUBLISH_CLEAR_ALL, RECEIPT_OF, KEEP, KINDS
 };
 
@@ -52,6 +52,7 @@ static const char *const NAMES[KINDS] = {
     [INSERT_ROWS] = "`camel_submit_insert`, rows",
     [INSERT_FEW] = "`camel_submit_insert`, rows, and criteria of three numbers and of causes",
     [INSERT_MANY] = "`camel_submit_insert`, all lists, with criteria of ten numbers and all else",
+    [INSERT_OCTETS] = "`camel_submit_map`, all lists in octets",
     [DELETE] = "`camel_submit_delete`",
     [CANCEL] = "`camel_submit_cancel`",
     [CLEAR_ALL] = "`camel_submit_clear_all`",
@@ -236,6 +237,19 @@ static void submit_register(unsigned number)
     accepted++;
 }
 
+/* Sends a subscriber who has just registered all lists in octets. */
+static void submit_octets(unsigned number)
+{
+    struct argument argument = ARGUMENT[ALL_LISTS];
+    uint64_t before = shown(), place = 99;
+    write_tbcd(number, argument.octets + IMSI_AT);
+    AGAIN(INSERT_OCTETS,
+          camel_submit_map(&store, argument.operation, argument.octets + IMSI_AT, IMSI_OCTETS, argument.octets,
+                           argument.count, &place),
+          shown() == before && place == 0 && has_no_vt(number));
+    IS(place == 0);
+}
+
 /* Sends a subscriber who has just registered rows, or with them some criteria, or all lists. */
 static void submit_insert(unsigned number)
 {
@@ -243,12 +257,15 @@ static void submit_insert(unsigned number)
     camel_o_criteria few = o_criteria_of(2, 3), many[] = { o_criteria_of(2, 10), o_criteria_of(4, 4) };
     camel_t_criteria causes[] = { CAUSES, { .dp = 12, .basic = { 1, { { true, 0x11 } } } } };
     uint64_t before = shown();
-    switch (number % 3) {
+    switch (number % 6) {
     case 0:
         AGAIN(INSERT_ROWS, insert(&store, number, o, 2, NULL, 0, NULL, 0, NULL, 0),
               shown() == before && has_no_vt(number));
         break;
-    case 1:
+    case 3:
+        submit_octets(number);
+        break;
+    case 1: case 4:
         AGAIN(INSERT_FEW, insert(&store, number, o, 1, &few, 1, vt, 2, causes, 1),
               shown() == before && has_no_vt(number));
         break;

@@ -1,5 +1,5 @@
 /* Each status, by a call that returns it, and that the call did nothing then. */
-#include "check.h"
+#include "octets.h"
 
 /* Data that are none. */
 static void malformed_data(void)
@@ -70,6 +70,89 @@ static void rejected_updates(camel_store *store)
     RETURNS(CAMEL_OK, insert(store, 1, &row, 1, NULL, 0, NULL, 0, NULL, 0));
     RETURNS(CAMEL_OK, camel_submit_clear_all(store));
     RETURNS(CAMEL_HISTORY_FULL, camel_submit_register(store, &imsi));
+}
+
+/* An argument with this octet in the place of one of its own. */
+static struct argument with_octet(unsigned of, size_t at, uint8_t octet)
+{
+    struct argument argument = ARGUMENT[of];
+    argument.octets[at] = octet;
+    return argument;
+}
+
+/* Submits an argument in the dialogue of a subscriber, or of none, and tells the place. */
+static camel_status submit_in(camel_store *store, unsigned dialogue, const struct argument *argument, uint64_t *place)
+{
+    uint8_t imsi[IMSI_OCTETS];
+    write_tbcd(dialogue, imsi);
+    *place = 99;
+    return camel_submit_map(store, argument->operation, imsi, dialogue > 0 ? sizeof imsi : 0, argument->octets,
+                            argument->count, place);
+}
+
+#define RETURNS_AT(wanted, wanted_place, store, dialogue, ...)                                                      \
+    do {                                                                                                            \
+        struct argument argument_ = __VA_ARGS__;                                                                    \
+        uint64_t place_;                                                                                            \
+        RETURNS(wanted, submit_in(store, dialogue, &argument_, &place_));                                           \
+        IS(place_ == (wanted_place));                                                                               \
+    } while (0)
+
+/* Arguments that have a fault, each at its place. */
+static void faulty_arguments(camel_store *store)
+{
+    struct argument cut = ARGUMENT[O_CSI], longer = ARGUMENT[O_CSI];
+    cut.count--;
+    longer.count++;
+
+    RETURNS_AT(CAMEL_MALFORMED_OCTETS, 2, store, 1, cut);
+    RETURNS_AT(CAMEL_MALFORMED_OCTETS, 37, store, 1, longer);
+    longer.octets[longer.count++ - 1] = 0x05;
+    RETURNS_AT(CAMEL_WRONG_LENGTH, 37, store, 1, longer);
+    RETURNS_AT(CAMEL_MISSING_FIELD, 0, store, 1, { .operation = CAMEL_CANCEL_LOCATION });
+    RETURNS_AT(CAMEL_MISSING_FIELD, 18, store, 1, with_octet(O_CSI, 23, 0x05));
+    RETURNS_AT(CAMEL_FIELD_TWICE, 34, store, 1, with_octet(O_CSI, 34, 0x80));
+    RETURNS_AT(CAMEL_WRONG_TAG, 0, store, 1, with_octet(CANCELLED, 0, 0x31));
+    RETURNS_AT(CAMEL_WRONG_TAG, 2, store, 1, with_octet(EVERYTHING, 2, 0xa0));
+    RETURNS_AT(CAMEL_NO_IMSI, 0, store, 0, { CAMEL_INSERT_SUBSCRIBER_DATA, 2, { 0x30, 0x00 } });
+    RETURNS_AT(CAMEL_OTHER_IMSI, 2, store, 2, ARGUMENT[O_CSI]);
+    RETURNS_AT(CAMEL_OTHER_IMSI, 2, store, 2, ARGUMENT[CANCELLED]);
+    RETURNS_AT(CAMEL_UNEXPECTED_DATA_VALUE, 23, store, 1, with_octet(O_CSI, 25, 0x80));
+    RETURNS_AT(CAMEL_UNEXPECTED_DATA_VALUE, 2, store, 1, with_octet(O_CSI, IMSI_AT, 0xa2));
+    RETURNS_AT(CAMEL_DATA_MISSING, 6, store, 1,
+               { CAMEL_INSERT_SUBSCRIBER_DATA, 8, { 0x30, 0x06, 0xad, 0x04, 0xa0, 0x02, 0x30, 0x00 } });
+    RETURNS_AT(CAMEL_MALFORMED, 0, store, 1, { .operation = 6, .count = 2, .octets = { 0x30, 0x00 } });
+}
+
+/* Arguments that a store takes or rejects: then the fault is at no octet. */
+static void submitted_arguments(void)
+{
+    camel_store store = CAMEL_EMPTY;
+    camel_session session = CAMEL_EMPTY;
+    camel_imsi imsi = imsi_of(1);
+    static const struct argument of_vt_criteria = {
+        CAMEL_INSERT_SUBSCRIBER_DATA, 11, { 0x30, 0x09, 0xad, 0x07, 0xa8, 0x05, 0x30, 0x03, 0x0a, 0x01, 0x0d }
+    };
+    uint64_t place = 99, pending = 99;
+
+    RETURNS(CAMEL_OK, camel_open(&store, &session, 1, 4, 1, 1));
+    RETURNS_AT(CAMEL_UNIDENTIFIED_SUBSCRIBER, 0, &store, 1, ARGUMENT[O_CSI]);
+    RETURNS(CAMEL_OK, camel_submit_register(&store, &imsi));
+    faulty_arguments(&store);
+    RETURNS_AT(CAMEL_DATA_MISSING, 0, &store, 1, of_vt_criteria);
+    RETURNS(CAMEL_MALFORMED, camel_submit_map(&store, CAMEL_CANCEL_LOCATION, (const uint8_t[2]){ 0x62, 0x02 }, 2,
+                                              ARGUMENT[CANCELLED].octets, ARGUMENT[CANCELLED].count, &place));
+    IS(place == 0);
+    RETURNS(CAMEL_OK, camel_pending(&store, &pending));
+    IS(pending == 1);
+    RETURNS_AT(CAMEL_OK, 0, &store, 1, ARGUMENT[ALL_LISTS]);
+    RETURNS_AT(CAMEL_OK, 0, &store, 0, ARGUMENT[BOTH_CSIS]);
+    RETURNS_AT(CAMEL_OK, 0, &store, 0, ARGUMENT[CANCELLED]);
+    RETURNS_AT(CAMEL_HISTORY_FULL, 0, &store, 1, ARGUMENT[CANCELLED]);
+    RETURNS_AT(CAMEL_WRONG_HANDLE, 0, (camel_store *)&session, 1, ARGUMENT[CANCELLED]);
+    camel_free(&session);
+    RETURNS(CAMEL_OK, camel_close(&store));
+    RETURNS_AT(CAMEL_WRONG_HANDLE, 0, &store, 1, ARGUMENT[CANCELLED]);
 }
 
 /* Handles that are empty, or of another kind. */
@@ -183,6 +266,7 @@ int main(void)
     malformed_opening();
     RETURNS(CAMEL_OK, camel_open(&store, sessions, 2, 3, 1, 1));
     rejected_updates(&store);
+    submitted_arguments();
     wrong_handles(&store, &sessions[0]);
     malformed_events(&sessions[0]);
     held_and_ended(&store, &sessions[0], &sessions[1]);
