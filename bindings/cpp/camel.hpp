@@ -81,6 +81,32 @@ private:
     camel_status status_ = CAMEL_OK;
 };
 
+/* Octets of the caller's, at a pointer that is not null. */
+struct Octets {
+    const uint8_t *data;
+    size_t count;
+};
+
+/* An operation of MAP by which the HLR changes subscriber data: its local code (TS 29.002). */
+enum class Operation : uint8_t {
+    CancelLocation = CAMEL_CANCEL_LOCATION,
+    InsertSubscriberData = CAMEL_INSERT_SUBSCRIBER_DATA,
+    DeleteSubscriberData = CAMEL_DELETE_SUBSCRIBER_DATA
+};
+
+/* Whether octets were submitted. If not, `place` is the octet of the argument, from 0, at which its first fault is, and
+ * 0 if the fault is none of the argument. */
+class [[nodiscard]] MapResult : public Result<void> {
+public:
+    MapResult() = default;
+    MapResult(camel_status status, uint64_t place) : Result(Failure{ status }), place_(place) {}
+
+    uint64_t place() const { return place_; }
+
+private:
+    uint64_t place_ = 0;
+};
+
 namespace detail {
 
 inline Result<void> done(camel_status status)
@@ -335,6 +361,19 @@ public:
         detail::Items tc(csis.t_criteria);
         return detail::done(camel_submit_insert(handle_.at(), &imsi, &sent, o.data, o.count, oc.data, oc.count, vt.data,
                                                 vt.count, tc.data, tc.count));
+    }
+
+    /* Submits what an operation of MAP brings, by the octets of its argument: the parameter of the TCAP invoke. The IMSI
+     * is that of the dialogue in TBCD octets, if the dialogue has one. */
+    MapResult submit_map(Operation operation, std::optional<Octets> imsi, Octets argument)
+    {
+        if (imsi && imsi->count == 0) /* to the library, no octets say that the dialogue has no IMSI */
+            return MapResult(CAMEL_MALFORMED, 0);
+        Octets given = imsi.value_or(Octets{ argument.data, 0 });
+        uint64_t place = 0;
+        camel_status status = camel_submit_map(handle_.at(), static_cast<uint8_t>(operation), given.data, given.count,
+                                               argument.data, argument.count, &place);
+        return status == CAMEL_OK ? MapResult() : MapResult(status, place);
     }
 
     /* Publishes all that is pending, and gives a receipt of all that is published; if nothing is pending, only that.

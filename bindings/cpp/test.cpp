@@ -139,6 +139,43 @@ static void a_session_reads()
           == CAMEL_DATA_MISSING);
 }
 
+/* The octets of an InsertSubscriberDataArg bring an O-CSI, and those of a CancelLocationArg end the record. */
+static void octets_are_submitted()
+{
+    using camel::Octets;
+    using camel::Operation;
+    const uint8_t tbcd[] = { 0x62, 0x02, 0x01, 0x00, 0x00, 0x00, 0x00, 0xf1 };
+    const uint8_t other[] = { 0x62, 0x02, 0x01, 0x00, 0x00, 0x00, 0x00, 0xf2 };
+    const uint8_t insert[] = {
+        0x30, 0x20, 0x80, 0x08, 0x62, 0x02, 0x01, 0x00, 0x00, 0x00, 0x00, 0xf1, /* imsi [0] */
+        0xad, 0x14, 0xa0, 0x12, 0x30, 0x10, 0x30, 0x0e,       /* vlrCamelSubscriptionInfo [13], o-CSI [0], its row */
+        0x0a, 0x01, 0x02, 0x02, 0x01, 0x09, 0x80, 0x03, 0x91, 0x94, 0x71, 0x81, 0x01, 0x00 /* DP 2, service key 9 */
+    };
+    const uint8_t cancel[] = { 0xa3, 0x0a, 0x04, 0x08, 0x62, 0x02, 0x01, 0x00, 0x00, 0x00, 0x00, 0xf1 };
+    auto [store, sessions] = open();
+    Octets dialogue{ tbcd, sizeof tbcd }, argument{ insert, sizeof insert };
+
+    CHECK(bool(store.submit_map(Operation::InsertSubscriberData, dialogue, argument)));
+    CHECK(bool(store.submit_map(Operation::InsertSubscriberData, std::nullopt, argument)));
+    CHECK(bool(sessions[0].learn(get(store.publish()))));
+    camel_answer answer = get(sessions[0].decide(event_at(2)));
+    CHECK(answer.is_trigger && answer.key == 9 && answer.front == 4 && answer.scf.length == 3);
+
+    camel::MapResult cut = store.submit_map(Operation::InsertSubscriberData, dialogue, Octets{ insert, 33 });
+    CHECK(cut.status() == CAMEL_MALFORMED_OCTETS && cut.place() == 2);
+    camel::MapResult differs =
+        store.submit_map(Operation::InsertSubscriberData, Octets{ other, sizeof other }, argument);
+    CHECK(differs.status() == CAMEL_OTHER_IMSI && differs.place() == 2);
+    camel::MapResult none = store.submit_map(Operation::InsertSubscriberData, Octets{ tbcd, 0 }, argument);
+    CHECK(none.status() == CAMEL_MALFORMED && none.place() == 0);
+
+    CHECK(bool(store.submit_map(Operation::CancelLocation, dialogue, Octets{ cancel, sizeof cancel })));
+    camel::MapResult gone = store.submit_map(Operation::InsertSubscriberData, dialogue, argument);
+    CHECK(gone.status() == CAMEL_UNIDENTIFIED_SUBSCRIBER && gone.place() == 0);
+    CHECK(bool(sessions[0].learn(get(store.publish()))));
+    CHECK(get(sessions[0].decide(event_at(2))).reason == CAMEL_UNKNOWN);
+}
+
 static void a_receipt_of_another_store_is_refused()
 {
     auto [store, sessions] = open();
@@ -206,6 +243,7 @@ int main()
 {
     data_are_made_or_refused();
     a_session_reads();
+    octets_are_submitted();
     a_receipt_of_another_store_is_refused();
     a_look_is_of_one_front();
     a_store_ends();

@@ -30,6 +30,20 @@ pub enum Error {
     WrongHandle,
     /// The handle that is to be filled is not empty (203). Safe code does not meet it.
     FullHandle,
+    /// The octets of an argument are no elements of BER (401).
+    MalformedOctets,
+    /// An argument lacks a field that must be there (402).
+    MissingField,
+    /// An argument has a field twice (403).
+    FieldTwice,
+    /// An element of an argument is none of the type that must be there (404).
+    WrongTag,
+    /// Contents of an argument have a length that their type has not, or octets follow it (405).
+    WrongLength,
+    /// Neither the argument nor the dialogue has an IMSI (406).
+    NoImsi,
+    /// The argument has another IMSI than the dialogue (407).
+    OtherImsi,
     /// The receipt is of another store than the session (204, a number of the bindings).
     OtherStore,
     /// The library has other layouts than this crate (205, a number of the bindings).
@@ -53,6 +67,13 @@ impl Error {
             Error::Malformed => 201,
             Error::WrongHandle => 202,
             Error::FullHandle => 203,
+            Error::MalformedOctets => 401,
+            Error::MissingField => 402,
+            Error::FieldTwice => 403,
+            Error::WrongTag => 404,
+            Error::WrongLength => 405,
+            Error::NoImsi => 406,
+            Error::OtherImsi => 407,
             Error::OtherStore => 204,
             Error::OtherVersion => 205,
             Error::Unknown(code) => code,
@@ -73,6 +94,13 @@ impl Error {
             201 => Error::Malformed,
             202 => Error::WrongHandle,
             203 => Error::FullHandle,
+            401 => Error::MalformedOctets,
+            402 => Error::MissingField,
+            403 => Error::FieldTwice,
+            404 => Error::WrongTag,
+            405 => Error::WrongLength,
+            406 => Error::NoImsi,
+            407 => Error::OtherImsi,
             other => Error::Unknown(other),
         }
     }
@@ -92,6 +120,13 @@ impl fmt::Display for Error {
             Error::Malformed => "what was handed in is malformed",
             Error::WrongHandle => "the handle is not of this call",
             Error::FullHandle => "the handle is not empty",
+            Error::MalformedOctets => "the octets are no elements of BER",
+            Error::MissingField => "a field is missing",
+            Error::FieldTwice => "a field comes twice",
+            Error::WrongTag => "an element has a wrong tag",
+            Error::WrongLength => "the contents have a wrong length",
+            Error::NoImsi => "there is no IMSI",
+            Error::OtherImsi => "the IMSI is not that of the dialogue",
             Error::OtherStore => "the receipt is of another store",
             Error::OtherVersion => "the library is of another version",
             Error::Unknown(_) => "a number that is not known",
@@ -118,7 +153,7 @@ mod tests {
     #[test]
     fn statuses_become_errors_of_their_number() {
         assert_eq!(done(0), Ok(()));
-        for status in 1..300 {
+        for status in 1..500 {
             assert_eq!(done(status).map_err(Error::code), Err(status));
         }
         assert_eq!(done(105), Err(Error::Held));

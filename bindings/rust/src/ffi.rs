@@ -278,6 +278,15 @@ unsafe extern "C" {
     ) -> Status;
     pub fn camel_submit_cancel(store: *mut Store, imsi: *const Imsi) -> Status;
     pub fn camel_submit_clear_all(store: *mut Store) -> Status;
+    pub fn camel_submit_map(
+        store: *mut Store,
+        operation: u8,
+        imsi: *const u8,
+        imsi_octet_count: usize,
+        argument: *const u8,
+        argument_octet_count: usize,
+        place: *mut u64,
+    ) -> Status;
 
     pub fn camel_publish(store: *mut Store) -> Status;
     pub fn camel_published(store: *mut Store, count: *mut u64) -> Status;

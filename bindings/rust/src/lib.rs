@@ -1,8 +1,9 @@
 //! CAMEL phase 3 triggering for a VMSC/VLR (3GPP TS 23.078): safe Rust over `libcamel.a`.
 //!
 //! A [`Store`] has the O-CSI and VT-CSI of each subscriber, with their criteria, as the HLR sends them. Its one writer
-//! submits an [`Update`] of each operation, and publishes them; each call-control thread has a [`Session`], and asks at
-//! trigger detection points 2, 4, 12, 13 and 14 whether a service is invoked. No call takes a lock, waits or yields.
+//! submits an [`Update`] of each operation, or the octets of its argument, and publishes them; each call-control thread
+//! has a [`Session`], and asks at trigger detection points 2, 4, 12, 13 and 14 whether a service is invoked. No call
+//! takes a lock, waits or yields.
 //!
 //! ```
 //! use camel::{Address, BasicService, Csis, Event, Imsi, IsdnAddress, MAX_UPDATES, Profile, Row, Store, Update};
@@ -47,6 +48,7 @@ mod error;
 mod event;
 mod ffi;
 mod handle;
+mod map;
 mod numbers;
 mod receipt;
 mod session;
@@ -57,6 +59,7 @@ pub use answer::{Answer, OnFailure, Outcome, Reason};
 pub use criteria::{CallType, MatchType, NumberCriterion, OCriteria, Row, TCriteria};
 pub use error::Error;
 pub use event::{BasicService, Cause, DetectionPoint, Event};
+pub use map::{MapFault, Operation};
 pub use numbers::{Address, Imsi, IsdnAddress};
 pub use receipt::{Receipt, Subscriber};
 pub use session::{Look, Session};

@@ -2,7 +2,7 @@
 use crate::error::done;
 use crate::ffi::Handle;
 use crate::handle::Owned;
-use crate::{Error, Receipt, Session, Update, ffi};
+use crate::{Error, MapFault, Operation, Receipt, Session, Update, ffi, map};
 use std::fmt;
 use std::sync::atomic::{AtomicU64, Ordering};
 
@@ -97,6 +97,23 @@ impl Store {
     /// [`Error::OutOfMemory`]: submit it again.
     pub fn submit(&mut self, update: &Update) -> Result<(), Error> {
         update.submit(&mut self.handle)
+    }
+
+    /// Submits what an operation of MAP brings, by the octets of its argument: the parameter of the TCAP invoke, in BER
+    /// of any form. The IMSI is that of the dialogue in TBCD octets, if the dialogue has one. No call sees the update
+    /// before it is published.
+    ///
+    /// # Errors
+    /// The store is as before. [`Error::MalformedOctets`] to [`Error::OtherImsi`], [`Error::DataMissing`] and
+    /// [`Error::UnexpectedDataValue`]: the argument has a fault, at the place that is said. [`Error::Malformed`]: the
+    /// octets of the IMSI are none. The errors of [`submit`](Store::submit) else, at place 0.
+    pub fn submit_map(
+        &mut self,
+        operation: Operation,
+        imsi: Option<&[u8]>,
+        argument: &[u8],
+    ) -> Result<(), MapFault> {
+        map::submit(&mut self.handle, operation, imsi, argument)
     }
 
     /// Publishes all that is pending, and gives a receipt of all that is published. If nothing is pending, it only

@@ -1,7 +1,7 @@
 //! The numbers of the errors are those of camel.h, and each says what it is.
 use camel::Error;
 
-const ERRORS: [(Error, &str); 11] = [
+const ERRORS: [(Error, &str); 18] = [
     (
         Error::UnidentifiedSubscriber,
         "CAMEL_UNIDENTIFIED_SUBSCRIBER",
@@ -16,6 +16,13 @@ const ERRORS: [(Error, &str); 11] = [
     (Error::Malformed, "CAMEL_MALFORMED"),
     (Error::WrongHandle, "CAMEL_WRONG_HANDLE"),
     (Error::FullHandle, "CAMEL_FULL_HANDLE"),
+    (Error::MalformedOctets, "CAMEL_MALFORMED_OCTETS"),
+    (Error::MissingField, "CAMEL_MISSING_FIELD"),
+    (Error::FieldTwice, "CAMEL_FIELD_TWICE"),
+    (Error::WrongTag, "CAMEL_WRONG_TAG"),
+    (Error::WrongLength, "CAMEL_WRONG_LENGTH"),
+    (Error::NoImsi, "CAMEL_NO_IMSI"),
+    (Error::OtherImsi, "CAMEL_OTHER_IMSI"),
 ];
 
 /// The statuses of the header: each `CAMEL_NAME = NUMBER` of its first enum of them.
