@@ -103,22 +103,35 @@ static void say(const char *what, const camel_answer *answer)
     printf(", %s\n", answer->is_release ? "release" : "continue");
 }
 
-/* What the HLR sends of the subscriber: rows at 2 and 4, and at 4 only for a destination that begins with 4316. */
-static void submit_data(camel_store *store, const camel_imsi *imsi)
-{
-    static const uint8_t scf[] = { 0x91, 0x94, 0x71, 0x16, 0x00, 0x00 };
-    static const uint8_t listed[] = { 0x91, 0x34, 0x61 };
-    camel_row rows[] = { { .key = 100, .handling = 0, .dp = 2 }, { .key = 101, .handling = 1, .dp = 4 } };
-    camel_o_criteria criteria = { .dp = 4, .has_number = true };
-    camel_insert sent = { .has_o = true, .has_o_criteria = true };
+/* The IMSIs 262010000000001 and 262010000000002, as the dialogues with the HLR have them. */
+static const uint8_t IMSI[] = { 0x62, 0x02, 0x01, 0x00, 0x00, 0x00, 0x00, 0xf1 };
+static const uint8_t OTHER[] = { 0x62, 0x02, 0x01, 0x00, 0x00, 0x00, 0x00, 0xf2 };
 
-    OK(camel_isdn_address_of(scf, sizeof scf, &rows[0].scf));
-    OK(camel_isdn_address_of(scf, sizeof scf, &rows[1].scf));
-    criteria.number.is_enabling = true;
-    criteria.number.number_count = 1;
-    OK(camel_isdn_address_of(listed, sizeof listed, &criteria.number.numbers[0]));
-    OK(camel_submit_register(store, imsi));
-    OK(camel_submit_insert(store, imsi, &sent, rows, 2, &criteria, 1, rows, 0, (camel_t_criteria[1]){ 0 }, 0));
+/* What the HLR sends of a subscriber, as it comes in a TCAP invoke: rows at 2 and 4, and at 4 only for a destination
+ * that begins with 4316. */
+static const uint8_t ARGUMENT[] = {
+    0x30, 0x3f, 0xad, 0x3d,                         /* InsertSubscriberDataArg, vlrCamelSubscriptionInfo [13] */
+    0xa0, 0x28, 0x30, 0x26,                         /* o-CSI [0], its o-BcsmCamelTDPDataList */
+    0x30, 0x11, 0x0a, 0x01, 0x02, 0x02, 0x01, 0x64, /* a row: detection point 2, serviceKey 100, */
+    0x80, 0x06, 0x91, 0x94, 0x71, 0x16, 0x00, 0x00, /* gsmSCF-Address [0], */
+    0x81, 0x01, 0x00,                               /* defaultCallHandling [1] continueCall */
+    0x30, 0x11, 0x0a, 0x01, 0x04, 0x02, 0x01, 0x65, /* a row: detection point 4, serviceKey 101, */
+    0x80, 0x06, 0x91, 0x94, 0x71, 0x16, 0x00, 0x00, /* gsmSCF-Address [0], */
+    0x81, 0x01, 0x01,                               /* defaultCallHandling [1] releaseCall */
+    0xa4, 0x11, 0x30, 0x0f, 0x0a, 0x01, 0x04,       /* o-BcsmCamelTDP-CriteriaList [4]: detection point 4, */
+    0xa0, 0x0a, 0x80, 0x01, 0x01,                   /* destinationNumberCriteria [0], matchType [0] enabling, */
+    0xa1, 0x05, 0x04, 0x03, 0x91, 0x34, 0x61        /* destinationNumberList [1] */
+};
+
+/* Submits the argument in the dialogue of an IMSI. */
+static camel_status submit_data(camel_store *store, const uint8_t *imsi)
+{
+    uint64_t place = 0;
+    camel_status status = camel_submit_map(store, CAMEL_INSERT_SUBSCRIBER_DATA, imsi, sizeof IMSI, ARGUMENT,
+                                           sizeof ARGUMENT, &place);
+    if (place > 0)
+        fprintf(stderr, "the argument has a fault at octet %lu\n", (unsigned long)place);
+    return status;
 }
 
 /* Publishes, and hands each thread a receipt. */
@@ -177,13 +190,11 @@ int main(void)
     camel_imsi imsi, other;
 
     OK(camel_open(&store, sessions, THREADS + 1, INT64_MAX, 1, 0x5eed));
-    OK(camel_imsi_of_digits((const uint8_t *)"262010000000001", 15, &imsi));
-    OK(camel_imsi_of_digits((const uint8_t *)"262010000000002", 15, &other));
-    submit_data(&store, &imsi);
-    expect("an Insert of a subscriber who is not registered",
-           camel_submit_insert(&store, &other, &(camel_insert){ .has_o = false }, (camel_row[1]){ 0 }, 0,
-                               (camel_o_criteria[1]){ 0 }, 0, (camel_row[1]){ 0 }, 0, (camel_t_criteria[1]){ 0 }, 0),
-           CAMEL_UNIDENTIFIED_SUBSCRIBER);
+    OK(camel_imsi_of_tbcd(IMSI, sizeof IMSI, &imsi));
+    OK(camel_imsi_of_tbcd(OTHER, sizeof OTHER, &other));
+    OK(camel_submit_register(&store, &imsi));
+    OK(submit_data(&store, IMSI));
+    expect("data of a subscriber who is not registered", submit_data(&store, OTHER), CAMEL_UNIDENTIFIED_SUBSCRIBER);
     for (int thread = 0; thread < THREADS; thread++) {
         memcpy(&callers[thread].session, &sessions[thread], sizeof sessions[thread]);
         memset(&sessions[thread], 0, sizeof sessions[thread]);

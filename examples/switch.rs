@@ -5,9 +5,8 @@
 //!
 //! In bindings/rust: `CAMEL_LIB_DIR=FOLDER cargo run --example switch`, with the whole path of libcamel.a's folder.
 use camel::{
-    Address, Answer, BasicService, Cause, Csis, Error, Event, Imsi, IsdnAddress, MAX_UPDATES,
-    MatchType, NumberCriterion, OCriteria, OnFailure, Outcome, Profile, Receipt, Row, Session,
-    Store, Update, Withdrawal,
+    Address, Answer, BasicService, Cause, Error, Event, Imsi, MAX_UPDATES, MapFault, OnFailure,
+    Operation, Outcome, Profile, Receipt, Session, Store, Update, Withdrawal,
 };
 use std::sync::{Arc, Mutex};
 use std::thread;
@@ -104,21 +103,30 @@ fn say(what: &str, answer: &Answer) {
     }
 }
 
-/// What the HLR sends of the subscriber: rows at 2 and 4, and at 4 only for a destination that begins with 4316.
-fn submit_data(store: &mut Store, imsi: Imsi) -> Result<(), Error> {
-    let scf = IsdnAddress::new(&[0x91, 0x94, 0x71, 0x16, 0x00, 0x00])?;
-    let listed = IsdnAddress::new(&[0x91, 0x34, 0x61])?;
-    let number = NumberCriterion::new(MatchType::Enabling, &[listed], &[])?;
-    let csis = Csis {
-        o: Some(vec![
-            Row::new(2, 100, scf),
-            Row::new(4, 101, scf).with_handling(1),
-        ]),
-        o_criteria: Some(vec![OCriteria::new(4).with_number(number)]),
-        ..Csis::default()
-    };
-    store.submit(&Update::Register { imsi })?;
-    store.submit(&Update::Insert { imsi, csis })
+/// The IMSIs 262010000000001 and 262010000000002, as the dialogues with the HLR have them.
+const IMSI: &[u8] = &[0x62, 0x02, 0x01, 0x00, 0x00, 0x00, 0x00, 0xf1];
+const OTHER: &[u8] = &[0x62, 0x02, 0x01, 0x00, 0x00, 0x00, 0x00, 0xf2];
+
+/// What the HLR sends of a subscriber, as it comes in a TCAP invoke: rows at 2 and 4, and at 4 only for a destination
+/// that begins with 4316.
+#[rustfmt::skip]
+const ARGUMENT: &[u8] = &[
+    0x30, 0x3f, 0xad, 0x3d,                         // InsertSubscriberDataArg, vlrCamelSubscriptionInfo [13]
+    0xa0, 0x28, 0x30, 0x26,                         // o-CSI [0], its o-BcsmCamelTDPDataList
+    0x30, 0x11, 0x0a, 0x01, 0x02, 0x02, 0x01, 0x64, // a row: detection point 2, serviceKey 100,
+    0x80, 0x06, 0x91, 0x94, 0x71, 0x16, 0x00, 0x00, // gsmSCF-Address [0],
+    0x81, 0x01, 0x00,                               // defaultCallHandling [1] continueCall
+    0x30, 0x11, 0x0a, 0x01, 0x04, 0x02, 0x01, 0x65, // a row: detection point 4, serviceKey 101,
+    0x80, 0x06, 0x91, 0x94, 0x71, 0x16, 0x00, 0x00, // gsmSCF-Address [0],
+    0x81, 0x01, 0x01,                               // defaultCallHandling [1] releaseCall
+    0xa4, 0x11, 0x30, 0x0f, 0x0a, 0x01, 0x04,       // o-BcsmCamelTDP-CriteriaList [4]: detection point 4,
+    0xa0, 0x0a, 0x80, 0x01, 0x01,                   // destinationNumberCriteria [0], matchType [0] enabling,
+    0xa1, 0x05, 0x04, 0x03, 0x91, 0x34, 0x61,       // destinationNumberList [1]
+];
+
+/// Submits the argument in the dialogue of an IMSI.
+fn submit_data(store: &mut Store, imsi: &[u8]) -> Result<(), MapFault> {
+    store.submit_map(Operation::InsertSubscriberData, Some(imsi), ARGUMENT)
 }
 
 /// Publishes, and hands each thread a receipt.
@@ -189,16 +197,12 @@ fn keep_data(store: &mut Store, session: &mut Session, imsi: Imsi) -> Outcomes<(
 fn main() -> Outcomes<()> {
     let (mut store, mut sessions) = Store::open(THREADS + 1, MAX_UPDATES, Profile::One, 0x5eed)?;
     let mut own = sessions.pop().ok_or("there is no session")?;
-    let imsi = Imsi::from_digits("262010000000001")?;
-    let other = Imsi::from_digits("262010000000002")?;
-    submit_data(&mut store, imsi)?;
-    let nothing = Update::Insert {
-        imsi: other,
-        csis: Csis::default(),
-    };
+    let (imsi, other) = (Imsi::from_tbcd(IMSI)?, Imsi::from_tbcd(OTHER)?);
+    store.submit(&Update::Register { imsi })?;
+    submit_data(&mut store, IMSI)?;
     expect(
-        "an Insert of a subscriber who is not registered",
-        store.submit(&nothing),
+        "data of a subscriber who is not registered",
+        submit_data(&mut store, OTHER).map_err(Error::from),
         Error::UnidentifiedSubscriber,
     )?;
     let sessions = run_calls(&mut store, sessions, imsi)?;
