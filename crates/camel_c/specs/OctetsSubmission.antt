@@ -1,6 +1,7 @@
 -- Submissions of the octets of an argument of MAP: the update that they are, and what the store makes of it.
 use Rattle.std.specs.Prelude.{◌≡◌, ◌≢◌, ◌⊎◌, ℕ, List, [], ◌∷◌, Option, Some, None, Result, Ok, Err, IsOk}
 use Rattle.camel_tbcd.specs.Imsi.{imsi_of_tbcd}
+use Rattle.camel_ber.specs.Reading.{◌>>=◌}
 use Rattle.camel_rows.specs.declared.subscriber.update.Update.{Update}
 use Rattle.camel_map.specs.MapFault.{map_fault_code}
 use Rattle.camel_map.specs.Operation.{operation_of}
@@ -24,12 +25,6 @@ abbrev pub octets_fault_place : OctetsFault → ℕ
 octets_fault_place Malformed = 0
 octets_fault_place OutOfMemory = 0
 octets_fault_place (Argument fault) = fault.place
-
--- a step, and the next one if the first has no fault
-infixl 10 ◌>>=◌
-abbrev pub ◌>>=◌ : {A B : Type 0} → Result A OctetsFault → (A → Result B OctetsFault) → Result B OctetsFault
-Ok value >>= next = next value
-Err fault >>= next = Err fault
 
 -- the operation of a code
 abbrev pub operation_in : ℕ → Result Operation OctetsFault
