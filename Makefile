@@ -1,8 +1,8 @@
 # `make` lists the targets: a line `## ` says what the target below it does, and how long that takes. `make test` passes
 # all tests: the gate, then the programs that must not compile, each script of examples/ and tests/scripts/ with all
 # that it leaves, each request for memory that is refused in turn, the program over streams and with signals as a user
-# meets them, the switch in C that has it as a child, the programs over the library with a short soak, and scripts of bad
-# octets.
+# meets them, the switch in C that has it as a child, the programs over the library with a short soak, scripts of bad
+# octets, and, if tshark is there, MAP arguments.
 
 SCRIPT ?= examples/first-call.csv
 LIMIT ?= 1000000
@@ -14,7 +14,6 @@ PREFIX ?= /usr/local
 PROGRAM := crates/camel_replay/out/camel_replay
 BENCH := crates/camel_vlr_bench/out/camel_vlr_bench
 REFUSALS := crates/camel_refusals/out/camel_refusals
-MAP_CHECK := crates/camel_map_check/out/camel_map_check
 COPROCESS := crates/camel_replay/out/coprocess
 MAP_CHECK := crates/camel_map_check/out/camel_map_check
 
