@@ -10,3 +10,4 @@ pub mod HeldCriteria
 pub mod Means
 pub mod Met
 pub mod Refusal
+pub mod Unmet

@@ -21,6 +21,7 @@ mod number_criterion;
 mod o_criteria;
 mod refusal;
 mod t_criteria;
+mod unmet;
 
 pub use basic_service::{BasicService, EMERGENCY_CALLS, covers};
 pub use cause::{Cause, MAX_CAUSE};
@@ -39,3 +40,4 @@ pub use number_criterion::{MAX_LENGTHS, MAX_NUMBERS, NumberCriterion};
 pub use o_criteria::OCriteria;
 pub use refusal::Refusal;
 pub use t_criteria::TCriteria;
+pub use unmet::{Criterion, o_unmet, t_unmet};

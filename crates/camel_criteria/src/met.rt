@@ -42,7 +42,7 @@ pub fn t_met(entry: &TCriteria, event: &TEvent) -> bool
     basic_met(entry.basic(), event.basic) && cause_met(entry.causes(), event.cause)
 }
 
-fn held_number_met(
+pub(crate) fn held_number_met(
     criterion: Option<&NumberCriterion>,
     destination: &Address,
     profile: Profile,
@@ -55,7 +55,7 @@ fn held_number_met(
     }
 }
 
-fn basic_met(listed: &[BasicService], call: BasicService) -> bool
+pub(crate) fn basic_met(listed: &[BasicService], call: BasicService) -> bool
     ensures { result ≡ basic_met listed.now call }
 {
     listed.is_empty() || has_cover(listed, call)
@@ -67,7 +67,7 @@ fn has_cover(listed: &[BasicService], call: BasicService) -> bool
     listed.iter().any(|listed| covers(*listed, call))
 }
 
-fn type_met(call_type: Option<CallType>, forwarded: bool) -> bool
+pub(crate) fn type_met(call_type: Option<CallType>, forwarded: bool) -> bool
     ensures { result ≡ type_met call_type forwarded }
 {
     match call_type {
@@ -77,7 +77,7 @@ fn type_met(call_type: Option<CallType>, forwarded: bool) -> bool
     }
 }
 
-fn cause_met(listed: &[u8], cause: Option<Cause>) -> bool
+pub(crate) fn cause_met(listed: &[u8], cause: Option<Cause>) -> bool
     ensures { result ≡ cause_met listed.now cause }
 {
     match cause {
