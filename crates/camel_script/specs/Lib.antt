@@ -7,6 +7,7 @@ pub mod Octets
 pub mod Parts
 pub mod Reading
 pub mod Record
+pub mod RecordFault
 pub mod Script
 pub mod ScriptFault
 pub mod Texts

@@ -11,6 +11,7 @@ mod text;
 
 pub use boxed_update::BoxedUpdate;
 pub use line::{Line, push_line};
-pub use record::Record;
+pub use record::{Record, parse_record};
 pub use script::Script;
 pub use script_fault::ScriptFault;
+pub use text::record_fault::RecordFault;

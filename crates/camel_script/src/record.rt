@@ -54,10 +54,14 @@ enum RecordKind {
     Call,
 }
 
-/// Reads the record that the fields of a CSV record stand for. Fails with the first fault of their texts, or out of
-/// memory.
+/// Reads the record that the fields of a CSV record stand for into its place, in the form that docs/SCRIPT.md states. A
+/// record whose texts can be read and whose data are refused is read as [`Record::Refused`].
+///
+/// It takes time in proportion to the octets of the record. An update takes a block of memory of its own, and so may
+/// the lists of an insert. Fails with the first fault of the texts, in the order of checks of docs/SCRIPT.md, or out of
+/// memory; no clause says what the place holds then.
 #[tactic(auto, unfolding(crate::specs::Record::record_of))]
-pub(crate) fn parse_record(
+pub fn parse_record(
     alloc: Global,
     fields: &ByteRecord,
     read: &mut Record,

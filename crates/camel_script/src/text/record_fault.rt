@@ -1,21 +1,41 @@
+ghost use Rattle.std.specs.Prelude.{◌≡◌};
+ghost use Rattle.camel_script.specs.RecordFault.{record_fault_code};
+
 use camel_criteria::Refusal;
 use std::alloc::{AllocError, AllocFailed};
 
-/// Why a record of a script can't be read: out of memory, a fault of its text, or data that are refused.
+/// Why a check of a record fails: out of memory, a fault of its text, or data that are refused.
 #[derive(Clone, Copy, Debug, PartialEq, Eq)]
-pub(crate) enum RecordFault {
-    /// Out of memory.
+pub enum RecordFault {
+    /// 102: out of memory.
     OutOfMemory,
-    /// A word, or a text that is one of few, is none of the format.
+    /// 202: a word, or a text that is one of few, is none of the format.
     Word,
-    /// There are too few or too many fields or parts.
+    /// 203: there are too few or too many fields or parts.
     FieldCount,
-    /// A text is not pairs of hexadecimal digits.
+    /// 204: a text is not pairs of hexadecimal digits.
     Hexadecimal,
-    /// A text is not an IMSI, or not a decimal in its range.
+    /// 205: a text is not an IMSI, or not a decimal in its range.
     Number,
-    /// The texts that were read have no fault, and the data are refused.
+    /// The texts that were read have no fault, and the data are refused: with `DataMissing` (35) or
+    /// `UnexpectedDataValue` (36).
     Refused(Refusal),
+}
+
+impl RecordFault {
+    /// The fault's number, or that of the refusal.
+    pub fn code(&self) -> u16
+        ensures { result ≡ record_fault_code self.now }
+    {
+        match self {
+            RecordFault::OutOfMemory => 102,
+            RecordFault::Word => 202,
+            RecordFault::FieldCount => 203,
+            RecordFault::Hexadecimal => 204,
+            RecordFault::Number => 205,
+            RecordFault::Refused(refusal) => refusal.code(),
+        }
+    }
 }
 
 impl From<AllocError> for RecordFault {
