@@ -1,6 +1,9 @@
+pub mod CheckOf
 pub mod CsvRecords
 pub mod Elements
 pub mod FieldLemmas
+pub mod FirstIn
 pub mod InTurn
+pub mod ListOfName
 pub mod PartsLemmas
 pub mod ReadRecord

@@ -3,6 +3,7 @@ pub mod Csv
 pub mod Field
 pub mod Item
 pub mod Line
+pub mod Mistake
 pub mod Octets
 pub mod Parts
 pub mod Reading

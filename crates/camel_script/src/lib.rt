@@ -4,6 +4,7 @@
 mod boxed_update;
 mod item;
 mod line;
+mod mistake;
 mod record;
 mod script;
 mod script_fault;
@@ -11,6 +12,7 @@ mod text;
 
 pub use boxed_update::BoxedUpdate;
 pub use line::{Line, push_line};
+pub use mistake::{Expected, Mistake, first_mistake};
 pub use record::{Record, parse_record};
 pub use script::Script;
 pub use script_fault::ScriptFault;

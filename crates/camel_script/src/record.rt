@@ -44,7 +44,7 @@ pub enum Record {
 
 /// The kinds of record, each with a word of its own.
 #[derive(Clone, Copy)]
-enum RecordKind {
+pub(crate) enum RecordKind {
     Register,
     Insert,
     Delete,
@@ -103,7 +103,7 @@ fn parse_fields(alloc: Global, fields: &ByteRecord, read: &mut Record) -> Result
 
 /// Reads the word of a record.
 #[tactic(auto, unfolding(crate::specs::Record::kind_of_word))]
-fn parse_kind(word: &[u8]) -> Result<RecordKind, RecordFault>
+pub(crate) fn parse_kind(word: &[u8]) -> Result<RecordKind, RecordFault>
     ensures { result ≡ kind_of_word word.now }
 {
     match word {

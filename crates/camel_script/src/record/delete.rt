@@ -47,7 +47,7 @@ fn parse_withdrawal(fields: &ByteRecord) -> Result<Withdrawal, RecordFault>
 }
 
 #[tactic(auto, unfolding(crate::specs::Record::withdrawal_with))]
-fn withdraw_named(what: Withdrawal, text: &[u8]) -> Result<Withdrawal, RecordFault>
+pub(crate) fn withdraw_named(what: Withdrawal, text: &[u8]) -> Result<Withdrawal, RecordFault>
     ensures { result ≡ withdrawal_with what text.now }
 {
     match text {
