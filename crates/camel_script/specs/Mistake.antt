@@ -1,6 +1,6 @@
 -- Where a record has its first mistake: the first check that fails, in the order in which a record is checked. What a
 -- record and an item have is in tables: their texts, and then the data that are checked behind all texts.
-use Rattle.std.specs.Prelude.{ℕ, ◌+◌, ◌-◌, ◌==◌, min, nat_le, nat_lt, not, suc, Bool, List, [], ◌∷◌, ◌++◌, length, drop, codes, slice_get, unwrap_or, Option, Some, None, Result, Ok, Err, ⊤, ◌≡◌, if◌then◌else◌}
+use Rattle.std.specs.Prelude.{ℕ, ◌+◌, ◌-◌, ◌==◌, min, nat_le, nat_lt, not, suc, Bool, List, [], ◌∷◌, ◌++◌, length, drop, codes, slice_get, unwrap_or, Option, Some, None, Result, Ok, Err, IsOk, ⊤, ◌≡◌, if◌then◌else◌}
 use Rattle.std.specs.Result.{result_unwrap_or}
 use Rattle.std.specs.Str.{bytes_eq}
 use Rattle.camel_criteria.specs.Criteria.{are_causes_at}
@@ -274,3 +274,8 @@ abbrev pub Finds : Result (Unit {0}) Finding → Option Mistake → Type 0
 Finds (Ok done) first = first ≡ None
 Finds (Err finding.OutOfMemory) first = ⊤
 Finds (Err (finding.Mistake mistake)) first = first ≡ Some mistake
+
+-- a reading fails with the fault of the first mistake, and has none if there is no mistake
+abbrev pub Agrees : {A : Type 0} → Option Mistake → Result A RecordFault → Type 0
+Agrees None reading = IsOk reading
+Agrees (Some mistake) reading = reading ≡ Err mistake.fault

@@ -2,7 +2,8 @@
 
 ghost use Rattle.std.specs.Prelude.{◌≡◌, ◌∷◌, [], IfOk};
 ghost use Rattle.csv.specs.Records.{fields_of};
-ghost use Rattle.camel_script.specs.Mistake.{Finds, mistake_of, table_mistake};
+ghost use Rattle.camel_script.specs.Mistake.{Agrees, Finds, mistake_of, table_mistake};
+ghost use Rattle.camel_script.specs.Record.{reading_of};
 ghost use Rattle.camel_script.specs.declared.mistake.Expected.TheVariants.{Imsi};
 ghost use Rattle.camel_script.specs.declared.mistake.place.Within.TheVariants as within;
 
@@ -86,6 +87,7 @@ pub struct Mistake {
 /// It reads no more than the texts up to the mistake, a few times each, and keeps nothing. Fails out of memory.
 pub fn first_mistake(alloc: Global, fields: &ByteRecord) -> Result<Option<Mistake>, AllocError>
     ensures first { IfOk result (λ mistake. mistake ≡ mistake_of (fields_of fields.now)) }
+    ensures fault { IfOk result (λ mistake. Agrees mistake (reading_of (fields_of fields.now))) }
 {
     match check_record(alloc, fields) {
         Ok(()) => Ok(None),
