@@ -4,7 +4,8 @@ use Rattle.std.specs.Prelude.{nat_lt, codes}
 use Rattle.std.specs.Str.{bytes_eq}
 use Rattle.camel_script.proofs.Agrees.{fault_in}
 use Rattle.camel_script.proofs.AgreesThen.{choose, fewer}
-use Rattle.camel_script.proofs.CallTables.{busy-law, collected_info-law, no_answer-law, route_select_failure-law, terminating_attempt-law}
+use Rattle.camel_script.proofs.CallTables.{collected_info-law, route_select_failure-law, terminating_attempt-law}
+use Rattle.camel_script.proofs.NotReachedTables.{busy-law, no_answer-law}
 use Rattle.camel_script.specs.Call.{call_of}
 use Rattle.camel_script.specs.Field.{field}
 use Rattle.camel_script.specs.Mistake.{Agrees, call_mistake}

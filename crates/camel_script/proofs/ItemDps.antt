@@ -1,26 +1,15 @@
 -- The detection point of an item that is read.
-use Rattle.std.proofs.Common.{◌≡◌, ℕ, Bool, true, false, List, Result, Ok, Err, length, refl, sym, ap}
+use Rattle.std.proofs.Common.{◌≡◌, ℕ, Bool, true, false, List, Ok, Err, length, sym, ap}
 use Rattle.std.specs.Prelude.{◌&&◌, if◌then◌else◌, nat_le}
 use Rattle.camel_criteria.specs.Criteria.{OCriteriaData, TCriteriaData, are_causes_at}
 use Rattle.camel_criteria.specs.declared.refusal.Refusal.TheVariants.{UnexpectedDataValue}
 use Rattle.camel_rows.specs.TdpRow.{TdpRowData, max_service_key}
+use Rattle.camel_script.proofs.Steps.{steps}
 use Rattle.camel_script.specs.Item.{number_criterion_from, number_texts_of, o_entry_of_parts, row_of_parts, t_entry_of_parts}
 use Rattle.camel_script.specs.Mistake.{item_dp}
 use Rattle.camel_script.specs.Parts.{item_part}
-use Rattle.camel_script.specs.Reading.{◌>>=◌, elements_as, or_refused}
+use Rattle.camel_script.specs.Reading.{elements_as, or_refused}
 use Rattle.camel_script.specs.Texts.{basic_service_of, call_type_of, decimal_of, isdn_address_of, octets_of}
-use Rattle.camel_script.specs.declared.text.record_fault.RecordFault.{RecordFault}
-
--- what a step has read, if the whole is read
-pub record Steps {A B : Type 0} (reading : Result A RecordFault) (then_read : A → Result B RecordFault) (made : B) : Type 0 where
-  pub value : A
-  pub is : reading ≡ Ok value
-  pub rest : then_read value ≡ Ok made
-
-pub steps : {A B : Type 0} (reading : Result A RecordFault) (then_read : A → Result B RecordFault) (made : B)
-    → (reading >>= then_read) ≡ Ok made → Steps reading then_read made
-steps (Ok value) then_read made is = record { value = value; is = refl; rest = is }
-steps (Err fault) then_read made is = absurd (cc)
 
 -- what the last step makes
 made_if : {A : Type 0} (is_good : Bool) (value made : A)

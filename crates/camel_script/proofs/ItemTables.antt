@@ -1,35 +1,19 @@
 -- An item fails to be read as the checks of its table do.
-use Rattle.std.proofs.Common.{◌≡◌, ◌==◌, ◌-◌, ℕ, Bool, true, false, List, None, Ok, Err, length, refl}
-use Rattle.std.specs.Prelude.{◌&&◌, if◌then◌else◌, nat_le, codes}
+use Rattle.std.proofs.Common.{◌≡◌, ◌==◌, ◌-◌, ℕ, true, false, List, length}
+use Rattle.std.specs.Prelude.{nat_le, codes}
 use Rattle.std.specs.Str.{bytes_eq}
 use Rattle.camel_criteria.specs.Criteria.{are_causes_at}
-use Rattle.camel_criteria.specs.declared.refusal.Refusal.TheVariants.{UnexpectedDataValue}
 use Rattle.camel_rows.specs.TdpRow.{max_service_key}
-use Rattle.camel_script.proofs.Agrees.{counted, fault_in, step, step_in}
+use Rattle.camel_script.proofs.Agrees.{counted, step, step_in}
+use Rattle.camel_script.proofs.LastData.{last, last_two}
 use Rattle.camel_script.specs.Field.{field}
 use Rattle.camel_script.specs.Item.{number_criterion_from, number_texts_of, o_entry_of_parts, row_of_parts, t_entry_of_parts}
-use Rattle.camel_script.specs.Mistake.{◌or_else◌, Agrees, data_check, first_in, mistake_if, o_entry_data, o_entry_texts, refused_unless, row_data, row_texts, t_entry_data, t_entry_texts, table_mistake}
+use Rattle.camel_script.specs.Mistake.{Agrees, data_check, first_in, o_entry_data, o_entry_texts, row_data, row_texts, t_entry_data, t_entry_texts, table_mistake}
 use Rattle.camel_script.specs.Parts.{item_part, item_separator, parts_of}
-use Rattle.camel_script.specs.Reading.{elements_as, of_count, or_refused}
+use Rattle.camel_script.specs.Reading.{elements_as, of_count}
 use Rattle.camel_script.specs.Texts.{basic_service_of, call_type_of, decimal_of, isdn_address_of, octets_of}
-use Rattle.camel_script.specs.declared.mistake.Expected.{Expected}
 use Rattle.camel_script.specs.declared.mistake.Expected.TheVariants as expected
-use Rattle.camel_script.specs.declared.mistake.place.Within.{Within}
 use Rattle.camel_script.specs.declared.mistake.place.Within.TheVariants as within
-use Rattle.camel_script.specs.declared.text.record_fault.RecordFault.TheVariants as record_fault
-
--- the last data, and the last two
-last : {A : Type 0} (is_good : Bool) (place : Within) (number : ℕ) (expected : Expected) (value : A)
-    → Agrees (mistake_if place number expected (refused_unless is_good) or_else None)
-    (or_refused (if is_good then Ok value else Err UnexpectedDataValue))
-last true place number expected value = refl
-last false place number expected value = fault_in place number expected (record_fault.Refused UnexpectedDataValue)
-
-last_two : {A : Type 0} (is_good is_next : Bool) (place : Within) (number next : ℕ) (expected also : Expected) (value : A)
-    → Agrees (mistake_if place number expected (refused_unless is_good) or_else mistake_if place next also (refused_unless is_next) or_else None)
-    (or_refused (if is_good && is_next then Ok value else Err UnexpectedDataValue))
-last_two true is_next place number next expected also value = last is_next place next also value
-last_two false is_next place number next expected also value = fault_in place number expected (record_fault.Refused UnexpectedDataValue)
 
 module _ (fields : List (List ℕ)) (at : ℕ) (item : List ℕ) (is : field fields (at - 1) ≡ item) where
   pub row-law : Agrees (table_mistake (within.Item at) fields 1 row_texts row_data)

@@ -3,10 +3,10 @@ use Rattle.std.proofs.Common.{◌≡◌, ℕ, Bool, true, false, List, [], ◌�
 use Rattle.std.specs.Prelude.{if◌then◌else◌, codes}
 use Rattle.std.specs.Str.{bytes_eq}
 use Rattle.std.proofs.lemmas.List.{append-nil, append_assoc}
-use Rattle.camel_script.proofs.ItemDps.{steps}
 use Rattle.camel_script.proofs.ListLaw.{dps_of}
 use Rattle.camel_script.proofs.ReadItems.{Gains}
 use Rattle.camel_script.proofs.ReadOne.{gains_one}
+use Rattle.camel_script.proofs.Steps.{steps}
 use Rattle.camel_script.specs.Item.{ItemsData, item_into}
 use Rattle.camel_script.specs.Mistake.{item_dp}
 use Rattle.camel_script.specs.Parts.{item_part}

@@ -1,78 +1,30 @@
 -- The detection point of one more item that an insert has read, in the list of its name.
-use Rattle.std.proofs.Common.{◌≡◌, ◌==◌, ℕ, Bool, true, false, not, List, [], ◌∷◌, length, Ok, refl}
+use Rattle.std.proofs.Common.{◌≡◌, ℕ, Bool, true, false, List, [], ◌∷◌, Ok, refl}
 use Rattle.std.specs.Prelude.{codes}
 use Rattle.std.specs.Str.{bytes_eq}
-use Rattle.camel_script.proofs.ItemDps.{o_entry-dp, row-dp, t_entry-dp}
-use Rattle.camel_script.proofs.ReadItems.{Gains, differs, dp_of_o_entry, dp_of_row, dp_of_t_entry, grows, put_one, stays}
-use Rattle.camel_script.specs.Item.{ItemsData, item_into, o_entry_of_parts, row_of_parts, t_entry_of_parts}
-use Rattle.camel_script.specs.Parts.{item_part, item_separator, parts_of}
-use Rattle.camel_script.specs.declared.text.record_fault.RecordFault.TheVariants.{FieldCount}
+use Rattle.camel_script.proofs.ReadEntry.{gains_oc, gains_tc}
+use Rattle.camel_script.proofs.ReadItems.{Gains}
+use Rattle.camel_script.proofs.ReadRow.{gains_o, gains_t}
+use Rattle.camel_script.specs.Item.{ItemsData, item_into}
+use Rattle.camel_script.specs.Parts.{item_part}
 
 module _ (made next : ItemsData) (item : List ℕ) where
-  gains_o : bytes_eq (item_part item 0) (codes "o") ≡ true → item_into made item ≡ Ok next
-      → Gains made next (item ∷ [])
-  unfolding item_into
-  gains_o is read =
-      let put = put_one (not (length (parts_of item_separator item) == 5)) FieldCount (row_of_parts item) made.o (λ list. record made { o = list }) next (rw (is) at read) in
-      rw (← put.made) (record {
-        o = grows dp_of_row made.o (codes "o") item put.value is (row-dp item put.value put.is);
-        o_criteria = stays dp_of_o_entry made.o_criteria (codes "oc") item (differs (item_part item 0) (codes "o") (codes "oc") is refl);
-        vt = stays dp_of_row made.vt (codes "t") item (differs (item_part item 0) (codes "o") (codes "t") is refl);
-        t_criteria = stays dp_of_t_entry made.t_criteria (codes "tc") item (differs (item_part item 0) (codes "o") (codes "tc") is refl);
-      })
-
-  gains_t : bytes_eq (item_part item 0) (codes "o") ≡ false → bytes_eq (item_part item 0) (codes "t") ≡ true → item_into made item ≡ Ok next
-      → Gains made next (item ∷ [])
-  unfolding item_into
-  gains_t not-o is read =
-      let put = put_one (not (length (parts_of item_separator item) == 5)) FieldCount (row_of_parts item) made.vt (λ list. record made { vt = list }) next (rw (not-o, is) at read) in
-      rw (← put.made) (record {
-        o = stays dp_of_row made.o (codes "o") item (differs (item_part item 0) (codes "t") (codes "o") is refl);
-        o_criteria = stays dp_of_o_entry made.o_criteria (codes "oc") item (differs (item_part item 0) (codes "t") (codes "oc") is refl);
-        vt = grows dp_of_row made.vt (codes "t") item put.value is (row-dp item put.value put.is);
-        t_criteria = stays dp_of_t_entry made.t_criteria (codes "tc") item (differs (item_part item 0) (codes "t") (codes "tc") is refl);
-      })
-
-  gains_oc : bytes_eq (item_part item 0) (codes "o") ≡ false → bytes_eq (item_part item 0) (codes "t") ≡ false → bytes_eq (item_part item 0) (codes "oc") ≡ true → item_into made item ≡ Ok next
-      → Gains made next (item ∷ [])
-  unfolding item_into
-  gains_oc not-o not-t is read =
-      let put = put_one (not (length (parts_of item_separator item) == 6)) FieldCount (o_entry_of_parts item) made.o_criteria (λ list. record made { o_criteria = list }) next (rw (not-o, not-t, is) at read) in
-      rw (← put.made) (record {
-        o = stays dp_of_row made.o (codes "o") item (differs (item_part item 0) (codes "oc") (codes "o") is refl);
-        o_criteria = grows dp_of_o_entry made.o_criteria (codes "oc") item put.value is (o_entry-dp item put.value put.is);
-        vt = stays dp_of_row made.vt (codes "t") item (differs (item_part item 0) (codes "oc") (codes "t") is refl);
-        t_criteria = stays dp_of_t_entry made.t_criteria (codes "tc") item (differs (item_part item 0) (codes "oc") (codes "tc") is refl);
-      })
-
-  gains_tc : bytes_eq (item_part item 0) (codes "o") ≡ false → bytes_eq (item_part item 0) (codes "t") ≡ false → bytes_eq (item_part item 0) (codes "oc") ≡ false → bytes_eq (item_part item 0) (codes "tc") ≡ true → item_into made item ≡ Ok next
-      → Gains made next (item ∷ [])
-  unfolding item_into
-  gains_tc not-o not-t not-oc is read =
-      let put = put_one (not (length (parts_of item_separator item) == 4)) FieldCount (t_entry_of_parts item) made.t_criteria (λ list. record made { t_criteria = list }) next (rw (not-o, not-t, not-oc, is) at read) in
-      rw (← put.made) (record {
-        o = stays dp_of_row made.o (codes "o") item (differs (item_part item 0) (codes "tc") (codes "o") is refl);
-        o_criteria = stays dp_of_o_entry made.o_criteria (codes "oc") item (differs (item_part item 0) (codes "tc") (codes "oc") is refl);
-        vt = stays dp_of_row made.vt (codes "t") item (differs (item_part item 0) (codes "tc") (codes "t") is refl);
-        t_criteria = grows dp_of_t_entry made.t_criteria (codes "tc") item put.value is (t_entry-dp item put.value put.is);
-      })
-
   pub gains_one : item_into made item ≡ Ok next → Gains made next (item ∷ [])
   unfolding item_into
   gains_one read = by_o (bytes_eq (item_part item 0) (codes "o")) refl
     where
       by_o : (b : Bool) → bytes_eq (item_part item 0) (codes "o") ≡ b → Gains made next (item ∷ [])
-      by_o true is = gains_o is read
+      by_o true is = gains_o made next item is read
       by_o false not-o = by_t (bytes_eq (item_part item 0) (codes "t")) refl
         where
           by_t : (b : Bool) → bytes_eq (item_part item 0) (codes "t") ≡ b → Gains made next (item ∷ [])
-          by_t true is = gains_t not-o is read
+          by_t true is = gains_t made next item not-o is read
           by_t false not-t = by_oc (bytes_eq (item_part item 0) (codes "oc")) refl
             where
               by_oc : (b : Bool) → bytes_eq (item_part item 0) (codes "oc") ≡ b → Gains made next (item ∷ [])
-              by_oc true is = gains_oc not-o not-t is read
+              by_oc true is = gains_oc made next item not-o not-t is read
               by_oc false not-oc = by_tc (bytes_eq (item_part item 0) (codes "tc")) refl
                 where
                   by_tc : (b : Bool) → bytes_eq (item_part item 0) (codes "tc") ≡ b → Gains made next (item ∷ [])
-                  by_tc true is = gains_tc not-o not-t not-oc is read
+                  by_tc true is = gains_tc made next item not-o not-t not-oc is read
                   by_tc false not-tc = let none = rw (not-o, not-t, not-oc, not-tc) at read in absurd (cc)

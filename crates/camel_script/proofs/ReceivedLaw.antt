@@ -6,7 +6,8 @@ use Rattle.std.proofs.lemmas.List.{length-map}
 use Rattle.camel_criteria.specs.declared.refusal.Refusal.TheVariants.{UnexpectedDataValue}
 use Rattle.camel_rows.specs.Received.{has_no_two, items_at, kept_of, kept_unless, max_tdp_data}
 use Rattle.camel_script.proofs.AgreesThen.{agrees_made}
-use Rattle.camel_script.proofs.TakenLists.{is_taken, no_two-map, taken-none}
+use Rattle.camel_script.proofs.ItemCounts.{no_two-map}
+use Rattle.camel_script.proofs.TakenLists.{is_taken, taken-none}
 use Rattle.camel_script.specs.Mistake.{Agrees, refused_unless}
 use Rattle.camel_script.specs.Reading.{◌>>=◌, or_refused}
 use Rattle.camel_script.specs.Record.{received_list}
