@@ -4,21 +4,19 @@
 //! and the octets of the argument in hexadecimal. Its output line is a record, or `fault NUMBER PLACE`. An empty line is
 //! skipped, and not counted.
 //!
-//! A list of which each item was ignored prints one item of detection point 255, which is ignored too. A delete that
-//! names nothing prints as an insert of nothing, which changes as little.
-//!
 //! Decoding is that of `camel_map`, whose contracts say which octets are which update. The texts here are tested, and
 //! not proved.
 #![tactic(auto)]
 
+mod fault;
 mod input;
-mod record;
-mod text;
 
+use crate::fault::append_fault;
 use crate::input::{Argument, LineFault, argument_of};
-use crate::record::{append_fault, append_update};
 use camel_criteria::Refusal;
 use camel_map::{MapFaultKind, decode};
+use camel_record_text::{append_text, append_update};
+use camel_rows::Update;
 use csv::{ByteRecord, ErrorKind, Reader, ReaderBuilder};
 use std::alloc::{AllocError, Global};
 use std::io::{Read, Write};
@@ -130,7 +128,7 @@ fn read_fields<R: Read>(reader: &mut Reader<R>, fields: &mut ByteRecord) -> Resu
 fn append_answer(alloc: Global, out: &mut Vec<u8>, argument: &Argument) -> Result<(), Stop> {
     let octets = argument.octets.as_slice();
     let appended = match decode(alloc, argument.operation, argument.imsi, octets) {
-        Ok(update) => append_update(out, &update),
+        Ok(update) => append_record(out, &update),
         Err(fault) if fault.kind == MapFaultKind::Refused(Refusal::OutOfMemory) => Err(AllocError),
         Err(fault) => append_fault(out, &fault),
     };
@@ -138,6 +136,12 @@ fn append_answer(alloc: Global, out: &mut Vec<u8>, argument: &Argument) -> Resul
         Ok(()) => Ok(()),
         Err(_) => Err(Stop::Memory),
     }
+}
+
+/// Appends the line of an update.
+fn append_record(out: &mut Vec<u8>, update: &Update) -> Result<(), AllocError> {
+    append_update(out, update)?;
+    append_text(out, "\n")
 }
 
 /// Writes the answers, of which none is kept then.

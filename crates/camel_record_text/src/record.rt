@@ -1,25 +1,18 @@
-//! The lines of the output: records of a script, and faults. Out of memory, a part of a line may be appended.
+//! The records of updates.
 
 use crate::text::{
     append_decimal, append_decimals, append_number, append_octets, append_services, append_text,
 };
 use camel_criteria::{CallType, Handling, OCriteria, TCriteria};
-use camel_map::MapFault;
 use camel_rows::{Csi, OCriteriaSet, TCriteriaSet, TdpRow, Update, Withdrawal};
 use camel_tbcd::Imsi;
 use std::alloc::AllocError;
 
-/// Appends the line of a fault.
-pub(crate) fn append_fault(out: &mut Vec<u8>, fault: &MapFault) -> Result<(), AllocError> {
-    append_text(out, "fault ")?;
-    append_decimal(out, u64::from(fault.code()))?;
-    append_text(out, " ")?;
-    append_decimal(out, fault.place as u64)?;
-    append_text(out, "\n")
-}
-
-/// Appends the line of an update.
-pub(crate) fn append_update(out: &mut Vec<u8>, update: &Update) -> Result<(), AllocError> {
+/// Appends the record of an update, without the end of its line.
+///
+/// A list of which each item was ignored gives one item of detection point 255, which is ignored too. A delete that names
+/// nothing gives an insert of nothing, which changes as little. Out of memory, a part may be appended.
+pub fn append_update(out: &mut Vec<u8>, update: &Update) -> Result<(), AllocError> {
     match update {
         Update::Insert {
             imsi,
@@ -36,11 +29,10 @@ pub(crate) fn append_update(out: &mut Vec<u8>, update: &Update) -> Result<(), Al
         }
         Update::Delete { imsi, what } => append_delete(out, imsi, *what)?,
         Update::Cancel { imsi } => append_imsi(out, "cancel,", imsi)?,
-        // No argument is one of these.
         Update::Register { imsi } => append_imsi(out, "register,", imsi)?,
         Update::ClearAll => append_text(out, "clear")?,
     }
-    append_text(out, "\n")
+    Ok(())
 }
 
 /// Appends a word and an IMSI.

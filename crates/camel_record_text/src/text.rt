@@ -59,8 +59,8 @@ fn append_separator(out: &mut Vec<u8>, at: usize) -> Result<(), AllocError> {
     append_text(out, SEPARATOR)
 }
 
-/// Appends octets in hexadecimal digits.
-pub(crate) fn append_octets(out: &mut Vec<u8>, octets: &[u8]) -> Result<(), AllocError> {
+/// Appends octets in lower-case hexadecimal digits, two each. Out of memory, a part may be appended.
+pub fn append_octets(out: &mut Vec<u8>, octets: &[u8]) -> Result<(), AllocError> {
     for octet in octets {
         append_octet(out, *octet)?;
     }
@@ -76,13 +76,13 @@ fn append_octet(out: &mut Vec<u8>, octet: u8) -> Result<(), AllocError> {
     }
 }
 
-/// Appends a number in decimal digits.
-pub(crate) fn append_decimal(out: &mut Vec<u8>, number: u64) -> Result<(), AllocError> {
+/// Appends a number in decimal digits. Out of memory, a part may be appended.
+pub fn append_decimal(out: &mut Vec<u8>, number: u64) -> Result<(), AllocError> {
     let mut digits = Buffer::new();
     append_text(out, digits.format(number))
 }
 
-/// Appends a text.
-pub(crate) fn append_text(out: &mut Vec<u8>, text: &str) -> Result<(), AllocError> {
+/// Appends a text. Out of memory, nothing is appended.
+pub fn append_text(out: &mut Vec<u8>, text: &str) -> Result<(), AllocError> {
     out.extend_from_slice(text.as_bytes())
 }
