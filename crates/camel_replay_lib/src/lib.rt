@@ -26,6 +26,7 @@ pub use camel_workers::{Ended, Gate, OpenGate, Served, serve};
 pub use command::words::{MAX_LIMIT, MAX_THREADS, options};
 pub use command::{FAULT_STATUS, Options, REJECTED_STATUS, run};
 pub use script_replay::laws::published_fronts;
+pub use script_replay::store::Store;
 pub use script_replay::write::{WriteFault, write_all};
 pub use script_replay::{MAX_RECORDS, ReplayFault, WRITE_FAULT, replay};
 pub use threaded_replay::replay_threads;

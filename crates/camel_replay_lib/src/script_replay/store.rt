@@ -1,13 +1,17 @@
 ghost use Rattle.std.specs.Prelude.{◌≡◌, ◌+◌, ◌⊎◌, Some, None, IfErr, IfOk, OnErr, OnOk, length};
+ghost use Rattle.std.specs.FinMap as map;
+ghost use Rattle.std.specs.Option.{option_map};
+ghost use Rattle.camel_rows.specs.CsisPresent.{csis_of};
 ghost use Rattle.camel_rows.specs.Store.{accepted_updates, all_published, store_refusal, with_update};
+ghost use Rattle.camel_rows.specs.Update.{records_of};
 ghost use Rattle.camel_replay_lib.specs.Output.{answer_of, line_of};
 ghost use Rattle.camel_replay_lib.specs.Store.{StoreData, empty_store, store_after};
 
 use crate::script_replay::update_list::UpdateList;
 use camel_criteria::Refusal;
-use camel_rows::{Admission, Answer, CallEvent, Outcome, Records, Update};
+use camel_rows::{Admission, Answer, CallEvent, CsisPresent, Outcome, Records, Update};
 use camel_script::{Line, Record};
-use camel_tbcd::Profile;
+use camel_tbcd::{Imsi, Profile};
 use std::alloc::Global;
 use std::collections::VecDeque;
 use std::marker::Model;
@@ -16,9 +20,10 @@ use std::snapshot::Snapshot;
 
 /// The subscriber data of one thread: what is published, and the accepted updates that are pending.
 ///
-/// Contracts see the profile, the limit, and the lists of the published and of the pending updates.
+/// Contracts see the profile, the limit, and the lists of the published and of the pending updates. It takes the memory
+/// of the records and of the pending updates.
 #[derive(Drop)]
-pub(crate) struct Store {
+pub struct Store {
     admission: Admission,
     records: Records,
     /// The updates that leave the records, for contracts only.
@@ -46,7 +51,7 @@ impl Model for Store {
 
 impl Store {
     /// A store that accepts at most `limit` updates, with no records, and decides under the profile.
-    pub(crate) fn new(alloc: Global, limit: u64, profile: Profile) -> Store
+    pub fn new(alloc: Global, limit: u64, profile: Profile) -> Store
         ensures { result ≡ empty_store profile limit }
     {
         Store {
@@ -58,10 +63,38 @@ impl Store {
         }
     }
 
+    /// The records that the published updates leave.
+    pub fn records(&self) -> &Records
+        ensures { result.now ≡ records_of self.now.updates.published }
+    {
+        &self.records
+    }
+
+    /// The accepted updates that are not published yet, in their order.
+    pub fn pending(&self) -> &VecDeque<Update>
+        ensures { result.now.items ≡ self.now.updates.pending }
+    {
+        &self.pending
+    }
+
+    /// How many updates are accepted.
+    pub fn accepted(&self) -> u64
+        ensures { result ≡ length (accepted_updates self.now.updates) }
+    {
+        self.admission.accepted()
+    }
+
+    /// The CSIs that all accepted updates leave in the record of an IMSI; None if they leave no record.
+    pub fn csis(&self, imsi: &Imsi) -> Option<CsisPresent>
+        ensures { result ≡ option_map csis_of (map.get (records_of (accepted_updates self.now.updates)) imsi.now) }
+    {
+        self.admission.csis(imsi)
+    }
+
     /// The line of a record of a script, after which the store holds what the record asks.
     ///
     /// Fails only with `OutOfMemory` (102). The store may then hold a part of a publication, so it is not used again.
-    pub(crate) fn answer(&mut self, script_record: Record) -> Result<Line, Refusal>
+    pub fn answer(&mut self, script_record: Record) -> Result<Line, Refusal>
         ensures line { IfOk result (λ line. line ≡ line_of self.old.profile self.old.limit self.old.updates script_record) }
         ensures after { OnOk result (self.new ≡ store_after self.old script_record) }
         ensures only { IfErr result (λ why. why ≡ Refusal.OutOfMemory) }
@@ -75,7 +108,7 @@ impl Store {
     }
 
     /// As `answer`, of a record in its place. Only an update leaves it, since a call is decided where it is.
-    pub(crate) fn answer_from(&mut self, script_record: &mut Record) -> Result<Line, Refusal>
+    pub fn answer_from(&mut self, script_record: &mut Record) -> Result<Line, Refusal>
         ensures line { IfOk result (λ line. line ≡ line_of self.old.profile self.old.limit self.old.updates script_record.old) }
         ensures after { OnOk result (self.new ≡ store_after self.old script_record.old) }
         ensures only { IfErr result (λ why. why ≡ Refusal.OutOfMemory) }
