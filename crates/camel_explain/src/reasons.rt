@@ -1,0 +1,110 @@
+//! Why a call triggers no service.
+
+use crate::criteria::say_unmet;
+use crate::shown::ShownImsi;
+use camel_criteria::is_o_detection_point;
+use camel_replay_lib::Store;
+use camel_rows::{CallEvent, Csi, CsisPresent, Reason, Subscriber};
+use camel_tbcd::Profile;
+use std::alloc::AllocError;
+
+/// Appends why a call triggers no service, by the published data of its subscriber.
+pub(crate) fn say_reason(
+    out: &mut String,
+    store: &Store,
+    profile: Profile,
+    call: &CallEvent,
+    reason: Reason,
+) -> Result<(), AllocError> {
+    let imsi = call.imsi();
+    let published = store.records().get(&imsi);
+    let accepted = store.csis(&imsi);
+    match (reason, published) {
+        (Reason::Unknown, _) => {
+            write!(out, "no record of {} is published", ShownImsi(&imsi))?;
+            say_pending(out, accepted.is_some())
+        }
+        (Reason::Emergency, _) => {
+            write!(out, "t12 is emergency calls, to which CAMEL does not apply")
+        }
+        (Reason::NoCsi, _) => say_no_csi(out, call, accepted),
+        (Reason::NotArmed, Some(subscriber)) => say_not_armed(out, subscriber, call.dp()),
+        (Reason::Criteria, Some(subscriber)) => say_unmet(out, subscriber, profile, call),
+        // A decision for one of these reasons has a record.
+        (Reason::NotArmed | Reason::Criteria, None) => Ok(()),
+    }
+}
+
+/// Appends that something is accepted and not published, if it is.
+fn say_pending(out: &mut String, is_accepted: bool) -> Result<(), AllocError> {
+    if is_accepted {
+        write!(out, "; one is pending, and calls see it after a publish")?;
+    }
+    Ok(())
+}
+
+/// The name of the CSI of a detection point.
+fn csi_name(dp: u8) -> &'static str {
+    if is_o_detection_point(dp) {
+        "O-CSI"
+    } else {
+        "VT-CSI"
+    }
+}
+
+fn say_no_csi(
+    out: &mut String,
+    call: &CallEvent,
+    accepted: Option<CsisPresent>,
+) -> Result<(), AllocError> {
+    let dp = call.dp();
+    let imsi = call.imsi();
+    write!(
+        out,
+        "no {} of {} is published",
+        csi_name(dp),
+        ShownImsi(&imsi)
+    )?;
+    let is_accepted = match accepted {
+        Some(csis) if is_o_detection_point(dp) => csis.o,
+        Some(csis) => csis.vt,
+        None => false,
+    };
+    say_pending(out, is_accepted)
+}
+
+fn say_not_armed(out: &mut String, subscriber: &Subscriber, dp: u8) -> Result<(), AllocError> {
+    if is_o_detection_point(dp) {
+        say_rows(out, subscriber.o(), dp)
+    } else {
+        say_rows(out, subscriber.vt(), dp)
+    }
+}
+
+/// Appends that a CSI has no row of a detection point, and the detection points of those that it has.
+fn say_rows<const MOST: usize>(
+    out: &mut String,
+    csi: Option<&Csi<MOST>>,
+    dp: u8,
+) -> Result<(), AllocError> {
+    let name = csi_name(dp);
+    let count = csi.map_or(0, |csi| csi.len());
+    if count == 0 {
+        return write!(
+            out,
+            "the {name} has no rows: items of detection points of other CSIs are ignored"
+        );
+    }
+    write!(out, "the {name} has no row of DP {dp}, only of DP ")?;
+    for at in 0..count {
+        let between = match at {
+            0 => "",
+            _ if at + 1 == count => " and ",
+            _ => ", ",
+        };
+        if let Some(row) = csi.and_then(|csi| csi.get(at)) {
+            write!(out, "{between}{}", row.dp())?;
+        }
+    }
+    Ok(())
+}

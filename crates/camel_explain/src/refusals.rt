@@ -1,0 +1,64 @@
+//! Why the store refuses an update whose data can be read.
+
+use crate::shown::{Shown, ShownImsi};
+use camel_replay_lib::Store;
+use camel_tbcd::Imsi;
+use csv::ByteRecord;
+use std::alloc::AllocError;
+
+/// Appends why an update was refused, by the number of its refusal. A refused update leaves the store as it was.
+pub(crate) fn say_store_refusal(
+    out: &mut String,
+    store: &Store,
+    fields: &ByteRecord,
+    code: u16,
+) -> Result<(), AllocError> {
+    match code {
+        5 => {
+            let imsi = fields.get(1).unwrap_or(&[]);
+            write!(
+                out,
+                "IMSI {} has no record: no register was accepted, or a cancel or clear came since",
+                Shown(imsi)
+            )
+        }
+        35 => say_lacking(out, store, fields),
+        101 => write!(
+            out,
+            "{} updates are accepted already, as many as the limit",
+            store.accepted()
+        ),
+        _ => Ok(()),
+    }
+}
+
+/// Appends which criteria come without their CSI.
+fn say_lacking(out: &mut String, store: &Store, fields: &ByteRecord) -> Result<(), AllocError> {
+    let Ok(imsi) = Imsi::from_ascii(fields.get(1).unwrap_or(&[])) else {
+        return Ok(());
+    };
+    let lacks_o = store.csis(&imsi).is_some_and(|csis| !csis.o)
+        && has_item(fields, b"oc")
+        && !has_item(fields, b"o");
+    let (entry, csi, row) = if lacks_o {
+        ("oc", "O-CSI", "o")
+    } else {
+        ("tc", "VT-CSI", "t")
+    };
+    write!(
+        out,
+        "criteria of the {csi} (items {entry}), but the record has no item {row}, and no {csi} of {} is stored",
+        ShownImsi(&imsi)
+    )
+}
+
+/// Whether an insert has an item of this name.
+fn has_item(fields: &ByteRecord, name: &[u8]) -> bool {
+    for at in 2..fields.len() {
+        let item = fields.get(at).unwrap_or(&[]);
+        if item.split(|octet| *octet == b':').next() == Some(name) {
+            return true;
+        }
+    }
+    false
+}
