@@ -16,6 +16,7 @@ BENCH := crates/camel_vlr_bench/out/camel_vlr_bench
 REFUSALS := crates/camel_refusals/out/camel_refusals
 COPROCESS := crates/camel_replay/out/coprocess
 MAP_CHECK := crates/camel_map_check/out/camel_map_check
+EXPLAIN := crates/camel_explain/out/camel_explain
 
 # How long it takes to prove and build a program.
 FIRST := about 14 minutes the first time, on four cores
@@ -36,7 +37,7 @@ define targets
 endef
 say = $(call targets,$@) >&2
 
-.PHONY: help try replay program check script crate pages examples scripts streams coprocess refusals fuzz \
+.PHONY: help try replay explain explain-check program check script crate pages examples scripts streams coprocess refusals fuzz \
 	map-check library install library-test soak fuzz-c bench bench-program bench-vlr bench-peers bench-map count-vlr test
 # In order, so that what is missing is said before anything is built.
 .NOTPARALLEL:
@@ -65,7 +66,7 @@ crate:
 
 # Proves and builds a program if a source below it is newer, and runs it once. What `rt ci` has built is newer than
 # its sources.
-$(PROGRAM) $(BENCH) $(REFUSALS) $(MAP_CHECK): $$(shell .ci/sources $$(@F))
+$(PROGRAM) $(BENCH) $(REFUSALS) $(MAP_CHECK) $(EXPLAIN): $$(shell .ci/sources $$(@F))
 	@.ci/need rt python3
 	@echo "$(@F): proved and built with all that it stands on, $(FIRST); log: $(@D)/build.log" >&2
 	@.ci/build $(@F)
@@ -81,6 +82,10 @@ try: script need-rt need-python3
 ## Runs SCRIPT by the proved program, which is built first where a source is newer.
 replay: script $(PROGRAM)
 	@$(PROGRAM) $(OPTIONS) < "$$SCRIPT"
+
+## Explains SCRIPT, record by record, by the program for people, which is built first where a source is newer.
+explain: script $(EXPLAIN)
+	@$(EXPLAIN) --limit "$$LIMIT" $(if $(PROFILE),--profile "$$PROFILE") "$$SCRIPT"
 
 ## Proves and builds the program: FIRST.
 program: $(PROGRAM)
@@ -108,6 +113,12 @@ examples: need-python3 $(PROGRAM)
 scripts: $(PROGRAM)
 	$(say)
 	@.ci/scripts tests/scripts
+
+## Compares what camel_explain says of each script of tests/explain/, and its answers: seconds, once it is built.
+explain-check: need-python3 $(PROGRAM) $(EXPLAIN)
+	$(say)
+	@.ci/scripts tests/explain camel_explain
+	@.ci/explain
 
 ## Runs the program over streams, at a terminal and with signals: seconds, once it is built.
 streams: need-python3 $(PROGRAM)
@@ -159,7 +170,7 @@ fuzz-c: need-cc library
 	@.ci/fuzz-c $(COUNT) $(SEED)
 
 ## Measures the program beside a plain one in Rust: some minutes, once it is built.
-bench: need-rustc $(PROGRAM)
+bench: need-rustc $(PROGRAM) $(EXPLAIN)
 	$(say)
 	@bench/run
 
@@ -207,7 +218,7 @@ test: need-rt need-python3 need-cc
 	@$(MAKE) --no-print-directory pages
 	rt ci
 	@.ci/must-not-compile
-	@$(MAKE) --no-print-directory examples scripts refusals
+	@$(MAKE) --no-print-directory examples scripts explain-check refusals
 	@$(MAKE) --no-print-directory streams coprocess CALLS=1000
 	@$(MAKE) --no-print-directory library
 	@.ci/library-test 1000000 100000
