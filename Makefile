@@ -96,10 +96,11 @@ check: crate need-rt need-python3
 	$(say)
 	@cd "crates/$$CRATE" && rt check
 
-## Looks up what the pages name, compares their picture of figures with its table, and looks for banned words: a second.
+## Looks up what the pages name, compares their numbers, crates and figures, and looks for banned words: a second.
 pages: need-python3
 	$(say)
 	@.ci/pages
+	@.ci/numbers
 	@.ci/words
 	@bench/plot --check
 
