@@ -1,8 +1,8 @@
-# `make` lists the targets: a line `## ` says what the target below it does, and how long that takes. `make test` passes
-# all tests: the gate, then the programs that must not compile, each script of examples/ and tests/scripts/ with all
-# that it leaves, each request for memory that is refused in turn, the program over streams and with signals as a user
-# meets them, the switch in C that has it as a child, the programs over the library with a short soak, scripts of bad
-# octets, and, if tshark is there, MAP arguments.
+# `make` lists the targets: a line `## ` says what the target below it does, and how long that takes. Which tools each
+# target runs by, and which targets are the parts of `make test`, stands in .ci/parts.
+
+# How long it takes to prove and build a program.
+FIRST := about 14 minutes the first time, on four cores
 
 SCRIPT ?= examples/first-call.csv
 LIMIT ?= 1000000
@@ -18,11 +18,8 @@ COPROCESS := crates/camel_replay/out/coprocess
 MAP_CHECK := crates/camel_map_check/out/camel_map_check
 EXPLAIN := crates/camel_explain/out/camel_explain
 
-# How long it takes to prove and build a program.
-FIRST := about 14 minutes the first time, on four cores
-
 # The shell reads these, and not make, so that a name may have spaces.
-export SCRIPT LIMIT THREADS PROFILE CRATE
+export SCRIPT LIMIT THREADS PROFILE CRATE PARTS
 OPTIONS = --limit "$$LIMIT" $(if $(THREADS),--threads "$$THREADS") $(if $(PROFILE),--profile "$$PROFILE")
 
 # Prints what its line says of a target, or of each. FIRST in a line stands for its value.
@@ -31,14 +28,14 @@ define targets
 	/^## / { use = substr($$0, 4); sub(/FIRST/, first, use); next } \
 	use && match($$0, /^[a-z-]+:/) { \
 		name = substr($$0, 1, RLENGTH - 1); \
-		if (!wanted) printf "make %-14s %s\n", name, use; \
+		if (!wanted) printf "make %-16s %s\n", name, use; \
 		if (wanted == name) print name ": " use } \
 	{ use = "" }' Makefile
 endef
-say = $(call targets,$@) >&2
 
-.PHONY: help try replay explain explain-check program check script crate pages examples scripts streams coprocess refusals fuzz \
-	map-check library install library-test soak fuzz-c bench bench-program bench-vlr bench-peers bench-map count-vlr test
+.PHONY: help try replay explain explain-check program check script crate pages proofs must-not-compile \
+	examples scripts streams coprocess refusals fuzz map-check library install library-test library-c \
+	library-cpp library-as-shipped library-rust soak fuzz-c bench bench-program bench-vlr bench-peers bench-map count-vlr test
 # In order, so that what is missing is said before anything is built.
 .NOTPARALLEL:
 .SECONDEXPANSION:
@@ -48,14 +45,10 @@ help:
 	$(call targets)
 	@echo 'Variables are given as in: make try SCRIPT=examples/threads.csv THREADS=2 PROFILE=2 LIMIT=3'
 
-need-%:
-	@.ci/need $*
-
-need-cc:
-	@.ci/need $(firstword $(CC))
-
-need-c++:
-	@.ci/need $(firstword $(CXX))
+# The first thing that a target has done: it fails if a tool of the target is missing, and says what the target does.
+begin-%:
+	@.ci/parts need $*
+	$(call targets,$*) >&2
 
 script:
 	@[ -r "$$SCRIPT" ] && [ ! -d "$$SCRIPT" ] || { echo "SCRIPT=$$SCRIPT is no file that can be read" >&2; exit 2; }
@@ -67,7 +60,7 @@ crate:
 # Proves and builds a program if a source below it is newer, and runs it once. What `rt ci` has built is newer than
 # its sources.
 $(PROGRAM) $(BENCH) $(REFUSALS) $(MAP_CHECK) $(EXPLAIN): $$(shell .ci/sources $$(@F))
-	@.ci/need rt python3
+	@.ci/parts need build
 	@echo "$(@F): proved and built with all that it stands on, $(FIRST); log: $(@D)/build.log" >&2
 	@.ci/build $(@F)
 	@touch $@
@@ -75,7 +68,7 @@ $(PROGRAM) $(BENCH) $(REFUSALS) $(MAP_CHECK) $(EXPLAIN): $$(shell .ci/sources $$
 # The output comes at the end, and is at most 1 MiB; the program has 60 seconds. `.ci/try` ends with the program's
 # status, or with 125 if it gave none. `make` ends with status 2 if that is not 0, and names it.
 ## Runs SCRIPT by the program, with nothing proved and nothing built: about a minute, each time.
-try: script need-rt need-python3
+try: script begin-$$@
 	@.ci/try $(OPTIONS) < "$$SCRIPT"
 
 # Only the output of the script comes on standard output.
@@ -89,140 +82,132 @@ explain: script $(EXPLAIN)
 
 ## Proves and builds the program: FIRST.
 program: $(PROGRAM)
-	@echo "$(PROGRAM) is built, and no source is newer" >&2
+	@echo "$< is built, and no source is newer" >&2
 
 ## Proves the crate CRATE with what it stands on: 1 to 15 minutes the first time.
-check: crate need-rt need-python3
-	$(say)
+check: crate begin-$$@
 	@cd "crates/$$CRATE" && rt check
 
 ## Looks up what the pages name, compares their numbers, crates and figures, and looks for banned words: a second.
-pages: need-python3
-	$(say)
+pages: begin-$$@
 	@.ci/pages
 	@.ci/numbers
 	@.ci/words
 	@bench/plot --check
 
+## Proves every crate, tries the edits of its contracts, and runs the tests of the crates: nearly all of `make test`.
+proofs: begin-$$@
+	rt ci
+
+## Tries the programs that the compiler has to refuse: some minutes, once their crates are proved.
+must-not-compile: begin-$$@
+	@.ci/must-not-compile
+
 ## Compares what the scripts and the converter of examples/ leave: seconds, once the program is built.
-examples: need-python3 $(PROGRAM)
-	$(say)
+examples: begin-$$@ $(PROGRAM)
 	@.ci/scripts examples
 	@.ci/addresses
 
 ## Compares what each script of tests/scripts/ leaves: seconds, once the program is built.
-scripts: $(PROGRAM)
-	$(say)
+scripts: begin-$$@ $(PROGRAM)
 	@.ci/scripts tests/scripts
 
 ## Compares what camel_explain says of each script of tests/explain/, and its answers: seconds, once it is built.
-explain-check: need-python3 $(PROGRAM) $(EXPLAIN)
-	$(say)
+explain-check: begin-$$@ $(PROGRAM) $(EXPLAIN)
 	@.ci/scripts tests/explain camel_explain
 	@.ci/explain
 
 ## Runs the program over streams, at a terminal and with signals: seconds, once it is built.
-streams: need-python3 $(PROGRAM)
-	$(say)
+streams: begin-$$@ $(PROGRAM)
 	@.ci/streams
 
 # The round trip is that of so many CALLS.
 ## Runs the program as the child of a switch in C, and of the first call through pipes: seconds, once it is built.
-coprocess: need-cc need-python3 $(PROGRAM)
-	$(say)
+coprocess: begin-$$@ $(PROGRAM)
 	@$(CC) -std=c11 -O2 -Wall -Wextra -o $(COPROCESS) examples/coprocess.c
 	@$(COPROCESS) $(PROGRAM) $(CALLS)
 	@.ci/first-calls docs/PIPES.md crates
 
 ## Refuses each request for memory in turn: some minutes, once its program is built.
-refusals: $(REFUSALS)
-	$(say)
+refusals: begin-$$@ $(REFUSALS)
 	@.ci/refusals
 
 ## Proves and builds the library for C, C++ and Rust, into out/library: FIRST.
-library: need-rt need-python3 need-ar
-	$(say)
+library: begin-$$@
 	@.ci/library
 
 ## Copies the library and its headers to PREFIX: a second, once it is built.
 install: library
 	@.ci/install "$(PREFIX)"
 
-# The soak makes DECISIONS, and COUNT calls have random fields.
-library-test: DECISIONS ?= 1000000
-library-test: COUNT ?= 100000
+# Each part of it may be left out of `make test`. The soak makes DECISIONS, and COUNT calls have random fields.
 ## Compiles and runs the tests, the examples and the bindings of the library: a minute, once it is built.
-library-test: need-cc need-c++ need-cargo library
-	$(say)
-	@.ci/library-test $(DECISIONS) $(COUNT)
+library-test: begin-$$@ library-c library-cpp library-as-shipped library-rust
+
+library-c: COUNT ?= 100000
+library-c: begin-$$@ library
+	@.ci/library-test c $(COUNT)
+
+library-cpp: begin-$$@ library
+	@.ci/library-test cpp
+
+library-as-shipped: begin-$$@ library
+	@.ci/library-as-shipped
+
+library-rust: DECISIONS ?= 1000000
+library-rust: begin-$$@ library
+	@.ci/library-test rust $(DECISIONS)
 
 # It makes so many DECISIONS, or goes on for so many SECONDS if they are given. Another SEED gives other calls and
 # updates.
 soak: DECISIONS ?= 100000000
 ## Uses the library as a switch does, with a plain model beside it: minutes, once it is built.
-soak: need-cargo library
-	$(say)
+soak: begin-$$@ library
 	@.ci/soak $(if $(SECONDS),--seconds $(SECONDS),--decisions $(DECISIONS)) --subscribers $(SUBSCRIBERS) --seed $(SEED)
 
 fuzz-c: COUNT ?= 1000000
 ## Makes COUNT calls of the library with the random fields of SEED: seconds, once it is built.
-fuzz-c: need-cc library
-	$(say)
+fuzz-c: begin-$$@ library
 	@.ci/fuzz-c $(COUNT) $(SEED)
 
 ## Measures the program beside a plain one in Rust: some minutes, once it is built.
-bench: need-rustc $(PROGRAM) $(EXPLAIN)
-	$(say)
+bench: begin-$$@ $(PROGRAM) $(EXPLAIN)
 	@bench/run
 
 ## Proves and builds the program that measures the store: FIRST.
 bench-program: $(BENCH)
+	@echo "$< is built, and no source is newer" >&2
 
 ## Measures the store: about an hour, once its program is built.
-bench-vlr: need-python3 $(BENCH)
-	$(say)
+bench-vlr: begin-$$@ $(BENCH)
 	@bench/run-vlr
 
 # Says which Debian packages it needs, if one is missing.
 ## Measures the store beside others in Rust and C: about a quarter of an hour, once program and library are built.
-bench-peers: need-cargo need-gcc need-ar $(BENCH) library
-	$(say)
+bench-peers: begin-$$@ $(BENCH) library
 	@bench/run-peers
 
 ## Times a decoded argument of MAP, beside other decoders if they are there: a minute, once its program is built.
-bench-map: $(BENCH)
-	$(say)
+bench-map: begin-$$@ $(BENCH)
 	@bench/run-map
 
 ## Counts what an update costs, by a simulator: some minutes, once its program is built.
-count-vlr: need-valgrind $(BENCH)
-	$(say)
+count-vlr: begin-$$@ $(BENCH)
 	@bench/count-vlr
 
 # COUNT scripts of bad octets that SEED makes, scripts that are far too long, and each beginning of each script.
 fuzz: COUNT ?= 100000
 ## Replays COUNT scripts of bad octets: 2 to 5 minutes for 100,000, once the program is built.
-fuzz: need-python3 $(PROGRAM)
-	$(say)
+fuzz: begin-$$@ $(PROGRAM)
 	@.ci/fuzz $(SEED) $(COUNT)
 
 # COUNT arguments that SEED makes, in five styles, and COUNT of them with edits.
 map-check: COUNT ?= 100000
 ## Compares what is read of COUNT MAP arguments with tshark: 4 minutes for 100,000, once the programs are built.
-map-check: need-python3 need-tshark $(PROGRAM) $(MAP_CHECK)
-	$(say)
+map-check: begin-$$@ $(PROGRAM) $(MAP_CHECK)
 	@.ci/map-check $(SEED) $(COUNT)
 
-## Passes every proof and every test: about 50 minutes the first time, on four cores.
-test: need-rt need-python3 need-cc
-	$(say)
-	@$(MAKE) --no-print-directory pages
-	rt ci
-	@.ci/must-not-compile
-	@$(MAKE) --no-print-directory examples scripts explain-check refusals
-	@$(MAKE) --no-print-directory streams coprocess CALLS=1000
-	@$(MAKE) --no-print-directory library
-	@.ci/library-test 1000000 100000
-	@$(MAKE) --no-print-directory fuzz COUNT=1000
-	@if command -v tshark > /dev/null; then $(MAKE) --no-print-directory map-check COUNT=2000; \
-		else echo 'map-check is left out: tshark is missing' >&2; fi
+## Passes every proof and every test: about 50 minutes the first time, on four cores. PARTS=any leaves out those whose tools are missing, and says which.
+test:
+	$(call targets,$@) >&2
+	@MAKE='$(MAKE)' .ci/parts pass "$$PARTS"
