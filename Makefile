@@ -1,8 +1,10 @@
 # `make` lists the targets: a line `## ` says what the target below it does, and how long that takes. Which tools each
 # target runs by, and which targets are the parts of `make test`, stands in .ci/parts.
 
-# How long it takes to prove and build a program.
-FIRST := about 14 minutes the first time, on four cores
+# How long what takes, on four cores: to prove and build a program, to prove and build camel_explain, and all tests.
+BUILD_TIME := about 14 minutes the first time
+EXPLAIN_TIME := up to 25 minutes the first time
+TEST_TIME := about 50 minutes the first time
 
 SCRIPT ?= examples/first-call.csv
 LIMIT ?= 1000000
@@ -22,10 +24,12 @@ EXPLAIN := crates/camel_explain/out/camel_explain
 export SCRIPT LIMIT THREADS PROFILE CRATE PARTS
 OPTIONS = --limit "$$LIMIT" $(if $(THREADS),--threads "$$THREADS") $(if $(PROFILE),--profile "$$PROFILE")
 
-# Prints what its line says of a target, or of each. FIRST in a line stands for its value.
+# Prints what its line says of a target, or of each. The name of a time stands for its value there.
 define targets
-@awk -v wanted='$(1)' -v first='$(FIRST)' '\
-	/^## / { use = substr($$0, 4); sub(/FIRST/, first, use); next } \
+@awk -v wanted='$(1)' -v build='$(BUILD_TIME)' -v explain='$(EXPLAIN_TIME)' -v test='$(TEST_TIME)' '\
+	/^## / { \
+		use = substr($$0, 4); \
+		sub(/BUILD_TIME/, build, use); sub(/EXPLAIN_TIME/, explain, use); sub(/TEST_TIME/, test, use); next } \
 	use && match($$0, /^[a-z-]+:/) { \
 		name = substr($$0, 1, RLENGTH - 1); \
 		if (!wanted) printf "make %-16s %s\n", name, use; \
@@ -61,9 +65,11 @@ crate:
 # its sources.
 $(PROGRAM) $(BENCH) $(REFUSALS) $(MAP_CHECK) $(EXPLAIN): $$(shell .ci/sources $$(@F))
 	@.ci/parts need build
-	@echo "$(@F): proved and built with all that it stands on, $(FIRST); log: $(@D)/build.log" >&2
+	@echo "$(@F): proved and built with all that it stands on, $(BUILD_TIME); log: $(@D)/build.log" >&2
 	@.ci/build $(@F)
 	@touch $@
+
+$(EXPLAIN): BUILD_TIME = $(EXPLAIN_TIME)
 
 # The output comes at the end, and is at most 1 MiB; the program has 60 seconds. `.ci/try` ends with the program's
 # status, or with 125 if it gave none. `make` ends with status 2 if that is not 0, and names it.
@@ -72,15 +78,15 @@ try: script begin-$$@
 	@.ci/try $(OPTIONS) < "$$SCRIPT"
 
 # Only the output of the script comes on standard output.
-## Runs SCRIPT by the proved program, which is built first where a source is newer.
+## Runs SCRIPT by the proved program: at once, once it is built, which takes BUILD_TIME.
 replay: script $(PROGRAM)
 	@$(PROGRAM) $(OPTIONS) < "$$SCRIPT"
 
-## Explains SCRIPT, record by record, by the program for people, which is built first where a source is newer.
+## Explains SCRIPT, record by record, by the program for people: at once, once it is built, which takes EXPLAIN_TIME.
 explain: script $(EXPLAIN)
 	@$(EXPLAIN) --limit "$$LIMIT" $(if $(PROFILE),--profile "$$PROFILE") "$$SCRIPT"
 
-## Proves and builds the program: FIRST.
+## Proves and builds the program: BUILD_TIME.
 program: $(PROGRAM)
 	@echo "$< is built, and no source is newer" >&2
 
@@ -132,7 +138,7 @@ coprocess: begin-$$@ $(PROGRAM)
 refusals: begin-$$@ $(REFUSALS)
 	@.ci/refusals
 
-## Proves and builds the library for C, C++ and Rust, into out/library: FIRST.
+## Proves and builds the library for C, C++ and Rust, into out/library: BUILD_TIME.
 library: begin-$$@
 	@.ci/library
 
@@ -174,7 +180,7 @@ fuzz-c: begin-$$@ library
 bench: begin-$$@ $(PROGRAM) $(EXPLAIN)
 	@bench/run
 
-## Proves and builds the program that measures the store: FIRST.
+## Proves and builds the program that measures the store: BUILD_TIME.
 bench-program: $(BENCH)
 	@echo "$< is built, and no source is newer" >&2
 
@@ -207,7 +213,7 @@ map-check: COUNT ?= 100000
 map-check: begin-$$@ $(PROGRAM) $(MAP_CHECK)
 	@.ci/map-check $(SEED) $(COUNT)
 
-## Passes every proof and every test: about 50 minutes the first time, on four cores. PARTS=any leaves out those whose tools are missing, and says which.
+## Passes every proof and every test: TEST_TIME. PARTS=any leaves out those whose tools are missing, and says which.
 test:
 	$(call targets,$@) >&2
 	@MAKE='$(MAKE)' .ci/parts pass "$$PARTS"
