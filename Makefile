@@ -34,7 +34,9 @@ define targets
 		name = substr($$0, 1, RLENGTH - 1); \
 		if (!wanted) printf "make %-16s %s\n", name, use; \
 		if (wanted == name) print name ": " use } \
-	{ use = "" }' Makefile
+	{ use = "" } \
+	END { if (!wanted) print "Variables: make try SCRIPT=examples/threads.csv THREADS=2 PROFILE=2 LIMIT=3\n" \
+		"Times are those of four cores." }' Makefile
 endef
 
 .PHONY: help try replay explain explain-check program check script crate pages proofs must-not-compile \
@@ -44,10 +46,16 @@ endef
 .NOTPARALLEL:
 .SECONDEXPANSION:
 
+# The list of targets needs awk only. For any other target make first asks for the sources of each program, and without
+# these tools the shell would say for each of them what it lacks.
+wanted := awk $(if $(filter-out help,$(MAKECMDGOALS)),bash find)
+lacking := $(strip $(foreach tool,$(wanted),$(shell command -v $(tool) > /dev/null || echo $(tool))))
+$(if $(lacking),$(error missing: $(lacking). All targets run by awk, and all but `make help` by bash and find))
+sources = $(if $(filter bash,$(wanted)),$(shell .ci/sources $(1)))
+
 ## Lists the targets.
 help:
 	$(call targets)
-	@echo 'Variables are given as in: make try SCRIPT=examples/threads.csv THREADS=2 PROFILE=2 LIMIT=3'
 
 # The first thing that a target has done: it fails if a tool of the target is missing, and says what the target does.
 begin-%:
@@ -63,7 +71,7 @@ crate:
 
 # Proves and builds a program if a source below it is newer, and runs it once. What `rt ci` has built is newer than
 # its sources.
-$(PROGRAM) $(BENCH) $(REFUSALS) $(MAP_CHECK) $(EXPLAIN): $$(shell .ci/sources $$(@F))
+$(PROGRAM) $(BENCH) $(REFUSALS) $(MAP_CHECK) $(EXPLAIN): $$(call sources,$$(@F))
 	@.ci/parts need build
 	@echo "$(@F): proved and built with all that it stands on, $(BUILD_TIME); log: $(@D)/build.log" >&2
 	@.ci/build $(@F)
