@@ -83,12 +83,12 @@ $(EXPLAIN): BUILD_TIME = $(EXPLAIN_TIME)
 # status, or with 125 if it gave none. `make` ends with status 2 if that is not 0, and names it.
 ## Runs SCRIPT by the program, with nothing proved and nothing built: about a minute, each time.
 try: script begin-$$@
-	@.ci/try $(OPTIONS) < "$$SCRIPT"
+	@.ci/replay .ci/try $(OPTIONS) < "$$SCRIPT"
 
 # Only the output of the script comes on standard output.
 ## Runs SCRIPT by the proved program: at once, once it is built, which takes BUILD_TIME.
 replay: script $(PROGRAM)
-	@$(PROGRAM) $(OPTIONS) < "$$SCRIPT"
+	@.ci/replay $(PROGRAM) $(OPTIONS) < "$$SCRIPT"
 
 ## Explains SCRIPT, record by record, by the program for people: at once, once it is built, which takes EXPLAIN_TIME.
 explain: script $(EXPLAIN)
