@@ -21,7 +21,7 @@ MAP_CHECK := crates/camel_map_check/out/camel_map_check
 EXPLAIN := crates/camel_explain/out/camel_explain
 
 # The shell reads these, and not make, so that a name may have spaces.
-export SCRIPT LIMIT THREADS PROFILE CRATE PARTS
+export SCRIPT LIMIT THREADS PROFILE CRATE PREFIX PARTS
 OPTIONS = --limit "$$LIMIT" $(if $(THREADS),--threads "$$THREADS") $(if $(PROFILE),--profile "$$PROFILE")
 
 # Prints what its line says of a target, or of each. The name of a time stands for its value there.
@@ -140,7 +140,7 @@ streams: begin-$$@ $(PROGRAM)
 coprocess: begin-$$@ $(PROGRAM)
 	@$(CC) -std=c11 -O2 -Wall -Wextra -o $(COPROCESS) examples/coprocess.c
 	@$(COPROCESS) $(PROGRAM) $(CALLS)
-	@.ci/first-calls docs/PIPES.md crates
+	@.ci/install out/installed && PATH="$(CURDIR)/out/installed/bin:$$PATH" .ci/first-calls docs/PIPES.md
 
 ## Refuses each request for memory in turn: some minutes, once its program is built.
 refusals: begin-$$@ $(REFUSALS)
@@ -150,9 +150,10 @@ refusals: begin-$$@ $(REFUSALS)
 library: begin-$$@
 	@.ci/library
 
-## Copies the library and its headers to PREFIX: a second, once it is built.
-install: library
-	@.ci/install "$(PREFIX)"
+# Nothing is built, so that whoever may write to PREFIX needs no toolchain. There is no DESTDIR.
+## Copies to PREFIX what is built of library, camel_replay and camel_explain, and says what is not: a second.
+install: begin-$$@
+	@.ci/install "$$PREFIX"
 
 # Each part of it may be left out of `make test`. The soak makes DECISIONS, and COUNT calls have random fields.
 ## Compiles and runs the tests, the examples and the bindings of the library: a minute, once it is built.
