@@ -40,7 +40,7 @@ define targets
 endef
 
 .PHONY: help try replay explain explain-check program check script crate pages proofs must-not-compile \
-	examples scripts streams coprocess refusals fuzz map-check library install library-test library-c \
+	examples scripts streams coprocess refusals fuzz map-check map-program library install library-test library-c \
 	library-cpp library-as-shipped library-rust soak fuzz-c bench bench-program bench-vlr bench-peers bench-map count-vlr test
 # In order, so that what is missing is said before anything is built.
 .NOTPARALLEL:
@@ -221,6 +221,10 @@ map-check: COUNT ?= 100000
 ## Compares what is read of COUNT MAP arguments with tshark: 4 minutes for 100,000, once the programs are built.
 map-check: begin-$$@ $(PROGRAM) $(MAP_CHECK)
 	@.ci/map-check $(SEED) $(COUNT)
+
+## Proves and builds the program that reads MAP arguments for `tools/map2script`: BUILD_TIME.
+map-program: $(MAP_CHECK)
+	@echo "$< is built, and no source is newer" >&2
 
 ## Passes every proof and every test: TEST_TIME. PARTS=any leaves out those whose tools are missing, and says which.
 test:
