@@ -39,7 +39,7 @@ define targets
 		"Times are those of four cores." }' Makefile
 endef
 
-.PHONY: help try replay explain explain-check program check script crate pages proofs must-not-compile \
+.PHONY: help try replay explain explain-check program check script crate pages try-make proofs must-not-compile \
 	examples scripts streams coprocess refusals fuzz map-check map-program library install library-test library-c \
 	library-cpp library-as-shipped library-rust soak fuzz-c bench bench-program bench-vlr bench-peers bench-map count-vlr test
 # In order, so that what is missing is said before anything is built.
@@ -108,6 +108,10 @@ pages: begin-$$@
 	@.ci/numbers
 	@.ci/words
 	@bench/plot --check
+
+## Tries what make says of missing tools, of parts that are left out, and after a fault: seconds.
+try-make: begin-$$@
+	@.ci/try-make
 
 ## Proves every crate, tries the edits of its contracts, and runs the tests of the crates: nearly all of `make test`.
 proofs: begin-$$@
