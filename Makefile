@@ -39,7 +39,7 @@ define targets
 		"Times are those of four cores." }' Makefile
 endef
 
-.PHONY: help try replay explain explain-check program check script crate pages try-make proofs must-not-compile \
+.PHONY: help try try-explain replay explain explain-check program check script crate pages try-make proofs must-not-compile \
 	examples scripts streams coprocess refusals fuzz map-check map-program library install library-test library-c \
 	library-cpp library-as-shipped library-rust soak fuzz-c bench bench-program bench-vlr bench-peers bench-map count-vlr test
 # In order, so that what is missing is said before anything is built.
@@ -83,12 +83,16 @@ $(EXPLAIN): BUILD_TIME = $(EXPLAIN_TIME)
 # status, or with 125 if it gave none. `make` ends with status 2 if that is not 0, and names it.
 ## Runs SCRIPT by the program, with nothing proved and nothing built: about a minute, each time.
 try: script begin-$$@
-	@.ci/replay .ci/try $(OPTIONS) < "$$SCRIPT"
+	@.ci/replay .ci/try camel_replay $(OPTIONS) < "$$SCRIPT"
 
 # Only the output of the script comes on standard output.
 ## Runs SCRIPT by the proved program: at once, once it is built, which takes BUILD_TIME.
 replay: script $(PROGRAM)
 	@.ci/replay $(PROGRAM) $(OPTIONS) < "$$SCRIPT"
+
+## Explains SCRIPT, record by record, with nothing proved and nothing built: two minutes, each time.
+try-explain: script begin-$$@
+	@.ci/try camel_explain --limit "$$LIMIT" $(if $(PROFILE),--profile "$$PROFILE") < "$$SCRIPT"
 
 ## Explains SCRIPT, record by record, by the program for people: at once, once it is built, which takes EXPLAIN_TIME.
 explain: script $(EXPLAIN)

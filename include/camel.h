@@ -13,7 +13,7 @@
  * different handles may be in calls at the same time. No call takes a lock, waits or yields.
  *
  * Memory. The library calls malloc, realloc and free. A call that is refused memory returns CAMEL_OUT_OF_MEMORY, has
- * changed nothing, and may be made again. camel_decide, camel_look, camel_leave, camel_learn, camel_row_at,
+ * changed nothing (but see camel_keep), and may be made again. camel_decide, camel_look, camel_leave, camel_learn, camel_row_at,
  * camel_o_criteria_at, camel_t_criteria_at and a publication that returns CAMEL_HELD ask for none.
  *
  * What nothing checks. A handle is empty or as the library left it; a bool is 0 or 1; a pointer is not null, also that
