@@ -186,9 +186,10 @@ camel_status camel_submit_delete(camel_store *store, const camel_imsi *imsi, con
 camel_status camel_submit_cancel(camel_store *store, const camel_imsi *imsi);
 camel_status camel_submit_clear_all(camel_store *store);
 
-/* Submits what an operation of MAP brings, by the octets of its argument: the parameter of the TCAP invoke, in BER of
- * any form. The IMSI is that of the dialogue, in TBCD octets, of which there are 0 if the dialogue has none. If the
- * argument is not taken, the call returns CAMEL_MALFORMED_OCTETS to CAMEL_OTHER_IMSI, CAMEL_DATA_MISSING or
+/* Submits what an operation of MAP brings, by the octets of its argument: the parameter of the TCAP invoke, in BER. A
+ * length is definite, in up to four octets, or indefinite, at most 16 deep, and no string that is read is in pieces.
+ * The IMSI is that of the dialogue, in TBCD octets, of which there are 0 if the dialogue has none. If the argument is
+ * not taken, the call returns CAMEL_MALFORMED_OCTETS to CAMEL_OTHER_IMSI, CAMEL_DATA_MISSING or
  * CAMEL_UNEXPECTED_DATA_VALUE, and place is the octet, from 0, at which its first fault is. Else place is 0.
  * CAMEL_MALFORMED is of the operation or the IMSI, and a store rejects an update as above. */
 camel_status camel_submit_map(camel_store *store, uint8_t operation, const uint8_t *imsi, size_t imsi_octet_count,

@@ -100,8 +100,9 @@ impl Store {
     }
 
     /// Submits what an operation of MAP brings, by the octets of its argument: the parameter of the TCAP invoke, in BER
-    /// of any form. The IMSI is that of the dialogue in TBCD octets, if the dialogue has one. No call sees the update
-    /// before it is published.
+    /// as docs/RULES.md ("MAP arguments") says. A length is definite, in up to four octets, or indefinite, at most 16
+    /// deep, and no string that is read is in pieces. The IMSI is that of the dialogue in TBCD octets, if the dialogue
+    /// has one. No call sees the update before it is published.
     ///
     /// # Errors
     /// The store is as before. [`Error::MalformedOctets`] to [`Error::OtherImsi`], [`Error::DataMissing`] and
