@@ -1,7 +1,8 @@
 /* camel.hpp: classes of C++17 over camel.h, for its library libcamel.a.
  *
  * A Store is the writer's, and each Session is of one call-control thread. Store, Session, Look, Receipt and Subscriber
- * move, are not copied, and free what they hold at their end. An object is in one call at a time, also in a const one;
+ * move, are not copied, and free what they hold at their end. One that was made by its default constructor, or moved
+ * from, holds nothing: its calls return CAMEL_WRONG_HANDLE. An object is in one call at a time, also in a const one;
  * different objects may be in calls at the same time. Data are the structs of camel.h.
  *
  * A call returns a Result: its value, or the status that says why it did nothing, with what camel.h says of it. Nothing
@@ -13,7 +14,7 @@
 #include "camel.h"
 
 #include <atomic>
-#include <cassert>
+#include <exception>
 #include <optional>
 #include <string_view>
 #include <utility>
@@ -29,7 +30,7 @@ inline constexpr size_t MAX_SESSIONS = 64;
 inline constexpr uint64_t MAX_UPDATES = INT64_MAX;
 
 /* The name of a status, as in camel.h or here. */
-inline const char *status_name(camel_status status)
+inline const char *status_name(camel_status status) noexcept
 {
     switch (status) {
     case OTHER_STORE: return "camel::OTHER_STORE";
@@ -43,20 +44,28 @@ struct Failure {
     camel_status status;
 };
 
-/* A value, or the status that says why there is none. The value is asked for only if it is there. */
+/* A value, or the status that says why there is none. Whoever asks for a value that is not there ends the program, in
+ * each build: no call goes on with what is none. */
 template <class T>
 class [[nodiscard]] Result {
 public:
-    Result(T value) : value_(std::move(value)) {}
-    Result(Failure failure) : status_(failure.status) {}
+    Result(T value) noexcept : value_(std::move(value)) {}
+    Result(Failure failure) noexcept : status_(failure.status) {}
 
-    explicit operator bool() const { return value_.has_value(); }
-    camel_status status() const { return status_; }
-    T &operator*() & { return value(); }
-    T &&operator*() && { return std::move(value()); }
-    T *operator->() { return &value(); }
-    T &value() { assert(value_); return *value_; }
-    const T &value() const { assert(value_); return *value_; }
+    explicit operator bool() const noexcept { return value_.has_value(); }
+    camel_status status() const noexcept { return status_; }
+    T &operator*() & noexcept { return value(); }
+    T &&operator*() && noexcept { return std::move(value()); }
+    const T &operator*() const & noexcept { return value(); }
+    T *operator->() noexcept { return &value(); }
+    const T *operator->() const noexcept { return &value(); }
+    T &value() noexcept
+    {
+        if (!value_)
+            std::terminate();
+        return *value_;
+    }
+    const T &value() const noexcept { return const_cast<Result *>(this)->value(); }
 
 private:
     camel_status status_ = CAMEL_OK;
@@ -72,10 +81,10 @@ template <>
 class [[nodiscard]] Result<void> {
 public:
     Result() = default;
-    Result(Failure failure) : status_(failure.status) {}
+    Result(Failure failure) noexcept : status_(failure.status) {}
 
-    explicit operator bool() const { return status_ == CAMEL_OK; }
-    camel_status status() const { return status_; }
+    explicit operator bool() const noexcept { return status_ == CAMEL_OK; }
+    camel_status status() const noexcept { return status_; }
 
 private:
     camel_status status_ = CAMEL_OK;
@@ -99,9 +108,9 @@ enum class Operation : uint8_t {
 class [[nodiscard]] MapResult : public Result<void> {
 public:
     MapResult() = default;
-    MapResult(camel_status status, uint64_t place) : Result(Failure{ status }), place_(place) {}
+    MapResult(camel_status status, uint64_t place) noexcept : Result(Failure{ status }), place_(place) {}
 
-    uint64_t place() const { return place_; }
+    uint64_t place() const noexcept { return place_; }
 
 private:
     uint64_t place_ = 0;
@@ -109,7 +118,7 @@ private:
 
 namespace detail {
 
-inline Result<void> done(camel_status status)
+inline Result<void> done(camel_status status) noexcept
 {
     if (status == CAMEL_OK)
         return {};
@@ -118,7 +127,7 @@ inline Result<void> done(camel_status status)
 
 /* The value that a call of the library writes last. */
 template <class T, class Call, class... Given>
-Result<T> read(Call call, Given... given)
+Result<T> read(Call call, Given... given) noexcept
 {
     T value{};
     if (camel_status status = call(given..., &value))
@@ -128,7 +137,7 @@ Result<T> read(Call call, Given... given)
 
 /* What a call of the library writes if it is there. */
 template <class T, class Call, class... Given>
-Maybe<T> find(Call call, Given... given)
+Maybe<T> find(Call call, Given... given) noexcept
 {
     T value{};
     bool is_there = false;
@@ -142,7 +151,7 @@ template <class Raw>
 class Owned {
 public:
     Owned() = default;
-    explicit Owned(Raw &raw) : raw_(std::exchange(raw, Raw{})) {}
+    explicit Owned(Raw &raw) noexcept : raw_(std::exchange(raw, Raw{})) {}
     Owned(Owned &&other) noexcept : raw_(std::exchange(other.raw_, Raw{})) {}
     Owned &operator=(Owned &&other) noexcept
     {
@@ -154,14 +163,14 @@ public:
         if (raw_.is_full)
             camel_free(&raw_);
     }
-    Raw *at() const { return &raw_; }
+    Raw *at() const noexcept { return &raw_; }
 
 private:
-    mutable Raw raw_ = CAMEL_EMPTY;
+    mutable Raw raw_{};
 };
 
 /* The number of a further store, by which its sessions know its receipts. */
-inline uint64_t next_store()
+inline uint64_t next_store() noexcept
 {
     static std::atomic<uint64_t> stores{ 0 };
     return ++stores;
@@ -173,7 +182,7 @@ struct Items {
     T none{};
     const T *data;
     size_t count;
-    explicit Items(const std::optional<std::vector<T>> &list)
+    explicit Items(const std::optional<std::vector<T>> &list) noexcept
         : data(list && !list->empty() ? list->data() : &none), count(list ? list->size() : 0) {}
     Items(const Items &) = delete;
 };
@@ -181,12 +190,12 @@ struct Items {
 } // namespace detail
 
 /* Data, made once per call: CAMEL_MALFORMED if they are none. */
-inline Result<camel_imsi> imsi_of_tbcd(const uint8_t *octets, size_t count)
+inline Result<camel_imsi> imsi_of_tbcd(const uint8_t *octets, size_t count) noexcept
 {
     return detail::read<camel_imsi>(camel_imsi_of_tbcd, octets, count);
 }
 
-inline Result<camel_imsi> imsi_of_digits(std::string_view digits)
+inline Result<camel_imsi> imsi_of_digits(std::string_view digits) noexcept
 {
     if (digits.empty())
         return Failure{ CAMEL_MALFORMED };
@@ -194,12 +203,12 @@ inline Result<camel_imsi> imsi_of_digits(std::string_view digits)
     return detail::read<camel_imsi>(camel_imsi_of_digits, characters, digits.size());
 }
 
-inline Result<camel_address> address_of(const uint8_t *octets, size_t count)
+inline Result<camel_address> address_of(const uint8_t *octets, size_t count) noexcept
 {
     return detail::read<camel_address>(camel_address_of, octets, count);
 }
 
-inline Result<camel_isdn_address> isdn_address_of(const uint8_t *octets, size_t count)
+inline Result<camel_isdn_address> isdn_address_of(const uint8_t *octets, size_t count) noexcept
 {
     return detail::read<camel_isdn_address>(camel_isdn_address_of, octets, count);
 }
@@ -214,26 +223,31 @@ struct Csis {
 
 /* Says up to which update a store has published. Any number of sessions may learn it, one after the other. */
 class Receipt {
+public:
+    Receipt() = default;
+
+private:
     friend class Store;
     friend class Session;
-    explicit Receipt(uint64_t store) : store_(store) {}
+    explicit Receipt(uint64_t store) noexcept : store_(store) {}
 
     detail::Owned<camel_receipt> handle_;
-    uint64_t store_;
+    uint64_t store_ = 0;
 };
 
 /* The record of a subscriber, which a call keeps from its set-up to its later detection points. */
 class Subscriber {
 public:
+    Subscriber() = default;
+
     /* Decides an event of the record's own subscriber, over the front of the look in which it was kept. */
-    Result<camel_answer> decide(const camel_event &event) const
+    Result<camel_answer> decide(const camel_event &event) const noexcept
     {
         return detail::read<camel_answer>(camel_decide_kept, handle_.at(), &event);
     }
 
 private:
     friend class Session;
-    Subscriber() = default;
 
     detail::Owned<camel_subscriber> handle_;
 };
@@ -244,13 +258,15 @@ class Look;
  * front. CAMEL_NO_LOOK: the store has ended. */
 class Session {
 public:
-    Result<camel_answer> decide(const camel_event &event)
+    Session() = default;
+
+    Result<camel_answer> decide(const camel_event &event) noexcept
     {
         return detail::read<camel_answer>(camel_decide, handle_.at(), &event);
     }
 
     /* From then on the session sees at least what the receipt is of. OTHER_STORE, or CAMEL_HELD: a look has begun. */
-    Result<void> learn(const Receipt &receipt)
+    Result<void> learn(const Receipt &receipt) noexcept
     {
         if (receipt.store_ != store_)
             return Failure{ OTHER_STORE };
@@ -259,26 +275,26 @@ public:
 
     /* Begins a look, which lasts until the Look ends. It lets the next publication go through, and holds up the one
      * after it. CAMEL_HELD: a look has begun. */
-    Result<Look> look();
+    Result<Look> look() noexcept;
 
     /* The row of a subscriber at a detection point, if there is one. Its handling is 0, continue, or 1, release. */
-    Maybe<camel_row> row_at(camel_imsi imsi, uint8_t dp)
+    Maybe<camel_row> row_at(camel_imsi imsi, uint8_t dp) noexcept
     {
         return detail::find<camel_row>(camel_row_at, handle_.at(), &imsi, dp);
     }
 
     /* The criteria of a subscriber at a detection point of the O-CSI, or of the VT-CSI, if there are any. */
-    Maybe<camel_o_criteria> o_criteria_at(camel_imsi imsi, uint8_t dp)
+    Maybe<camel_o_criteria> o_criteria_at(camel_imsi imsi, uint8_t dp) noexcept
     {
         return detail::find<camel_o_criteria>(camel_o_criteria_at, handle_.at(), &imsi, dp);
     }
-    Maybe<camel_t_criteria> t_criteria_at(camel_imsi imsi, uint8_t dp)
+    Maybe<camel_t_criteria> t_criteria_at(camel_imsi imsi, uint8_t dp) noexcept
     {
         return detail::find<camel_t_criteria>(camel_t_criteria_at, handle_.at(), &imsi, dp);
     }
 
     /* Keeps the record of a subscriber, if there is one. */
-    Maybe<Subscriber> keep(camel_imsi imsi)
+    Maybe<Subscriber> keep(camel_imsi imsi) noexcept
     {
         Subscriber subscriber;
         bool is_there = false;
@@ -290,47 +306,60 @@ public:
 private:
     friend class Store;
     friend class Look;
-    Session(camel_session &raw, uint64_t store) : handle_(raw), store_(store) {}
+    Session(camel_session &raw, uint64_t store) noexcept : handle_(raw), store_(store) {}
 
     detail::Owned<camel_session> handle_;
-    uint64_t store_;
+    uint64_t store_ = 0;
 };
 
 /* A look of a session: all that it returns is of one front. It is left at its end, or before by `leave`; what is asked
  * of it afterwards is CAMEL_WRONG_HANDLE. */
 class Look {
 public:
+    Look() = default;
     Look(Look &&other) noexcept : session_(std::exchange(other.session_, nullptr)) {}
+    Look &operator=(Look &&other) noexcept
+    {
+        Look taken(std::move(other)); /* before the look that is here is left, which may be the same */
+        std::swap(session_, taken.session_);
+        return *this;
+    }
     ~Look() { (void)leave(); }
 
-    Result<void> leave()
+    Result<void> leave() noexcept
     {
         Session *session = std::exchange(session_, nullptr);
         return session ? detail::done(camel_leave(session->handle_.at())) : Result<void>();
     }
 
-    Result<camel_answer> decide(const camel_event &event) { return ask(&Session::decide, event); }
-    Maybe<camel_row> row_at(camel_imsi imsi, uint8_t dp) { return ask(&Session::row_at, imsi, dp); }
-    Maybe<camel_o_criteria> o_criteria_at(camel_imsi imsi, uint8_t dp) { return ask(&Session::o_criteria_at, imsi, dp); }
-    Maybe<camel_t_criteria> t_criteria_at(camel_imsi imsi, uint8_t dp) { return ask(&Session::t_criteria_at, imsi, dp); }
-    Maybe<Subscriber> keep(camel_imsi imsi) { return ask(&Session::keep, imsi); }
+    Result<camel_answer> decide(const camel_event &event) noexcept { return ask(&Session::decide, event); }
+    Maybe<camel_row> row_at(camel_imsi imsi, uint8_t dp) noexcept { return ask(&Session::row_at, imsi, dp); }
+    Maybe<camel_o_criteria> o_criteria_at(camel_imsi imsi, uint8_t dp) noexcept
+    {
+        return ask(&Session::o_criteria_at, imsi, dp);
+    }
+    Maybe<camel_t_criteria> t_criteria_at(camel_imsi imsi, uint8_t dp) noexcept
+    {
+        return ask(&Session::t_criteria_at, imsi, dp);
+    }
+    Maybe<Subscriber> keep(camel_imsi imsi) noexcept { return ask(&Session::keep, imsi); }
 
 private:
     friend class Session;
-    explicit Look(Session &session) : session_(&session) {}
+    explicit Look(Session &session) noexcept : session_(&session) {}
 
     template <class R, class... Asked, class... Given>
-    R ask(R (Session::*call)(Asked...), const Given &...given)
+    R ask(R (Session::*call)(Asked...) noexcept, const Given &...given) noexcept
     {
         if (!session_)
             return Failure{ CAMEL_WRONG_HANDLE };
         return (session_->*call)(given...);
     }
 
-    Session *session_;
+    Session *session_ = nullptr;
 };
 
-inline Result<Look> Session::look()
+inline Result<Look> Session::look() noexcept
 {
     if (camel_status status = camel_look(handle_.at()))
         return Failure{ status };
@@ -342,30 +371,35 @@ class Store {
 public:
     struct Opened;
 
+    Store() = default;
+
     /* Opens a store of 1 to MAX_SESSIONS sessions, which takes 1 to MAX_UPDATES updates and decides under profile 1 or
      * 2. The seed is secret and random. */
     static Result<Opened> open(size_t session_count, uint64_t limit, uint8_t profile, uint64_t seed);
 
-    Result<void> submit_register(camel_imsi imsi) { return detail::done(camel_submit_register(handle_.at(), &imsi)); }
-    Result<void> submit_delete(camel_imsi imsi, camel_withdrawal what)
+    Result<void> submit_register(camel_imsi imsi) noexcept
+    {
+        return detail::done(camel_submit_register(handle_.at(), &imsi));
+    }
+    Result<void> submit_delete(camel_imsi imsi, camel_withdrawal what) noexcept
     {
         return detail::done(camel_submit_delete(handle_.at(), &imsi, &what));
     }
-    Result<void> submit_cancel(camel_imsi imsi) { return detail::done(camel_submit_cancel(handle_.at(), &imsi)); }
-    Result<void> submit_clear_all() { return detail::done(camel_submit_clear_all(handle_.at())); }
-    Result<void> submit_insert(camel_imsi imsi, const Csis &csis)
+    Result<void> submit_cancel(camel_imsi imsi) noexcept { return detail::done(camel_submit_cancel(handle_.at(), &imsi)); }
+    Result<void> submit_clear_all() noexcept { return detail::done(camel_submit_clear_all(handle_.at())); }
+    Result<void> submit_insert(camel_imsi imsi, const Csis &csis) noexcept
     {
         camel_insert sent{ bool(csis.o), bool(csis.o_criteria), bool(csis.vt), bool(csis.t_criteria) };
-        detail::Items o(csis.o), vt(csis.vt);
-        detail::Items oc(csis.o_criteria);
-        detail::Items tc(csis.t_criteria);
+        detail::Items<camel_row> o(csis.o), vt(csis.vt);
+        detail::Items<camel_o_criteria> oc(csis.o_criteria);
+        detail::Items<camel_t_criteria> tc(csis.t_criteria);
         return detail::done(camel_submit_insert(handle_.at(), &imsi, &sent, o.data, o.count, oc.data, oc.count, vt.data,
                                                 vt.count, tc.data, tc.count));
     }
 
     /* Submits what an operation of MAP brings, by the octets of its argument: the parameter of the TCAP invoke. The IMSI
      * is that of the dialogue in TBCD octets, if the dialogue has one. */
-    MapResult submit_map(Operation operation, std::optional<Octets> imsi, Octets argument)
+    MapResult submit_map(Operation operation, std::optional<Octets> imsi, Octets argument) noexcept
     {
         if (imsi && imsi->count == 0) /* to the library, no octets say that the dialogue has no IMSI */
             return MapResult(CAMEL_MALFORMED, 0);
@@ -378,7 +412,7 @@ public:
 
     /* Publishes all that is pending, and gives a receipt of all that is published; if nothing is pending, only that.
      * After CAMEL_OUT_OF_MEMORY publish again: if `pending` is 0, only the receipt was refused. */
-    Result<Receipt> publish()
+    Result<Receipt> publish() noexcept
     {
         uint64_t count = 0;
         camel_status status = camel_pending(handle_.at(), &count);
@@ -388,7 +422,7 @@ public:
     }
 
     /* A further receipt of all that is published. */
-    Result<Receipt> receipt()
+    Result<Receipt> receipt() noexcept
     {
         Receipt receipt(number_);
         if (camel_status status = camel_receipt_of(handle_.at(), receipt.handle_.at()))
@@ -396,17 +430,17 @@ public:
         return receipt;
     }
 
-    Result<uint64_t> published() const { return detail::read<uint64_t>(camel_published, handle_.at()); }
-    Result<uint64_t> pending() const { return detail::read<uint64_t>(camel_pending, handle_.at()); }
+    Result<uint64_t> published() const noexcept { return detail::read<uint64_t>(camel_published, handle_.at()); }
+    Result<uint64_t> pending() const noexcept { return detail::read<uint64_t>(camel_pending, handle_.at()); }
 
     /* Ends the store; what is pending is dropped. CAMEL_HELD: a look is held, and it is to be called again. */
-    Result<void> close() { return detail::done(camel_close(handle_.at())); }
+    Result<void> close() noexcept { return detail::done(camel_close(handle_.at())); }
 
 private:
-    explicit Store(camel_store &raw) : handle_(raw), number_(detail::next_store()) {}
+    explicit Store(camel_store &raw) noexcept : handle_(raw), number_(detail::next_store()) {}
 
     detail::Owned<camel_store> handle_;
-    uint64_t number_;
+    uint64_t number_ = 0;
 };
 
 /* A store with its sessions. */
@@ -423,7 +457,7 @@ inline Result<Store::Opened> Store::open(size_t session_count, uint64_t limit, u
         return Failure{ CAMEL_MALFORMED };
     std::vector<Session> sessions;
     sessions.reserve(session_count);
-    camel_store raw = CAMEL_EMPTY;
+    camel_store raw{};
     camel_session places[MAX_SESSIONS] = {};
     if (camel_status status = camel_open(&raw, places, session_count, limit, profile, seed))
         return Failure{ status };

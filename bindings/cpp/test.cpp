@@ -6,8 +6,10 @@
 #include <cstddef>
 #include <cstdio>
 #include <cstdlib>
+#include <sys/wait.h>
 #include <thread>
 #include <type_traits>
+#include <unistd.h>
 
 static_assert(sizeof(camel_imsi) == 8 && sizeof(camel_address) == 21 && sizeof(camel_isdn_address) == 10);
 static_assert(sizeof(camel_basic_service) == 2 && sizeof(camel_row) == 20 && sizeof(camel_number_criterion) == 106);
@@ -24,6 +26,14 @@ template <class T>
 constexpr bool only_moves = std::is_nothrow_move_constructible_v<T> && !std::is_copy_constructible_v<T>;
 static_assert(only_moves<camel::Store> && only_moves<camel::Session> && only_moves<camel::Look>);
 static_assert(only_moves<camel::Receipt> && only_moves<camel::Subscriber>);
+
+/* An object may be declared before it is made, and taken over by one that was made. */
+template <class T>
+constexpr bool is_replaceable = std::is_nothrow_default_constructible_v<T> && std::is_nothrow_move_assignable_v<T>;
+static_assert(is_replaceable<camel::Store> && is_replaceable<camel::Session> && is_replaceable<camel::Look>);
+static_assert(is_replaceable<camel::Receipt> && is_replaceable<camel::Subscriber>);
+static_assert(noexcept(std::declval<camel::Session &>().decide(std::declval<camel_event>())));
+static_assert(noexcept(std::declval<camel::Store &>().publish()) && noexcept(std::declval<camel::Look &>().leave()));
 
 #define CHECK(what) check(what, #what, __LINE__)
 
@@ -210,6 +220,42 @@ static void a_look_is_of_one_front()
     CHECK(get(kept->decide(event_at(13))).key == 7);
 }
 
+static void what_holds_nothing_is_refused()
+{
+    camel::Store store;
+    camel::Session session;
+    camel::Receipt receipt;
+    CHECK(store.submit_clear_all().status() == CAMEL_WRONG_HANDLE);
+    CHECK(store.publish().status() == CAMEL_WRONG_HANDLE);
+    CHECK(session.decide(event_at(2)).status() == CAMEL_WRONG_HANDLE);
+    CHECK(session.learn(receipt).status() == CAMEL_WRONG_HANDLE);
+    CHECK(camel::Look().decide(event_at(2)).status() == CAMEL_WRONG_HANDLE);
+    CHECK(camel::Subscriber().decide(event_at(2)).status() == CAMEL_WRONG_HANDLE);
+
+    auto opened = open();
+    store = std::move(opened.store);
+    session = std::move(opened.sessions[0]);
+    CHECK(get(session.decide(event_at(2))).is_trigger);
+    camel::Look look = get(session.look());
+    look = get(opened.sessions[1].look());
+    CHECK(get(session.decide(event_at(2))).is_trigger && bool(session.learn(get(store.receipt()))));
+    CHECK(opened.sessions[1].look().status() == CAMEL_HELD);
+}
+
+/* A value that is not there ends the program, also where asserts are left out. */
+static void no_value_is_none()
+{
+    pid_t child = fork();
+    if (child == 0) {
+        std::set_terminate([] { _exit(3); });
+        camel_imsi none = *camel::imsi_of_digits("");
+        _exit(none.number == 0);
+    }
+    int status = 0;
+    CHECK(child > 0 && waitpid(child, &status, 0) == child);
+    CHECK(WIFEXITED(status) && WEXITSTATUS(status) == 3);
+}
+
 static void a_store_ends()
 {
     auto [store, sessions] = open();
@@ -246,6 +292,8 @@ int main()
     octets_are_submitted();
     a_receipt_of_another_store_is_refused();
     a_look_is_of_one_front();
+    what_holds_nothing_is_refused();
+    no_value_is_none();
     a_store_ends();
     threads_decide();
     std::puts("camel.hpp: all is as it should be");
