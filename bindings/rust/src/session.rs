@@ -5,6 +5,7 @@ use crate::{
     Answer, DetectionPoint, Error, Event, Imsi, OCriteria, Receipt, Row, Subscriber, TCriteria, ffi,
 };
 use std::fmt;
+use std::marker::PhantomData;
 
 /// What one call-control thread decides its calls by. No call takes a lock, waits or yields, and none but
 /// [`keep`](Session::keep) takes memory.
@@ -64,7 +65,10 @@ impl Session {
         // SAFETY: the handle is fit for a call, as `Owned` says.
         done(unsafe { ffi::camel_look(self.handle.at()) })?;
         self.is_looking = true;
-        Ok(Look { session: self })
+        Ok(Look {
+            session: self,
+            stays: PhantomData,
+        })
     }
 
     /// Learns a receipt: from then on the session sees at least what it is of. Any number of sessions may learn it.
@@ -224,9 +228,19 @@ impl fmt::Debug for Session {
 }
 
 /// A look of a session: all that it returns is of one front. It is left when it is dropped.
+///
+/// A look holds up the writer, so it stays in its thread: no future that may move to another thread holds one over an
+/// `await`.
+///
+/// ```compile_fail,E0277
+/// fn is_sent<T: Send>() {}
+/// is_sent::<camel::Look<'static>>();
+/// ```
 #[derive(Debug)]
 pub struct Look<'s> {
     session: &'s mut Session,
+    /// A pointer is not `Send`.
+    stays: PhantomData<*const ()>,
 }
 
 impl Look<'_> {

@@ -1,8 +1,8 @@
 //! What the crate adds to the library: receipts know their store, a store that is held comes back, a look is left.
 use camel::{
     Address, Answer, BasicService, Cause, Closing, Csis, DetectionPoint, Error, Event, Imsi,
-    IsdnAddress, Look, MAX_UPDATES, OnFailure, Outcome, Profile, Reason, Receipt, Row, Session,
-    Store, Subscriber, Update, Withdrawal,
+    IsdnAddress, MAX_UPDATES, OnFailure, Outcome, Profile, Reason, Receipt, Row, Session, Store,
+    Subscriber, Update, Withdrawal,
 };
 
 fn imsi() -> Imsi {
@@ -205,16 +205,7 @@ fn a_store_is_opened_in_its_ranges() {
 #[test]
 fn handles_move_between_threads() {
     fn is_send<T: Send>() {}
-    is_send::<(
-        Store,
-        Closing,
-        Session,
-        Look<'static>,
-        Receipt,
-        Subscriber,
-        Update,
-        Event,
-    )>();
+    is_send::<(Store, Closing, Session, Receipt, Subscriber, Update, Event)>();
     let (store, mut session, mut other) = open();
     let receipt = store.receipt().unwrap();
     let ended = std::thread::spawn(move || {
