@@ -7,6 +7,7 @@
 #include <stdio.h>
 #include <stdlib.h>
 #include <string.h>
+#include <sys/random.h>
 
 enum { THREADS = 2, CALLS = 10000 };
 
@@ -188,8 +189,13 @@ int main(void)
     static struct caller callers[THREADS];
     pthread_t threads[THREADS];
     camel_imsi imsi, other;
+    uint64_t seed; /* secret: whoever knows it could choose IMSIs that make look-ups slow */
 
-    OK(camel_open(&store, sessions, THREADS + 1, INT64_MAX, 1, 0x5eed));
+    if (getrandom(&seed, sizeof seed, 0) != sizeof seed) {
+        perror("getrandom");
+        return 1;
+    }
+    OK(camel_open(&store, sessions, THREADS + 1, INT64_MAX, 1, seed));
     OK(camel_imsi_of_tbcd(IMSI, sizeof IMSI, &imsi));
     OK(camel_imsi_of_tbcd(OTHER, sizeof OTHER, &other));
     OK(camel_submit_register(&store, &imsi));

@@ -195,7 +195,8 @@ fn keep_data(store: &mut Store, session: &mut Session, imsi: Imsi) -> Outcomes<(
 }
 
 fn main() -> Outcomes<()> {
-    let (mut store, mut sessions) = Store::open(THREADS + 1, MAX_UPDATES, Profile::One, 0x5eed)?;
+    let (mut store, mut sessions) =
+        Store::open(THREADS + 1, MAX_UPDATES, Profile::One, camel::random_seed())?;
     let mut own = sessions.pop().ok_or("there is no session")?;
     let (imsi, other) = (Imsi::from_tbcd(IMSI)?, Imsi::from_tbcd(OTHER)?);
     store.submit(&Update::Register { imsi })?;
