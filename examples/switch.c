@@ -1,4 +1,4 @@
-/* A switch to begin with, over libcamel.a: a writer, two call-control threads, receipts over a queue of the switch's
+/* A switch to begin with, over libwenqolo.a: a writer, two call-control threads, receipts over a queue of the switch's
  * own, a publication that is held and tried again, the data of a call kept from detection point 2 to 4, and the end.
  * It prints what it does, and exits with 1 at the first call that does not do what is expected of it. */
 #include "camel.h"

@@ -3,7 +3,7 @@
 //! the end. It does what switch.c does, and prints the same. It ends with status 1 at the first call that does not do
 //! what is expected.
 //!
-//! In bindings/rust: `CAMEL_LIB_DIR=FOLDER cargo run --example switch`, with the whole path of libcamel.a's folder.
+//! In bindings/rust: `CAMEL_LIB_DIR=FOLDER cargo run --example switch`, with the whole path of libwenqolo.a's folder.
 use camel::{
     Address, Answer, BasicService, Cause, Error, Event, Imsi, MAX_UPDATES, MapFault, OnFailure,
     Operation, Outcome, Profile, Receipt, Session, Store, Update, Withdrawal,

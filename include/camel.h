@@ -2,7 +2,7 @@
  *
  * A store has the O-CSI and VT-CSI of each subscriber, with their criteria, as the HLR sends them. One writer submits
  * updates and publishes them; each call-control thread has a session, and asks at trigger detection points 2, 4, 12, 13
- * and 14. C11 and C++17. The library is libcamel.a, for Linux on x86-64-v2, and needs the C library only.
+ * and 14. C11 and C++17. The library is libwenqolo.a, for Linux on x86-64-v2, and needs the C library only.
  *
  * Handles. A handle is some words of the caller's memory, empty if all of its bytes are 0 (CAMEL_EMPTY). The library
  * fills it, and camel_free or camel_close empties it. Never write its fields, and never copy a full one: to move it,

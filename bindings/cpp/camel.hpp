@@ -1,4 +1,4 @@
-/* camel.hpp: classes of C++17 over camel.h, for its library libcamel.a.
+/* camel.hpp: classes of C++17 over camel.h, for its library libwenqolo.a.
  *
  * A Store is the writer's, and each Session is of one call-control thread. Store, Session, Look, Receipt and Subscriber
  * move, are not copied, and free what they hold at their end. One that was made by its default constructor, or moved

@@ -1,6 +1,6 @@
 /* A test of camel.hpp: each class does what it is for, and the layouts are those of camel.h.
  *
- *     g++ -std=c++17 -I include -I bindings/cpp bindings/cpp/test.cpp libcamel.a -o test && ./test */
+ *     g++ -std=c++17 -I include -I bindings/cpp bindings/cpp/test.cpp libwenqolo.a -o test && ./test */
 #include "camel.hpp"
 
 #include <cstddef>

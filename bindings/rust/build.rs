@@ -1,4 +1,4 @@
-//! Links `libcamel.a` of the folder that CAMEL_LIB_DIR names, else of `../../out/library`.
+//! Links `libwenqolo.a` of the folder that CAMEL_LIB_DIR names, else of `../../out/library`.
 use std::path::PathBuf;
 
 fn main() {
@@ -7,7 +7,7 @@ fn main() {
         Some(folder) => absolute(PathBuf::from(folder)),
         None => PathBuf::from(env!("CARGO_MANIFEST_DIR")).join("../../out/library"),
     };
-    let archive = folder.join("libcamel.a");
+    let archive = folder.join("libwenqolo.a");
     println!("cargo:rerun-if-changed={}", archive.display());
     if !archive.exists() {
         println!(
@@ -16,7 +16,7 @@ fn main() {
         );
     }
     println!("cargo:rustc-link-search=native={}", folder.display());
-    println!("cargo:rustc-link-lib=static=camel");
+    println!("cargo:rustc-link-lib=static=wenqolo");
 }
 
 /// The path, if it does not depend on the folder that it is read in, which is another one here than in the shell.

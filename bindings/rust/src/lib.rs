@@ -1,4 +1,4 @@
-//! CAMEL phase 3 triggering for a VMSC/VLR (3GPP TS 23.078): safe Rust over `libcamel.a`.
+//! CAMEL phase 3 triggering for a VMSC/VLR (3GPP TS 23.078): safe Rust over `libwenqolo.a`.
 //!
 //! A [`Store`] has the O-CSI and VT-CSI of each subscriber, with their criteria, as the HLR sends them. Its one writer
 //! submits an [`Update`] of each operation, or the octets of its argument, and publishes them; each call-control thread
@@ -26,7 +26,7 @@
 //!
 //! # Building
 //!
-//! `libcamel.a` is in the folder whose absolute path the environment variable `CAMEL_LIB_DIR` is, or else in
+//! `libwenqolo.a` is in the folder whose absolute path the environment variable `CAMEL_LIB_DIR` is, or else in
 //! `out/library` at the top of the repository:
 //!
 //! ```text

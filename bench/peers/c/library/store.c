@@ -24,7 +24,7 @@ struct store {
 static void expect_ok(camel_status status)
 {
     if (status != CAMEL_OK) {
-        fprintf(stderr, "libcamel: %s\n", camel_status_name(status));
+        fprintf(stderr, "libwenqolo: %s\n", camel_status_name(status));
         abort();
     }
 }

@@ -2,7 +2,7 @@ use super::figures::Figures;
 use super::programs::Program;
 
 /// The programs of the store that the peers are compared with, which are none of them.
-const PRODUCT: [&str; 2] = ["camel_vlr", "libcamel"];
+const PRODUCT: [&str; 2] = ["camel_vlr", "libwenqolo"];
 
 const HEAD: &str = "\
 | Subscribers | Program | A publication is seen | ns a decision | 4 readers to 1 | µs a publication of 10 \
