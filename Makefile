@@ -21,7 +21,7 @@ MAP_CHECK := crates/camel_map_check/out/camel_map_check
 EXPLAIN := crates/camel_explain/out/camel_explain
 
 # The shell reads these, and not make, so that a name may have spaces.
-export SCRIPT LIMIT THREADS PROFILE CRATE PREFIX PARTS
+export SCRIPT LIMIT THREADS PROFILE CRATE PREFIX DESTDIR LIBDIR PARTS
 OPTIONS = --limit "$$LIMIT" $(if $(THREADS),--threads "$$THREADS") $(if $(PROFILE),--profile "$$PROFILE")
 
 # Prints what its line says of a target, or of each. The name of a time stands for its value there.
@@ -41,7 +41,7 @@ endef
 
 .PHONY: help try try-explain replay explain explain-check program check script crate pages try-make proofs must-not-compile \
 	examples scripts streams coprocess refusals fuzz map-check map-program library install library-test library-c \
-	library-cpp library-as-shipped library-rust soak fuzz-c bench bench-program bench-vlr bench-peers bench-map count-vlr test
+	library-cpp library-as-shipped library-installed library-rust soak fuzz-c bench bench-program bench-vlr bench-peers bench-map count-vlr test
 # In order, so that what is missing is said before anything is built.
 .NOTPARALLEL:
 .SECONDEXPANSION:
@@ -158,14 +158,14 @@ refusals: begin-$$@ $(REFUSALS)
 library: begin-$$@
 	@.ci/library
 
-# Nothing is built, so that whoever may write to PREFIX needs no toolchain. There is no DESTDIR.
+# Nothing is built, so that whoever may write to PREFIX needs no toolchain. DESTDIR and LIBDIR are those of `.ci/install`.
 ## Copies to PREFIX what is built of library, camel_replay and camel_explain, and says what is not: a second.
 install: begin-$$@
 	@.ci/install "$$PREFIX"
 
 # Each part of it may be left out of `make test`. The soak makes DECISIONS, and COUNT calls have random fields.
 ## Compiles and runs the tests, the examples and the bindings of the library: a minute, once it is built.
-library-test: begin-$$@ library-c library-cpp library-as-shipped library-rust
+library-test: begin-$$@ library-c library-cpp library-as-shipped library-installed library-rust
 
 library-c: COUNT ?= 100000
 library-c: begin-$$@ library
@@ -176,6 +176,9 @@ library-cpp: begin-$$@ library
 
 library-as-shipped: begin-$$@ library
 	@.ci/library-as-shipped
+
+library-installed: begin-$$@ library
+	@.ci/library-test installed
 
 library-rust: DECISIONS ?= 1000000
 library-rust: begin-$$@ library
