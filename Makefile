@@ -41,7 +41,8 @@ endef
 
 .PHONY: help try try-explain replay explain explain-check program check script crate pages try-make proofs must-not-compile \
 	examples scripts streams coprocess refusals fuzz map-check map-program library install library-test library-c \
-	library-cpp library-as-shipped library-installed library-rust soak fuzz-c bench bench-program bench-vlr bench-peers bench-map count-vlr test
+	library-cpp library-as-shipped library-installed library-deb library-rust deb soak fuzz-c bench bench-program \
+	bench-vlr bench-peers bench-map count-vlr test
 # In order, so that what is missing is said before anything is built.
 .NOTPARALLEL:
 .SECONDEXPANSION:
@@ -163,9 +164,13 @@ library: begin-$$@
 install: begin-$$@
 	@.ci/install "$$PREFIX"
 
+## Makes Debian packages of the library that is built, in out/deb: seconds.
+deb: begin-$$@
+	@.ci/deb
+
 # Each part of it may be left out of `make test`. The soak makes DECISIONS, and COUNT calls have random fields.
 ## Compiles and runs the tests, the examples and the bindings of the library: a minute, once it is built.
-library-test: begin-$$@ library-c library-cpp library-as-shipped library-installed library-rust
+library-test: begin-$$@ library-c library-cpp library-as-shipped library-installed library-deb library-rust
 
 library-c: COUNT ?= 100000
 library-c: begin-$$@ library
@@ -179,6 +184,9 @@ library-as-shipped: begin-$$@ library
 
 library-installed: begin-$$@ library
 	@.ci/library-test installed
+
+library-deb: begin-$$@ library
+	@.ci/library-test deb
 
 library-rust: DECISIONS ?= 1000000
 library-rust: begin-$$@ library
