@@ -1,5 +1,6 @@
 //! The numbers of the errors are those of camel.h, and each says what it is.
 use camel::Error;
+use std::path::{Path, PathBuf};
 
 const ERRORS: [(Error, &str); 18] = [
     (
@@ -25,9 +26,21 @@ const ERRORS: [(Error, &str); 18] = [
     (Error::OtherImsi, "CAMEL_OTHER_IMSI"),
 ];
 
+/// The header that lies beside the archive, or where both are installed.
+fn header() -> String {
+    let folder = match std::env::var_os("CAMEL_LIB_DIR") {
+        Some(folder) => PathBuf::from(folder),
+        None => Path::new(env!("CARGO_MANIFEST_DIR")).join("../../out/library"),
+    };
+    ["camel.h", "../include/wenqolo/camel.h"]
+        .iter()
+        .find_map(|path| std::fs::read_to_string(folder.join(path)).ok())
+        .expect("camel.h")
+}
+
 /// The statuses of the header: each `CAMEL_NAME = NUMBER` of its first enum of them.
 fn statuses() -> Vec<(String, u32)> {
-    let header = include_str!("../../../include/camel.h");
+    let header = header();
     let (_, behind) = header
         .split_once("typedef uint32_t camel_status;")
         .expect("the statuses");
