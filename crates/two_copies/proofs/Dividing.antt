@@ -1,13 +1,13 @@
 -- The first seat is divided into the writer's and the reader's, at a place as it begins.
-use Rattle.std.proofs.Common.{◌≡◌, ℕ, false, not, List, [], ◌∷◌, ◌++◌, refl, sym, subst, zero, suc, None, replicate}
+use Rattle.std.proofs.Common.{◌≡◌, ℕ, false, not, List, [], ◌∷◌, ◌++◌, refl, sym, subst, ◌∙◌, zero, suc, None, replicate}
 use Rattle.std.specs.Prelude.{slice_set}
 use Rattle.std.specs.declared.option.Option.{Option}
 use mathlib.Core.Option as home
 use lib.ListN.{get_elem?}
 use Rattle.atomic_table.specs.Table.{Splits, opening}
 use Rattle.two_copies.specs.declared.place.Part.{Part}
-use Rattle.two_copies.specs.declared.place.Part.TheVariants.{Whole, Idle, Looking, Leaving, HasOther, HasNone}
-use Rattle.two_copies.specs.Place.{ahead, amid, apart, back, behind, fresh, IsGood, Kept, known_of, leaving, looked, PlaceData, Stage, state_of}
+use Rattle.two_copies.specs.declared.place.Part.TheVariants.{Whole, Idle, Looking, Leaving, HasOther, HasNone, Closed}
+use Rattle.two_copies.specs.Place.{ahead, amid, apart, back, behind, closed, fresh, IsClosedWord, IsGood, Kept, known_of, leaving, looked, PlaceData, Stage, state_of}
 use Rattle.two_copies.proofs.Views.{by_neither}
 
 module _ {X : Type 0} (holds : Option X → Type 0) (follows : Option X → Option X → Type 0) where
@@ -31,6 +31,7 @@ module _ {X : Type 0} (holds : Option X → Type 0) (follows : Option X → Opti
     divides_at (leaving k y z seen) id v is at = absurd (by_neither (HasNone k y) (Leaving seen) v id at (λ e. cc) (λ e. cc))
     divides_at (back k y z seen) id v is at = absurd (by_neither (HasNone k y) (Idle seen) v id at (λ e. cc) (λ e. cc))
     divides_at (ahead k y z) id v is at = absurd (by_neither (HasNone k y) (Looking k y) v id at (λ e. cc) (λ e. cc))
+    divides_at (closed word y r) id v is at = λ good. absurd (by_neither (Closed y) r v id at (λ e. cc) (λ e. subst (λ (p : Part (Option X)). IsClosedWord p word) (e ∙ is) good))
 
     pub divides : (id : ℕ) (v : Part (Option X)) → v ≡ Whole (known_of v) → Splits (Kept holds follows) id v (HasNone false (known_of v)) (Leaving (known_of v))
     divides id v is state (stage, good, at_stage) at =

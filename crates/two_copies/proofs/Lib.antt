@@ -1,9 +1,12 @@
+pub mod Closing
 pub mod Dividing
 pub mod Entering
 pub mod Leaving
 pub mod LogLemmas
+pub mod PlacesLemmas
 pub mod Reclaiming
-pub mod Reporting
+pub mod Refusing
+pub mod Settling
 pub mod Showing
 pub mod SlotLemmas
 pub mod Views

@@ -1,13 +1,13 @@
 -- The writer reclaims the slot that is not the newest.
-use Rattle.std.proofs.Common.{◌≡◌, ℕ, Bool, true, false, [], refl, sym, subst, arith}
+use Rattle.std.proofs.Common.{◌≡◌, ℕ, Bool, true, false, [], refl, sym, subst, arith, ◌∙◌}
 use Rattle.std.specs.Prelude.{bit_and}
 use Rattle.std.specs.declared.option.Option.{Option}
 use mathlib.Core.Option as home
 use lib.ListN.{get_elem?}
 use Rattle.atomic_table.specs.Table.{Step, keeps, takes, Allows}
 use Rattle.two_copies.specs.declared.place.Part.{Part}
-use Rattle.two_copies.specs.declared.place.Part.TheVariants.{Whole, Idle, Looking, Leaving, HasOther, HasNone}
-use Rattle.two_copies.specs.Place.{ahead, apart, back, behind, fresh, IsGood, Kept, known_of, leaving, looked, newest_of, Reclaims, SeatData, Stage, state_of, writing}
+use Rattle.two_copies.specs.declared.place.Part.TheVariants.{Whole, Idle, Looking, Leaving, HasOther, HasNone, Closed}
+use Rattle.two_copies.specs.Place.{ahead, apart, back, behind, closed, fresh, IsClosedWord, IsGood, Kept, known_of, leaving, looked, newest_of, Reclaims, SeatData, Stage, state_of, writing}
 use Rattle.two_copies.proofs.Views.{Moves, at_state, by_writer, by_neither, is_only}
 
 module _ {X : Type 0} (holds : Option X → Type 0) (follows : Option X → Option X → Type 0) where
@@ -26,6 +26,7 @@ module _ {X : Type 0} (holds : Option X → Type 0) (follows : Option X → Opti
   reclaims_at (back true y z seen) id v is at = by_writer (HasNone true y) (Idle seen) v id (Reclaimable (back true y z seen)) at (λ e. cc) (λ good t. (HasOther true y, takes 8 z, refl, (apart true y seen, good, refl), record { lay_there = λ found. (z, refl); was_out = λ found. absurd (omega arith) }))
   reclaims_at (ahead false y z) id v is at = by_writer (HasNone false y) (Looking false y) v id (Reclaimable (ahead false y z)) at (λ e. cc) (λ good t. (HasOther false y, takes 9 z, refl, (looked false y, good, refl), record { lay_there = λ found. (z, refl); was_out = λ found. absurd (omega arith) }))
   reclaims_at (ahead true y z) id v is at = by_writer (HasNone true y) (Looking true y) v id (Reclaimable (ahead true y z)) at (λ e. cc) (λ good t. (HasOther true y, takes 8 z, refl, (looked true y, good, refl), record { lay_there = λ found. (z, refl); was_out = λ found. absurd (omega arith) }))
+  reclaims_at (closed word y r) id v is at = λ good t. absurd (by_neither (Closed y) r v id at (λ e. cc) (λ e. subst (λ (p : Part (Option X)). IsClosedWord p word) (e ∙ is) good))
 
   pub reclaims : (slots id : ℕ) (me : SeatData X) (newest : Bool) (t : Step (Option X)) → me ≡ writing newest false (known_of me.0) → Allows (Kept holds follows) slots id me 16 (λ n. bit_and n 3) (Reclaims t me)
   reclaims slots id me newest t is state (stage, good, at_stage) long at small =

@@ -1,13 +1,13 @@
 -- The writer shows what it has put into its slot.
-use Rattle.std.proofs.Common.{◌≡◌, ℕ, Bool, true, false, not, [], ◌∷◌, refl, sym, subst, arith}
+use Rattle.std.proofs.Common.{◌≡◌, ℕ, Bool, true, false, not, [], ◌∷◌, refl, sym, subst, arith, ◌∙◌}
 use Rattle.std.specs.Prelude.{bit_xor}
 use Rattle.std.specs.declared.option.Option.{Option}
 use mathlib.Core.Option as home
 use lib.ListN.{get_elem?}
 use Rattle.atomic_table.specs.Table.{Step, takes, gives, chain, Allows}
 use Rattle.two_copies.specs.declared.place.Part.{Part}
-use Rattle.two_copies.specs.declared.place.Part.TheVariants.{Whole, Idle, Looking, Leaving, HasOther, HasNone}
-use Rattle.two_copies.specs.Place.{ahead, apart, back, behind, fresh, index_of, IsGood, Kept, known_of, leaving, looked, newest_of, SeatData, Shows, Stage, state_of}
+use Rattle.two_copies.specs.declared.place.Part.TheVariants.{Whole, Idle, Looking, Leaving, HasOther, HasNone, Closed}
+use Rattle.two_copies.specs.Place.{ahead, apart, back, behind, closed, fresh, index_of, IsClosedWord, IsGood, Kept, known_of, leaving, looked, newest_of, SeatData, Shows, Stage, state_of}
 use Rattle.two_copies.proofs.Views.{Moves, at_state, by_writer, by_neither, is_only}
 
 module _ {X : Type 0} (holds : Option X → Type 0) (follows : Option X → Option X → Type 0) (through : (a b c : Option X) → follows a b → follows b c → follows a c) where
@@ -24,6 +24,7 @@ module _ {X : Type 0} (holds : Option X → Type 0) (follows : Option X → Opti
   shows_at (leaving k y z seen) u id v is at = absurd (by_neither (HasNone k y) (Leaving seen) v id at (λ e. cc) (λ e. cc))
   shows_at (back k y z seen) u id v is at = absurd (by_neither (HasNone k y) (Idle seen) v id at (λ e. cc) (λ e. cc))
   shows_at (ahead k y z) u id v is at = absurd (by_neither (HasNone k y) (Looking k y) v id at (λ e. cc) (λ e. cc))
+  shows_at (closed word y r) u id v is at = λ good t held next. absurd (by_neither (Closed y) r v id at (λ e. cc) (λ e. subst (λ (p : Part (Option X)). IsClosedWord p word) (e ∙ is) good))
 
   pub shows : (slots id : ℕ) (me : SeatData X) (newest : Bool) (shown u : Option X) (t : Step (Option X)) → me ≡ (HasOther newest shown, (index_of (not newest), u) ∷ []) → holds u → follows shown u
       → Allows (Kept holds follows) slots id me 16 (λ n. bit_xor n 1) (Shows t me)

@@ -1,5 +1,5 @@
 -- A step at a place, at the seat that makes it.
-use Rattle.std.proofs.Common.{◌≡◌, ◌≢◌, ℕ, zero, suc, [], ◌∷◌, ap, sym, subst, ◌∙◌}
+use Rattle.std.proofs.Common.{◌≡◌, ◌≢◌, ℕ, zero, suc, List, [], ◌∷◌, ap, sym, subst, ◌∙◌}
 use Rattle.std.specs.Prelude.{slice_index}
 use Rattle.std.specs.declared.option.Option.{Option}
 use mathlib.Core.Option as home
@@ -10,10 +10,13 @@ use Rattle.two_copies.specs.Place.{Kept, PlaceData, SeatData}
 
 -- of two views the second is this one, or the first, or neither is
 module _ {V : Type 0} where
+  pub by_this_reader : (writer reader view : V) (id : ℕ) (P : ℕ → V → Type 0) → get_elem? (writer ∷ reader ∷ []) id ≡ home.some view → writer ≢ view → (reader ≡ view → P 1 reader) → P id view
+  by_this_reader writer reader view zero P at differ p = absurd (differ (home.some-injective writer view at))
+  by_this_reader writer reader view (suc zero) P at differ p = let same = home.some-injective reader view at in subst (P 1) same (p same)
+  by_this_reader writer reader view (suc (suc id)) P at differ p = absurd (home.some-ne-none view (sym at))
+
   pub by_reader : (writer reader view : V) (id : ℕ) (P : ℕ → V → Type 0) → get_elem? (writer ∷ reader ∷ []) id ≡ home.some view → writer ≢ view → P 1 reader → P id view
-  by_reader writer reader view zero P at differ p = absurd (differ (home.some-injective writer view at))
-  by_reader writer reader view (suc zero) P at differ p = subst (P 1) (home.some-injective reader view at) p
-  by_reader writer reader view (suc (suc id)) P at differ p = absurd (home.some-ne-none view (sym at))
+  by_reader writer reader view id P at differ p = by_this_reader writer reader view id P at differ (λ same. p)
 
   pub by_writer : (writer reader view : V) (id : ℕ) (P : ℕ → V → Type 0) → get_elem? (writer ∷ reader ∷ []) id ≡ home.some view → reader ≢ view → P 0 writer → P id view
   by_writer writer reader view zero P at differ p = subst (P 0) (home.some-injective writer view at) p
@@ -41,10 +44,10 @@ module _ {X : Type 0} (holds : Option X → Type 0) (follows : Option X → Opti
   at_state state other is id me change then moves =
       subst (λ (s : PlaceData X). get_elem? s.views id ≡ home.some me.0 → Moves s id me change then) (sym is) moves
 
--- the one slot that a seat has, and what is in it after an exchange
+-- the slot that a seat took last, and what is in it after an exchange
 module _ {S V : Type 0} where
-  pub has_slot : (me : Me S V) (view : V) (slot index : ℕ) (y : S) → me ≡ (view, (slot, y) ∷ []) → index ≡ slot → me.1 ≡ (index, y) ∷ rest me.1
-  has_slot me view slot index y is same = ap (λ (m : Me S V). m.1) is ∙ (λ j. (sym same j, y) ∷ rest (sym is j).1)
+  pub has_slot : (me : Me S V) (view : V) (slot index : ℕ) (y : S) (others : List (ℕ × S)) → me ≡ (view, (slot, y) ∷ others) → index ≡ slot → me.1 ≡ (index, y) ∷ rest me.1
+  has_slot me view slot index y others is same = ap (λ (m : Me S V). m.1) is ∙ (λ j. (sym same j, y) ∷ rest (sym is j).1)
 
-  pub fills_slot : (me after : Me S V) (view : V) (slot index : ℕ) (y z : S) → me ≡ (view, (slot, y) ∷ []) → index ≡ slot → after ≡ (me.0, (index, z) ∷ rest me.1) → after ≡ (view, (slot, z) ∷ [])
-  fills_slot me after view slot index y z is same e = e ∙ (λ j. ((is j).0, (same j, z) ∷ rest (is j).1))
+  pub fills_slot : (me after : Me S V) (view : V) (slot index : ℕ) (y z : S) (others : List (ℕ × S)) → me ≡ (view, (slot, y) ∷ others) → index ≡ slot → after ≡ (me.0, (index, z) ∷ rest me.1) → after ≡ (view, (slot, z) ∷ others)
+  fills_slot me after view slot index y z others is same e = e ∙ (λ j. ((is j).0, (same j, z) ∷ rest (is j).1))

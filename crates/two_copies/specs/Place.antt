@@ -1,10 +1,14 @@
 -- The states of a place, and what each step at it does.
-use Rattle.std.specs.Prelude.{◌≡◌, ℕ, ◌+◌, ◌%◌, ◌<◌, ◌≤◌, ◌==◌, Bool, true, false, not, List, [], ◌∷◌, ◌++◌, None, replicate, if◌then◌else◌}
+--
+-- The law of a place: a slot is with the writer, with the reader, or at home; what the reader takes may be shown, and
+-- follows what it saw last; and a look that begins once the place is closed takes nothing.
+use Rattle.std.specs.Prelude.{◌≡◌, ℕ, ◌+◌, ◌%◌, ◌<◌, ◌≤◌, ◌==◌, Bool, true, false, not, List, [], ◌∷◌, ◌++◌, All, None, replicate, slice_index, if◌then◌else◌}
 use Rattle.std.specs.declared.option.Option.{Option}
 use mathlib.Core.Option as home
+use lib.ListN.{get_elem?}
 use Rattle.atomic_table.specs.Table.{State, Me, Step, rest}
 use Rattle.two_copies.specs.declared.place.Part.{Part}
-use Rattle.two_copies.specs.declared.place.Part.TheVariants.{Whole, Idle, Looking, Leaving, HasOther, HasNone}
+use Rattle.two_copies.specs.declared.place.Part.TheVariants.{Whole, Idle, Looking, Leaving, Refused, HasOther, HasNone, Closed}
 
 abbrev pub number : Bool → ℕ
 number false = 0
@@ -36,8 +40,10 @@ module _ {S : Type 0} where
   known_of (Idle seen) = seen
   known_of (Looking slot seen) = seen
   known_of (Leaving seen) = seen
+  known_of (Refused seen) = seen
   known_of (HasOther newest shown) = shown
   known_of (HasNone newest shown) = shown
+  known_of (Closed shown) = shown
 
   -- the newest slot, as the writer knows it
   abbrev pub newest_of : Part S → Bool
@@ -60,6 +66,14 @@ module _ {S : Type 0} where
   in_hand (part, []) = known_of part
   in_hand (part, x ∷ others) = x.1
 
+  -- the words that a closed place may have while the reader does this: each has the 8
+  abbrev pub IsClosedWord : Part S → ℕ → Type 0
+  IsClosedWord (Idle seen) word = (8 ≤ word) × (word ≤ 13)
+  IsClosedWord (Looking slot seen) word = (10 ≤ word) × (word ≤ 15)
+  IsClosedWord (Leaving seen) word = (8 ≤ word) × (word ≤ 9)
+  IsClosedWord (Refused seen) word = (10 ≤ word) × (word ≤ 15)
+  IsClosedWord part word = ⊥
+
 -- the newest slot, what is in it and in the other, and what the reader saw last
 pub data Stage (S : Type 0) : Type 0 where
   -- there is one seat
@@ -76,6 +90,8 @@ pub data Stage (S : Type 0) : Type 0 where
   back : Bool → S → S → S → Stage S
   -- the reader has the newest slot, and the other lies there
   ahead : Bool → S → S → Stage S
+  -- the place is closed: the word, what was shown last, and what the reader does
+  closed : ℕ → S → Part S → Stage S
 
 -- what a seat knows, and which slots it has
 abbrev pub SeatData : Type 0 → Type 0
@@ -97,19 +113,22 @@ module _ {X : Type 0} where
   state_of (leaving newest shown other seen) = shared (number newest) (slots_at newest (home.some shown) (home.some other)) (HasNone newest shown) (Leaving seen)
   state_of (back newest shown other seen) = shared (4 + number newest) (slots_at newest (home.some shown) (home.some other)) (HasNone newest shown) (Idle seen)
   state_of (ahead newest shown other) = shared (6 + number newest) (slots_at newest home.none (home.some other)) (HasNone newest shown) (Looking newest shown)
+  state_of (closed word shown reader) = shared word (home.none ∷ home.none ∷ []) (Closed shown) reader
 
-  -- the reader has the newest slot, of which the rule is true
-  abbrev pub Enters : (Option X → Type 0) → (Option X → Option X → Type 0) → Step (Option X) → SeatData X → ℕ → SeatData X → Type 0
-  Enters holds follows step before found after = (shown : Option X) × holds shown × follows (known_of before.0) shown
-      × (after ≡ (Looking (found % 2 == 1) shown, (index_of (found % 2 == 1), shown) ∷ []))
+  -- the reader has the newest slot, of which the rule is true; at a closed place it takes nothing
+  pub record Enters (holds : Option X → Type 0) (follows : Option X → Option X → Type 0) (step : Step (Option X)) (before : SeatData X) (found : ℕ) (after : SeatData X) : Type 0 where
+    pub takes_it : found < 8 → (shown : Option X) × holds shown × follows (known_of before.0) shown
+        × (after ≡ (Looking (found % 2 == 1) shown, (index_of (found % 2 == 1), shown) ∷ before.1))
+    pub takes_none : 8 ≤ found → after ≡ (Refused None, before.1)
 
-  -- the reader gave its slot back
-  abbrev pub Leaves : Step (Option X) → SeatData X → ℕ → SeatData X → Type 0
-  Leaves step before found after = after ≡ (after_look before.0 (found % 2 == 1), rest before.1)
+  -- the reader gave its slot back; at a closed place it keeps it
+  pub record Leaves (step : Step (Option X)) (before : SeatData X) (found : ℕ) (after : SeatData X) : Type 0 where
+    pub gives_back : found < 8 → after ≡ (after_look before.0 (found % 2 == 1), rest before.1)
+    pub keeps_it : 8 ≤ found → after ≡ (Idle (known_of before.0), before.1)
 
-  -- the reader said that it gave the other slot back
-  abbrev pub Reports : Step (Option X) → SeatData X → ℕ → SeatData X → Type 0
-  Reports step before found after = after ≡ (Idle (known_of before.0), before.1)
+  -- the reader looks at nothing, and knows what it knew
+  abbrev pub Settles : Step (Option X) → SeatData X → ℕ → SeatData X → Type 0
+  Settles step before found after = after ≡ (Idle (known_of before.0), before.1)
 
   -- the writer has the other slot, if that lay there
   pub record Reclaims (step : Step (Option X)) (before : SeatData X) (found : ℕ) (after : SeatData X) : Type 0 where
@@ -121,10 +140,37 @@ module _ {X : Type 0} where
     pub idle : found < 2 → (other : Option X) × (after ≡ (HasOther (not (newest_of before.0)) (in_hand before), (index_of (newest_of before.0), other) ∷ []))
     pub looking : 2 ≤ found → after ≡ (HasNone (not (newest_of before.0)) (in_hand before), [])
 
+  -- the writer, which had the other slot, closed the place, and has the newest one too if the reader did not look
+  pub record ClosesWithOther (step : Step (Option X)) (before : SeatData X) (found : ℕ) (after : SeatData X) : Type 0 where
+    pub idle : found < 2 → (shown : Option X) × (after ≡ (Closed (known_of before.0), (index_of (newest_of before.0), shown) ∷ before.1))
+    pub looking : 2 ≤ found → after ≡ (Closed (known_of before.0), before.1)
+
+  -- the writer, which had no slot, closed the place, and has each that was not with the reader
+  pub record ClosesWithNone (step : Step (Option X)) (before : SeatData X) (found : ℕ) (after : SeatData X) : Type 0 where
+    pub idle : found % 4 < 2 → (shown : Option X) × (other : Option X)
+        × (after ≡ (Closed (known_of before.0), (index_of (newest_of before.0), shown) ∷ (index_of (not (newest_of before.0)), other) ∷ []))
+    pub with_other : 2 ≤ found % 4 → found < 4 → (shown : Option X) × (after ≡ (Closed (known_of before.0), (index_of (newest_of before.0), shown) ∷ []))
+    pub with_newest : 2 ≤ found % 4 → 4 ≤ found → (other : Option X) × (after ≡ (Closed (known_of before.0), (index_of (not (newest_of before.0)), other) ∷ []))
+
   -- the writer's seat, where this slot is the newest and has this, and the writer may have the other, which is empty
   abbrev pub writing : Bool → Bool → Option X → SeatData X
   writing newest true shown = (HasOther newest shown, (index_of (not newest), None) ∷ [])
   writing newest false shown = (HasNone newest shown, [])
+
+  -- each slot that a seat has is empty
+  abbrev pub AreEmpty : List (ℕ × Option X) → Type 0
+  AreEmpty slots = All (λ slot. slot.1 ≡ None) slots
+
+  -- the writer's seat, once it has closed the place and emptied what it took
+  pub record HasClosed (me : SeatData X) : Type 0 where
+    pub view : me.0 ≡ Closed (known_of me.0)
+    pub empty : AreEmpty me.1
+
+  -- the writer's seat: before the place is closed, and then
+  pub record IsWriterSeat (is_closed newest has_other : Bool) (me : SeatData X) : Type 0 where
+    pub writes : is_closed ≡ false → me ≡ writing newest has_other (known_of me.0)
+    pub closed : is_closed ≡ true → HasClosed me
+    pub none : is_closed ≡ true → has_other ≡ false
 
   module _ (holds : Option X → Type 0) (follows : Option X → Option X → Type 0) where
     -- the rule is true of what the reader may take, and that follows what it saw last
@@ -136,6 +182,11 @@ module _ {X : Type 0} where
     IsGood (leaving newest shown other seen) = holds shown × follows seen shown
     IsGood (back newest shown other seen) = holds shown × follows seen shown
     IsGood (ahead newest shown other) = holds shown
+    IsGood (closed word shown reader) = IsClosedWord reader word
 
     abbrev pub Kept : PlaceData X → Type 0
     Kept state = (stage : Stage (Option X)) × IsGood stage × (state ≡ state_of stage)
+
+    -- as long as a seat has this view, the word has the 8, so a look that begins takes nothing
+    pub record RefusesLooks (view : Part (Option X)) : Type 0 where
+      pub refuses : (id : ℕ) (state : PlaceData X) → Kept state → get_elem? state.views id ≡ home.some view → 8 ≤ slice_index state.words 16

@@ -11,10 +11,10 @@ module _ {T : Type 0} where
   value_in (Some copy) = Some (arc_value copy)
   value_in None = None
 
-  -- a copy in the slot is one that may be shown
+  -- there is a copy in the slot, and it may be shown
   abbrev pub Holds : (T → Type 0) → Option (Arc T Global) → Type 0
   Holds holds (Some copy) = holds (arc_value copy)
-  Holds holds None = Unit {0}
+  Holds holds None = ⊥
 
   -- a copy in the later slot may be shown after the earlier one, and after nothing there is none
   abbrev pub Follows : (T → T → Type 0) → Option (Arc T Global) → Option (Arc T Global) → Type 0

@@ -4,7 +4,7 @@ use Rattle.std.specs.declared.alloc.Global.{Global}
 use Rattle.std.specs.declared.option.Option.{Option}
 use Rattle.std.specs.declared.sync.Arc.{Arc}
 use Rattle.std.specs.Arc.{arc_value}
-use Rattle.two_copies.specs.Place.{known_of}
+use Rattle.two_copies.specs.Place.{HasClosed, known_of}
 use Rattle.two_copies.specs.Slot.{value_in}
 use Rattle.two_copies.specs.declared.place.writer_end.WriterEnd.{WriterEnd}
 
@@ -29,7 +29,6 @@ module _ {T F : Type 0} where
   abbrev pub IsNextAt : T → WriterEnd T F → Type 0
   IsNextAt next end = IsSomeAnd end.next (λ copy. arc_value copy ≡ next)
 
-  -- the place shows nothing, and the writer has both slots
-  pub record IsClosedAt (end : WriterEnd T F) : Type 0 where
-    pub closed : end.is_closed ≡ true
-    pub other : end.has_other ≡ true
+  -- the place is closed, and the writer has left no copy in it
+  abbrev pub IsClosedAt : WriterEnd T F → Type 0
+  IsClosedAt end = HasClosed end.seat.me

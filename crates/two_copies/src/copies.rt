@@ -1,5 +1,5 @@
 //! The writer.
-ghost use Rattle.std.specs.Prelude.{◌≡◌, ◌≢◌, ◌<◌, ◌≤◌, ◌↔◌, [], ◌∷◌, ◌++◌, fold, length, true, All, IsTrue, MatchResult, OnErr, OnOk, IfOk, Err, Some};
+ghost use Rattle.std.specs.Prelude.{◌≡◌, ◌≢◌, ◌<◌, ◌≤◌, ◌↔◌, [], ◌∷◌, ◌++◌, fold, length, true, All, IsTrue, MatchResult, OnErr, OnOk, IfErr, IfOk, Err, Some};
 ghost use Rattle.std.specs.Arc.{arc_value};
 ghost use Rattle.two_copies.specs.Log.{missing_in, pending_in};
 ghost use Rattle.two_copies.specs.Reader.{seen_by};
@@ -10,7 +10,7 @@ use crate::apply::Apply;
 use crate::ending::Ending;
 use crate::log::Log;
 use crate::place::writer_end::WriterEnd;
-use crate::places::{Places, add, prepare_all, reclaim_all, remove_left, show_all};
+use crate::places::{Places, add, close_all, prepare_all, reclaim_all, remove_left, show_all};
 use crate::reader::Reader;
 use crate::rule::CopyRule;
 use std::alloc::{AllocError, Global};
@@ -77,7 +77,7 @@ impl<T: Drop + Apply<O>, O: Drop, F: CopyRule<T>> Copies<T, O, F> {
     ghost use Rattle.two_copies.specs.Copies.{IsFree, pending_of, reader_count, shown_by};
     ghost use Rattle.two_copies.specs.declared.copies.NoReader.TheVariants.{NoPlace};
     ghost use Rattle.two_copies.specs.declared.copies.Unpublished.TheVariants.{Held};
-    ghost use Rattle.two_copies.specs.Ending.{value_of};
+    ghost use Rattle.two_copies.specs.Ending.{closed_count, value_of};
 
     /// Two copies that are alike, of which the first is shown, with no reader yet. It asks for memory for each; if that
     /// is refused, both are dropped.
@@ -209,19 +209,23 @@ impl<T: Drop + Apply<O>, O: Drop, F: CopyRule<T>> Copies<T, O, F> {
         self.log.turn();
     }
 
-    /// Ends the copies, and returns the one that is shown. What is pending is dropped. It does not wait: a look that is
-    /// held holds the end up, and [`Ending::end`] is to be tried again. Readers that do not look find the end meanwhile.
-    /// The other copy is dropped with it, so no reader frees one.
+    /// Ends the copies, and returns the one that is shown. The other one is dropped, and so is what is pending. It does
+    /// not wait, takes no memory, and takes one step at each place, which no look holds up.
+    ///
+    /// Each look that begins once it has returned finds that the copies have ended, whether it succeeded or not. Looks
+    /// that are held go on. If there is one, it fails, and [`Ending::end`] is to be tried again.
     pub fn end(self) -> Result<T, Ending<T, F>>
-        ensures { MatchResult result (λ value. value ≡ shown_by self) (λ ending. value_of ending ≡ shown_by self) }
+        ensures value { MatchResult result (λ value. value ≡ shown_by self) (λ ending. value_of ending ≡ shown_by self) }
+        ensures closed { IfErr result (λ ending. closed_count ending ≡ reader_count self) }
     {
         let Copies {
             alloc: _alloc,
             shown,
             spare,
-            places,
+            mut places,
             log: _log,
         } = self;
+        close_all(&mut places);
         Ending::new(shown, spare, places).end()
     }
 }

@@ -1,29 +1,33 @@
 //! The end of the copies.
-ghost use Rattle.std.specs.Prelude.{◌≡◌, MatchResult};
+ghost use Rattle.std.specs.Prelude.{◌≡◌, All, IfErr, MatchResult, length};
 ghost use Rattle.std.specs.Arc.{arc_value};
+ghost use Rattle.two_copies.specs.WriterEnd.{IsClosedAt};
 
-use crate::places::{Places, close_all};
+use crate::places::Places;
 use crate::rule::CopyRule;
 use std::alloc::Global;
 use std::sync::Arc;
 
-/// Copies whose end a look holds up. Looks that are held go on, and other readers find that the copies have ended. It
-/// can't be dropped: [`Ending::end`] ends it, and [`Ending::abandon`] leaves it to the looks.
+/// Copies whose end a look holds up. Looks that are held go on, and each look that begins later finds that the copies
+/// have ended. It can't be dropped: [`Ending::end`] ends it, and [`Ending::abandon`] leaves it to the looks.
 pub struct Ending<T: Drop, F: CopyRule<T>> {
     shown: Arc<T, Global>,
     spare: Arc<T, Global>,
     places: Places<T, F>,
+    ghost closed: { ∥ All IsClosedAt places.items ∥₁ },
 }
 
 impl<T: Drop, F: CopyRule<T>> Ending<T, F> {
-    ghost use Rattle.two_copies.specs.Ending.{value_of};
+    ghost use Rattle.two_copies.specs.Ending.{closed_count, value_of};
 
     pub(crate) fn new(
         shown: Arc<T, Global>,
         spare: Arc<T, Global>,
         places: Places<T, F>,
     ) -> Ending<T, F>
-        ensures { value_of result ≡ arc_value shown }
+        requires { All IsClosedAt places.items }
+        ensures value { value_of result ≡ arc_value shown }
+        ensures closed { closed_count result ≡ length places.items }
     {
         Ending {
             shown,
@@ -33,23 +37,24 @@ impl<T: Drop, F: CopyRule<T>> Ending<T, F> {
     }
 
     /// Ends the copies, if no look is held any more, and returns the value that was shown last. It does not wait,
-    /// takes no memory, and takes a few steps at each place.
+    /// takes no memory, and touches no place.
     pub fn end(self) -> Result<T, Ending<T, F>>
-        ensures { MatchResult result (λ value. value ≡ value_of self) (λ ending. value_of ending ≡ value_of self) }
+        ensures value { MatchResult result (λ value. value ≡ value_of self) (λ ending. value_of ending ≡ value_of self) }
+        ensures closed { IfErr result (λ ending. closed_count ending ≡ closed_count self) }
     {
         let Ending {
             shown,
             spare,
-            mut places,
+            places,
         } = self;
-        if !close_all(&mut places) {
+        // Each place is closed, so only a look that is held has a further share, and no new look gets one.
+        if Arc::strong_count(&spare) != 1 {
             return Err(Ending {
                 shown,
                 spare,
                 places,
             });
         }
-        // Each share is out of its place, so the writer has the only one, and no run fails here.
         match Arc::try_unwrap(shown) {
             Ok(value) => Ok(value),
             Err(shown) => Err(Ending {
@@ -60,7 +65,7 @@ impl<T: Drop, F: CopyRule<T>> Ending<T, F> {
         }
     }
 
-    /// Gives the end up. Looks that are held go on, and whoever leaves the last one frees its copy.
+    /// Leaves the copies to the looks that are held: whoever leaves the last look at a copy frees it.
     pub fn abandon(self) {
         let Ending {
             shown: _shown,

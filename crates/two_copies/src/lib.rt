@@ -24,8 +24,9 @@
 //! A publication becomes visible reader by reader while `publish` runs, and to all of them when it returns. What a look
 //! finds follows what the same reader found before ([`CopyRule`]); nothing relates what two readers find meanwhile.
 //!
-//! The writer has a share of each copy as long as a place has one, so a reader never frees a copy. [`Copies`] can't be
-//! dropped: [`Copies::end`] ends it.
+//! The writer has a share of each copy until the copies end, so no reader frees one before. [`Copies`] can't be
+//! dropped: [`Copies::end`] ends it. No look that begins after the end finds a copy. Looks that are held go on, and
+//! whoever leaves the last one at a copy frees it, unless the writer has kept it in an [`Ending`].
 #![tactic(auto)]
 
 mod apply;

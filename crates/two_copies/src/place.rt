@@ -2,6 +2,10 @@
 //!
 //! The word is the slot that is the newest, 0 or 1, and 2 more while the reader looks, and 4 more while the other slot
 //! lies there to be taken by the writer.
+//!
+//! The writer closes a place by one step, which adds 8 for good. The word that this step finds says which slots lie
+//! there: the writer takes these, and empties them. A slot that the reader has stays with it, and the reader empties it
+//! when it leaves. It finds the 8 in the word that each of its steps gives.
 mod board;
 pub(crate) mod steps;
 pub(crate) mod writer_end;
@@ -13,7 +17,7 @@ use std::marker::PhantomData;
 use std::snapshot::Snapshot;
 use std::sync::Arc;
 
-/// A slot has a copy, or nothing: what the reader took is out, and after the end there is none.
+/// A slot has a copy, or nothing: what the reader took is out, and at a closed place there is none.
 pub(crate) type Slot<T> = Option<Arc<T, Global>>;
 
 /// What one of the two seats at a place knows. No value of it is made.
@@ -26,10 +30,14 @@ pub(crate) enum Part<S> {
     Looking(bool, S),
     /// The reader gave back a slot that is no longer the newest, has not said so yet, and saw this last.
     Leaving(S),
+    /// The reader found the place closed, has not taken its step back yet, and knows this.
+    Refused(S),
     /// The newest slot is this one, with this in it, and the writer has the other.
     HasOther(bool, S),
     /// The newest slot is this one, with this in it, and the writer has none.
     HasNone(bool, S),
+    /// The writer has closed the place, which showed this last.
+    Closed(S),
 }
 
 /// The rule of each place: the states of `specs/Place.antt`.
@@ -66,12 +74,13 @@ impl<T> Play<Slot<T>, Part<Slot<T>>> for Leave {
     ghost then = { Leaves };
 }
 
-pub(crate) struct Report;
+/// The last step of a look that left, or that was refused.
+pub(crate) struct Settle;
 
-impl<T> Play<Slot<T>, Part<Slot<T>>> for Report {
-    ghost use Rattle.two_copies.specs.Place.{Reports};
+impl<T> Play<Slot<T>, Part<Slot<T>>> for Settle {
+    ghost use Rattle.two_copies.specs.Place.{Settles};
 
-    ghost then = { Reports };
+    ghost then = { Settles };
 }
 
 pub(crate) struct Reclaim;
@@ -88,6 +97,22 @@ impl<T> Play<Slot<T>, Part<Slot<T>>> for Show {
     ghost use Rattle.two_copies.specs.Place.{Shows};
 
     ghost then = { Shows };
+}
+
+pub(crate) struct CloseWithOther;
+
+impl<T> Play<Slot<T>, Part<Slot<T>>> for CloseWithOther {
+    ghost use Rattle.two_copies.specs.Place.{ClosesWithOther};
+
+    ghost then = { ClosesWithOther };
+}
+
+pub(crate) struct CloseWithNone;
+
+impl<T> Play<Slot<T>, Part<Slot<T>>> for CloseWithNone {
+    ghost use Rattle.two_copies.specs.Place.{ClosesWithNone};
+
+    ghost then = { ClosesWithNone };
 }
 
 pub(crate) struct Divide;

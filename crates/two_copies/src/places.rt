@@ -89,17 +89,14 @@ pub(crate) fn remove_left<T: Drop, F: CopyRule<T>>(places: &mut Places<T, F>)
     places.retain(|place| !place.is_left());
 }
 
-/// Closes each place. Returns whether the writer has all that was there.
-pub(crate) fn close_all<T: Drop, F: CopyRule<T>>(places: &mut Places<T, F>) -> bool
-    ensures { result ≡ true → All IsClosedAt places.new.items }
+/// Closes each place, whether or not its reader looks.
+pub(crate) fn close_all<T: Drop, F: CopyRule<T>>(places: &mut Places<T, F>)
+    ensures closed { All IsClosedAt places.new.items }
+    ensures len { length places.new.items ≡ length places.old.items }
 {
-    let mut are_closed = true;
     let mut next: usize = 0;
     while next < places.len() {
-        if !places[next].close() {
-            are_closed = false;
-        }
+        places[next].close();
         next += 1;
     }
-    are_closed
 }

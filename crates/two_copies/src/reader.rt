@@ -1,7 +1,8 @@
 //! A reader and its looks.
-ghost use Rattle.std.specs.Prelude.{◌≡◌, [], ◌∷◌, Some, None, IfErr, IfOk, IsSomeAnd};
+ghost use Rattle.std.specs.Prelude.{◌≡◌, ◌∷◌, Some, None, IfErr, IfOk, IsErr, IsSomeAnd};
 ghost use Rattle.std.specs.Arc.{arc_value};
-ghost use Rattle.two_copies.specs.Place.{index_of, known_of};
+ghost use Rattle.atomic_table.specs.Table.{rest};
+ghost use Rattle.two_copies.specs.Place.{AreEmpty, index_of, known_of};
 ghost use Rattle.two_copies.specs.Seated.{IsSeated};
 ghost use Rattle.two_copies.specs.declared.place.Part.TheVariants.{Idle, Looking};
 
@@ -20,7 +21,8 @@ pub struct Reader<T: Drop, F: CopyRule<T>> {
     board: Arc<Board<T, F>, Global>,
     seat: PlaceSeat<T>,
     ghost seated: { IsSeated seat.table_id (arc_value board).shared.table_id },
-    ghost idle: { seat.me ≡ (Idle (known_of seat.me.0), []) },
+    ghost idle: { seat.me ≡ (Idle (known_of seat.me.0), seat.me.1) },
+    ghost empty: { AreEmpty seat.me.1 },
 }
 
 /// A look at the copy that was shown when it began. It shows the same value as long as it is held, lets the next
@@ -32,7 +34,8 @@ pub struct Look<T: Drop, F: CopyRule<T>> {
     slot: bool,
     shown: Arc<T, Global>,
     ghost seated: { IsSeated seat.table_id (arc_value board).shared.table_id },
-    ghost looks: { seat.me ≡ (Looking slot (Some shown), (index_of slot, None) ∷ []) },
+    ghost looks: { seat.me ≡ (Looking slot (Some shown), (index_of slot, None) ∷ rest seat.me.1) },
+    ghost empty: { AreEmpty seat.me.1 },
 }
 
 impl<T: Drop, F: CopyRule<T>> Reader<T, F> {
@@ -40,7 +43,8 @@ impl<T: Drop, F: CopyRule<T>> Reader<T, F> {
 
     pub(crate) fn new(board: Arc<Board<T, F>, Global>, seat: PlaceSeat<T>) -> Reader<T, F>
         requires seated { IsSeated seat.table_id (arc_value board).shared.table_id }
-        requires idle { seat.me ≡ (Idle (known_of seat.me.0), []) }
+        requires idle { seat.me ≡ (Idle (known_of seat.me.0), seat.me.1) }
+        requires empty { AreEmpty seat.me.1 }
         ensures { result.seat ≡ seat }
     {
         Reader { board, seat }
@@ -49,26 +53,23 @@ impl<T: Drop, F: CopyRule<T>> Reader<T, F> {
     /// A look at the copy that is shown. It takes no lock and no memory, does not wait, and has no loop: one step on
     /// the word of its place.
     ///
-    /// If the copies have ended, or are ending, the reader comes back; then so it does from each later look.
+    /// If the copies have ended, the reader comes back; then so it does from each later look.
     #[inline]
     pub fn look(self) -> Result<Look<T, F>, Reader<T, F>>
         ensures holds { IfOk result (λ look. F.holds (shown_in look)) }
         ensures follows { IfOk result (λ look. IsSomeAnd (seen_by self) (λ seen. F.follows seen (shown_in look))) }
         ensures ended { IfErr result (λ reader. seen_by reader ≡ None) }
+        ensures for_good { seen_by self ≡ None → IsErr result }
     {
         let Reader { board, mut seat } = self;
-        let (slot, shown) = enter(&board, &mut seat);
-        match shown {
-            Some(shown) => Ok(Look {
+        match enter(&board, &mut seat) {
+            Some((slot, shown)) => Ok(Look {
                 board,
                 seat,
                 slot,
                 shown,
             }),
-            None => {
-                leave(&board, &mut seat, slot, None);
-                Err(Reader { board, seat })
-            }
+            None => Err(Reader { board, seat }),
         }
     }
 }
@@ -85,7 +86,8 @@ impl<T: Drop, F: CopyRule<T>> Look<T, F> {
     }
 
     /// Ends the look. It takes no lock and no memory, does not wait, and has no loop: one step on the word of its
-    /// place, and a second one if a publication went through meanwhile.
+    /// place, and a second one if a publication went through meanwhile. If the copies have ended, and nobody else has
+    /// this one, it frees the copy.
     #[inline]
     pub fn leave(self) -> Reader<T, F>
         ensures { seen_by result ≡ Some (shown_in self) }
@@ -96,7 +98,7 @@ impl<T: Drop, F: CopyRule<T>> Look<T, F> {
             slot,
             shown,
         } = self;
-        leave(&board, &mut seat, slot, Some(shown));
+        leave(&board, &mut seat, slot, shown);
         Reader { board, seat }
     }
 }

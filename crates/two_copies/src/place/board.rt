@@ -17,6 +17,15 @@ use std::sync::Arc;
 /// place is on its cache line, nor on the one that the processor may fetch with it.
 pub(crate) const WORD: usize = 16;
 
+/// What the word has more while the reader looks.
+pub(crate) const LOOKING: u64 = 2;
+
+/// What the word has more while the slot that is not the newest lies there to be taken by the writer.
+pub(crate) const RETURNED: u64 = 4;
+
+/// What the word has more once the place is closed.
+pub(crate) const CLOSED: u64 = 8;
+
 const WORDS: usize = 33;
 
 /// Where the first slot lies among those of its block, for the same reason: a slot has 16 octets.

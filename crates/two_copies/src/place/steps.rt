@@ -1,13 +1,19 @@
 //! The steps at a place. Each is one change of its word, with the slot that it takes or gives back.
-ghost use Rattle.std.specs.Prelude.{◌≡◌, [], ◌∷◌, None, not, true, false};
-ghost use Rattle.two_copies.specs.Place.{index_of, is_same, known_of, writing};
+ghost use Rattle.std.specs.Prelude.{◌≡◌, [], ◌∷◌, IfSome, None, Some, not, true, false};
+ghost use Rattle.atomic_table.specs.Table.{rest};
+ghost use Rattle.two_copies.specs.Place.{AreEmpty, HasClosed, index_of, is_same, known_of, RefusesLooks, writing};
 ghost use Rattle.two_copies.specs.Seated.{IsSeated};
 ghost use Rattle.two_copies.specs.Slot.{Follows, Holds};
 ghost use Rattle.two_copies.specs.declared.place.Part.TheVariants.{Idle, Leaving, Looking, Whole};
 
-use crate::place::board::{FIRST_SLOT, WORD};
-use crate::place::{Board, Divide, Enter, Leave, PlaceSeat, Reclaim, Report, Show, Slot};
+use crate::place::board::{CLOSED, FIRST_SLOT, LOOKING, RETURNED, WORD};
+use crate::place::{
+    Board, CloseWithNone, CloseWithOther, Divide, Enter, Leave, PlaceSeat, Reclaim, Settle, Show,
+    Slot,
+};
 use crate::rule::CopyRule;
+use std::alloc::Global;
+use std::sync::Arc;
 
 fn index(slot: bool) -> usize
     ensures { result ≡ index_of slot }
@@ -38,39 +44,56 @@ pub(crate) fn divide<T, F: CopyRule<T>>(
     reader
 }
 
-/// The reader takes the newest slot, and what is in it.
-pub(crate) fn enter<T, F: CopyRule<T>>(
+/// The reader takes the newest slot, and what is in it. At a closed place it takes nothing, and from then on knows of
+/// nothing that is shown.
+pub(crate) fn enter<T: Drop, F: CopyRule<T>>(
     board: &Board<T, F>,
     seat: &mut PlaceSeat<T>,
-) -> (bool, Slot<T>)
+) -> Option<(bool, Arc<T, Global>)>
     requires seated { IsSeated seat.old.table_id board.now.shared.table_id }
-    requires idle { seat.old.me ≡ (Idle (known_of seat.old.me.0), []) }
+    requires idle { seat.old.me ≡ (Idle (known_of seat.old.me.0), seat.old.me.1) }
+    requires empty { AreEmpty seat.old.me.1 }
     ensures same { seat.new.table_id ≡ seat.old.table_id }
-    ensures looks { seat.new.me ≡ (Looking result.0 result.1, (index_of result.0, None) ∷ []) }
-    ensures holds { Holds F.holds result.1 }
-    ensures follows { Follows F.follows (known_of seat.old.me.0) result.1 }
+    ensures looks { IfSome result (λ r. seat.new.me ≡ (Looking r.0 (Some r.1), (index_of r.0, None) ∷ rest seat.new.me.1)) }
+    ensures holds { IfSome result (λ r. Holds F.holds (Some r.1)) }
+    ensures follows { IfSome result (λ r. Follows F.follows (known_of seat.old.me.0) (Some r.1)) }
+    ensures refused { result ≡ None → seat.new.me ≡ (Idle None, seat.new.me.1) }
+    ensures empty { AreEmpty seat.new.me.1 }
 {
-    let found = board.shared.fetch_add::<Enter<F>>(seat, WORD, 2);
+    let found = board.shared.fetch_add::<Enter<F>>(seat, WORD, LOOKING);
+    if found >= CLOSED {
+        board.shared.fetch_sub::<Settle>(seat, WORD, LOOKING);
+        return None;
+    }
     let slot = found % 2 == 1;
-    let shown = board.shared.exchange(seat, index(slot), None);
-    (slot, shown)
+    let taken = board.shared.exchange(seat, index(slot), None);
+    let Some(shown) = taken else { unreachable!() };
+    Some((slot, shown))
 }
 
-/// The reader gives its slot back.
-pub(crate) fn leave<T, F: CopyRule<T>>(
+/// The reader gives its slot back, with what was in it. At a closed place nobody takes it any more, so the reader keeps
+/// it and empties it.
+pub(crate) fn leave<T: Drop, F: CopyRule<T>>(
     board: &Board<T, F>,
     seat: &mut PlaceSeat<T>,
     slot: bool,
-    shown: Slot<T>,
+    shown: Arc<T, Global>,
 )
     requires seated { IsSeated seat.old.table_id board.now.shared.table_id }
-    requires looks { seat.old.me ≡ (Looking slot shown, (index_of slot, None) ∷ []) }
+    requires looks { seat.old.me ≡ (Looking slot (Some shown), (index_of slot, None) ∷ rest seat.old.me.1) }
+    requires empty { AreEmpty seat.old.me.1 }
     ensures same { seat.new.table_id ≡ seat.old.table_id }
-    ensures idle { seat.new.me ≡ (Idle shown, []) }
+    ensures idle { seat.new.me ≡ (Idle (Some shown), seat.new.me.1) }
+    ensures empty { AreEmpty seat.new.me.1 }
 {
-    let emptied = board.shared.exchange(seat, index(slot), shown);
+    let place = index(slot);
+    let emptied = board.shared.exchange(seat, place, Some(shown));
     let None = emptied else { unreachable!() };
-    let found = board.shared.fetch_sub::<Leave>(seat, WORD, 2);
+    let found = board.shared.fetch_sub::<Leave>(seat, WORD, LOOKING);
+    if found >= CLOSED {
+        drop(board.shared.exchange(seat, place, None));
+        return;
+    }
     if !is_newest(slot, found % 2 == 1) {
         report(board, seat);
     }
@@ -79,11 +102,11 @@ pub(crate) fn leave<T, F: CopyRule<T>>(
 /// The reader says that it gave back a slot which is no longer the newest.
 fn report<T, F: CopyRule<T>>(board: &Board<T, F>, seat: &mut PlaceSeat<T>)
     requires seated { IsSeated seat.old.table_id board.now.shared.table_id }
-    requires leaving { seat.old.me ≡ (Leaving (known_of seat.old.me.0), []) }
+    requires leaving { seat.old.me ≡ (Leaving (known_of seat.old.me.0), seat.old.me.1) }
     ensures same { seat.new.table_id ≡ seat.old.table_id }
-    ensures idle { seat.new.me ≡ (Idle (known_of seat.old.me.0), []) }
+    ensures idle { seat.new.me ≡ (Idle (known_of seat.old.me.0), seat.old.me.1) }
 {
-    board.shared.fetch_add::<Report>(seat, WORD, 4);
+    board.shared.fetch_add::<Settle>(seat, WORD, RETURNED);
 }
 
 /// The writer takes the slot that is not the newest, if it lies there, and empties it. Returns whether it has it.
@@ -98,7 +121,7 @@ pub(crate) fn reclaim<T: Drop, F: CopyRule<T>>(
     ensures writes { seat.new.me ≡ writing newest result (known_of seat.old.me.0) }
 {
     let found = board.shared.fetch_and::<Reclaim>(seat, WORD, 3);
-    if found < 4 {
+    if found < RETURNED {
         return false;
     }
     drop(board.shared.exchange(seat, index(!newest), None));
@@ -122,9 +145,75 @@ pub(crate) fn show<T: Drop, F: CopyRule<T>>(
     let emptied = board.shared.exchange(seat, index(!newest), next);
     let None = emptied else { unreachable!() };
     let found = board.shared.fetch_xor::<Show>(seat, WORD, 1);
-    if found >= 2 {
+    if found >= LOOKING {
         return false;
     }
     drop(board.shared.exchange(seat, index(newest), None));
     true
+}
+
+/// The writer closes the place for good: it takes each slot that the reader does not have, and empties it.
+pub(crate) fn close<T: Drop, F: CopyRule<T>>(
+    board: &Board<T, F>,
+    seat: &mut PlaceSeat<T>,
+    newest: bool,
+    has_other: bool,
+)
+    requires seated { IsSeated seat.old.table_id board.now.shared.table_id }
+    requires writes { seat.old.me ≡ writing newest has_other (known_of seat.old.me.0) }
+    ensures same { seat.new.table_id ≡ seat.old.table_id }
+    ensures closed { HasClosed seat.new.me }
+    ensures refuses { RefusesLooks (Holds F.holds) (Follows F.follows) seat.new.me.0 }
+{
+    if has_other {
+        close_with_other(board, seat, newest);
+    } else {
+        close_with_none(board, seat, newest);
+    }
+}
+
+/// The newest slot lies there unless the reader looks.
+#[tactic(auto, using(crate::proofs::Refusing::refuses_looks))]
+fn close_with_other<T: Drop, F: CopyRule<T>>(
+    board: &Board<T, F>,
+    seat: &mut PlaceSeat<T>,
+    newest: bool,
+)
+    requires seated { IsSeated seat.old.table_id board.now.shared.table_id }
+    requires writes { seat.old.me ≡ writing newest true (known_of seat.old.me.0) }
+    ensures same { seat.new.table_id ≡ seat.old.table_id }
+    ensures closed { HasClosed seat.new.me }
+    ensures refuses { RefusesLooks (Holds F.holds) (Follows F.follows) seat.new.me.0 }
+{
+    let found = board.shared.fetch_add::<CloseWithOther>(seat, WORD, CLOSED);
+    if found < LOOKING {
+        drop(board.shared.exchange(seat, index(newest), None));
+    }
+}
+
+/// Both slots lie there unless the reader looks. If it does, the other one lies there if it was returned, since the
+/// look then has the newest one; else the look has the other one.
+#[tactic(auto, using(crate::proofs::Refusing::refuses_looks))]
+fn close_with_none<T: Drop, F: CopyRule<T>>(
+    board: &Board<T, F>,
+    seat: &mut PlaceSeat<T>,
+    newest: bool,
+)
+    requires seated { IsSeated seat.old.table_id board.now.shared.table_id }
+    requires writes { seat.old.me ≡ writing newest false (known_of seat.old.me.0) }
+    ensures same { seat.new.table_id ≡ seat.old.table_id }
+    ensures closed { HasClosed seat.new.me }
+    ensures refuses { RefusesLooks (Holds F.holds) (Follows F.follows) seat.new.me.0 }
+{
+    let found = board.shared.fetch_add::<CloseWithNone>(seat, WORD, CLOSED);
+    let looks = found % RETURNED >= LOOKING;
+    if !looks {
+        drop(board.shared.exchange(seat, index(newest), None));
+        seat.turn();
+        drop(board.shared.exchange(seat, index(!newest), None));
+    } else if found < RETURNED {
+        drop(board.shared.exchange(seat, index(newest), None));
+    } else {
+        drop(board.shared.exchange(seat, index(!newest), None));
+    }
 }

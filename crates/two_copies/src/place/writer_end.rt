@@ -1,13 +1,13 @@
 //! The writer's end of a place.
-ghost use Rattle.std.specs.Prelude.{◌≡◌, true, is_none, Some, None, IfOk};
+ghost use Rattle.std.specs.Prelude.{◌≡◌, true, Some, None, IfOk};
 ghost use Rattle.std.specs.Arc.{arc_value};
-ghost use Rattle.two_copies.specs.Place.{known_of, writing};
+ghost use Rattle.two_copies.specs.Place.{IsWriterSeat};
 ghost use Rattle.two_copies.specs.Reader.{seen_by};
 ghost use Rattle.two_copies.specs.Seated.{IsSeated};
 ghost use Rattle.two_copies.specs.Slot.{Follows, Holds};
 
 use crate::place::board::lay;
-use crate::place::steps::{divide, reclaim, show};
+use crate::place::steps::{close, divide, reclaim, show};
 use crate::place::{Board, PlaceSeat, Slot};
 use crate::reader::Reader;
 use crate::rule::CopyRule;
@@ -25,11 +25,9 @@ pub(crate) struct WriterEnd<T: Drop, F: CopyRule<T>> {
     has_other: bool,
     /// What is to be shown next. Nothing, unless a publication is about to go through.
     next: Slot<T>,
-    /// Whether nothing is shown, since the copies end.
     is_closed: bool,
     ghost seated: { IsSeated seat.table_id (arc_value board).shared.table_id },
-    ghost writes: { seat.me ≡ writing newest has_other (known_of seat.me.0) },
-    ghost closed: { is_closed ≡ is_none (known_of seat.me.0) },
+    ghost writes: { IsWriterSeat is_closed newest has_other seat.me },
 }
 
 impl<T: Drop, F: CopyRule<T>> WriterEnd<T, F> {
@@ -65,10 +63,9 @@ impl<T: Drop, F: CopyRule<T>> WriterEnd<T, F> {
         ensures keeps { self.old.has_other ≡ true → result ≡ true }
         ensures next { self.new.next ≡ None }
         ensures shown { slot_at self.new ≡ slot_at self.old }
-        ensures closed { self.new.is_closed ≡ self.old.is_closed }
     {
         self.next = None;
-        if !self.has_other {
+        if !self.is_closed && !self.has_other {
             self.has_other = reclaim(&self.board, &mut self.seat, self.newest);
         }
         self.has_other
@@ -83,32 +80,28 @@ impl<T: Drop, F: CopyRule<T>> WriterEnd<T, F> {
         self.next = Some(next);
     }
 
-    /// Shows what was to be shown next, and if that is nothing, looks find that the copies have ended.
+    /// Shows what was to be shown next.
     pub(crate) fn show(&mut self)
         requires has { self.old.has_other ≡ true }
         requires holds { Holds F.holds self.old.next }
         requires follows { Follows F.follows (slot_at self.old) self.old.next }
         ensures shown { slot_at self.new ≡ self.old.next }
-        ensures closed { self.new.is_closed ≡ is_none self.old.next }
     {
         let next = mem::replace(&mut self.next, None);
-        self.is_closed = next.is_none();
         self.has_other = show(&self.board, &mut self.seat, self.newest, next);
         self.newest = !self.newest;
     }
 
-    /// Shows nothing any more, and takes both slots. Returns whether the writer has them: it does not while the reader
-    /// looks.
-    pub(crate) fn close(&mut self) -> bool
-        ensures { result ≡ true → IsClosedAt self.new }
+    /// Closes the place: a look that its reader holds goes on, and each look that begins later finds nothing.
+    pub(crate) fn close(&mut self)
+        ensures { IsClosedAt self.new }
     {
+        self.next = None;
         if !self.is_closed {
-            if !self.reclaim() {
-                return false;
-            }
-            self.show();
+            close(&self.board, &mut self.seat, self.newest, self.has_other);
+            self.has_other = false;
+            self.is_closed = true;
         }
-        self.reclaim()
     }
 
     /// Whether its reader was dropped.

@@ -1,4 +1,4 @@
-use Rattle.std.proofs.Common.{◌≡◌, ◌-◌, ◌≤◌, true, length, vec_len}
+use Rattle.std.proofs.Common.{◌≡◌, ◌-◌, ◌≤◌, length, vec_len}
 use Rattle.std.specs.List.{AllWithin}
 use Rattle.two_copies.specs.WriterEnd.{IsClosedAt}
 use Rattle.two_copies.proofs.places.close_all.Given as goal
@@ -6,7 +6,8 @@ use Rattle.two_copies.proofs.places.close_all.Given as goal
 abbrev pub invariant-loop-next : goal.invariant-loop-next
 invariant-loop-next g l = record {
   bound : l.next ≤ length l.places.items;
-  closed : l.are_closed ≡ true → AllWithin IsClosedAt l.places.items 0 l.next;
+  len : length l.places.items ≡ length l.fn.places.items;
+  closed : AllWithin IsClosedAt l.places.items 0 l.next;
 }
 
 abbrev pub decreases-loop-next : goal.decreases-loop-next

@@ -1,5 +1,7 @@
 use Rattle.std.proofs.Common.{rules, ◌<◌, length, sym, ap, ◌∙◌}
 use Rattle.std.proofs.lemmas.List.{get_or-set_same, length-set}
+use Rattle.two_copies.specs.WriterEnd.{ShowsAt}
+use Rattle.two_copies.proofs.PlacesLemmas.{all_show}
 use Rattle.two_copies.proofs.places.reclaim_all.Goals as goal
 
 pub loop-next-preserved : goal.loop-next-preserved
@@ -8,7 +10,10 @@ loop-next-preserved g c = record {
   len = search rules;
   free = search rules;
   keeps = λ before. let all = c.loop-next.invariant.keeps before in search rules;
-  shown = λ shown before. let all = c.loop-next.invariant.shown shown before in search rules;
+  shown = λ shown before.
+      let all = c.loop-next.invariant.shown shown before in
+      let here : ShowsAt shown c.index_mut.result.now = search rules in
+      all_show shown _ _ c.index_mut.result.now _ c.if-not-reclaim.ensures.shown here all;
 }
 
 pub returns-then-not-reclaim-clause-free : goal.returns-then-not-reclaim-clause-free
@@ -23,4 +28,7 @@ returns-then-not-reclaim-clause-free g c =
     )
 
 pub returns-then-not-reclaim-clause-shown : goal.returns-then-not-reclaim-clause-shown
-returns-then-not-reclaim-clause-shown g c shown before = let all = c.loop-next.invariant.shown shown before in search rules
+returns-then-not-reclaim-clause-shown g c shown before =
+    let all = c.loop-next.invariant.shown shown before in
+    let here : ShowsAt shown c.index_mut.result.now = search rules in
+    all_show shown _ _ c.index_mut.result.now _ c.if-not-reclaim.ensures.shown here all

@@ -1,6 +1,6 @@
 use Rattle.std.proofs.Common.{arith}
 use Rattle.two_copies.specs.Slot.{Follows, Holds}
-use Rattle.two_copies.proofs.Reporting.{reports}
+use Rattle.two_copies.proofs.Settling.{reports}
 use Rattle.two_copies.proofs.place.steps.report.Goals as goal
 
 pub fetch_add-requires : goal.fetch_add-requires

@@ -12,5 +12,5 @@ fetch_xor-found-requires g c =
       e.0 ∙ c.requires.seated.same,
       omega (arith, c.requires.seated.sized),
       shows (Holds rule.holds) (Follows rule.follows) (follows_through rule.follows rule.follows_through) _ _ _ c.args.newest _ c.args.next _
-          (fills_slot _ _ _ _ _ _ _ c.requires.writes c.index.ensures e.3) c.requires.holds c.requires.follows,
+          (fills_slot _ _ _ _ _ _ _ _ c.requires.writes c.index.ensures e.3) c.requires.holds c.requires.follows,
     )
