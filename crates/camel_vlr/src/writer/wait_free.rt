@@ -118,8 +118,8 @@ impl Vlr<TwoCopiesWriter> {
     /// Ends the store, and gives the records that the published updates leave. What is pending is dropped. It does not
     /// wait, and takes no memory.
     ///
-    /// A look that is held holds the end up: then it fails, and [`Closing::close`] is to be tried again. Looks that are
-    /// held go on meanwhile, and other sessions find that the store has ended.
+    /// Whether it succeeds or fails, each look that begins once it has returned fails, and looks that are held go on. If
+    /// there is one, it fails, and [`Closing::close`] is to be tried again.
     pub fn close(self) -> Result<Records, Closing>
         ensures { MatchResult result
             (λ records. records ≡ records_of self.updates.published)
@@ -138,7 +138,8 @@ impl Vlr<TwoCopiesWriter> {
         }
     }
 
-    /// Ends the store, and leaves it to the looks that are held to free what they keep.
+    /// Ends the store, as [`Vlr::close`] does, and leaves the data to the looks that are held: they go on, and each copy
+    /// is freed once the last look at it is left.
     pub fn abandon(self) {
         if let Err(closing) = self.close() {
             closing.abandon();
@@ -146,8 +147,8 @@ impl Vlr<TwoCopiesWriter> {
     }
 }
 
-/// A store whose end a look holds up. It can't be dropped: [`Closing::close`] ends it, and [`Closing::abandon`] leaves it
-/// to the looks.
+/// A store whose end a look holds up. Looks that are held go on, and each later one fails. It can't be dropped:
+/// [`Closing::close`] ends it, and [`Closing::abandon`] leaves it to the looks.
 ///
 /// Contracts see the updates that were published last.
 pub struct Closing {
@@ -179,7 +180,7 @@ impl Closing {
         }
     }
 
-    /// Leaves it to the looks that are held to free what they keep.
+    /// Leaves the data to the looks that are held: each copy is freed once the last look at it is left.
     pub fn abandon(self) {
         let Closing { ending } = self;
         ending.abandon();
