@@ -1,4 +1,4 @@
-use crate::answers::{TURNS, Told, asked, asked_once, told};
+use crate::answers::{Told, asked, asked_once, told};
 use crate::cases::{EndingCase, run_ending_case};
 use crate::given::Opened;
 use camel_criteria::Refusal;
@@ -14,20 +14,21 @@ use std::test::Fail;
 use std::thread;
 use std::thread::Threads;
 
-// How many looks are made at most for a publication to be seen.
-const MOST_LOOKS: usize = 100_000;
-
-// Whether a session sees the front before a publication of two updates, or the one after it, and nothing else. It looks
-// until a front is the one after it.
-fn sees_both_at_once<S: StoreName>(session: &mut Of<S, Session>) -> bool {
-    for _ in 0..MOST_LOOKS {
-        match front_of(session) {
-            Some(2) => return true,
-            Some(0) | None => thread::yield_now(),
-            Some(_) => return false,
+// Whether a session sees the front before a publication of two updates, or the one after it, and nothing else, until the
+// publication has returned. Then it looks once more: the front is the one after it.
+fn sees_both<S: StoreName>(session: &mut Of<S, Session>, has_published: &AtomicBool) -> bool {
+    for _ in 0..u64::MAX {
+        let is_last = has_published.load(Ordering::SeqCst);
+        let front = front_of(session);
+        if is_last {
+            return front == Some(2);
         }
+        if front != Some(0) && front != Some(2) {
+            return false;
+        }
+        thread::yield_now();
     }
-    true
+    false
 }
 
 fn front_of<S: StoreName>(session: &mut Of<S, Session>) -> Option<u64> {
@@ -39,54 +40,37 @@ fn front_of<S: StoreName>(session: &mut Of<S, Session>) -> Option<u64> {
     Some(front)
 }
 
-// One session holds a look of the front before the publication, until the other one sees the front after it. Whether
-// each front is one of these two.
+// Both sessions look before the publication, and one holds its look until the publication has returned. Whether both see
+// the front before it, and then the one after it, though they learn nothing.
 fn watches<S: StoreName>(
     mut first: Of<S, Session>,
     mut second: Of<S, Session>,
     holds: &AtomicBool,
     has_published: &AtomicBool,
 ) -> bool {
-    for _ in 0..TURNS {
-        if let Some(are_both) = watches_once(&mut first, &mut second, holds) {
-            return are_both && sees_both_until(&mut second, has_published);
-        }
-    }
+    let is_before = front_of(&mut second) == Some(0);
+    let is_held = holds_its_front(&mut first, &mut second, holds, has_published);
+    // The writer waits for this if there was no look to hold.
     holds.store(true, Ordering::SeqCst);
-    false
+    is_before && is_held && front_of(&mut first) == Some(2)
 }
 
-fn watches_once<S: StoreName>(
+// Whether a look that is held keeps the front before the publication, while the other session sees both.
+fn holds_its_front<S: StoreName>(
     first: &mut Of<S, Session>,
     second: &mut Of<S, Session>,
     holds: &AtomicBool,
-) -> Option<bool> {
+    has_published: &AtomicBool,
+) -> bool {
     let Ok(look) = first.value.look() else {
-        return None;
+        return false;
     };
-    let front = look.front();
+    let before = look.front();
     holds.store(true, Ordering::SeqCst);
-    let are_both = sees_both_at_once(second);
+    let sees_both = sees_both(second, has_published);
     let after = look.front();
     look.leave();
-    Some(are_both && front == 0 && after == 0)
-}
-
-// Whether a session sees the front before the publication, or the one after it, and nothing else. It looks until the
-// publication has returned, and once more.
-fn sees_both_until<S: StoreName>(session: &mut Of<S, Session>, has_published: &AtomicBool) -> bool {
-    for _ in 0..u64::MAX {
-        let is_last = has_published.load(Ordering::SeqCst);
-        match front_of(session) {
-            Some(0) | Some(2) | None => {}
-            Some(_) => return false,
-        }
-        if is_last {
-            return true;
-        }
-        thread::yield_now();
-    }
-    false
+    sees_both && before == 0 && after == 0
 }
 
 fn waits_for(is_so: &AtomicBool) {

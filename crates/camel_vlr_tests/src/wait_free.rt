@@ -10,6 +10,7 @@ use camel_tbcd::{Imsi, Profile};
 use camel_vlr::{Closing, Unpublished, WaitFreeLook, WaitFreeSession, WaitFreeVlr};
 use std::alloc::Global;
 use std::process::Abort;
+use std::sync::atomic::{AtomicU64, Ordering};
 use std::test::Fail;
 use std::thread::{Threads, join};
 
@@ -149,40 +150,48 @@ fn a_held_look_holds_up_the_end(rt: HostRuntime) -> Result<(), Fail> {
     Ok(())
 }
 
-// Registers and cancels a subscriber in turn, and tries to publish after each update; then until nothing is held.
-fn publishes_each(store: &mut WaitFreeVlr, imsi: Imsi) -> Option<u64> {
+// Registers and cancels a subscriber in turn, and tries to publish after each update. It keeps how many are published.
+fn publishes_each(
+    store: &mut WaitFreeVlr,
+    imsi: Imsi,
+    published: &AtomicU64,
+) -> Result<(), Refusal> {
     for update in 0..UPDATES {
         let next = if update % 2 == 0 {
             Update::Register { imsi }
         } else {
             Update::Cancel { imsi }
         };
-        store.submit(next).ok()?;
-        let _published = store.publish().is_ok();
-    }
-    for _ in 0..u64::MAX {
+        store.submit(next)?;
         if let Ok(receipt) = store.publish() {
-            return Some(receipt.front());
+            published.store(receipt.front(), Ordering::SeqCst);
         }
     }
-    None
+    Ok(())
 }
 
-// Answers a call so often, and returns the last front; none if a front is behind the one before, or if an answer is not
-// that of its front.
-fn watches(mut session: WaitFreeSession, call: &CallEvent) -> Option<u64> {
+// The front of an answer to a call; none if the answer is not that of its front.
+fn seen(session: &mut WaitFreeSession, call: &CallEvent) -> Option<u64> {
+    let answer = session.answer(call).ok()?;
+    let reason = if answer.front % 2 == 0 {
+        Reason::Unknown
+    } else {
+        Reason::NoCsi
+    };
+    (answer.outcome == Outcome::NoTrigger(reason)).then_some(answer.front)
+}
+
+// Answers a call so often, and returns the last front; none if a front is behind the one before, or behind a publication
+// that had returned, or if an answer is not that of its front.
+fn watches(session: &mut WaitFreeSession, call: &CallEvent, published: &AtomicU64) -> Option<u64> {
     let mut last: u64 = 0;
     for _ in 0..UPDATES {
-        let answer = session.answer(call).ok()?;
-        let reason = if answer.front % 2 == 0 {
-            Reason::Unknown
-        } else {
-            Reason::NoCsi
-        };
-        if answer.front < last || answer.outcome != Outcome::NoTrigger(reason) {
+        let least = published.load(Ordering::SeqCst);
+        let front = seen(session, call)?;
+        if front < last || front < least {
             return None;
         }
-        last = answer.front;
+        last = front;
     }
     Some(last)
 }
@@ -191,27 +200,48 @@ fn watches(mut session: WaitFreeSession, call: &CallEvent) -> Option<u64> {
 fn run<R: Threads + Sync>(
     rt: &R,
     store: &mut WaitFreeVlr,
-    first: WaitFreeSession,
-    second: WaitFreeSession,
+    first: &mut WaitFreeSession,
+    second: &mut WaitFreeSession,
     imsi: Imsi,
     call: &CallEvent,
-) -> (Option<u64>, (Option<u64>, Option<u64>)) {
+    published: &AtomicU64,
+) -> (Result<(), Refusal>, (Option<u64>, Option<u64>)) {
     join(
         rt,
-        || publishes_each(store, imsi),
-        || join(rt, || watches(first, call), || watches(second, call)),
+        || publishes_each(store, imsi, published),
+        || join(
+            rt,
+            || watches(first, call, published),
+            || watches(second, call, published),
+        ),
     )
 }
 
+// Behind the threads no look is held, so a publication goes through, and each session sees it.
 #[test]
 fn sessions_see_each_publication_whole(rt: HostRuntime) -> Result<(), Fail> {
     let imsi = imsi_of(1)?;
     let call = call_of(imsi)?;
-    let (mut store, first, second) = opened(rt.alloc(), UPDATES)?;
-    let (front, (one, two)) = run(&rt, &mut store, first, second, imsi, &call);
+    let (mut store, mut first, mut second) = opened(rt.alloc(), UPDATES)?;
+    let published = AtomicU64::new(0);
+    let (sent, (one, two)) = run(
+        &rt,
+        &mut store,
+        &mut first,
+        &mut second,
+        imsi,
+        &call,
+        &published,
+    );
+    let (_, _, front) = tried(&mut store);
+    let last = (seen(&mut first, &call), seen(&mut second, &call));
     store.abandon();
-    assert_eq!(rt; front, Some(UPDATES));
+    assert_eq!(rt; sent, Ok(()));
     assert!(rt; one.is_some_and(|seen| seen <= UPDATES));
     assert!(rt; two.is_some_and(|seen| seen <= UPDATES));
+    assert_eq!(rt;
+        (front, last),
+        (Some(UPDATES), (Some(UPDATES), Some(UPDATES)))
+    );
     Ok(())
 }
