@@ -150,6 +150,52 @@ fn a_held_look_holds_up_the_end(rt: HostRuntime) -> Result<(), Fail> {
     Ok(())
 }
 
+// How a store is given up while a look is held: at once, or after a close that the look holds up.
+#[derive(Clone, Copy)]
+enum Way {
+    Abandon,
+    CloseAndAbandon,
+}
+
+// The front of a look that is held while an update is published and the store is given up; none if there is no such
+// look, or if a session that begins a look then has one.
+fn last_front(
+    mut store: WaitFreeVlr,
+    session: &mut WaitFreeSession,
+    update: Update,
+    way: Way,
+) -> Option<u64> {
+    if !session.enter() {
+        store.abandon();
+        return None;
+    }
+    let is_published = store.submit(update).is_ok() && store.publish().is_ok();
+    match way {
+        Way::Abandon => store.abandon(),
+        Way::CloseAndAbandon => store.close().err()?.abandon(),
+    }
+    let front = session.front();
+    session.leave();
+    if is_published && session.look().is_err() {
+        Some(front)
+    } else {
+        None
+    }
+}
+
+#[test]
+fn a_look_beside_the_end_is_the_last_of_its_session(rt: HostRuntime) -> Result<(), Fail> {
+    let imsi = imsi_of(1)?;
+    for way in [Way::Abandon, Way::CloseAndAbandon] {
+        let (store, mut session, mut idle) = opened(rt.alloc(), 10)?;
+        let update = Update::Register { imsi };
+        assert_eq!(rt; last_front(store, &mut session, update, way), Some(0));
+        assert!(rt; session.look().is_err());
+        assert!(rt; idle.look().is_err());
+    }
+    Ok(())
+}
+
 // Registers and cancels a subscriber in turn, and tries to publish after each update. It keeps how many are published.
 fn publishes_each(
     store: &mut WaitFreeVlr,
