@@ -236,12 +236,13 @@ camel_status camel_t_criteria_at(camel_session *session, const camel_imsi *imsi,
 camel_status camel_keep(camel_session *session, const camel_imsi *imsi, camel_subscriber *subscriber, bool *is_there);
 camel_status camel_decide_kept(camel_subscriber *subscriber, const camel_event *event, camel_answer *answer);
 
-/* Ends the store and empties its handle; what is pending is dropped. CAMEL_HELD: a look is held; other sessions find
- * that the store has ended, the writer's other calls return CAMEL_WRONG_HANDLE, and this is to be called again. */
+/* Ends the store and empties its handle; what is pending is dropped. Each look that is held goes on until it is left, and
+ * no session begins another: CAMEL_NO_LOOK. CAMEL_HELD: a look is held; the writer's other calls return
+ * CAMEL_WRONG_HANDLE, and this is to be called again. */
 camel_status camel_close(camel_store *store);
 
-/* Frees what a handle of any kind holds, and empties it; an empty one stays so. A session leaves its look. A store that
- * is freed so leaves it to the looks that are held to free the data. */
+/* Frees what a handle of any kind holds, and empties it; an empty one stays so. A session leaves its look. A store ends
+ * as by camel_close, and its data are freed when the last look that is held is left. */
 void camel_free(void *handle);
 
 /* The name of a status, as in this file; "CAMEL_?" of no status. */

@@ -265,9 +265,25 @@ static void a_store_ends()
         CHECK(sessions[1].decide(event_at(2)).status() == CAMEL_NO_LOOK);
         CHECK(get(look.decide(event_at(2))).is_trigger);
     }
-    CHECK(bool(store.close()));
     CHECK(sessions[0].look().status() == CAMEL_NO_LOOK);
+    CHECK(bool(store.close()));
+    CHECK(sessions[0].decide(event_at(2)).status() == CAMEL_NO_LOOK);
     CHECK(store.submit_clear_all().status() == CAMEL_WRONG_HANDLE);
+}
+
+static void a_store_that_goes_away_ends_for_a_look()
+{
+    auto [store, sessions] = open();
+    {
+        camel::Look look = get(sessions[0].look());
+        CHECK(bool(store.submit_cancel(imsi())));
+        CHECK(bool(store.publish()));
+        store = camel::Store();
+        CHECK(get(look.decide(event_at(2))).is_trigger);
+        CHECK(sessions[1].decide(event_at(2)).status() == CAMEL_NO_LOOK);
+    }
+    CHECK(sessions[0].decide(event_at(2)).status() == CAMEL_NO_LOOK);
+    CHECK(sessions[0].look().status() == CAMEL_NO_LOOK);
 }
 
 static void threads_decide()
@@ -295,6 +311,7 @@ int main()
     what_holds_nothing_is_refused();
     no_value_is_none();
     a_store_ends();
+    a_store_that_goes_away_ends_for_a_look();
     threads_decide();
     std::puts("camel.hpp: all is as it should be");
     return 0;

@@ -97,10 +97,38 @@ fn a_look_keeps_its_data_when_a_store_is_dropped() {
     assert_eq!(session.decide(&event()), Err(Error::NoLook));
     assert_eq!(other.decide(&event()), Err(Error::NoLook));
 
-    let (store, mut session, _) = open();
+    let (mut store, mut session, mut other) = open();
     let look = session.look().unwrap();
+    store.submit(&insert(6)).unwrap();
+    store.publish().unwrap();
     drop(store);
     assert_eq!(look.decide(&event()), trigger(2, 5));
+    assert_eq!(other.decide(&event()), Err(Error::NoLook));
+    drop(look);
+    assert_eq!(session.decide(&event()), Err(Error::NoLook));
+    assert!(matches!(session.look(), Err(Error::NoLook)));
+}
+
+#[test]
+fn each_thread_finds_the_end_of_a_dropped_store() {
+    for end in 0..1000 {
+        let (mut store, mut sessions) =
+            Store::open(4, MAX_UPDATES, Profile::One, camel::random_seed()).unwrap();
+        std::thread::scope(|scope| {
+            for session in &mut sessions {
+                scope.spawn(move || {
+                    while let Ok(look) = session.look() {
+                        look.decide(&event()).unwrap();
+                    }
+                    assert_eq!(session.decide(&event()), Err(Error::NoLook));
+                });
+            }
+            for _ in 0..end % 3 {
+                let _ = store.publish();
+            }
+            drop(store);
+        });
+    }
 }
 
 #[test]

@@ -49,7 +49,8 @@ pub(crate) fn is_empty(handle: CamelHandle, alloc: Global) -> (CamelHandle, bool
 
 /// Frees what a handle holds, and leaves it empty. An empty one stays so.
 ///
-/// A store that was not closed ends too, and the looks that are held free what they keep.
+/// A store that was not closed ends too: each look that is held goes on until it is left, and no session begins another.
+/// Its data are freed when the last of them is left.
 #[unsafe(no_mangle)]
 pub extern "C" fn camel_free(alloc: Global, handle: &mut CamelHandle)
     ensures { handle.new.value ≡ None }

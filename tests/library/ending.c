@@ -1,0 +1,157 @@
+/* The end of a store, freed or closed, beside looks that are held: they finish, no new look begins, and the data are
+ * freed when the last of them is left.
+ *
+ *     ending ENDS    makes so many ends beside four threads that decide and look */
+#include "check.h"
+
+#include <malloc.h>
+#include <pthread.h>
+#include <stdatomic.h>
+
+enum { SESSIONS = 5, SUBSCRIBERS = 1000, THREADS = 4 };
+
+/* A store with so many subscribers, published. */
+static void open_filled(camel_store *store, camel_session *sessions, size_t count, unsigned subscribers)
+{
+    camel_row row = row_of(2, 7);
+
+    RETURNS(CAMEL_OK, camel_open(store, sessions, count, INT64_MAX, 1, 0x5eed));
+    for (unsigned number = 0; number < subscribers; number++) {
+        camel_imsi imsi = imsi_of(number);
+        RETURNS(CAMEL_OK, camel_submit_register(store, &imsi));
+        RETURNS(CAMEL_OK, insert(store, number, &row, 1, NULL, 0, NULL, 0, NULL, 0));
+    }
+    RETURNS(CAMEL_OK, camel_publish(store));
+}
+
+/* A publication of one update more. */
+static void publish(camel_store *store)
+{
+    camel_imsi imsi = imsi_of(0);
+
+    RETURNS(CAMEL_OK, camel_submit_register(store, &imsi));
+    RETURNS(CAMEL_OK, camel_publish(store));
+}
+
+static void finds_the_end(camel_session *session)
+{
+    camel_event event = event_of(1, 2);
+    camel_answer answer;
+
+    for (int time = 0; time < 3; time++) {
+        RETURNS(CAMEL_NO_LOOK, camel_decide(session, &event, &answer));
+        RETURNS(CAMEL_NO_LOOK, camel_look(session));
+    }
+}
+
+/* A store ends while a look is held at one of its places, with publications before it and after it began. */
+static void ends_beside_a_look(size_t holder, unsigned before, unsigned after, bool is_closed)
+{
+    camel_store store = CAMEL_EMPTY;
+    camel_session sessions[SESSIONS] = { CAMEL_EMPTY };
+    camel_event event = event_of(1, 2);
+    camel_answer answer;
+    size_t with_data, without;
+
+    open_filled(&store, sessions, SESSIONS, SUBSCRIBERS);
+    for (unsigned at = 0; at < before; at++)
+        publish(&store);
+    RETURNS(CAMEL_OK, camel_look(&sessions[holder]));
+    for (unsigned at = 0; at < after; at++)
+        publish(&store);
+    if (is_closed)
+        RETURNS(CAMEL_HELD, camel_close(&store));
+    else
+        camel_free(&store);
+
+    for (size_t at = 0; at < SESSIONS; at++)
+        if (at != holder)
+            finds_the_end(&sessions[at]);
+    RETURNS(CAMEL_OK, camel_decide(&sessions[holder], &event, &answer));
+    IS(answer.is_trigger && answer.front == 2 * SUBSCRIBERS + before);
+    with_data = mallinfo2().uordblks;
+    RETURNS(CAMEL_OK, camel_leave(&sessions[holder]));
+    finds_the_end(&sessions[holder]);
+    if (is_closed)
+        RETURNS(CAMEL_OK, camel_close(&store));
+    /* What is left is the sessions' own: a subscriber takes more than a hundred octets. */
+    without = mallinfo2().uordblks;
+    IS(with_data - without > 100 * SUBSCRIBERS);
+    for (size_t at = 0; at < SESSIONS; at++)
+        camel_free(&sessions[at]);
+    IS(without - mallinfo2().uordblks < 20000);
+}
+
+/* What the ending thread and the threads that decide have in common. */
+static pthread_barrier_t barrier;
+static camel_session shared[THREADS];
+static atomic_uint late;
+
+/* Decides until the store has ended, by looks that are held for a while or by none, and then once more. */
+static void *decide_to_the_end(void *given)
+{
+    size_t at = *(const size_t *)given;
+    camel_event event = event_of(1, 2);
+
+    for (;;) {
+        camel_status status = CAMEL_OK;
+        camel_answer answer;
+
+        pthread_barrier_wait(&barrier);
+        if (!shared[at].is_full)
+            return NULL;
+        for (unsigned turn = 0; status == CAMEL_OK && turn < 10000000; turn++) {
+            if ((turn + at) % 4 == 0 && (status = camel_look(&shared[at])) != CAMEL_OK)
+                break;
+            status = camel_decide(&shared[at], &event, &answer);
+            if (camel_leave(&shared[at]) != CAMEL_OK)
+                status = CAMEL_WRONG_HANDLE;
+        }
+        if (status != CAMEL_NO_LOOK || camel_decide(&shared[at], &event, &answer) != CAMEL_NO_LOOK)
+            late++;
+        pthread_barrier_wait(&barrier);
+    }
+}
+
+static void ends_beside_threads(unsigned ends)
+{
+    static const size_t places[THREADS] = { 0, 1, 2, 3 };
+    pthread_t threads[THREADS];
+
+    IS(pthread_barrier_init(&barrier, NULL, THREADS + 1) == 0);
+    for (size_t at = 0; at < THREADS; at++)
+        IS(pthread_create(&threads[at], NULL, decide_to_the_end, (void *)&places[at]) == 0);
+    for (unsigned end = 0; end < ends; end++) {
+        camel_store store = CAMEL_EMPTY;
+
+        open_filled(&store, shared, THREADS, 2);
+        pthread_barrier_wait(&barrier);
+        for (unsigned turn = 0; turn < end % 3; turn++)
+            (void)camel_publish(&store);
+        for (volatile unsigned wait = end * 37 % 2000; wait > 0; wait--) {}
+        if (end % 2 == 0)
+            while (camel_close(&store) == CAMEL_HELD) {}
+        camel_free(&store);
+        pthread_barrier_wait(&barrier);
+        for (size_t at = 0; at < THREADS; at++)
+            camel_free(&shared[at]);
+    }
+    pthread_barrier_wait(&barrier);
+    for (size_t at = 0; at < THREADS; at++)
+        IS(pthread_join(threads[at], NULL) == 0);
+    IS(late == 0);
+}
+
+int main(int count, char **words)
+{
+    static const size_t holders[] = { 0, SESSIONS / 2, SESSIONS - 1 };
+
+    for (size_t at = 0; at < 3; at++)
+        for (unsigned before = 0; before < 3; before++)
+            for (unsigned after = 0; after < 2; after++) {
+                ends_beside_a_look(holders[at], before, after, false);
+                ends_beside_a_look(holders[at], before, after, true);
+            }
+    ends_beside_threads(count > 1 ? (unsigned)atoi(words[1]) : 10000);
+    return ended("ending.c");
+}
