@@ -195,7 +195,7 @@ int main(void)
         perror("getrandom");
         return 1;
     }
-    OK(camel_open(&store, sessions, THREADS + 1, INT64_MAX, 1, seed));
+    OK(camel_open(&store, sessions, THREADS + 1, CAMEL_MAX_UPDATES, CAMEL_PROFILE_1, seed));
     OK(camel_imsi_of_tbcd(IMSI, sizeof IMSI, &imsi));
     OK(camel_imsi_of_tbcd(OTHER, sizeof OTHER, &other));
     OK(camel_submit_register(&store, &imsi));

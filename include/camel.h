@@ -31,9 +31,21 @@
 extern "C" {
 #endif
 
-/* The version of the layouts and of the functions below. camel_abi_version returns that of the library: compare the two
- * once, before all other calls. */
+/* The version of this header, and that of the layouts and of the functions below. camel_abi_version returns the latter of
+ * the library: compare the two once, before all other calls. */
+#define CAMEL_VERSION "0.5.0"
 #define CAMEL_ABI_VERSION 1
+
+/* The most sessions that a store has, and the most updates that it takes in its life. */
+#define CAMEL_MAX_SESSIONS 64
+#define CAMEL_MAX_UPDATES INT64_MAX
+
+/* What a call returns is to be looked at, and no pointer that is passed is null. */
+#if defined(__GNUC__)
+#define CAMEL_CALL __attribute__((warn_unused_result, nonnull))
+#else
+#define CAMEL_CALL
+#endif
 
 /* What a call returns: CAMEL_OK, or why it did nothing. */
 typedef uint32_t camel_status;
@@ -133,13 +145,24 @@ typedef struct {
     uint8_t cause;
 } camel_event;
 
+/* The detection points at which calls are asked (TS 23.078), and the profiles, of which the second also compares the
+ * numbering plans of listed numbers and destinations. */
+enum {
+    CAMEL_DP_COLLECTED_INFO = 2,
+    CAMEL_DP_ROUTE_SELECT_FAILURE = 4,
+    CAMEL_DP_TERM_ATTEMPT_AUTHORIZED = 12,
+    CAMEL_DP_T_BUSY = 13,
+    CAMEL_DP_T_NO_ANSWER = 14
+};
+enum { CAMEL_PROFILE_1 = 1, CAMEL_PROFILE_2 = 2 };
+
 /* Why no service is invoked. */
 enum {
-    CAMEL_UNKNOWN = 1,   /* there is no record of the IMSI */
-    CAMEL_NO_CSI = 2,    /* the CSI is not stored */
-    CAMEL_NOT_ARMED = 3, /* the CSI has no row of the detection point */
-    CAMEL_EMERGENCY = 4, /* the call is an emergency call */
-    CAMEL_CRITERIA = 5   /* the criteria are not met */
+    CAMEL_REASON_UNKNOWN = 1,   /* there is no record of the IMSI */
+    CAMEL_REASON_NO_CSI = 2,    /* the CSI is not stored */
+    CAMEL_REASON_NOT_ARMED = 3, /* the CSI has no row of the detection point */
+    CAMEL_REASON_EMERGENCY = 4, /* the call is an emergency call */
+    CAMEL_REASON_CRITERIA = 5   /* the criteria are not met */
 };
 
 /* An answer. If a service is invoked, key, scf, dp and is_release are those of the row, and reason is 0; else they are
@@ -161,14 +184,19 @@ uint32_t camel_abi_version(void);
 uint32_t camel_layouts(uint32_t *sizes, size_t size_count);
 
 /* Data, made once per call. CAMEL_MALFORMED: they are none, and what was to be written is as before. */
+CAMEL_CALL
 camel_status camel_imsi_of_tbcd(const uint8_t *octets, size_t octet_count, camel_imsi *imsi);
+CAMEL_CALL
 camel_status camel_imsi_of_digits(const uint8_t *digits, size_t digit_count, camel_imsi *imsi); /* characters 0 to 9 */
+CAMEL_CALL
 camel_status camel_address_of(const uint8_t *octets, size_t octet_count, camel_address *address);
+CAMEL_CALL
 camel_status camel_isdn_address_of(const uint8_t *octets, size_t octet_count, camel_isdn_address *address);
 
 /* Opens a store that takes at most `limit` updates in its life (1 to 2^63 - 1; a great limit takes no memory), with 1
  * to 64 sessions, which decide under profile 1 or 2. The seed is secret and random. All handles are filled, or none is:
  * CAMEL_MALFORMED, CAMEL_FULL_HANDLE, CAMEL_OUT_OF_MEMORY, CAMEL_NO_PLACE. */
+CAMEL_CALL
 camel_status camel_open(camel_store *store, camel_session *sessions, size_t session_count, uint64_t limit,
                         uint8_t profile, uint64_t seed);
 
@@ -176,14 +204,19 @@ camel_status camel_open(camel_store *store, camel_session *sessions, size_t sess
  * or CAMEL_DATA_MISSING for its data, which are looked at first, and CAMEL_UNIDENTIFIED_SUBSCRIBER, CAMEL_DATA_MISSING,
  * CAMEL_HISTORY_FULL or CAMEL_OUT_OF_MEMORY if the store rejects it. The pointer of a list that an Insert does not send
  * is not null either. */
+CAMEL_CALL
 camel_status camel_submit_register(camel_store *store, const camel_imsi *imsi);
+CAMEL_CALL
 camel_status camel_submit_insert(camel_store *store, const camel_imsi *imsi, const camel_insert *sent,
                                  const camel_row *o, size_t o_count,
                                  const camel_o_criteria *o_criteria, size_t o_criteria_count,
                                  const camel_row *vt, size_t vt_count,
                                  const camel_t_criteria *t_criteria, size_t t_criteria_count);
+CAMEL_CALL
 camel_status camel_submit_delete(camel_store *store, const camel_imsi *imsi, const camel_withdrawal *what);
+CAMEL_CALL
 camel_status camel_submit_cancel(camel_store *store, const camel_imsi *imsi);
+CAMEL_CALL
 camel_status camel_submit_clear_all(camel_store *store);
 
 /* Submits what an operation of MAP brings, by the octets of its argument: the parameter of the TCAP invoke, in BER. A
@@ -192,40 +225,51 @@ camel_status camel_submit_clear_all(camel_store *store);
  * not taken, the call returns CAMEL_MALFORMED_OCTETS to CAMEL_OTHER_IMSI, CAMEL_DATA_MISSING or
  * CAMEL_UNEXPECTED_DATA_VALUE, and place is the octet, from 0, at which its first fault is. Else place is 0.
  * CAMEL_MALFORMED is of the operation or the IMSI, and a store rejects an update as above. */
+CAMEL_CALL
 camel_status camel_submit_map(camel_store *store, uint8_t operation, const uint8_t *imsi, size_t imsi_octet_count,
                               const uint8_t *argument, size_t argument_octet_count, uint64_t *place);
 
 /* Publishes all that is pending, also if nothing is. CAMEL_HELD: a look that began before the last publication is held.
  * CAMEL_OUT_OF_MEMORY. After both all is pending as before. */
+CAMEL_CALL
 camel_status camel_publish(camel_store *store);
 
 /* How many updates are published, and how many are pending. */
+CAMEL_CALL
 camel_status camel_published(camel_store *store, uint64_t *count);
+CAMEL_CALL
 camel_status camel_pending(camel_store *store, uint64_t *count);
 
 /* Fills a handle with a receipt of all that is published. A session that learns it sees at least that from then on; any
  * number of sessions may learn it, before it is freed. camel_learn returns CAMEL_HELD while a look has begun. */
+CAMEL_CALL
 camel_status camel_receipt_of(camel_store *store, camel_receipt *receipt);
+CAMEL_CALL
 camel_status camel_learn(camel_session *session, camel_receipt *receipt);
 
 /* Decides an event, over the look that has begun, or else by a look of its own. CAMEL_MALFORMED: the event is none.
  * CAMEL_NO_LOOK: the store has ended; so it is with the other calls that look. */
+CAMEL_CALL
 camel_status camel_decide(camel_session *session, const camel_event *event, camel_answer *answer);
 
 /* Begins a look, so that all calls until camel_leave are over one front. It lets the next publication go through, and
  * holds up the one after it. CAMEL_HELD: a look has begun already, and goes on. camel_leave of a session without a look
  * returns CAMEL_OK. */
+CAMEL_CALL
 camel_status camel_look(camel_session *session);
 camel_status camel_leave(camel_session *session);
 
 /* The row of a subscriber at a detection point, over the look that has begun, or else by a look of its own. is_there
  * tells whether there is one; if not, the row is as before. Its default call handling is 0, continue, or 1, release. */
+CAMEL_CALL
 camel_status camel_row_at(camel_session *session, const camel_imsi *imsi, uint8_t dp, camel_row *row, bool *is_there);
 
 /* The criteria of a subscriber at a detection point of the O-CSI, or of the VT-CSI, as camel_row_at. They are there even
  * if there is no row, and have no effect then. What is behind the items of a list, and what is absent, is 0. */
+CAMEL_CALL
 camel_status camel_o_criteria_at(camel_session *session, const camel_imsi *imsi, uint8_t dp,
                                  camel_o_criteria *criteria, bool *is_there);
+CAMEL_CALL
 camel_status camel_t_criteria_at(camel_session *session, const camel_imsi *imsi, uint8_t dp,
                                  camel_t_criteria *criteria, bool *is_there);
 
@@ -233,12 +277,15 @@ camel_status camel_t_criteria_at(camel_session *session, const camel_imsi *imsi,
  * points; is_there tells whether there is a record, and if there is none, the handle stays empty. What is decided by it
  * has the front of the copy. The IMSI of an event is not compared: events are those of the same subscriber. If memory
  * is refused, the session may have seen a later front. */
+CAMEL_CALL
 camel_status camel_keep(camel_session *session, const camel_imsi *imsi, camel_subscriber *subscriber, bool *is_there);
+CAMEL_CALL
 camel_status camel_decide_kept(camel_subscriber *subscriber, const camel_event *event, camel_answer *answer);
 
 /* Ends the store and empties its handle; what is pending is dropped. Each look that is held goes on until it is left, and
  * no session begins another: CAMEL_NO_LOOK. CAMEL_HELD: a look is held; the writer's other calls return
  * CAMEL_WRONG_HANDLE, and this is to be called again. */
+CAMEL_CALL
 camel_status camel_close(camel_store *store);
 
 /* Frees what a handle of any kind holds, and empties it; an empty one stays so. A session leaves its look. A store ends
@@ -269,6 +316,19 @@ static inline const char *camel_status_name(camel_status status)
     case CAMEL_NO_IMSI: return "CAMEL_NO_IMSI";
     case CAMEL_OTHER_IMSI: return "CAMEL_OTHER_IMSI";
     default: return "CAMEL_?";
+    }
+}
+
+/* The name of a reason, as in this file; "CAMEL_REASON_?" of none. */
+static inline const char *camel_reason_name(uint8_t reason)
+{
+    switch (reason) {
+    case CAMEL_REASON_UNKNOWN: return "CAMEL_REASON_UNKNOWN";
+    case CAMEL_REASON_NO_CSI: return "CAMEL_REASON_NO_CSI";
+    case CAMEL_REASON_NOT_ARMED: return "CAMEL_REASON_NOT_ARMED";
+    case CAMEL_REASON_EMERGENCY: return "CAMEL_REASON_EMERGENCY";
+    case CAMEL_REASON_CRITERIA: return "CAMEL_REASON_CRITERIA";
+    default: return "CAMEL_REASON_?";
     }
 }
 

@@ -26,8 +26,8 @@ namespace camel {
 inline constexpr camel_status OTHER_STORE = 204;   /* the receipt is of another store than the session */
 inline constexpr camel_status OTHER_VERSION = 205; /* the library has other layouts than camel.h */
 
-inline constexpr size_t MAX_SESSIONS = 64;
-inline constexpr uint64_t MAX_UPDATES = INT64_MAX;
+inline constexpr size_t MAX_SESSIONS = CAMEL_MAX_SESSIONS;
+inline constexpr uint64_t MAX_UPDATES = CAMEL_MAX_UPDATES;
 
 /* The name of a status, as in camel.h or here. */
 inline const char *status_name(camel_status status) noexcept

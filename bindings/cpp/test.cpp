@@ -129,14 +129,14 @@ static void a_session_reads()
     camel_answer answer = get(session.decide(event_at(2)));
     CHECK(answer.is_trigger && answer.key == 7 && answer.front == 2 && answer.scf.length == 3);
     answer = get(session.decide(event_at(4)));
-    CHECK(!answer.is_trigger && answer.reason == CAMEL_NOT_ARMED);
+    CHECK(!answer.is_trigger && answer.reason == CAMEL_REASON_NOT_ARMED);
     camel_event event = event_at(2);
     event.is_forwarded = true;
-    CHECK(get(session.decide(event)).reason == CAMEL_CRITERIA);
+    CHECK(get(session.decide(event)).reason == CAMEL_REASON_CRITERIA);
     CHECK(get(session.decide(event_at(13))).key == 7);
     event = event_at(13);
     event.cause = 18;
-    CHECK(get(session.decide(event)).reason == CAMEL_CRITERIA);
+    CHECK(get(session.decide(event)).reason == CAMEL_REASON_CRITERIA);
     CHECK(get(session.row_at(imsi(), 13))->key == 7);
     CHECK(!get(session.row_at(imsi(), 4)));
     CHECK(get(session.o_criteria_at(imsi(), 2))->has_call_type);
@@ -183,7 +183,7 @@ static void octets_are_submitted()
     camel::MapResult gone = store.submit_map(Operation::InsertSubscriberData, dialogue, argument);
     CHECK(gone.status() == CAMEL_UNIDENTIFIED_SUBSCRIBER && gone.place() == 0);
     CHECK(bool(sessions[0].learn(get(store.publish()))));
-    CHECK(get(sessions[0].decide(event_at(2))).reason == CAMEL_UNKNOWN);
+    CHECK(get(sessions[0].decide(event_at(2))).reason == CAMEL_REASON_UNKNOWN);
 }
 
 static void a_receipt_of_another_store_is_refused()
@@ -216,7 +216,7 @@ static void a_look_is_of_one_front()
     CHECK(bool(look.leave()));
     CHECK(look.decide(event_at(2)).status() == CAMEL_WRONG_HANDLE);
     CHECK(bool(sessions[0].learn(get(store.publish()))));
-    CHECK(get(sessions[0].decide(event_at(2))).reason == CAMEL_UNKNOWN);
+    CHECK(get(sessions[0].decide(event_at(2))).reason == CAMEL_REASON_UNKNOWN);
     CHECK(get(kept->decide(event_at(13))).key == 7);
 }
 

@@ -15,7 +15,7 @@ static void open_filled(camel_store *store, camel_session *sessions, size_t coun
 {
     camel_row row = row_of(2, 7);
 
-    RETURNS(CAMEL_OK, camel_open(store, sessions, count, INT64_MAX, 1, 0x5eed));
+    RETURNS(CAMEL_OK, camel_open(store, sessions, count, CAMEL_MAX_UPDATES, 1, 0x5eed));
     for (unsigned number = 0; number < subscribers; number++) {
         camel_imsi imsi = imsi_of(number);
         RETURNS(CAMEL_OK, camel_submit_register(store, &imsi));
@@ -127,7 +127,7 @@ static void ends_beside_threads(unsigned ends)
         open_filled(&store, shared, THREADS, 2);
         pthread_barrier_wait(&barrier);
         for (unsigned turn = 0; turn < end % 3; turn++)
-            (void)camel_publish(&store);
+            IS(camel_publish(&store) != CAMEL_OUT_OF_MEMORY);
         for (volatile unsigned wait = end * 37 % 2000; wait > 0; wait--) {}
         if (end % 2 == 0)
             while (camel_close(&store) == CAMEL_HELD) {}

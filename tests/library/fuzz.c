@@ -426,7 +426,7 @@ static void f_decide_kept(void)
     bool is_decided;
     WRITES(is_decided, answer, OK | MALFORMED | WRONG_HANDLE,
            camel_decide_kept(AS(subscriber, slot), at_edge(0, &event, sizeof event), answer));
-    IS(!is_decided || (is_whole(answer) && answer->front <= *published_of(slot) && answer->reason != CAMEL_UNKNOWN));
+    IS(!is_decided || (is_whole(answer) && answer->front <= *published_of(slot) && answer->reason != CAMEL_REASON_UNKNOWN));
 }
 
 static void f_close(void)

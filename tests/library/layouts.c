@@ -136,12 +136,12 @@ static void fields_come_back(camel_store *store, camel_session *session)
 static void fields_of_events(camel_session *session)
 {
     struct { camel_event event; bool is_trigger; uint32_t key; uint8_t reason; } cases[] = {
-        { event_of(1, 2), true, 100, 0 },  { event_of(1, 2), false, 0, CAMEL_CRITERIA },
-        { event_of(1, 2), false, 0, CAMEL_EMERGENCY }, { event_of(1, 2), false, 0, CAMEL_CRITERIA },
-        { event_of(1, 4), true, 101, 0 },  { event_of(1, 4), false, 0, CAMEL_CRITERIA },
+        { event_of(1, 2), true, 100, 0 },  { event_of(1, 2), false, 0, CAMEL_REASON_CRITERIA },
+        { event_of(1, 2), false, 0, CAMEL_REASON_EMERGENCY }, { event_of(1, 2), false, 0, CAMEL_REASON_CRITERIA },
+        { event_of(1, 4), true, 101, 0 },  { event_of(1, 4), false, 0, CAMEL_REASON_CRITERIA },
         { event_of(1, 12), true, 102, 0 }, { event_of(1, 13), true, 103, 0 },
-        { event_of(1, 13), false, 0, CAMEL_CRITERIA }, { event_of(1, 14), false, 0, CAMEL_CRITERIA },
-        { event_of(1, 14), true, 104, 0 }, { event_of(2, 2), false, 0, CAMEL_UNKNOWN },
+        { event_of(1, 13), false, 0, CAMEL_REASON_CRITERIA }, { event_of(1, 14), false, 0, CAMEL_REASON_CRITERIA },
+        { event_of(1, 14), true, 104, 0 }, { event_of(2, 2), false, 0, CAMEL_REASON_UNKNOWN },
     };
     cases[1].event.is_forwarded = true;
     cases[2].event.basic.code = 0x12; /* emergency calls */

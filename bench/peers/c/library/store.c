@@ -111,7 +111,7 @@ struct outcome store_decide(struct session *session, const struct call *call)
     expect_ok(camel_decide(&session->handle, &call->event, &answer));
     /* The library has the reasons in the order in which the workload has them. */
     if (!answer.is_trigger)
-        return (struct outcome){ .kind = (enum kind)(UNKNOWN + answer.reason - CAMEL_UNKNOWN) };
+        return (struct outcome){ .kind = (enum kind)(UNKNOWN + answer.reason - CAMEL_REASON_UNKNOWN) };
     return (struct outcome){
         .kind = TRIGGER,
         .row = {
