@@ -1,4 +1,4 @@
-use crate::sum::{SumLook, SumReader, Sums, end, look_once, publish, sums};
+use crate::sum::{SumLook, SumReader, Sums, end, end_beside_a_look, look_once, publish, sums};
 use std::process::Abort;
 use std::test::Fail;
 
@@ -19,10 +19,7 @@ fn ends_after_the_look<R: Abort>(
     look: SumLook,
     idle: SumReader,
 ) -> (u64, u64) {
-    let ending = match copies.end() {
-        Ok(_) => panic!(rt; "the look is held"),
-        Err(ending) => ending,
-    };
+    let ending = end_beside_a_look(rt, copies);
     let meanwhile = look.get().total();
     assert!(rt; look_once(idle).is_none());
     let ending = match ending.end() {

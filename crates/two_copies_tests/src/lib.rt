@@ -4,6 +4,10 @@
 #[cfg(test)]
 mod ending;
 #[cfg(test)]
+mod freeing;
+#[cfg(test)]
+mod held_looks;
+#[cfg(test)]
 mod looking;
 #[cfg(test)]
 mod places;

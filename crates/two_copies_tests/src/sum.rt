@@ -4,7 +4,7 @@ ghost use Rattle.two_copies.specs.Reader.{seen_by, shown_in};
 
 use std::alloc::{AllocError, Global};
 use std::process::Abort;
-use two_copies::{Apply, Copies, CopyRule, Look, Reader, Unpublished};
+use two_copies::{Apply, Copies, CopyRule, Ending, Look, Reader, Unpublished};
 
 /// The sum. It is written twice, one after the other, so that it can say whether it is whole, and it may be told to
 /// refuse some operations as if memory was refused.
@@ -80,6 +80,8 @@ pub type SumReader = Reader<Sum, Rises>;
 
 pub type SumLook = Look<Sum, Rises>;
 
+pub type SumEnding = Ending<Sum, Rises>;
+
 /// Two equal sums, which refuse so often.
 pub fn sums(alloc: Global, total: u64, refusals: u64) -> Result<Sums, AllocError> {
     Sums::new(alloc, Sum::new(total, 0), Sum::new(total, refusals))
@@ -101,6 +103,43 @@ pub fn end<R: Abort>(rt: &R, sums: Sums) -> u64 {
         Ok(sum) => sum.total(),
         Err(_ending) => panic!(rt; "a look holds up the end"),
     }
+}
+
+/// Three readers, whose places lie in this order.
+pub fn three_readers(sums: &mut Sums) -> Option<(SumReader, SumReader, SumReader)> {
+    Some((
+        sums.reader().ok()?,
+        sums.reader().ok()?,
+        sums.reader().ok()?,
+    ))
+}
+
+/// Pushes 1 and publishes it, so often.
+pub fn publish_ones(sums: &mut Sums, count: u64) -> Option<()> {
+    for _ in 0..count {
+        sums.push(1).ok()?;
+        publish(sums).ok()?;
+    }
+    Some(())
+}
+
+/// Ends the copies while a look holds up the end.
+pub fn end_beside_a_look<R: Abort>(rt: &R, sums: Sums) -> SumEnding {
+    match sums.end() {
+        Ok(_) => panic!(rt; "a look is held"),
+        Err(ending) => ending,
+    }
+}
+
+/// Whether each of many looks finds that the copies have ended.
+pub fn finds_the_end(mut reader: SumReader) -> bool {
+    for _ in 0..100u64 {
+        match reader.look() {
+            Ok(_look) => return false,
+            Err(same) => reader = same,
+        }
+    }
+    true
 }
 
 /// Looks once.

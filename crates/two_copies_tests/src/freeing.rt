@@ -1,0 +1,102 @@
+//! When the copies are freed.
+
+use std::alloc::{AllocError, Global};
+use std::process::Abort;
+use std::sync::Arc;
+use std::test::Fail;
+use two_copies::{Apply, Copies, CopyRule, Look, Reader};
+
+// A value that has a share of a token as long as it is there.
+#[derive(Drop)]
+struct Holder {
+    token: Arc<u64, Global>,
+}
+
+impl Apply<u64> for Holder {
+    type State = u64;
+
+    ghost state = { λ _. 0 };
+
+    ghost applied = { λ state _. state };
+
+    fn apply(&mut self, _operation: &u64) -> Result<(), AllocError> {
+        Ok(())
+    }
+}
+
+// Any value may be shown after any other.
+struct Any;
+
+impl CopyRule<Holder> for Any {
+    ghost holds = { λ _. Unit {0} };
+
+    ghost follows = { λ _ _. Unit {0} };
+
+    ghost follows_itself = { λ _. tt };
+
+    ghost follows_through = { λ _ _ _ _ _. tt };
+}
+
+type Holders = Copies<Holder, u64, Any>;
+
+fn holders(alloc: Global, token: &Arc<u64, Global>) -> Result<Holders, AllocError> {
+    let first = Holder {
+        token: Arc::try_clone(token)?,
+    };
+    let second = Holder {
+        token: Arc::try_clone(token)?,
+    };
+    Holders::new(alloc, first, second)
+}
+
+// A look that is held, beside a reader that does not look, and then so many publications.
+fn look_beside(
+    copies: &mut Holders,
+    during: u64,
+) -> Option<(Look<Holder, Any>, Reader<Holder, Any>)> {
+    let idle = copies.reader().ok()?;
+    let look = copies.reader().ok()?.look().ok()?;
+    for _ in 0..during {
+        copies.publish().ok()?;
+    }
+    Some((look, idle))
+}
+
+// How many copies are there: before the end, after it during the look, and once the look has left, while both readers
+// are there.
+fn counts<R: Abort>(
+    rt: &R,
+    mut copies: Holders,
+    token: &Arc<u64, Global>,
+    during: u64,
+) -> [usize; 3] {
+    let Some((look, idle)) = look_beside(&mut copies, during) else {
+        panic!(rt; "no look")
+    };
+    let before = copies_of(token);
+    match copies.end() {
+        Ok(_) => panic!(rt; "the look is held"),
+        Err(ending) => ending.abandon(),
+    }
+    let beside = copies_of(token);
+    let reader = look.leave();
+    let after = copies_of(token);
+    drop(reader);
+    drop(idle);
+    [before, beside, after]
+}
+
+// All shares but that of the test.
+fn copies_of(token: &Arc<u64, Global>) -> usize {
+    Arc::strong_count(token).saturating_sub(1)
+}
+
+#[test]
+fn abandoned_copies_are_freed_when_the_last_look_is_left(rt: HostRuntime) -> Result<(), Fail> {
+    for during in 0..2u64 {
+        let token = Arc::new(rt.alloc(), 0)?;
+        let copies = holders(rt.alloc(), &token)?;
+        assert!(rt; counts(&rt, copies, &token, during) == [2, 1, 0]);
+    }
+    Ok(())
+}
