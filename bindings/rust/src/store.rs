@@ -165,8 +165,8 @@ impl Store {
     /// Ends the store; what is pending is dropped. Sessions find then that it has ended ([`Error::NoLook`]).
     ///
     /// # Errors
-    /// A look is held: the [`Closing`] is to be closed again, or dropped, which leaves the data to the look. The other
-    /// sessions find that the store has ended.
+    /// A look is held: the [`Closing`] is to be closed again, or dropped, which leaves the data to the look. Each look
+    /// that begins later finds that the store has ended.
     pub fn close(self) -> Result<(), Closing> {
         // SAFETY: the handle is fit for a call, as `Owned` says. After an error it is full still, and goes on into the
         // Closing.
