@@ -1,9 +1,9 @@
 # `make` lists the targets: a line `## ` says what the target below it does, and how long that takes. Which tools each
 # target runs by, and which targets are the parts of `make test`, stands in .ci/parts.
 
-# How long what takes, on four cores: to prove and build a program, to prove and build camel_explain, and all tests.
+# How long what takes, on four cores: to prove and build a program, one that takes longer, and all tests.
 BUILD_TIME := about 14 minutes the first time
-EXPLAIN_TIME := up to 25 minutes the first time
+LONG_TIME := up to 25 minutes the first time
 TEST_TIME := about an hour the first time
 
 SCRIPT ?= examples/first-call.csv
@@ -26,10 +26,10 @@ OPTIONS = --limit "$$LIMIT" $(if $(THREADS),--threads "$$THREADS") $(if $(PROFIL
 
 # Prints what its line says of a target, or of each. The name of a time stands for its value there.
 define targets
-@awk -v wanted='$(1)' -v build='$(BUILD_TIME)' -v explain='$(EXPLAIN_TIME)' -v test='$(TEST_TIME)' '\
+@awk -v wanted='$(1)' -v build='$(BUILD_TIME)' -v explain='$(LONG_TIME)' -v test='$(TEST_TIME)' '\
 	/^## / { \
 		use = substr($$0, 4); \
-		sub(/BUILD_TIME/, build, use); sub(/EXPLAIN_TIME/, explain, use); sub(/TEST_TIME/, test, use); next } \
+		sub(/BUILD_TIME/, build, use); sub(/LONG_TIME/, explain, use); sub(/TEST_TIME/, test, use); next } \
 	use && match($$0, /^[a-z-]+:/) { \
 		name = substr($$0, 1, RLENGTH - 1); \
 		if (!wanted) printf "make %-16s %s\n", name, use; \
@@ -78,7 +78,7 @@ $(PROGRAM) $(BENCH) $(REFUSALS) $(MAP_CHECK) $(EXPLAIN): $$(call sources,$$(@F))
 	@.ci/build $(@F)
 	@touch $@
 
-$(EXPLAIN): BUILD_TIME = $(EXPLAIN_TIME)
+$(EXPLAIN): BUILD_TIME = $(LONG_TIME)
 
 # The output comes at the end, and is at most 1 MiB; the program has 60 seconds. `.ci/try` ends with the program's
 # status, or with 125 if it gave none. `make` ends with status 2 if that is not 0, and names it.
@@ -95,7 +95,7 @@ replay: script $(PROGRAM)
 try-explain: script begin-$$@
 	@.ci/try camel_explain --limit "$$LIMIT" $(if $(PROFILE),--profile "$$PROFILE") < "$$SCRIPT"
 
-## Explains SCRIPT, record by record, by the program for people: at once, once it is built, which takes EXPLAIN_TIME.
+## Explains SCRIPT, record by record, by the program for people: at once, once it is built, which takes LONG_TIME.
 explain: script $(EXPLAIN)
 	@$(EXPLAIN) --limit "$$LIMIT" $(if $(PROFILE),--profile "$$PROFILE") "$$SCRIPT"
 
@@ -155,7 +155,7 @@ coprocess: begin-$$@ $(PROGRAM)
 refusals: begin-$$@ $(REFUSALS)
 	@.ci/refusals
 
-## Proves and builds the library for C, C++ and Rust, into out/library: BUILD_TIME.
+## Proves and builds the library for C, C++ and Rust, into out/library: LONG_TIME.
 library: begin-$$@
 	@.ci/library
 
