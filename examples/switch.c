@@ -22,20 +22,17 @@ static void expect(const char *what, camel_status status, camel_status wanted)
 
 #define OK(call) expect(#call, call, CAMEL_OK)
 
-/* One receipt on its way to a thread: the writer puts it there, and the thread takes it. */
+/* One receipt on its way to a thread: the writer puts it there, and the thread takes it. A later one says more. */
 struct queue {
     pthread_mutex_t lock;
     camel_receipt receipt;
     bool is_full;
 };
 
-static void put(struct queue *queue, camel_receipt *receipt)
+static void put(struct queue *queue, camel_receipt receipt)
 {
     pthread_mutex_lock(&queue->lock);
-    if (queue->is_full)
-        camel_free(&queue->receipt); /* a later receipt says more */
-    memcpy(&queue->receipt, receipt, sizeof *receipt);
-    memset(receipt, 0, sizeof *receipt);
+    queue->receipt = receipt;
     queue->is_full = true;
     pthread_mutex_unlock(&queue->lock);
 }
@@ -44,11 +41,8 @@ static bool take(struct queue *queue, camel_receipt *receipt)
 {
     pthread_mutex_lock(&queue->lock);
     bool is_there = queue->is_full;
-    if (is_there) {
-        memcpy(receipt, &queue->receipt, sizeof *receipt);
-        memset(&queue->receipt, 0, sizeof queue->receipt);
-        queue->is_full = false;
-    }
+    *receipt = queue->receipt;
+    queue->is_full = false;
     pthread_mutex_unlock(&queue->lock);
     return is_there;
 }
@@ -66,12 +60,10 @@ static void *decide_calls(void *of)
     struct caller *caller = of;
     uint64_t front = 0;
     for (int call = 0; call < CALLS; call++) {
-        camel_receipt receipt = CAMEL_EMPTY;
-        if (take(&caller->queue, &receipt)) {
-            OK(camel_learn(&caller->session, &receipt));
-            camel_free(&receipt);
-        }
+        camel_receipt receipt;
         camel_answer answer;
+        if (take(&caller->queue, &receipt))
+            OK(camel_learn(&caller->session, &receipt));
         OK(camel_decide(&caller->session, &caller->event, &answer));
         if (answer.front < front) {
             fprintf(stderr, "a session went back\n");
@@ -104,7 +96,7 @@ static void say(const char *what, const camel_answer *answer)
     printf(", %s\n", answer->is_release ? "release" : "continue");
 }
 
-/* The IMSIs 262010000000001 and 262010000000002, as the dialogues with the HLR have them. */
+/* The IMSIs 262010000000001 and 262010000000002, in TBCD octets as the dialogues with the HLR have them. */
 static const uint8_t IMSI[] = { 0x62, 0x02, 0x01, 0x00, 0x00, 0x00, 0x00, 0xf1 };
 static const uint8_t OTHER[] = { 0x62, 0x02, 0x01, 0x00, 0x00, 0x00, 0x00, 0xf2 };
 
@@ -125,35 +117,40 @@ static const uint8_t ARGUMENT[] = {
 };
 
 /* Submits the argument in the dialogue of an IMSI. */
-static camel_status submit_data(camel_store *store, const uint8_t *imsi)
+static camel_status submit_data(camel_store *store, const camel_imsi *imsi)
 {
     uint64_t place = 0;
-    camel_status status = camel_submit_map(store, CAMEL_INSERT_SUBSCRIBER_DATA, imsi, sizeof IMSI, ARGUMENT,
-                                           sizeof ARGUMENT, &place);
+    camel_status status = camel_submit_map(store, CAMEL_INSERT_SUBSCRIBER_DATA, imsi, ARGUMENT, sizeof ARGUMENT,
+                                           &place);
     if (place > 0)
         fprintf(stderr, "the argument has a fault at octet %lu\n", (unsigned long)place);
     return status;
 }
 
-/* Publishes, and hands each thread a receipt. */
+/* Publishes, and hands each thread the receipt. */
 static void publish_to(camel_store *store, struct caller *callers)
 {
+    camel_receipt receipt;
     OK(camel_publish(store));
-    for (int thread = 0; thread < THREADS; thread++) {
-        camel_receipt receipt = CAMEL_EMPTY;
-        OK(camel_receipt_of(store, &receipt));
-        put(&callers[thread].queue, &receipt);
-    }
+    OK(camel_receipt_of(store, &receipt));
+    for (int thread = 0; thread < THREADS; thread++)
+        put(&callers[thread].queue, receipt);
 }
 
 /* A look lets the first publication through, and holds up the second one. */
 static void hold_publications(camel_store *store, camel_session *session, const camel_imsi *other)
 {
+    uint64_t holders = 0;
     OK(camel_look(session));
     OK(camel_submit_register(store, other));
     OK(camel_publish(store));
     OK(camel_submit_cancel(store, other));
     expect("a publication behind a look", camel_publish(store), CAMEL_HELD);
+    OK(camel_holders(store, &holders));
+    if (holders != (uint64_t)1 << THREADS) {
+        fprintf(stderr, "another session holds the publication up\n");
+        exit(1);
+    }
     OK(camel_leave(session));
     OK(camel_publish(store));
     printf("a publication was held, and made again\n");
@@ -199,8 +196,8 @@ int main(void)
     OK(camel_imsi_of_tbcd(IMSI, sizeof IMSI, &imsi));
     OK(camel_imsi_of_tbcd(OTHER, sizeof OTHER, &other));
     OK(camel_submit_register(&store, &imsi));
-    OK(submit_data(&store, IMSI));
-    expect("data of a subscriber who is not registered", submit_data(&store, OTHER), CAMEL_UNIDENTIFIED_SUBSCRIBER);
+    OK(submit_data(&store, &imsi));
+    expect("data of a subscriber who is not registered", submit_data(&store, &other), CAMEL_UNIDENTIFIED_SUBSCRIBER);
     for (int thread = 0; thread < THREADS; thread++) {
         memcpy(&callers[thread].session, &sessions[thread], sizeof sessions[thread]);
         memset(&sessions[thread], 0, sizeof sessions[thread]);

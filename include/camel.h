@@ -2,24 +2,31 @@
  *
  * A store has the O-CSI and VT-CSI of each subscriber, with their criteria, as the HLR sends them. One writer submits
  * updates and publishes them; each call-control thread has a session, and asks at trigger detection points 2, 4, 12, 13
- * and 14. C11 and C++17. The library is libwenqolo.a, for Linux on x86-64-v2, and needs the C library only.
+ * and 14. C11 and C++17, and later. The library is libwenqolo.a, or libwenqolo.so.0 as a shared one, for Linux on
+ * x86-64-v2, and needs the C library only.
  *
  * Handles. A handle is some words of the caller's memory, empty if all of its bytes are 0 (CAMEL_EMPTY). The library
  * fills it, and camel_free or camel_close empties it. Never write its fields, and never copy a full one: to move it,
- * copy its bytes and forget the old ones.
+ * copy its bytes and forget the old ones. All else is plain data, which may be copied.
+ *
+ * Statuses. A call that fails has done nothing, but what is said of it. It looks at data first, as CAMEL_MALFORMED and
+ * what it says of them, then at the handle that it is made of (CAMEL_WRONG_HANDLE), then at the one that it is to fill
+ * (CAMEL_FULL_HANDLE), then at whether a look has begun (CAMEL_HELD), and at all else behind these. But memory may be
+ * refused while the lists of an Insert or the octets of an argument are read.
  *
  * Threads. The store's handle is the writer's, and each session's handle that of one thread. A handle moves to another
- * thread by a lock, by a thread's start or join, or by a sequentially consistent atomic. It is in one call at a time;
- * different handles may be in calls at the same time. No call takes a lock, waits or yields.
+ * thread by a lock, by a thread's start or join, or by a sequentially consistent atomic. It is in one call at a time,
+ * but a handle that a call takes as const may be in several such calls; different handles may be in calls at the same
+ * time. No call takes a lock, waits or yields.
  *
  * Memory. The library calls malloc, realloc and free. A call that is refused memory returns CAMEL_OUT_OF_MEMORY, has
- * changed nothing (but see camel_keep), and may be made again. camel_decide, camel_look, camel_leave, camel_learn, camel_row_at,
- * camel_o_criteria_at, camel_t_criteria_at and a publication that returns CAMEL_HELD ask for none.
+ * changed nothing (but see camel_keep), and may be made again. Only camel_open, camel_submit_*, camel_publish and
+ * camel_keep ask for any, and a publication that returns CAMEL_HELD for none.
  *
- * What nothing checks. A handle is empty or as the library left it; a bool is 0 or 1; a pointer is not null, also that
- * of an array of none, and points to as much as is said; what is passed does not overlap; a receipt is of the session's
- * own store; no call is made from a signal handler, or from the forked child of a process with threads; malloc, realloc
- * and free are of one allocator. */
+ * What nothing checks. A handle is empty or as the library left it; a pointer is not null, but where NULL is named, and
+ * points to as much as is said; what is passed does not overlap; stores whose receipts are told apart have different
+ * seeds; no call is made from a signal handler, or from the forked child of a process with threads; malloc, realloc and
+ * free are of one allocator. */
 #ifndef CAMEL_H
 #define CAMEL_H
 
@@ -31,16 +38,16 @@
 extern "C" {
 #endif
 
-/* The version of this header, and that of the layouts and of the functions below. camel_abi_version returns the latter of
- * the library: compare the two once, before all other calls. */
+/* The version of this header, and that of the layouts and of the functions below. camel_open compares the latter with
+ * that of the library, which camel_abi_version returns. */
 #define CAMEL_VERSION "0.5.0"
-#define CAMEL_ABI_VERSION 1
+#define CAMEL_ABI_VERSION 2
 
 /* The most sessions that a store has, and the most updates that it takes in its life. */
 #define CAMEL_MAX_SESSIONS 64
-#define CAMEL_MAX_UPDATES INT64_MAX
+#define CAMEL_MAX_UPDATES UINT64_C(0x7fffffffffffffff)
 
-/* What a call returns is to be looked at, and no pointer that is passed is null. */
+/* What a call returns is to be looked at, and no pointer that is passed to it is null. */
 #if defined(__GNUC__)
 #define CAMEL_CALL __attribute__((warn_unused_result, nonnull))
 #else
@@ -58,35 +65,44 @@ enum {
     CAMEL_OUT_OF_MEMORY = 102,
     CAMEL_NO_PLACE = 103,              /* a session got no place: no run meets it */
     CAMEL_NO_LOOK = 104,               /* the store has ended */
-    CAMEL_HELD = 105,                  /* a look is held: try again once it is left */
-    CAMEL_MALFORMED = 201,             /* an argument or a field is none of what it stands for, or out of its range */
-    CAMEL_WRONG_HANDLE = 202,          /* the handle is empty, or of another kind, or the store has ended */
-    CAMEL_FULL_HANDLE = 203,           /* the handle that is to be filled is not empty; 204 and 205 are for bindings */
     CAMEL_MALFORMED_OCTETS = 401,      /* from here on of camel_submit_map: the octets are no elements (ITU-T X.690) */
     CAMEL_MISSING_FIELD = 402,         /* a field that must be there is missing */
     CAMEL_FIELD_TWICE = 403,           /* a field comes twice */
     CAMEL_WRONG_TAG = 404,             /* an element is none of the type that must be there */
     CAMEL_WRONG_LENGTH = 405,          /* contents have a wrong length for their type, or octets follow the argument */
     CAMEL_NO_IMSI = 406,               /* neither the argument nor the dialogue has an IMSI */
-    CAMEL_OTHER_IMSI = 407             /* the argument has another IMSI than the dialogue */
+    CAMEL_OTHER_IMSI = 407,            /* the argument has another IMSI than the dialogue */
+    CAMEL_HELD = 501,                  /* a look is held: try again once it is left */
+    CAMEL_MALFORMED = 502,             /* no IMSI, address, event or operation, too long a list, or out of range */
+    CAMEL_WRONG_HANDLE = 503,          /* the handle is empty, or of another kind, or the store has ended */
+    CAMEL_FULL_HANDLE = 504,           /* the handle that is to be filled is not empty */
+    CAMEL_OTHER_STORE = 505,           /* the receipt is of another store, or of more updates than are published */
+    CAMEL_OTHER_VERSION = 506          /* the library has another CAMEL_ABI_VERSION than this header */
 };
 
 /* Handles. They have one layout, and each has a type of its own so that a compiler tells them apart. */
 typedef struct { void *at; bool is_full; } camel_store;
 typedef struct { void *at; bool is_full; } camel_session;
-typedef struct { void *at; bool is_full; } camel_receipt;
 typedef struct { void *at; bool is_full; } camel_subscriber;
 #define CAMEL_EMPTY { 0, 0 }
 
-/* An IMSI in 8 octets, made once per call by camel_imsi_of_tbcd or camel_imsi_of_digits. Two are equal if their numbers
- * are. The number 0 is no IMSI. */
+/* Which updates a store has published: its number, and how many they are. The number is made of the seed, so a receipt
+ * stays in the process. */
+typedef struct { uint64_t store; uint64_t front; } camel_receipt;
+
+/* An IMSI as one number: how many digits it has, 5 to 15, in the highest octet, and below it their decimal value, as in
+ * 15ULL << 56 | 262010000000001. Two are equal if their numbers are. The number 0 is no IMSI. */
 typedef struct { uint64_t number; } camel_imsi;
 
 /* An AddressString of TS 29.002, as the destination of a call: the first `length` octets, 1 to 20. */
 typedef struct { uint8_t length; uint8_t octets[20]; } camel_address;
 
-/* An ISDN-AddressString, as a gsmSCF address or a number of a criterion: the first `length` octets, 1 to 9. */
+/* An ISDN-AddressString, as a gsmSCF address or a number of a criterion: the first `length` octets, 1 to 9. What is
+ * behind these of an address is not looked at, and may be any octets when the library writes one: compare so many
+ * octets. */
 typedef struct { uint8_t length; uint8_t octets[9]; } camel_isdn_address;
+
+/* In all data a bool is false if it is 0, and true if it is any other octet. */
 
 /* A basic service: the first octet of its code, which is that of a bearer service, or else of a teleservice. Telephony
  * is the teleservice 0x11. */
@@ -94,10 +110,10 @@ typedef struct { bool is_bearer; uint8_t code; } camel_basic_service;
 
 /* A row of a CSI. Service keys are at most 2147483647; the default call handling is given as it was received. */
 typedef struct {
-    uint32_t key;
-    uint32_t handling;
-    camel_isdn_address scf;
     uint8_t dp;
+    uint32_t key;
+    camel_isdn_address scf;
+    uint32_t handling;
 } camel_row;
 
 /* The criteria of an entry. A list of none is absent. */
@@ -125,8 +141,25 @@ typedef struct {
 } camel_o_criteria;
 typedef struct { uint8_t dp; camel_basic_services basic; camel_causes causes; } camel_t_criteria;
 
-/* Which lists an Insert sends. One that is not sent is not looked at; one that is sent has 1 to 10 items. */
-typedef struct { bool has_o; bool has_o_criteria; bool has_vt; bool has_t_criteria; } camel_insert;
+/* What an Insert sends of each CSI. The items of a list that is not sent are not looked at; one that is sent has 1 to
+ * 10 items. The pointer of a list with no items may be NULL, and each pointer is to be set, as by { 0 }. */
+typedef struct {
+    const camel_row *rows;
+    size_t row_count;
+    const camel_o_criteria *criteria;
+    size_t criteria_count;
+    bool has_rows;
+    bool has_criteria;
+} camel_sent_o_csi;
+typedef struct {
+    const camel_row *rows;
+    size_t row_count;
+    const camel_t_criteria *criteria;
+    size_t criteria_count;
+    bool has_rows;
+    bool has_criteria;
+} camel_sent_vt_csi;
+typedef struct { camel_sent_o_csi o; camel_sent_vt_csi vt; } camel_insert;
 
 /* The local codes of the operations of MAP by which an HLR changes subscriber data (TS 29.002). */
 enum { CAMEL_CANCEL_LOCATION = 3, CAMEL_INSERT_SUBSCRIBER_DATA = 7, CAMEL_DELETE_SUBSCRIBER_DATA = 8 };
@@ -158,15 +191,17 @@ enum { CAMEL_PROFILE_1 = 1, CAMEL_PROFILE_2 = 2 };
 
 /* Why no service is invoked. */
 enum {
+    CAMEL_REASON_NONE = 0,      /* one is */
     CAMEL_REASON_UNKNOWN = 1,   /* there is no record of the IMSI */
     CAMEL_REASON_NO_CSI = 2,    /* the CSI is not stored */
     CAMEL_REASON_NOT_ARMED = 3, /* the CSI has no row of the detection point */
     CAMEL_REASON_EMERGENCY = 4, /* the call is an emergency call */
-    CAMEL_REASON_CRITERIA = 5   /* the criteria are not met */
+    CAMEL_REASON_CRITERIA = 5,  /* the criteria are not met */
+    CAMEL_REASONS = 6
 };
 
-/* An answer. If a service is invoked, key, scf, dp and is_release are those of the row, and reason is 0; else they are
- * 0, with no octets of an address. */
+/* An answer. If a service is invoked, key, scf, dp and is_release are those of the row, and reason is 0; else those
+ * four are 0, with no octets of an address. */
 typedef struct {
     uint64_t front; /* how many updates the data have by which it was decided */
     uint32_t key;
@@ -176,6 +211,18 @@ typedef struct {
     bool is_trigger;
     uint8_t reason;
 } camel_answer;
+
+/* Counts of a store. */
+typedef struct {
+    uint64_t subscribers; /* who have a record in what is published */
+    uint64_t published;   /* updates */
+    uint64_t pending;     /* updates */
+    uint64_t held;        /* publications that have returned CAMEL_HELD, modulo 2^64 */
+} camel_counts;
+
+/* How many events a session has decided with each reason; with CAMEL_REASON_NONE a service was invoked. They are
+ * counted modulo 2^64. */
+typedef struct { uint64_t by_reason[CAMEL_REASONS]; } camel_decisions;
 
 uint32_t camel_abi_version(void);
 
@@ -193,25 +240,64 @@ camel_status camel_address_of(const uint8_t *octets, size_t octet_count, camel_a
 CAMEL_CALL
 camel_status camel_isdn_address_of(const uint8_t *octets, size_t octet_count, camel_isdn_address *address);
 
+/* The digits of an IMSI: as characters 0 to 9 with 0 octets behind them, and as the first `count` of TBCD octets.
+ * CAMEL_MALFORMED: it is none, and nothing is written. */
+typedef struct { uint8_t count; char characters[16]; } camel_imsi_digits;
+typedef struct { uint8_t count; uint8_t octets[8]; } camel_imsi_tbcd;
+
+CAMEL_CALL
+static inline camel_status camel_digits_of_imsi(const camel_imsi *imsi, camel_imsi_digits *digits)
+{
+    camel_imsi_digits made = { 0, { 0 } };
+    uint64_t value = imsi->number & 0xffffffffffffff;
+    if (imsi->number >> 56 < 5 || imsi->number >> 56 > 15)
+        return CAMEL_MALFORMED;
+    made.count = imsi->number >> 56 & 15;
+    for (unsigned at = made.count; at > 0; at--) {
+        made.characters[at - 1] = "0123456789"[value % 10];
+        value /= 10;
+    }
+    if (value > 0)
+        return CAMEL_MALFORMED;
+    *digits = made;
+    return CAMEL_OK;
+}
+
+CAMEL_CALL
+static inline camel_status camel_tbcd_of_imsi(const camel_imsi *imsi, camel_imsi_tbcd *tbcd)
+{
+    camel_imsi_digits digits;
+    uint64_t nibbles = UINT64_MAX; /* the first digit lowest, and fillers */
+    if (camel_digits_of_imsi(imsi, &digits) != CAMEL_OK)
+        return CAMEL_MALFORMED;
+    for (uint64_t value = imsi->number & 0xffffffffffffff, left = digits.count; left > 0; left--) {
+        nibbles = nibbles << 4 | value % 10;
+        value /= 10;
+    }
+    tbcd->count = (digits.count + 1U) / 2 & 15;
+    for (unsigned at = 0; at < 8; at++)
+        tbcd->octets[at] = nibbles >> 8 * at & 255;
+    return CAMEL_OK;
+}
+
 /* Opens a store that takes at most `limit` updates in its life (1 to 2^63 - 1; a great limit takes no memory), with 1
  * to 64 sessions, which decide under profile 1 or 2. The seed is secret and random. All handles are filled, or none is:
- * CAMEL_MALFORMED, CAMEL_FULL_HANDLE, CAMEL_OUT_OF_MEMORY, CAMEL_NO_PLACE. */
+ * CAMEL_OTHER_VERSION, CAMEL_MALFORMED, CAMEL_FULL_HANDLE, CAMEL_OUT_OF_MEMORY, CAMEL_NO_PLACE. */
 CAMEL_CALL
-camel_status camel_open(camel_store *store, camel_session *sessions, size_t session_count, uint64_t limit,
-                        uint8_t profile, uint64_t seed);
+camel_status camel_open_version(uint32_t abi_version, camel_store *store, camel_session *sessions, size_t session_count,
+                                uint64_t limit, uint8_t profile, uint64_t seed);
+CAMEL_CALL
+static inline camel_status camel_open(camel_store *store, camel_session *sessions, size_t session_count, uint64_t limit,
+                                      uint8_t profile, uint64_t seed)
+{
+    return camel_open_version(CAMEL_ABI_VERSION, store, sessions, session_count, limit, profile, seed);
+}
 
 /* The writer. No call sees an update before it is published. Each returns CAMEL_MALFORMED, CAMEL_UNEXPECTED_DATA_VALUE
  * or CAMEL_DATA_MISSING for its data, which are looked at first, and CAMEL_UNIDENTIFIED_SUBSCRIBER, CAMEL_DATA_MISSING,
- * CAMEL_HISTORY_FULL or CAMEL_OUT_OF_MEMORY if the store rejects it. The pointer of a list that an Insert does not send
- * is not null either. */
+ * CAMEL_HISTORY_FULL or CAMEL_OUT_OF_MEMORY if the store rejects it. */
 CAMEL_CALL
 camel_status camel_submit_register(camel_store *store, const camel_imsi *imsi);
-CAMEL_CALL
-camel_status camel_submit_insert(camel_store *store, const camel_imsi *imsi, const camel_insert *sent,
-                                 const camel_row *o, size_t o_count,
-                                 const camel_o_criteria *o_criteria, size_t o_criteria_count,
-                                 const camel_row *vt, size_t vt_count,
-                                 const camel_t_criteria *t_criteria, size_t t_criteria_count);
 CAMEL_CALL
 camel_status camel_submit_delete(camel_store *store, const camel_imsi *imsi, const camel_withdrawal *what);
 CAMEL_CALL
@@ -219,38 +305,74 @@ camel_status camel_submit_cancel(camel_store *store, const camel_imsi *imsi);
 CAMEL_CALL
 camel_status camel_submit_clear_all(camel_store *store);
 
+/* Submits what an Insert sends. For camel_submit_lists no pointer is NULL, also that of a list with no items. */
+CAMEL_CALL
+camel_status camel_submit_lists(camel_store *store, const camel_imsi *imsi, const camel_insert *sent);
+CAMEL_CALL
+static inline camel_status camel_submit_insert(camel_store *store, const camel_imsi *imsi, const camel_insert *sent)
+{
+    static camel_row row; /* nothing is read of what stands for NULL, which has no items */
+    static camel_o_criteria o;
+    static camel_t_criteria t;
+    camel_insert lists = *sent;
+    if (!lists.o.rows) {
+        lists.o.rows = &row;
+        lists.o.row_count = 0;
+    }
+    if (!lists.o.criteria) {
+        lists.o.criteria = &o;
+        lists.o.criteria_count = 0;
+    }
+    if (!lists.vt.rows) {
+        lists.vt.rows = &row;
+        lists.vt.row_count = 0;
+    }
+    if (!lists.vt.criteria) {
+        lists.vt.criteria = &t;
+        lists.vt.criteria_count = 0;
+    }
+    return camel_submit_lists(store, imsi, &lists);
+}
+
 /* Submits what an operation of MAP brings, by the octets of its argument: the parameter of the TCAP invoke, in BER. A
  * length is definite, in up to four octets, or indefinite, at most 16 deep, and no string that is read is in pieces.
- * The IMSI is that of the dialogue, in TBCD octets, of which there are 0 if the dialogue has none. If the argument is
- * not taken, the call returns CAMEL_MALFORMED_OCTETS to CAMEL_OTHER_IMSI, CAMEL_DATA_MISSING or
- * CAMEL_UNEXPECTED_DATA_VALUE, and place is the octet, from 0, at which its first fault is. Else place is 0.
- * CAMEL_MALFORMED is of the operation or the IMSI, and a store rejects an update as above. */
+ * The IMSI is that of the dialogue, and its number is 0 if the dialogue has none. If the argument is not taken, the
+ * call returns CAMEL_MALFORMED_OCTETS to CAMEL_OTHER_IMSI, CAMEL_DATA_MISSING or CAMEL_UNEXPECTED_DATA_VALUE, and place
+ * is the octet, from 0, at which its first fault is. Else place is 0. CAMEL_MALFORMED is of the operation or the IMSI,
+ * and a store rejects an update as above. */
 CAMEL_CALL
-camel_status camel_submit_map(camel_store *store, uint8_t operation, const uint8_t *imsi, size_t imsi_octet_count,
-                              const uint8_t *argument, size_t argument_octet_count, uint64_t *place);
+camel_status camel_submit_map(camel_store *store, uint8_t operation, const camel_imsi *imsi, const uint8_t *argument,
+                              size_t argument_octet_count, uint64_t *place);
 
 /* Publishes all that is pending, also if nothing is. CAMEL_HELD: a look that began before the last publication is held.
  * CAMEL_OUT_OF_MEMORY. After both all is pending as before. */
 CAMEL_CALL
 camel_status camel_publish(camel_store *store);
 
-/* How many updates are published, and how many are pending. */
+/* Whose looks hold the next publication up: bit i is that of session i, from 0, in the order of camel_open. */
 CAMEL_CALL
-camel_status camel_published(camel_store *store, uint64_t *count);
-CAMEL_CALL
-camel_status camel_pending(camel_store *store, uint64_t *count);
+camel_status camel_holders(camel_store *store, uint64_t *sessions);
 
-/* Fills a handle with a receipt of all that is published. A session that learns it sees at least that from then on; any
- * number of sessions may learn it, before it is freed. camel_learn returns CAMEL_HELD while a look has begun. */
 CAMEL_CALL
-camel_status camel_receipt_of(camel_store *store, camel_receipt *receipt);
+camel_status camel_counts_of(const camel_store *store, camel_counts *counts);
+
+/* Writes a receipt of all that is published. A session that learns it looks, and leaves the look: from then on it
+ * sees at least as many updates. CAMEL_HELD: a look has begun. CAMEL_OTHER_STORE: the receipt is of another store, or
+ * of more updates than the session's store has published, and then the session has looked. CAMEL_NO_LOOK: its own
+ * store has ended. */
 CAMEL_CALL
-camel_status camel_learn(camel_session *session, camel_receipt *receipt);
+camel_status camel_receipt_of(const camel_store *store, camel_receipt *receipt);
+CAMEL_CALL
+camel_status camel_learn(camel_session *session, const camel_receipt *receipt);
 
 /* Decides an event, over the look that has begun, or else by a look of its own. CAMEL_MALFORMED: the event is none.
  * CAMEL_NO_LOOK: the store has ended; so it is with the other calls that look. */
 CAMEL_CALL
 camel_status camel_decide(camel_session *session, const camel_event *event, camel_answer *answer);
+
+/* What the session has decided, by camel_decide. */
+CAMEL_CALL
+camel_status camel_decisions_of(const camel_session *session, camel_decisions *decisions);
 
 /* Begins a look, so that all calls until camel_leave are over one front. It lets the next publication go through, and
  * holds up the one after it. CAMEL_HELD: a look has begun already, and goes on. camel_leave of a session without a look
@@ -260,12 +382,13 @@ camel_status camel_look(camel_session *session);
 camel_status camel_leave(camel_session *session);
 
 /* The row of a subscriber at a detection point, over the look that has begun, or else by a look of its own. is_there
- * tells whether there is one; if not, the row is as before. Its default call handling is 0, continue, or 1, release. */
+ * tells whether there is one; if not, as at a detection point of neither CSI, the row is as before. Its default call
+ * handling is 0, continue, or 1, release. */
 CAMEL_CALL
 camel_status camel_row_at(camel_session *session, const camel_imsi *imsi, uint8_t dp, camel_row *row, bool *is_there);
 
-/* The criteria of a subscriber at a detection point of the O-CSI, or of the VT-CSI, as camel_row_at. They are there even
- * if there is no row, and have no effect then. What is behind the items of a list, and what is absent, is 0. */
+/* The criteria of a subscriber at a detection point of the O-CSI, or of the VT-CSI, as camel_row_at. They are there
+ * even if there is no row, and have no effect then. What is behind the items of a list, and what is absent, is 0. */
 CAMEL_CALL
 camel_status camel_o_criteria_at(camel_session *session, const camel_imsi *imsi, uint8_t dp,
                                  camel_o_criteria *criteria, bool *is_there);
@@ -280,17 +403,22 @@ camel_status camel_t_criteria_at(camel_session *session, const camel_imsi *imsi,
 CAMEL_CALL
 camel_status camel_keep(camel_session *session, const camel_imsi *imsi, camel_subscriber *subscriber, bool *is_there);
 CAMEL_CALL
-camel_status camel_decide_kept(camel_subscriber *subscriber, const camel_event *event, camel_answer *answer);
+camel_status camel_decide_kept(const camel_subscriber *subscriber, const camel_event *event, camel_answer *answer);
 
-/* Ends the store and empties its handle; what is pending is dropped. Each look that is held goes on until it is left, and
- * no session begins another: CAMEL_NO_LOOK. CAMEL_HELD: a look is held; the writer's other calls return
+/* Ends the store and empties its handle; what is pending is dropped. Each look that is held goes on until it is left,
+ * and no session begins another: CAMEL_NO_LOOK. CAMEL_HELD: a look is held; the writer's other calls return
  * CAMEL_WRONG_HANDLE, and this is to be called again. */
 CAMEL_CALL
 camel_status camel_close(camel_store *store);
 
-/* Frees what a handle of any kind holds, and empties it; an empty one stays so. A session leaves its look. A store ends
- * as by camel_close, and its data are freed when the last look that is held is left. */
-void camel_free(void *handle);
+/* Frees what a handle of any kind holds, and empties it; an empty one stays so, and so does NULL. A session leaves its
+ * look. A store ends as by camel_close, and its data are freed when the last look that is held is left. */
+void camel_empty(void *handle);
+static inline void camel_free(void *handle)
+{
+    if (handle)
+        camel_empty(handle);
+}
 
 /* The name of a status, as in this file; "CAMEL_?" of no status. */
 static inline const char *camel_status_name(camel_status status)
@@ -304,10 +432,6 @@ static inline const char *camel_status_name(camel_status status)
     case CAMEL_OUT_OF_MEMORY: return "CAMEL_OUT_OF_MEMORY";
     case CAMEL_NO_PLACE: return "CAMEL_NO_PLACE";
     case CAMEL_NO_LOOK: return "CAMEL_NO_LOOK";
-    case CAMEL_HELD: return "CAMEL_HELD";
-    case CAMEL_MALFORMED: return "CAMEL_MALFORMED";
-    case CAMEL_WRONG_HANDLE: return "CAMEL_WRONG_HANDLE";
-    case CAMEL_FULL_HANDLE: return "CAMEL_FULL_HANDLE";
     case CAMEL_MALFORMED_OCTETS: return "CAMEL_MALFORMED_OCTETS";
     case CAMEL_MISSING_FIELD: return "CAMEL_MISSING_FIELD";
     case CAMEL_FIELD_TWICE: return "CAMEL_FIELD_TWICE";
@@ -315,14 +439,21 @@ static inline const char *camel_status_name(camel_status status)
     case CAMEL_WRONG_LENGTH: return "CAMEL_WRONG_LENGTH";
     case CAMEL_NO_IMSI: return "CAMEL_NO_IMSI";
     case CAMEL_OTHER_IMSI: return "CAMEL_OTHER_IMSI";
+    case CAMEL_HELD: return "CAMEL_HELD";
+    case CAMEL_MALFORMED: return "CAMEL_MALFORMED";
+    case CAMEL_WRONG_HANDLE: return "CAMEL_WRONG_HANDLE";
+    case CAMEL_FULL_HANDLE: return "CAMEL_FULL_HANDLE";
+    case CAMEL_OTHER_STORE: return "CAMEL_OTHER_STORE";
+    case CAMEL_OTHER_VERSION: return "CAMEL_OTHER_VERSION";
     default: return "CAMEL_?";
     }
 }
 
-/* The name of a reason, as in this file; "CAMEL_REASON_?" of none. */
+/* The name of a reason, as in this file; "CAMEL_REASON_?" of no reason. */
 static inline const char *camel_reason_name(uint8_t reason)
 {
     switch (reason) {
+    case CAMEL_REASON_NONE: return "CAMEL_REASON_NONE";
     case CAMEL_REASON_UNKNOWN: return "CAMEL_REASON_UNKNOWN";
     case CAMEL_REASON_NO_CSI: return "CAMEL_REASON_NO_CSI";
     case CAMEL_REASON_NOT_ARMED: return "CAMEL_REASON_NOT_ARMED";

@@ -1,19 +1,19 @@
 /* camel.hpp: classes of C++17 over camel.h, for its library libwenqolo.a.
  *
- * A Store is the writer's, and each Session is of one call-control thread. Store, Session, Look, Receipt and Subscriber
- * move, are not copied, and free what they hold at their end. One that was made by its default constructor, or moved
- * from, holds nothing: its calls return CAMEL_WRONG_HANDLE. An object is in one call at a time, also in a const one;
- * different objects may be in calls at the same time. Data are the structs of camel.h.
+ * A Store is the writer's, and each Session is of one call-control thread. Store, Session, Look and Subscriber move,
+ * are not copied, and free what they hold at their end. One that was made by its default constructor, or moved from,
+ * holds nothing: its calls return CAMEL_WRONG_HANDLE. An object is in one call at a time, but may be in several const
+ * ones; different objects may be in calls at the same time. All else is plain data, the structs of camel.h.
  *
  * A call returns a Result: its value, or the status that says why it did nothing, with what camel.h says of it. Nothing
  * throws but the vector of open. Beside what camel.h leaves unchecked, one thing is left to the caller: a session is
- * neither moved nor ended while a Look of it lives. A receipt of another store is refused. */
+ * neither moved nor ended while a Look of it lives. */
 #ifndef CAMEL_HPP
 #define CAMEL_HPP
 
 #include "camel.h"
 
-#include <atomic>
+#include <array>
 #include <exception>
 #include <optional>
 #include <string_view>
@@ -22,22 +22,8 @@
 
 namespace camel {
 
-/* Statuses of this header, beside those of camel.h. */
-inline constexpr camel_status OTHER_STORE = 204;   /* the receipt is of another store than the session */
-inline constexpr camel_status OTHER_VERSION = 205; /* the library has other layouts than camel.h */
-
 inline constexpr size_t MAX_SESSIONS = CAMEL_MAX_SESSIONS;
 inline constexpr uint64_t MAX_UPDATES = CAMEL_MAX_UPDATES;
-
-/* The name of a status, as in camel.h or here. */
-inline const char *status_name(camel_status status) noexcept
-{
-    switch (status) {
-    case OTHER_STORE: return "camel::OTHER_STORE";
-    case OTHER_VERSION: return "camel::OTHER_VERSION";
-    default: return camel_status_name(status);
-    }
-}
 
 /* A status that is not CAMEL_OK, on its way into a Result. */
 struct Failure {
@@ -163,29 +149,31 @@ public:
         if (raw_.is_full)
             camel_free(&raw_);
     }
-    Raw *at() const noexcept { return &raw_; }
+    Raw *at() noexcept { return &raw_; }
+    const Raw *at() const noexcept { return &raw_; }
 
 private:
-    mutable Raw raw_{};
+    Raw raw_{};
 };
 
-/* The number of a further store, by which its sessions know its receipts. */
-inline uint64_t next_store() noexcept
+/* The lists that came of a CSI, where they lie. */
+template <class Sent, class Criteria>
+Sent sent_of(const std::optional<std::vector<camel_row>> &rows,
+             const std::optional<std::vector<Criteria>> &criteria) noexcept
 {
-    static std::atomic<uint64_t> stores{ 0 };
-    return ++stores;
+    Sent sent{};
+    if (rows) {
+        sent.has_rows = true;
+        sent.rows = rows->data();
+        sent.row_count = rows->size();
+    }
+    if (criteria) {
+        sent.has_criteria = true;
+        sent.criteria = criteria->data();
+        sent.criteria_count = criteria->size();
+    }
+    return sent;
 }
-
-/* The items of a list, by a pointer that is not null. */
-template <class T>
-struct Items {
-    T none{};
-    const T *data;
-    size_t count;
-    explicit Items(const std::optional<std::vector<T>> &list) noexcept
-        : data(list && !list->empty() ? list->data() : &none), count(list ? list->size() : 0) {}
-    Items(const Items &) = delete;
-};
 
 } // namespace detail
 
@@ -213,6 +201,17 @@ inline Result<camel_isdn_address> isdn_address_of(const uint8_t *octets, size_t 
     return detail::read<camel_isdn_address>(camel_isdn_address_of, octets, count);
 }
 
+/* The digits of an IMSI: as characters with a 0 behind them, and as TBCD octets. CAMEL_MALFORMED if it is none. */
+inline Result<camel_imsi_digits> digits_of_imsi(camel_imsi imsi) noexcept
+{
+    return detail::read<camel_imsi_digits>(camel_digits_of_imsi, &imsi);
+}
+
+inline Result<camel_imsi_tbcd> tbcd_of_imsi(camel_imsi imsi) noexcept
+{
+    return detail::read<camel_imsi_tbcd>(camel_tbcd_of_imsi, &imsi);
+}
+
 /* The lists of an Insert. One that is not there did not come, and one that came has 1 to 10 items. */
 struct Csis {
     std::optional<std::vector<camel_row>> o;
@@ -221,19 +220,8 @@ struct Csis {
     std::optional<std::vector<camel_t_criteria>> t_criteria;
 };
 
-/* Says up to which update a store has published. Any number of sessions may learn it, one after the other. */
-class Receipt {
-public:
-    Receipt() = default;
-
-private:
-    friend class Store;
-    friend class Session;
-    explicit Receipt(uint64_t store) noexcept : store_(store) {}
-
-    detail::Owned<camel_receipt> handle_;
-    uint64_t store_ = 0;
-};
+/* Which updates a store has published, as plain data. */
+using Receipt = camel_receipt;
 
 /* The record of a subscriber, which a call keeps from its set-up to its later detection points. */
 class Subscriber {
@@ -265,12 +253,15 @@ public:
         return detail::read<camel_answer>(camel_decide, handle_.at(), &event);
     }
 
-    /* From then on the session sees at least what the receipt is of. OTHER_STORE, or CAMEL_HELD: a look has begun. */
-    Result<void> learn(const Receipt &receipt) noexcept
+    /* From then on the session sees at least what the receipt is of. CAMEL_HELD: a look has begun. CAMEL_OTHER_STORE:
+     * the receipt is of another store, or of more updates than the session's store has published. CAMEL_NO_LOOK: the
+     * session's own store has ended. */
+    Result<void> learn(const Receipt &receipt) noexcept { return detail::done(camel_learn(handle_.at(), &receipt)); }
+
+    /* How many events `decide` has decided, also that of looks, by reason. */
+    Result<camel_decisions> decisions() const noexcept
     {
-        if (receipt.store_ != store_)
-            return Failure{ OTHER_STORE };
-        return detail::done(camel_learn(handle_.at(), receipt.handle_.at()));
+        return detail::read<camel_decisions>(camel_decisions_of, handle_.at());
     }
 
     /* Begins a look, which lasts until the Look ends. It lets the next publication go through, and holds up the one
@@ -306,10 +297,9 @@ public:
 private:
     friend class Store;
     friend class Look;
-    Session(camel_session &raw, uint64_t store) noexcept : handle_(raw), store_(store) {}
+    explicit Session(camel_session &raw) noexcept : handle_(raw) {}
 
     detail::Owned<camel_session> handle_;
-    uint64_t store_ = 0;
 };
 
 /* A look of a session: all that it returns is of one front. It is left at its end, or before by `leave`; what is asked
@@ -385,62 +375,53 @@ public:
     {
         return detail::done(camel_submit_delete(handle_.at(), &imsi, &what));
     }
-    Result<void> submit_cancel(camel_imsi imsi) noexcept { return detail::done(camel_submit_cancel(handle_.at(), &imsi)); }
+    Result<void> submit_cancel(camel_imsi imsi) noexcept
+    {
+        return detail::done(camel_submit_cancel(handle_.at(), &imsi));
+    }
     Result<void> submit_clear_all() noexcept { return detail::done(camel_submit_clear_all(handle_.at())); }
     Result<void> submit_insert(camel_imsi imsi, const Csis &csis) noexcept
     {
-        camel_insert sent{ bool(csis.o), bool(csis.o_criteria), bool(csis.vt), bool(csis.t_criteria) };
-        detail::Items<camel_row> o(csis.o), vt(csis.vt);
-        detail::Items<camel_o_criteria> oc(csis.o_criteria);
-        detail::Items<camel_t_criteria> tc(csis.t_criteria);
-        return detail::done(camel_submit_insert(handle_.at(), &imsi, &sent, o.data, o.count, oc.data, oc.count, vt.data,
-                                                vt.count, tc.data, tc.count));
+        camel_insert sent{ detail::sent_of<camel_sent_o_csi>(csis.o, csis.o_criteria),
+                           detail::sent_of<camel_sent_vt_csi>(csis.vt, csis.t_criteria) };
+        return detail::done(camel_submit_insert(handle_.at(), &imsi, &sent));
     }
 
-    /* Submits what an operation of MAP brings, by the octets of its argument: the parameter of the TCAP invoke. The IMSI
-     * is that of the dialogue in TBCD octets, if the dialogue has one. */
-    MapResult submit_map(Operation operation, std::optional<Octets> imsi, Octets argument) noexcept
+    /* Submits what an operation of MAP brings, by the octets of its argument: the parameter of the TCAP invoke. The
+     * IMSI is that of the dialogue, if the dialogue has one. */
+    MapResult submit_map(Operation operation, std::optional<camel_imsi> imsi, Octets argument) noexcept
     {
-        if (imsi && imsi->count == 0) /* to the library, no octets say that the dialogue has no IMSI */
+        if (imsi && imsi->number == 0) /* to the library, this number says that the dialogue has no IMSI */
             return MapResult(CAMEL_MALFORMED, 0);
-        Octets given = imsi.value_or(Octets{ argument.data, 0 });
+        camel_imsi given = imsi.value_or(camel_imsi{ 0 });
         uint64_t place = 0;
-        camel_status status = camel_submit_map(handle_.at(), static_cast<uint8_t>(operation), given.data, given.count,
-                                               argument.data, argument.count, &place);
+        camel_status status = camel_submit_map(handle_.at(), static_cast<uint8_t>(operation), &given, argument.data,
+                                               argument.count, &place);
         return status == CAMEL_OK ? MapResult() : MapResult(status, place);
     }
 
-    /* Publishes all that is pending, and gives a receipt of all that is published; if nothing is pending, only that.
-     * After CAMEL_OUT_OF_MEMORY publish again: if `pending` is 0, only the receipt was refused. */
+    /* Publishes all that is pending, also if nothing is, and gives a receipt of all that is published. */
     Result<Receipt> publish() noexcept
     {
-        uint64_t count = 0;
-        camel_status status = camel_pending(handle_.at(), &count);
-        if (status == CAMEL_OK && count > 0)
-            status = camel_publish(handle_.at());
+        camel_status status = camel_publish(handle_.at());
         return status == CAMEL_OK ? receipt() : Failure{ status };
     }
 
-    /* A further receipt of all that is published. */
-    Result<Receipt> receipt() noexcept
-    {
-        Receipt receipt(number_);
-        if (camel_status status = camel_receipt_of(handle_.at(), receipt.handle_.at()))
-            return Failure{ status };
-        return receipt;
-    }
+    /* A receipt of all that is published, without a publication. */
+    Result<Receipt> receipt() const noexcept { return detail::read<Receipt>(camel_receipt_of, handle_.at()); }
 
-    Result<uint64_t> published() const noexcept { return detail::read<uint64_t>(camel_published, handle_.at()); }
-    Result<uint64_t> pending() const noexcept { return detail::read<uint64_t>(camel_pending, handle_.at()); }
+    /* Whose looks hold the next publication up: bit i is that of the session at i. */
+    Result<uint64_t> holders() noexcept { return detail::read<uint64_t>(camel_holders, handle_.at()); }
+
+    Result<camel_counts> counts() const noexcept { return detail::read<camel_counts>(camel_counts_of, handle_.at()); }
 
     /* Ends the store; what is pending is dropped. CAMEL_HELD: a look is held, and it is to be called again. */
     Result<void> close() noexcept { return detail::done(camel_close(handle_.at())); }
 
 private:
-    explicit Store(camel_store &raw) noexcept : handle_(raw), number_(detail::next_store()) {}
+    explicit Store(camel_store &raw) noexcept : handle_(raw) {}
 
     detail::Owned<camel_store> handle_;
-    uint64_t number_ = 0;
 };
 
 /* A store with its sessions. */
@@ -451,19 +432,17 @@ struct Store::Opened {
 
 inline Result<Store::Opened> Store::open(size_t session_count, uint64_t limit, uint8_t profile, uint64_t seed)
 {
-    if (camel_abi_version() != CAMEL_ABI_VERSION)
-        return Failure{ OTHER_VERSION };
     if (session_count < 1 || session_count > MAX_SESSIONS)
         return Failure{ CAMEL_MALFORMED };
     std::vector<Session> sessions;
     sessions.reserve(session_count);
     camel_store raw{};
-    camel_session places[MAX_SESSIONS] = {};
-    if (camel_status status = camel_open(&raw, places, session_count, limit, profile, seed))
+    std::array<camel_session, MAX_SESSIONS> places{};
+    if (camel_status status = camel_open(&raw, places.data(), session_count, limit, profile, seed))
         return Failure{ status };
     Store store(raw);
     for (size_t at = 0; at < session_count; at++)
-        sessions.push_back(Session(places[at], store.number_));
+        sessions.push_back(Session(places[at]));
     return Opened{ std::move(store), std::move(sessions) };
 }
 

@@ -11,29 +11,41 @@
 #include <type_traits>
 #include <unistd.h>
 
-static_assert(sizeof(camel_imsi) == 8 && sizeof(camel_address) == 21 && sizeof(camel_isdn_address) == 10);
-static_assert(sizeof(camel_basic_service) == 2 && sizeof(camel_row) == 20 && sizeof(camel_number_criterion) == 106);
+static_assert(sizeof(camel_receipt) == 16 && sizeof(camel_imsi) == 8);
+static_assert(sizeof(camel_address) == 21 && sizeof(camel_isdn_address) == 10);
+static_assert(sizeof(camel_basic_service) == 2 && sizeof(camel_row) == 24 && sizeof(camel_number_criterion) == 106);
 static_assert(sizeof(camel_basic_services) == 11 && sizeof(camel_causes) == 6 && sizeof(camel_o_criteria) == 127);
-static_assert(sizeof(camel_t_criteria) == 18 && sizeof(camel_insert) == 4 && sizeof(camel_withdrawal) == 3);
+static_assert(sizeof(camel_t_criteria) == 18 && sizeof(camel_withdrawal) == 3);
+static_assert(sizeof(camel_sent_o_csi) == 40 && sizeof(camel_sent_vt_csi) == 40 && sizeof(camel_insert) == 80);
 static_assert(sizeof(camel_event) == 40 && sizeof(camel_answer) == 32);
-static_assert(offsetof(camel_row, dp) == 18 && offsetof(camel_number_criterion, numbers) == 6);
-static_assert(offsetof(camel_o_criteria, causes) == 121 && offsetof(camel_event, cause) == 33);
-static_assert(offsetof(camel_answer, reason) == 25);
+static_assert(sizeof(camel_counts) == 32 && sizeof(camel_decisions) == 48);
+static_assert(offsetof(camel_row, scf) == 8 && offsetof(camel_row, handling) == 20);
+static_assert(offsetof(camel_number_criterion, numbers) == 6 && offsetof(camel_o_criteria, causes) == 121);
+static_assert(offsetof(camel_sent_o_csi, has_criteria) == 33 && offsetof(camel_insert, vt) == 40);
+static_assert(offsetof(camel_event, cause) == 33 && offsetof(camel_answer, reason) == 25);
 static_assert(sizeof(camel_store) == 2 * sizeof(void *) && sizeof(camel_session) == sizeof(camel_store));
-static_assert(sizeof(camel_receipt) == sizeof(camel_store) && sizeof(camel_subscriber) == sizeof(camel_store));
+static_assert(sizeof(camel_subscriber) == sizeof(camel_store));
 
 template <class T>
 constexpr bool only_moves = std::is_nothrow_move_constructible_v<T> && !std::is_copy_constructible_v<T>;
 static_assert(only_moves<camel::Store> && only_moves<camel::Session> && only_moves<camel::Look>);
-static_assert(only_moves<camel::Receipt> && only_moves<camel::Subscriber>);
+static_assert(only_moves<camel::Subscriber>);
+static_assert(std::is_trivially_copyable_v<camel::Receipt> && std::is_standard_layout_v<camel::Receipt>);
 
 /* An object may be declared before it is made, and taken over by one that was made. */
 template <class T>
 constexpr bool is_replaceable = std::is_nothrow_default_constructible_v<T> && std::is_nothrow_move_assignable_v<T>;
 static_assert(is_replaceable<camel::Store> && is_replaceable<camel::Session> && is_replaceable<camel::Look>);
-static_assert(is_replaceable<camel::Receipt> && is_replaceable<camel::Subscriber>);
+static_assert(is_replaceable<camel::Subscriber>);
 static_assert(noexcept(std::declval<camel::Session &>().decide(std::declval<camel_event>())));
 static_assert(noexcept(std::declval<camel::Store &>().publish()) && noexcept(std::declval<camel::Look &>().leave()));
+static_assert(noexcept(camel::digits_of_imsi(camel_imsi{})) && noexcept(camel::tbcd_of_imsi(camel_imsi{})));
+
+/* What only reads may be asked of a const object. */
+static_assert(noexcept(std::declval<const camel::Store &>().receipt()));
+static_assert(noexcept(std::declval<const camel::Store &>().counts()));
+static_assert(noexcept(std::declval<const camel::Session &>().decisions()));
+static_assert(noexcept(std::declval<const camel::Subscriber &>().decide(std::declval<camel_event>())));
 
 #define CHECK(what) check(what, #what, __LINE__)
 
@@ -50,7 +62,7 @@ template <class T>
 static T get(camel::Result<T> result)
 {
     if (!result) {
-        std::fprintf(stderr, "%s\n", camel::status_name(result.status()));
+        std::fprintf(stderr, "%s\n", camel_status_name(result.status()));
         std::exit(1);
     }
     return *std::move(result);
@@ -94,12 +106,12 @@ static camel::Csis csis_of(uint32_t key)
 }
 
 /* A store of which two updates are published, and whose two sessions learnt it. */
-static camel::Store::Opened open()
+static camel::Store::Opened open(uint64_t seed = 0x5eed)
 {
-    camel::Store::Opened opened = get(camel::Store::open(2, camel::MAX_UPDATES, 1, 0x5eed));
+    camel::Store::Opened opened = get(camel::Store::open(2, camel::MAX_UPDATES, 1, seed));
     CHECK(bool(opened.store.submit_register(imsi())));
     CHECK(bool(opened.store.submit_insert(imsi(), csis_of(7))));
-    CHECK(get(opened.store.pending()) == 2);
+    CHECK(get(opened.store.counts()).pending == 2);
     camel::Receipt receipt = get(opened.store.publish());
     for (camel::Session &session : opened.sessions)
         CHECK(bool(session.learn(receipt)));
@@ -111,6 +123,7 @@ static void data_are_made_or_refused()
     const uint8_t tbcd[] = { 0x62, 0x02, 0x01, 0x00, 0x00, 0x00, 0x00, 0xf1 };
     const uint8_t octets[21] = { 0x91 };
     CHECK(get(camel::imsi_of_tbcd(tbcd, sizeof tbcd)).number == imsi().number);
+    CHECK(imsi().number == (15ULL << 56 | 262010000000001));
     CHECK(camel::imsi_of_digits("").status() == CAMEL_MALFORMED);
     CHECK(camel::imsi_of_digits("2620a").status() == CAMEL_MALFORMED);
     CHECK(get(camel::address_of(octets, 20)).length == 20);
@@ -119,6 +132,22 @@ static void data_are_made_or_refused()
     CHECK(camel::Store::open(0, 1, 1, 1).status() == CAMEL_MALFORMED);
     CHECK(camel::Store::open(65, 1, 1, 1).status() == CAMEL_MALFORMED);
     CHECK(camel::Store::open(1, 1, 3, 1).status() == CAMEL_MALFORMED);
+}
+
+/* The digits that an IMSI was made of come back, of each count of digits. */
+static void digits_come_back()
+{
+    for (size_t count = 5; count <= 15; count++) {
+        const std::string_view digits = std::string_view("012345678901234").substr(0, count);
+        camel_imsi made = get(camel::imsi_of_digits(digits));
+        camel_imsi_digits characters = get(camel::digits_of_imsi(made));
+        camel_imsi_tbcd octets = get(camel::tbcd_of_imsi(made));
+        CHECK(characters.count == count && digits == static_cast<const char *>(characters.characters));
+        CHECK(octets.count == (count + 1) / 2);
+        CHECK(get(camel::imsi_of_tbcd(octets.octets, octets.count)).number == made.number);
+    }
+    CHECK(camel::digits_of_imsi(camel_imsi{ 0 }).status() == CAMEL_MALFORMED);
+    CHECK(camel::tbcd_of_imsi(camel_imsi{ 15ULL << 56 | 1000000000000000 }).status() == CAMEL_MALFORMED);
 }
 
 static void a_session_reads()
@@ -137,6 +166,9 @@ static void a_session_reads()
     event = event_at(13);
     event.cause = 18;
     CHECK(get(session.decide(event)).reason == CAMEL_REASON_CRITERIA);
+    camel_decisions decisions = get(session.decisions());
+    CHECK(decisions.by_reason[CAMEL_REASON_NONE] == 2 && decisions.by_reason[CAMEL_REASON_NOT_ARMED] == 1);
+    CHECK(decisions.by_reason[CAMEL_REASON_CRITERIA] == 2 && get(sessions[1].decisions()).by_reason[0] == 0);
     CHECK(get(session.row_at(imsi(), 13))->key == 7);
     CHECK(!get(session.row_at(imsi(), 4)));
     CHECK(get(session.o_criteria_at(imsi(), 2))->has_call_type);
@@ -154,8 +186,7 @@ static void octets_are_submitted()
 {
     using camel::Octets;
     using camel::Operation;
-    const uint8_t tbcd[] = { 0x62, 0x02, 0x01, 0x00, 0x00, 0x00, 0x00, 0xf1 };
-    const uint8_t other[] = { 0x62, 0x02, 0x01, 0x00, 0x00, 0x00, 0x00, 0xf2 };
+    const camel_imsi other = get(camel::imsi_of_digits("262010000000002"));
     const uint8_t insert[] = {
         0x30, 0x20, 0x80, 0x08, 0x62, 0x02, 0x01, 0x00, 0x00, 0x00, 0x00, 0xf1, /* imsi [0] */
         0xad, 0x14, 0xa0, 0x12, 0x30, 0x10, 0x30, 0x0e,       /* vlrCamelSubscriptionInfo [13], o-CSI [0], its row */
@@ -163,24 +194,23 @@ static void octets_are_submitted()
     };
     const uint8_t cancel[] = { 0xa3, 0x0a, 0x04, 0x08, 0x62, 0x02, 0x01, 0x00, 0x00, 0x00, 0x00, 0xf1 };
     auto [store, sessions] = open();
-    Octets dialogue{ tbcd, sizeof tbcd }, argument{ insert, sizeof insert };
+    Octets argument{ insert, sizeof insert };
 
-    CHECK(bool(store.submit_map(Operation::InsertSubscriberData, dialogue, argument)));
+    CHECK(bool(store.submit_map(Operation::InsertSubscriberData, imsi(), argument)));
     CHECK(bool(store.submit_map(Operation::InsertSubscriberData, std::nullopt, argument)));
     CHECK(bool(sessions[0].learn(get(store.publish()))));
     camel_answer answer = get(sessions[0].decide(event_at(2)));
     CHECK(answer.is_trigger && answer.key == 9 && answer.front == 4 && answer.scf.length == 3);
 
-    camel::MapResult cut = store.submit_map(Operation::InsertSubscriberData, dialogue, Octets{ insert, 33 });
+    camel::MapResult cut = store.submit_map(Operation::InsertSubscriberData, imsi(), Octets{ insert, 33 });
     CHECK(cut.status() == CAMEL_MALFORMED_OCTETS && cut.place() == 2);
-    camel::MapResult differs =
-        store.submit_map(Operation::InsertSubscriberData, Octets{ other, sizeof other }, argument);
+    camel::MapResult differs = store.submit_map(Operation::InsertSubscriberData, other, argument);
     CHECK(differs.status() == CAMEL_OTHER_IMSI && differs.place() == 2);
-    camel::MapResult none = store.submit_map(Operation::InsertSubscriberData, Octets{ tbcd, 0 }, argument);
+    camel::MapResult none = store.submit_map(Operation::InsertSubscriberData, camel_imsi{ 0 }, argument);
     CHECK(none.status() == CAMEL_MALFORMED && none.place() == 0);
 
-    CHECK(bool(store.submit_map(Operation::CancelLocation, dialogue, Octets{ cancel, sizeof cancel })));
-    camel::MapResult gone = store.submit_map(Operation::InsertSubscriberData, dialogue, argument);
+    CHECK(bool(store.submit_map(Operation::CancelLocation, imsi(), Octets{ cancel, sizeof cancel })));
+    camel::MapResult gone = store.submit_map(Operation::InsertSubscriberData, imsi(), argument);
     CHECK(gone.status() == CAMEL_UNIDENTIFIED_SUBSCRIBER && gone.place() == 0);
     CHECK(bool(sessions[0].learn(get(store.publish()))));
     CHECK(get(sessions[0].decide(event_at(2))).reason == CAMEL_REASON_UNKNOWN);
@@ -189,13 +219,19 @@ static void octets_are_submitted()
 static void a_receipt_of_another_store_is_refused()
 {
     auto [store, sessions] = open();
-    auto [other, of_other] = open();
+    auto [other, of_other] = open(0xfeed);
     camel::Receipt receipt = get(other.receipt());
-    CHECK(sessions[0].learn(receipt).status() == camel::OTHER_STORE);
+    CHECK(sessions[0].learn(receipt).status() == CAMEL_OTHER_STORE);
     CHECK(bool(of_other[0].learn(receipt)));
     receipt = get(store.receipt());
+    camel::Receipt copy = receipt;
     CHECK(bool(sessions[0].learn(receipt)));
-    CHECK(bool(sessions[1].learn(receipt)));
+    CHECK(bool(sessions[1].learn(copy)));
+    copy.front++;
+    CHECK(sessions[1].learn(copy).status() == CAMEL_OTHER_STORE);
+    CHECK(bool(store.close()));
+    CHECK(sessions[0].learn(get(other.receipt())).status() == CAMEL_OTHER_STORE);
+    CHECK(sessions[0].learn(receipt).status() == CAMEL_NO_LOOK);
 }
 
 static void a_look_is_of_one_front()
@@ -206,17 +242,22 @@ static void a_look_is_of_one_front()
     CHECK(sessions[0].look().status() == CAMEL_HELD);
     CHECK(sessions[0].learn(get(store.receipt())).status() == CAMEL_HELD);
     CHECK(bool(store.submit_delete(imsi(), camel_withdrawal{ true, false, false })));
+    CHECK(get(store.holders()) == 0);
     CHECK(bool(store.publish()));
     CHECK(bool(store.submit_cancel(imsi())));
+    CHECK(get(store.holders()) == 1);
     CHECK(store.publish().status() == CAMEL_HELD);
-    CHECK(get(store.published()) == 3 && get(store.pending()) == 1);
+    camel_counts counts = get(store.counts());
+    CHECK(counts.published == 3 && counts.pending == 1 && counts.subscribers == 1 && counts.held == 1);
     CHECK(get(look.decide(event_at(2))).front == 2);
     CHECK(get(look.row_at(imsi(), 2))->key == 7);
     CHECK(get(look.o_criteria_at(imsi(), 2)) && get(look.t_criteria_at(imsi(), 13)));
     CHECK(bool(look.leave()));
+    CHECK(get(store.holders()) == 0);
     CHECK(look.decide(event_at(2)).status() == CAMEL_WRONG_HANDLE);
     CHECK(bool(sessions[0].learn(get(store.publish()))));
     CHECK(get(sessions[0].decide(event_at(2))).reason == CAMEL_REASON_UNKNOWN);
+    CHECK(get(store.counts()).subscribers == 0);
     CHECK(get(kept->decide(event_at(13))).key == 7);
 }
 
@@ -224,9 +265,11 @@ static void what_holds_nothing_is_refused()
 {
     camel::Store store;
     camel::Session session;
-    camel::Receipt receipt;
+    camel::Receipt receipt{};
     CHECK(store.submit_clear_all().status() == CAMEL_WRONG_HANDLE);
     CHECK(store.publish().status() == CAMEL_WRONG_HANDLE);
+    CHECK(store.receipt().status() == CAMEL_WRONG_HANDLE && store.counts().status() == CAMEL_WRONG_HANDLE);
+    CHECK(store.holders().status() == CAMEL_WRONG_HANDLE && session.decisions().status() == CAMEL_WRONG_HANDLE);
     CHECK(session.decide(event_at(2)).status() == CAMEL_WRONG_HANDLE);
     CHECK(session.learn(receipt).status() == CAMEL_WRONG_HANDLE);
     CHECK(camel::Look().decide(event_at(2)).status() == CAMEL_WRONG_HANDLE);
@@ -259,6 +302,7 @@ static void no_value_is_none()
 static void a_store_ends()
 {
     auto [store, sessions] = open();
+    camel::Receipt receipt = get(store.receipt());
     {
         camel::Look look = get(sessions[0].look());
         CHECK(store.close().status() == CAMEL_HELD);
@@ -266,6 +310,7 @@ static void a_store_ends()
         CHECK(get(look.decide(event_at(2))).is_trigger);
     }
     CHECK(sessions[0].look().status() == CAMEL_NO_LOOK);
+    CHECK(sessions[0].learn(receipt).status() == CAMEL_NO_LOOK);
     CHECK(bool(store.close()));
     CHECK(sessions[0].decide(event_at(2)).status() == CAMEL_NO_LOOK);
     CHECK(store.submit_clear_all().status() == CAMEL_WRONG_HANDLE);
@@ -286,6 +331,23 @@ static void a_store_that_goes_away_ends_for_a_look()
     CHECK(sessions[0].look().status() == CAMEL_NO_LOOK);
 }
 
+/* Threads may decide by one kept record at the same time. */
+static void threads_share_a_record()
+{
+    auto [store, sessions] = open();
+    const camel::Subscriber kept = *get(sessions[0].keep(imsi()));
+    bool triggered[2] = {};
+    std::vector<std::thread> threads;
+    for (bool &is : triggered)
+        threads.emplace_back([&kept, &is] {
+            camel::Result<camel_answer> answer = kept.decide(event_at(13));
+            is = answer && answer->is_trigger;
+        });
+    for (std::thread &thread : threads)
+        thread.join();
+    CHECK(triggered[0] && triggered[1]);
+}
+
 static void threads_decide()
 {
     auto [store, sessions] = open();
@@ -304,6 +366,7 @@ static void threads_decide()
 int main()
 {
     data_are_made_or_refused();
+    digits_come_back();
     a_session_reads();
     octets_are_submitted();
     a_receipt_of_another_store_is_refused();
@@ -312,6 +375,7 @@ int main()
     no_value_is_none();
     a_store_ends();
     a_store_that_goes_away_ends_for_a_look();
+    threads_share_a_record();
     threads_decide();
     std::puts("camel.hpp: all is as it should be");
     return 0;

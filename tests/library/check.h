@@ -50,7 +50,7 @@ static inline camel_isdn_address isdn_of(const uint8_t *octets, size_t count)
 
 static inline camel_row row_of(uint8_t dp, uint32_t key)
 {
-    camel_row row = { .key = key, .handling = 1, .scf = isdn_of(SCF, sizeof SCF), .dp = dp };
+    camel_row row = { .dp = dp, .key = key, .scf = isdn_of(SCF, sizeof SCF), .handling = 1 };
     return row;
 }
 
@@ -68,13 +68,25 @@ static inline camel_status insert(camel_store *store, unsigned number, const cam
                                   size_t vt_count, const camel_t_criteria *t_criteria, size_t t_criteria_count)
 {
     camel_imsi imsi = imsi_of(number);
-    camel_insert sent = { o_count > 0, o_criteria_count > 0, vt_count > 0, t_criteria_count > 0 };
-    static const camel_row no_row;
-    static const camel_o_criteria no_o_criteria;
-    static const camel_t_criteria no_t_criteria;
-    return camel_submit_insert(store, &imsi, &sent, o ? o : &no_row, o_count, o_criteria ? o_criteria : &no_o_criteria,
-                               o_criteria_count, vt ? vt : &no_row, vt_count,
-                               t_criteria ? t_criteria : &no_t_criteria, t_criteria_count);
+    camel_insert sent = {
+        .o = { o, o_count, o_criteria, o_criteria_count, o_count > 0, o_criteria_count > 0 },
+        .vt = { vt, vt_count, t_criteria, t_criteria_count, vt_count > 0, t_criteria_count > 0 },
+    };
+    return camel_submit_insert(store, &imsi, &sent);
+}
+
+static inline camel_counts counts_of(const camel_store *store)
+{
+    camel_counts counts = { 0 };
+    RETURNS(CAMEL_OK, camel_counts_of(store, &counts));
+    return counts;
+}
+
+static inline camel_receipt receipt_of(const camel_store *store)
+{
+    camel_receipt receipt = { 0 };
+    RETURNS(CAMEL_OK, camel_receipt_of(store, &receipt));
+    return receipt;
 }
 
 /* Ends a test: the status of the program. */

@@ -33,7 +33,7 @@ static void publish(camel_store *store)
     RETURNS(CAMEL_OK, camel_publish(store));
 }
 
-static void finds_the_end(camel_session *session)
+static void finds_the_end(camel_session *session, const camel_receipt *receipt)
 {
     camel_event event = event_of(1, 2);
     camel_answer answer;
@@ -41,6 +41,7 @@ static void finds_the_end(camel_session *session)
     for (int time = 0; time < 3; time++) {
         RETURNS(CAMEL_NO_LOOK, camel_decide(session, &event, &answer));
         RETURNS(CAMEL_NO_LOOK, camel_look(session));
+        RETURNS(CAMEL_NO_LOOK, camel_learn(session, receipt));
     }
 }
 
@@ -51,6 +52,7 @@ static void ends_beside_a_look(size_t holder, unsigned before, unsigned after, b
     camel_session sessions[SESSIONS] = { CAMEL_EMPTY };
     camel_event event = event_of(1, 2);
     camel_answer answer;
+    camel_receipt receipt;
     size_t with_data, without;
 
     open_filled(&store, sessions, SESSIONS, SUBSCRIBERS);
@@ -59,6 +61,7 @@ static void ends_beside_a_look(size_t holder, unsigned before, unsigned after, b
     RETURNS(CAMEL_OK, camel_look(&sessions[holder]));
     for (unsigned at = 0; at < after; at++)
         publish(&store);
+    receipt = receipt_of(&store);
     if (is_closed)
         RETURNS(CAMEL_HELD, camel_close(&store));
     else
@@ -66,12 +69,13 @@ static void ends_beside_a_look(size_t holder, unsigned before, unsigned after, b
 
     for (size_t at = 0; at < SESSIONS; at++)
         if (at != holder)
-            finds_the_end(&sessions[at]);
+            finds_the_end(&sessions[at], &receipt);
+    RETURNS(CAMEL_HELD, camel_learn(&sessions[holder], &receipt));
     RETURNS(CAMEL_OK, camel_decide(&sessions[holder], &event, &answer));
     IS(answer.is_trigger && answer.front == 2 * SUBSCRIBERS + before);
     with_data = mallinfo2().uordblks;
     RETURNS(CAMEL_OK, camel_leave(&sessions[holder]));
-    finds_the_end(&sessions[holder]);
+    finds_the_end(&sessions[holder], &receipt);
     if (is_closed)
         RETURNS(CAMEL_OK, camel_close(&store));
     /* What is left is the sessions' own: a subscriber takes more than a hundred octets. */

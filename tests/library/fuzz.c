@@ -1,84 +1,11 @@
 /* Random fields and octets of any kind through each function of camel.h: as many calls as the first argument says, with
- * the seed of the second. A caller's part is kept: a bool is 0 or 1, a pointer points to as much as is said, what is
- * passed does not overlap, and a receipt is of the session's own store. All else is any octet, and any handle stands
- * for any other now and then. Each call returns one of its statuses, leaves what it writes as it was if that is not
- * CAMEL_OK, but for the place of a fault, and reports what was submitted. Behind the lists and octets that are passed
- * lies memory that may not be touched. Prints how often each function returned each status. */
+ * the seed of the second. A caller's part is kept: a pointer points to as much as is said, and what is passed does not
+ * overlap. All else is any octet, and any handle stands for any other now and then. Each call returns one of its
+ * statuses, leaves what it writes as it was if that is not CAMEL_OK, but for the place of a fault, and reports what was
+ * submitted, published, held and decided. Behind the lists and octets that are passed lies memory that may not be
+ * touched. Prints how often each function returned each status. */
 #define _DEFAULT_SOURCE
-#include "random.h"
-
-/* Handles. */
-
-enum { STORE, SESSION, RECEIPT = SESSION + 4, KEPT, SPARE, SLOTS };
-
-static struct slot {
-    unsigned of;              /* the store that it is of, or is */
-    uint64_t seen;            /* of a session: the longest front that it saw or learnt; of a receipt: its front */
-    bool is_looking;
-    uint64_t front;           /* of the look, once something was decided over it; else 0 */
-    uint64_t accepted;        /* of a store: how many updates */
-    bool is_ending;           /* of a store: a look holds its end up */
-} slots[SLOTS];
-static camel_session handles[SLOTS];
-static uint64_t published[1 << 16]; /* by store: how many updates */
-static unsigned opened;
-
-#define AS(kind, slot) ((camel_##kind *)&handles[slot])
-
-static uint64_t *published_of(unsigned slot)
-{
-    return &published[slots[slot].of & 0xffff];
-}
-
-/* The handle that is meant, or now and then another one. */
-static unsigned pick(unsigned meant)
-{
-    return below(24) ? meant : below(SLOTS);
-}
-
-static unsigned pick_session(void)
-{
-    return pick(SESSION + below(4));
-}
-
-/* Statuses. */
-
-enum {
-    OK = 1, UNIDENTIFIED = 2, MISSING = 4, UNEXPECTED = 8, FULL = 16, NO_LOOK = 32, HELD = 64, MALFORMED = 128,
-    WRONG_HANDLE = 256, FULL_HANDLE = 512, MALFORMED_OCTETS = 1024, MISSING_FIELD = 2048, FIELD_TWICE = 4096,
-    WRONG_TAG = 8192, WRONG_LENGTH = 16384, NO_IMSI = 32768, OTHER_IMSI = 65536, STATUSES = 17
-};
-
-/* In the order of their bits. Memory and places are never refused. */
-static const camel_status STATUS[STATUSES] = {
-    CAMEL_OK, CAMEL_UNIDENTIFIED_SUBSCRIBER, CAMEL_DATA_MISSING, CAMEL_UNEXPECTED_DATA_VALUE, CAMEL_HISTORY_FULL,
-    CAMEL_NO_LOOK, CAMEL_HELD, CAMEL_MALFORMED, CAMEL_WRONG_HANDLE, CAMEL_FULL_HANDLE, CAMEL_MALFORMED_OCTETS,
-    CAMEL_MISSING_FIELD, CAMEL_FIELD_TWICE, CAMEL_WRONG_TAG, CAMEL_WRONG_LENGTH, CAMEL_NO_IMSI, CAMEL_OTHER_IMSI
-};
-
-static unsigned long counts[STATUSES]; /* of the function that is called */
-
-/* Whether a call returned CAMEL_OK, which is one of its statuses. */
-static bool is_ok(unsigned allowed, camel_status status)
-{
-    for (int at = 0; at < STATUSES; at++)
-        if (STATUS[at] == status && (allowed >> at & 1)) {
-            counts[at]++;
-            return at == 0;
-        }
-    printf("%s is none of its statuses\n", camel_status_name(status));
-    failed++;
-    return false;
-}
-
-/* A call that writes to `out`, which is as before unless the call returns CAMEL_OK. */
-#define WRITES(is_written, out, allowed, call)                                                                      \
-    do {                                                                                                            \
-        uint8_t before_[sizeof *(out)];                                                                             \
-        memcpy(before_, (out), sizeof before_);                                                                     \
-        (is_written) = is_ok((allowed), (call));                                                                    \
-        IS((is_written) || memcmp(before_, (out), sizeof before_) == 0);                                            \
-    } while (0)
+#include "slots.h"
 
 /* The functions. */
 
@@ -95,20 +22,6 @@ static void f_layouts(void)
     edge = at_edge(0, sizes, room * sizeof *sizes);
     IS(camel_layouts(edge, room) == all && memcmp(edge, sizes, room * sizeof *sizes) == 0);
     counts[0]++;
-}
-
-/* So many octets: digits in TBCD, characters, or any. */
-static size_t any_octets(uint8_t *octets)
-{
-    size_t count = below(16) ? below(24) : below(300);
-    unsigned kind = below(3);
-    for (size_t at = 0; at < count; at++) {
-        unsigned low = below(10), high = below(10);
-        octets[at] = kind == 0 ? mostly(low | high << 4) : kind == 1 ? mostly('0' + low) : octet();
-    }
-    if (kind == 0 && count > 0 && toss())
-        octets[count - 1] |= 0xf0;
-    return count;
 }
 
 #define READS_OCTETS(name, type)                                                                                    \
@@ -128,32 +41,72 @@ READS_OCTETS(imsi_of_digits, camel_imsi)
 READS_OCTETS(address_of, camel_address)
 READS_OCTETS(isdn_address_of, camel_isdn_address)
 
-static void f_free(void)
+/* What an IMSI is written as is an IMSI, the same. */
+#define WRITES_IMSI(name, type, part, back)                                                                         \
+    static void f_##name(void)                                                                                      \
+    {                                                                                                               \
+        camel_imsi imsi = any_imsi(), same = { 0 };                                                                 \
+        type any, *made;                                                                                            \
+        bool is_made;                                                                                               \
+        fill(&any, sizeof any);                                                                                     \
+        made = at_edge(1, &any, sizeof any);                                                                        \
+        WRITES(is_made, made, OK | MALFORMED, camel_##name(at_edge(0, &imsi, sizeof imsi), made));                  \
+        if (!is_made)                                                                                               \
+            return;                                                                                                 \
+        RETURNS(CAMEL_OK, back((const uint8_t *)made->part, made->count, &same));                                   \
+        IS(same.number == imsi.number);                                                                             \
+    }
+
+WRITES_IMSI(digits_of_imsi, camel_imsi_digits, characters, camel_imsi_of_digits)
+WRITES_IMSI(tbcd_of_imsi, camel_imsi_tbcd, octets, camel_imsi_of_tbcd)
+
+static void f_empty(void)
 {
-    unsigned slot = below(64) ? RECEIPT + below(3) : below(SLOTS);
+    unsigned slot = below(64) ? KEPT + below(2) : below(SLOTS);
+    camel_free(below(8) ? &handles[slot] : NULL);
     camel_free(&handles[slot]);
     IS(!handles[slot].is_full);
     slots[slot].is_looking = false;
     counts[0]++;
 }
 
+/* Opens a store for a header of some version. */
+static camel_status open_for(camel_store *store, camel_session *sessions, size_t session_count, uint64_t limit,
+                             uint8_t profile, uint64_t seed)
+{
+    uint32_t version = below(16) ? CAMEL_ABI_VERSION : below(4);
+    camel_status status = camel_open_version(version, store, sessions, session_count, limit, profile, seed);
+    IS((status == CAMEL_OTHER_VERSION) == (version != CAMEL_ABI_VERSION));
+    return status;
+}
+
 /* The sessions of a store that has ended make room for those of the next one, or not. */
-static void f_open(void)
+static void open_by(camel_status (*call)(camel_store *, camel_session *, size_t, uint64_t, uint8_t, uint64_t),
+                    unsigned allowed)
 {
     unsigned slot = pick(STORE), count = below(8) ? 4 : below(5);
     uint64_t limit = below(4) ? INT64_MAX : below(3) ? 1 + below(60) : next() >> below(64);
     bool makes_room = !handles[STORE].is_full && toss();
-    if (slot >= SESSION && slot < RECEIPT)
+    if (slot >= SESSION && slot < KEPT)
         return;
-    for (unsigned session = SESSION; makes_room && session < RECEIPT; session++)
+    for (unsigned session = SESSION; makes_room && session < KEPT; session++)
         camel_free(&handles[session]);
-    if (!is_ok(OK | MALFORMED | FULL_HANDLE,
-               camel_open(AS(store, slot), AS(session, SESSION), count, limit, mostly(1 + below(2)), next())))
+    if (!is_ok(allowed, call(AS(store, slot), AS(session, SESSION), count, limit, mostly(1 + below(2)), next())))
         return;
     slots[slot] = (struct slot){ .of = ++opened };
     for (unsigned session = SESSION; session < SESSION + count; session++)
         slots[session] = (struct slot){ .of = opened };
-    *published_of(slot) = 0;
+    *published_of(slot) = *number_of(slot) = 0;
+}
+
+static void f_open_version(void)
+{
+    open_by(open_for, OK | OTHER_VERSION | MALFORMED | FULL_HANDLE);
+}
+
+static void f_open(void)
+{
+    open_by(camel_open, OK | MALFORMED | FULL_HANDLE);
 }
 
 enum { REFUSES = OK | FULL | MALFORMED | WRONG_HANDLE };
@@ -172,40 +125,39 @@ static void f_submit_register(void)
     note_update(slot, REFUSES, camel_submit_register(AS(store, slot), &imsi));
 }
 
-static size_t any_count(void)
+enum { INSERT_STATUSES = REFUSES | UNIDENTIFIED | MISSING | UNEXPECTED };
+
+static void f_submit_lists(void)
 {
-    return below(32) ? 1 + below(2) : below(13);
+    unsigned slot = pick(STORE);
+    camel_imsi imsi = any_imsi();
+    camel_insert sent = any_insert();
+    note_update(slot, INSERT_STATUSES,
+                camel_submit_lists(AS(store, slot), at_edge(0, &imsi, sizeof imsi), at_edge(5, &sent, sizeof sent)));
 }
 
+/* A list whose pointer is NULL has no items, whatever its count says: to send it is a fault of the data. */
 static void f_submit_insert(void)
 {
     unsigned slot = pick(STORE);
     camel_imsi imsi = any_imsi();
-    camel_insert sent = { toss(), toss(), toss(), toss() };
-    size_t o_count = any_count(), o_criteria_count = any_count();
-    size_t vt_count = any_count(), t_criteria_count = any_count();
-    camel_row o[12], vt[12];
-    camel_o_criteria o_criteria[12];
-    camel_t_criteria t_criteria[12];
-    for (unsigned at = 0; at < 12; at++) {
-        unsigned dp = mostly(DPS[at % 2]), vt_dp = mostly(DPS[2 + at % 3]);
-        o[at] = any_row(dp), vt[at] = any_row(vt_dp);
-        o_criteria[at] = any_o_criteria(dp);
-        t_criteria[at] = any_t_criteria(vt_dp);
-    }
-    note_update(slot, REFUSES | UNIDENTIFIED | MISSING | UNEXPECTED,
-                camel_submit_insert(AS(store, slot), at_edge(0, &imsi, sizeof imsi), &sent,
-                                    at_edge(1, o, o_count * sizeof *o), o_count,
-                                    at_edge(2, o_criteria, o_criteria_count * sizeof *o_criteria), o_criteria_count,
-                                    at_edge(3, vt, vt_count * sizeof *vt), vt_count,
-                                    at_edge(4, t_criteria, t_criteria_count * sizeof *t_criteria), t_criteria_count));
+    camel_insert sent = any_insert();
+    bool is_empty_sent = false;
+    for (unsigned times = below(4); times > 0; times--)
+        is_empty_sent |= take_pointer(&sent);
+    note_update(slot, is_empty_sent ? MALFORMED | MISSING | UNEXPECTED : INSERT_STATUSES,
+                camel_submit_insert(AS(store, slot), at_edge(0, &imsi, sizeof imsi), at_edge(5, &sent, sizeof sent)));
 }
 
 static void f_submit_delete(void)
 {
     unsigned slot = pick(STORE);
     camel_imsi imsi = any_imsi();
-    camel_withdrawal what = { toss(), toss(), below(4) == 0 };
+    camel_withdrawal what = { 0 };
+    toss_in(&what.o);
+    toss_in(&what.vt);
+    if (below(4) == 0)
+        toss_in(&what.everything);
     note_update(slot, REFUSES | UNIDENTIFIED, camel_submit_delete(AS(store, slot), &imsi, &what));
 }
 
@@ -222,36 +174,21 @@ static void f_submit_clear_all(void)
     note_update(slot, OK | FULL | WRONG_HANDLE, camel_submit_clear_all(AS(store, slot)));
 }
 
-/* The TBCD octets of the IMSI of an argument or of another one, none, or any octets. */
-static size_t any_dialogue(const uint8_t *own, uint8_t *imsi)
+/* The IMSI of an argument or another one, or none. */
+static camel_imsi any_dialogue(unsigned own)
 {
+    camel_imsi none = { 0 };
     unsigned kind = below(8);
     if (kind == 0)
-        return any_octets(imsi);
-    memcpy(imsi, own, IMSI_OCTETS);
-    if (kind == 1)
-        write_tbcd(below(40), imsi);
-    return kind < 5 ? IMSI_OCTETS : 0;
-}
-
-/* The octets of an argument as they come, or with some that are changed, left out or added. */
-static size_t any_argument(struct argument *argument, uint8_t *octets)
-{
-    size_t count = argument->count;
-    fill(octets, LONGEST + 8);
-    memcpy(octets, argument->octets, count);
-    for (unsigned changes = toss() ? below(4) : 0; changes > 0; changes--) {
-        size_t at = below(count);
-        octets[at] = toss() ? octet() : (uint8_t)(octets[at] ^ 1u << below(8));
-    }
-    return below(8) ? count : below(4) ? below(count) : count + below(8);
+        return any_imsi();
+    return kind < 5 ? imsi_of(kind == 1 ? below(40) : own) : none;
 }
 
 /* The faults of an argument have a place in it, and all other statuses none; 35 and 36 may be either. */
 static bool is_placed(camel_status status, size_t count, uint64_t place)
 {
     bool is_of_argument = status == CAMEL_DATA_MISSING || status == CAMEL_UNEXPECTED_DATA_VALUE ||
-                          status >= CAMEL_MALFORMED_OCTETS;
+                          (status >= CAMEL_MALFORMED_OCTETS && status <= CAMEL_OTHER_IMSI);
     return is_of_argument ? place <= count : place == 0;
 }
 
@@ -259,60 +196,108 @@ static void f_submit_map(void)
 {
     unsigned slot = pick(STORE);
     struct argument argument = ARGUMENT[below(ARGUMENTS)];
-    uint8_t imsi[300], octets[300];
-    write_tbcd(below(40), argument.octets + IMSI_AT);
-    size_t imsi_count = any_dialogue(argument.octets + IMSI_AT, imsi);
+    uint8_t octets[300];
+    unsigned own = below(40);
+    camel_imsi imsi = any_dialogue(own);
+    write_tbcd(own, argument.octets + IMSI_AT);
     size_t count = below(16) ? any_argument(&argument, octets) : any_octets(octets);
     uint64_t any = next(), *place = at_edge(2, &any, sizeof any);
     camel_status status = camel_submit_map(
         AS(store, slot), mostly(below(16) ? argument.operation : ARGUMENT[below(ARGUMENTS)].operation),
-        at_edge(0, imsi, imsi_count), imsi_count, at_edge(1, octets, count), count, place);
+        at_edge(0, &imsi, sizeof imsi), at_edge(1, octets, count), count, place);
     note_update(slot, REFUSES | UNIDENTIFIED | MISSING | UNEXPECTED | MALFORMED_OCTETS | MISSING_FIELD | FIELD_TWICE |
                 WRONG_TAG | WRONG_LENGTH | NO_IMSI | OTHER_IMSI, status);
     IS(is_placed(status, count, *place));
 }
 
+/* The sessions of a store whose looks have begun: a bit each. */
+static uint64_t looking_of(unsigned slot)
+{
+    uint64_t bits = 0;
+    for (unsigned at = SESSION; at < KEPT; at++)
+        if (slots[at].of == slots[slot].of && slots[at].is_looking)
+            bits |= (uint64_t)1 << (at - SESSION);
+    return bits;
+}
+
+/* A publication is held if there is a holder. */
 static void f_publish(void)
 {
     unsigned slot = pick(STORE);
-    if (is_ok(OK | HELD | WRONG_HANDLE, camel_publish(AS(store, slot))))
+    uint64_t holders = 0;
+    camel_status named = camel_holders(AS(store, slot), &holders), status = camel_publish(AS(store, slot));
+    IS((status == CAMEL_HELD) == (holders != 0) && (status == CAMEL_WRONG_HANDLE) == (named == CAMEL_WRONG_HANDLE));
+    slots[slot].held += status == CAMEL_HELD;
+    if (is_ok(OK | HELD | WRONG_HANDLE, status))
         *published_of(slot) = slots[slot].accepted;
 }
 
-static void f_published(void)
+static void f_holders(void)
 {
     unsigned slot = pick(STORE);
-    uint64_t count = next();
-    bool is_counted;
-    WRITES(is_counted, &count, OK | WRONG_HANDLE, camel_published(AS(store, slot), &count));
-    IS(!is_counted || count == *published_of(slot));
+    uint64_t any = next(), *holders = at_edge(0, &any, sizeof any);
+    bool are_named;
+    WRITES(are_named, holders, OK | WRONG_HANDLE, camel_holders(AS(store, slot), holders));
+    IS(!are_named || (*holders & ~looking_of(slot)) == 0);
 }
 
-static void f_pending(void)
+static void f_counts_of(void)
 {
     unsigned slot = pick(STORE);
-    uint64_t count = next();
-    bool is_counted;
-    WRITES(is_counted, &count, OK | WRONG_HANDLE, camel_pending(AS(store, slot), &count));
-    IS(!is_counted || count == slots[slot].accepted - *published_of(slot));
+    camel_counts any, *of_store;
+    bool are_counted;
+    fill(&any, sizeof any);
+    of_store = at_edge(0, &any, sizeof any);
+    WRITES(are_counted, of_store, OK | WRONG_HANDLE, camel_counts_of(AS(store, slot), of_store));
+    if (!are_counted)
+        return;
+    IS(of_store->published == *published_of(slot) && of_store->subscribers <= of_store->published);
+    IS(of_store->pending == slots[slot].accepted - *published_of(slot) && of_store->held == slots[slot].held);
 }
 
 static void f_receipt_of(void)
 {
-    unsigned slot = pick(STORE), to = pick(RECEIPT);
-    if (slot != to && is_ok(OK | WRONG_HANDLE | FULL_HANDLE, camel_receipt_of(AS(store, slot), AS(receipt, to))))
-        slots[to] = (struct slot){ .of = slots[slot].of, .seen = *published_of(slot) };
+    unsigned slot = pick(STORE), to = below(RECEIPTS);
+    camel_receipt any, *receipt;
+    bool is_made;
+    fill(&any, sizeof any);
+    receipt = at_edge(0, &any, sizeof any);
+    WRITES(is_made, receipt, OK | WRONG_HANDLE, camel_receipt_of(AS(store, slot), receipt));
+    if (!is_made)
+        return;
+    IS(receipt->front == *published_of(slot) && (*number_of(slot) == 0 || *number_of(slot) == receipt->store));
+    *number_of(slot) = receipt->store;
+    receipts[to] = *receipt;
 }
 
+/* One that a store has given, also one that has ended, or now and then one with another front or another store. */
+static camel_receipt any_receipt(void)
+{
+    camel_receipt receipt = receipts[below(RECEIPTS)];
+    switch (below(16)) {
+    case 0: receipt.front += below(3); break;
+    case 1: receipt.front = next() >> below(64); break;
+    case 2: receipt.store ^= (uint64_t)1 << below(64); break;
+    case 3: fill(&receipt, sizeof receipt);
+    }
+    return receipt;
+}
+
+/* It is learnt only if it is of the session's own store, and no more than is published. The end of the store is found
+ * only by one of its own. */
 static void f_learn(void)
 {
-    unsigned slot = pick_session(), from = pick(RECEIPT);
-    bool is_own = slots[slot].of == slots[from].of;
-    if (slot == from || (!is_own && handles[slot].is_full && handles[from].is_full))
+    unsigned slot = pick_session();
+    camel_receipt receipt = any_receipt();
+    camel_status status = camel_learn(AS(session, slot), at_edge(0, &receipt, sizeof receipt));
+    bool is_own = *number_of(slot) != 0 && *number_of(slot) == receipt.store && receipt.front <= *published_of(slot);
+    IS(status != CAMEL_OTHER_STORE || !is_own);
+    IS(status != CAMEL_NO_LOOK || *number_of(slot) == receipt.store);
+    if (!is_ok(OK | HELD | OTHER_STORE | NO_LOOK | WRONG_HANDLE, status))
         return;
-    if (is_ok(OK | HELD | WRONG_HANDLE, camel_learn(AS(session, slot), AS(receipt, from))) &&
-        slots[slot].seen < slots[from].seen)
-        slots[slot].seen = slots[from].seen;
+    IS(is_own);
+    if (slots[slot].seen < receipt.front)
+        slots[slot].seen = receipt.front;
 }
 
 static void f_look(void)
@@ -362,6 +347,18 @@ static void f_decide(void)
     IS(is_whole(answer) && answer->front >= slot->seen && answer->front <= *published_of(at));
     IS(!slot->is_looking || slot->front == 0 || slot->front == answer->front);
     slot->seen = slot->front = answer->front;
+    slot->decisions[answer->reason]++;
+}
+
+static void f_decisions_of(void)
+{
+    unsigned slot = pick_session();
+    camel_decisions any, *decisions;
+    bool are_counted;
+    fill(&any, sizeof any);
+    decisions = at_edge(0, &any, sizeof any);
+    WRITES(are_counted, decisions, OK | WRONG_HANDLE, camel_decisions_of(AS(session, slot), decisions));
+    IS(!are_counted || memcmp(decisions->by_reason, slots[slot].decisions, sizeof decisions->by_reason) == 0);
 }
 
 static bool is_whole_row(const camel_row *row)
@@ -426,7 +423,8 @@ static void f_decide_kept(void)
     bool is_decided;
     WRITES(is_decided, answer, OK | MALFORMED | WRONG_HANDLE,
            camel_decide_kept(AS(subscriber, slot), at_edge(0, &event, sizeof event), answer));
-    IS(!is_decided || (is_whole(answer) && answer->front <= *published_of(slot) && answer->reason != CAMEL_REASON_UNKNOWN));
+    IS(!is_decided || (is_whole(answer) && answer->front <= *published_of(slot)));
+    IS(!is_decided || answer->reason != CAMEL_REASON_UNKNOWN);
 }
 
 static void f_close(void)
@@ -438,17 +436,17 @@ static void f_close(void)
     slots[slot].is_ending = status == CAMEL_HELD;
 }
 
-/* Each function of camel.h, and how often it is called among 1,000 calls. */
+/* The functions of camel.h, and how often each is called among 1,000 calls. */
 static struct { const char *name; void (*make)(void); unsigned often; unsigned long counts[STATUSES]; } exports[] = {
 #define EXPORT(name, often) { "camel_" #name, f_##name, often, { 0 } }
-    EXPORT(abi_version, 1), EXPORT(layouts, 1), EXPORT(imsi_of_tbcd, 20), EXPORT(imsi_of_digits, 20),
-    EXPORT(address_of, 20), EXPORT(isdn_address_of, 20), EXPORT(open, 30), EXPORT(submit_register, 80),
-    EXPORT(submit_insert, 130), EXPORT(submit_delete, 20), EXPORT(submit_cancel, 20), EXPORT(submit_clear_all, 1),
-    EXPORT(submit_map, 60),
-    EXPORT(publish, 60), EXPORT(published, 20), EXPORT(pending, 20), EXPORT(receipt_of, 30), EXPORT(learn, 40),
-    EXPORT(decide, 150), EXPORT(look, 25), EXPORT(leave, 40), EXPORT(row_at, 30),
-    EXPORT(o_criteria_at, 15), EXPORT(t_criteria_at, 15), EXPORT(keep, 40), EXPORT(decide_kept, 40), EXPORT(close, 2),
-    EXPORT(free, 50),
+    EXPORT(abi_version, 1), EXPORT(layouts, 1), EXPORT(imsi_of_tbcd, 15), EXPORT(imsi_of_digits, 15),
+    EXPORT(address_of, 20), EXPORT(isdn_address_of, 20), EXPORT(digits_of_imsi, 5), EXPORT(tbcd_of_imsi, 5),
+    EXPORT(open_version, 20), EXPORT(open, 10), EXPORT(submit_register, 80), EXPORT(submit_lists, 100),
+    EXPORT(submit_insert, 30), EXPORT(submit_delete, 20), EXPORT(submit_cancel, 20), EXPORT(submit_clear_all, 1),
+    EXPORT(submit_map, 60), EXPORT(publish, 60), EXPORT(holders, 10), EXPORT(counts_of, 20), EXPORT(receipt_of, 30),
+    EXPORT(learn, 40), EXPORT(decide, 150), EXPORT(decisions_of, 10), EXPORT(look, 25), EXPORT(leave, 40),
+    EXPORT(row_at, 30), EXPORT(o_criteria_at, 15), EXPORT(t_criteria_at, 15), EXPORT(keep, 40), EXPORT(decide_kept, 40),
+    EXPORT(close, 2), EXPORT(empty, 50),
 };
 
 enum { EXPORTS = sizeof exports / sizeof *exports };
@@ -456,7 +454,7 @@ enum { EXPORTS = sizeof exports / sizeof *exports };
 /* Makes a call of one of the functions. A store that is to end does so soon, and soon another is opened. */
 static void any_call(void)
 {
-    void (*soon)(void) = !handles[STORE].is_full ? f_open : slots[STORE].is_ending ? f_close : NULL;
+    void (*soon)(void) = !handles[STORE].is_full ? f_open_version : slots[STORE].is_ending ? f_close : NULL;
     unsigned at = 0, chosen = below(1000);
     if (soon && below(8) == 0)
         while (exports[at].make != soon)

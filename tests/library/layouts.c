@@ -2,26 +2,38 @@
 #include "check.h"
 
 /* So that a compiler with another layout is found when it compiles this. */
+_Static_assert(sizeof(camel_receipt) == 16, "camel_receipt");
 _Static_assert(sizeof(camel_imsi) == 8, "camel_imsi");
 _Static_assert(sizeof(camel_address) == 21, "camel_address");
 _Static_assert(sizeof(camel_isdn_address) == 10, "camel_isdn_address");
 _Static_assert(sizeof(camel_basic_service) == 2, "camel_basic_service");
-_Static_assert(sizeof(camel_row) == 20, "camel_row");
+_Static_assert(sizeof(camel_row) == 24, "camel_row");
 _Static_assert(sizeof(camel_basic_services) == 11, "camel_basic_services");
 _Static_assert(sizeof(camel_causes) == 6, "camel_causes");
 _Static_assert(sizeof(camel_number_criterion) == 106, "camel_number_criterion");
 _Static_assert(sizeof(camel_o_criteria) == 127, "camel_o_criteria");
 _Static_assert(sizeof(camel_t_criteria) == 18, "camel_t_criteria");
-_Static_assert(sizeof(camel_insert) == 4, "camel_insert");
+_Static_assert(sizeof(camel_sent_o_csi) == 40, "camel_sent_o_csi");
+_Static_assert(sizeof(camel_sent_vt_csi) == 40, "camel_sent_vt_csi");
+_Static_assert(sizeof(camel_insert) == 80, "camel_insert");
 _Static_assert(sizeof(camel_withdrawal) == 3, "camel_withdrawal");
 _Static_assert(sizeof(camel_event) == 40, "camel_event");
 _Static_assert(sizeof(camel_answer) == 32, "camel_answer");
-_Static_assert(offsetof(camel_row, scf) == 8 && offsetof(camel_row, dp) == 18, "camel_row");
+_Static_assert(sizeof(camel_counts) == 32, "camel_counts");
+_Static_assert(sizeof(camel_decisions) == 8 * CAMEL_REASONS, "camel_decisions");
+_Static_assert(offsetof(camel_receipt, front) == 8, "camel_receipt");
+_Static_assert(offsetof(camel_row, key) == 4 && offsetof(camel_row, scf) == 8, "camel_row");
+_Static_assert(offsetof(camel_row, handling) == 20, "camel_row");
 _Static_assert(offsetof(camel_number_criterion, numbers) == 6, "camel_number_criterion");
 _Static_assert(offsetof(camel_o_criteria, number) == 2, "camel_o_criteria");
 _Static_assert(offsetof(camel_o_criteria, causes) == 121, "camel_o_criteria");
+_Static_assert(offsetof(camel_sent_o_csi, criteria) == 16, "camel_sent_o_csi");
+_Static_assert(offsetof(camel_sent_o_csi, has_criteria) == 33, "camel_sent_o_csi");
+_Static_assert(offsetof(camel_sent_vt_csi, has_criteria) == 33, "camel_sent_vt_csi");
+_Static_assert(offsetof(camel_insert, vt) == 40, "camel_insert");
 _Static_assert(offsetof(camel_event, basic) == 29 && offsetof(camel_event, cause) == 33, "camel_event");
 _Static_assert(offsetof(camel_answer, scf) == 12 && offsetof(camel_answer, reason) == 25, "camel_answer");
+_Static_assert(offsetof(camel_counts, held) == 24, "camel_counts");
 
 static const uint8_t NUMBERS[2][3] = { { 0x91, 0x34, 0x61 }, { 0xa1, 0x21, 0xf3 } };
 
@@ -205,14 +217,16 @@ int main(void)
     camel_store store = CAMEL_EMPTY;
     camel_session session = CAMEL_EMPTY;
     static const uint32_t sizes[] = {
-        sizeof(camel_imsi), sizeof(camel_address), sizeof(camel_isdn_address), sizeof(camel_basic_service),
-        sizeof(camel_row), sizeof(camel_basic_services), sizeof(camel_causes), sizeof(camel_number_criterion),
-        sizeof(camel_o_criteria), sizeof(camel_t_criteria), sizeof(camel_insert), sizeof(camel_withdrawal),
-        sizeof(camel_event), sizeof(camel_answer), sizeof(camel_store),
+        sizeof(camel_receipt), sizeof(camel_imsi), sizeof(camel_address), sizeof(camel_isdn_address),
+        sizeof(camel_basic_service), sizeof(camel_row), sizeof(camel_basic_services), sizeof(camel_causes),
+        sizeof(camel_number_criterion), sizeof(camel_o_criteria), sizeof(camel_t_criteria), sizeof(camel_sent_o_csi),
+        sizeof(camel_sent_vt_csi), sizeof(camel_insert), sizeof(camel_withdrawal), sizeof(camel_event),
+        sizeof(camel_answer), sizeof(camel_counts), sizeof(camel_decisions), sizeof(camel_store),
     };
-    uint32_t of_library[16] = { 0 };
+    uint32_t of_library[32] = { 0 };
 
-    IS(camel_layouts(of_library, 16) == sizeof sizes / sizeof sizes[0]);
+    _Static_assert(sizeof sizes / sizeof sizes[0] == 20, "19 types and a handle");
+    IS(camel_layouts(of_library, 32) == 20);
     IS(memcmp(of_library, sizes, sizeof sizes) == 0);
     RETURNS(CAMEL_OK, camel_open(&store, &session, 1, 100, 1, 1));
     fields_come_back(&store, &session);

@@ -1,4 +1,4 @@
-/* Random fields and octets for the calls of a test. A bool is 0 or 1; all else is any octet now and then. */
+/* Random fields and octets for the calls of a test: each is any octet now and then, a bool too. */
 #ifndef RANDOM_H
 #define RANDOM_H
 
@@ -31,6 +31,13 @@ static uint8_t octet(void)
     return (uint8_t)(next() >> 40);
 }
 
+/* Has a bool be 0, 1 or any octet. C reads no such bool, so it is copied only. */
+static void toss_in(bool *place)
+{
+    uint8_t any = below(4) ? toss() : octet();
+    memcpy(place, &any, 1);
+}
+
 /* This octet, or now and then any other. */
 static uint8_t mostly(unsigned usual)
 {
@@ -43,7 +50,21 @@ static void fill(void *at, size_t size)
         ((uint8_t *)at)[i] = octet();
 }
 
-enum { EDGES = 5, ROOM = 1 << 16 };
+/* So many octets: digits in TBCD, characters, or any. */
+static size_t any_octets(uint8_t *octets)
+{
+    size_t count = below(16) ? below(24) : below(300);
+    unsigned kind = below(3);
+    for (size_t at = 0; at < count; at++) {
+        unsigned low = below(10), high = below(10);
+        octets[at] = kind == 0 ? mostly(low | high << 4) : kind == 1 ? mostly('0' + low) : octet();
+    }
+    if (kind == 0 && count > 0 && toss())
+        octets[count - 1] |= 0xf0;
+    return count;
+}
+
+enum { EDGES = 6, ROOM = 1 << 16 };
 
 /* A copy of what is passed, whose end no call may go beyond. Each of what a call is passed has an edge of its own. */
 static void *at_edge(int edge, const void *from, size_t size)
@@ -59,10 +80,13 @@ static void *at_edge(int edge, const void *from, size_t size)
 
 static const uint8_t DPS[] = { 2, 4, 12, 13, 14 };
 
+/* One of a few, or now and then any number, or one with a count of digits. */
 static camel_imsi any_imsi(void)
 {
-    camel_imsi none = { next() >> below(64) };
-    return below(16) ? imsi_of(below(40)) : none;
+    camel_imsi any = { next() >> below(64) };
+    if (toss())
+        any.number = any.number >> 8 | (uint64_t)(4 + below(13)) << 56;
+    return below(16) ? imsi_of(below(40)) : any;
 }
 
 static camel_isdn_address any_isdn(void)
@@ -75,7 +99,7 @@ static camel_isdn_address any_isdn(void)
 
 static camel_row any_row(unsigned dp)
 {
-    camel_row row = { (uint32_t)next(), (uint32_t)next() >> below(32), any_isdn(), mostly(dp) };
+    camel_row row = { mostly(dp), (uint32_t)next(), any_isdn(), (uint32_t)next() >> below(32) };
     if (below(32))
         row.key &= 0x7fffffff;
     return row;
@@ -92,16 +116,20 @@ static camel_causes any_causes(bool is_criterion)
 static camel_basic_services any_services(void)
 {
     camel_basic_services services = { mostly(below(6)), { { 0 } } };
-    for (int at = 0; at < 5; at++)
-        services.services[at] = (camel_basic_service){ toss(), octet() };
+    for (int at = 0; at < 5; at++) {
+        toss_in(&services.services[at].is_bearer);
+        services.services[at].code = octet();
+    }
     return services;
 }
 
 static camel_o_criteria any_o_criteria(unsigned dp)
 {
-    camel_o_criteria entry = { .dp = mostly(dp), .has_number = toss(), .has_call_type = toss() };
-    entry.is_forwarded = toss();
-    entry.number.is_enabling = toss();
+    camel_o_criteria entry = { .dp = mostly(dp) };
+    toss_in(&entry.has_number);
+    toss_in(&entry.has_call_type);
+    toss_in(&entry.is_forwarded);
+    toss_in(&entry.number.is_enabling);
     entry.number.number_count = mostly(below(11));
     entry.number.length_count = mostly(1 + below(3));
     for (int at = 0; at < 10; at++)
@@ -118,14 +146,75 @@ static camel_t_criteria any_t_criteria(unsigned dp)
     return (camel_t_criteria){ (uint8_t)dp, any_services(), any_causes(dp != 12) };
 }
 
+static size_t any_count(void)
+{
+    return below(32) ? 1 + below(2) : below(13);
+}
+
+/* Lists of any items, each at the edge of memory that may not be touched. */
+static camel_insert any_insert(void)
+{
+    camel_insert sent = {
+        .o = { .row_count = any_count(), .criteria_count = any_count() },
+        .vt = { .row_count = any_count(), .criteria_count = any_count() },
+    };
+    camel_row o[12], vt[12];
+    camel_o_criteria o_criteria[12];
+    camel_t_criteria t_criteria[12];
+    for (unsigned at = 0; at < 12; at++) {
+        unsigned dp = mostly(DPS[at % 2]), vt_dp = mostly(DPS[2 + at % 3]);
+        o[at] = any_row(dp), vt[at] = any_row(vt_dp);
+        o_criteria[at] = any_o_criteria(dp);
+        t_criteria[at] = any_t_criteria(vt_dp);
+    }
+    sent.o.rows = at_edge(1, o, sent.o.row_count * sizeof *o);
+    sent.o.criteria = at_edge(2, o_criteria, sent.o.criteria_count * sizeof *o_criteria);
+    sent.vt.rows = at_edge(3, vt, sent.vt.row_count * sizeof *vt);
+    sent.vt.criteria = at_edge(4, t_criteria, sent.vt.criteria_count * sizeof *t_criteria);
+    toss_in(&sent.o.has_rows);
+    toss_in(&sent.o.has_criteria);
+    toss_in(&sent.vt.has_rows);
+    toss_in(&sent.vt.has_criteria);
+    return sent;
+}
+
+/* Has the pointer of a list be NULL, and tells whether the list is sent. C reads no bool that is neither 0 nor 1, so
+ * its octet is read. */
+static bool take_pointer(camel_insert *sent)
+{
+    const bool *has;
+    uint8_t octet;
+    switch (below(4)) {
+    case 0: sent->o.rows = NULL, has = &sent->o.has_rows; break;
+    case 1: sent->o.criteria = NULL, has = &sent->o.has_criteria; break;
+    case 2: sent->vt.rows = NULL, has = &sent->vt.has_rows; break;
+    default: sent->vt.criteria = NULL, has = &sent->vt.has_criteria;
+    }
+    memcpy(&octet, has, 1);
+    return octet != 0;
+}
+
+/* The octets of an argument as they come, or with some that are changed, left out or added. */
+static size_t any_argument(struct argument *argument, uint8_t *octets)
+{
+    size_t count = argument->count;
+    fill(octets, LONGEST + 8);
+    memcpy(octets, argument->octets, count);
+    for (unsigned changes = toss() ? below(4) : 0; changes > 0; changes--) {
+        size_t at = below(count);
+        octets[at] = toss() ? octet() : (uint8_t)(octets[at] ^ 1u << below(8));
+    }
+    return below(8) ? count : below(4) ? below(count) : count + below(8);
+}
+
 static camel_event any_event(void)
 {
     camel_event event;
     fill(&event, sizeof event);
     event.imsi = any_imsi();
     event.destination.length = mostly(1 + below(20));
-    event.basic.is_bearer = toss();
-    event.is_forwarded = toss();
+    toss_in(&event.basic.is_bearer);
+    toss_in(&event.is_forwarded);
     event.dp = mostly(DPS[below(5)]);
     event.cause = mostly(octet() & 127);
     return event;

@@ -4,46 +4,9 @@
  * how many it does without. Linked with --wrap of malloc, realloc and free. */
 #include "octets.h"
 
-void *__real_malloc(size_t size);
-void *__real_realloc(void *old, size_t size);
-void __real_free(void *block);
-
-static long requests;    /* of this life, in the calls that are counted */
-static long refused_at;  /* which of them is refused; 0 is none */
-static bool is_counting; /* whether a call that is counted is being made */
-static bool was_refused; /* whether this call was refused a request */
-static long blocks;      /* how many are allocated */
-
-static bool is_refused(void)
-{
-    bool is = is_counting && ++requests == refused_at;
-    was_refused |= is;
-    return is;
-}
-
-void *__wrap_malloc(size_t size)
-{
-    void *block = is_refused() ? NULL : __real_malloc(size);
-    blocks += block != NULL;
-    return block;
-}
-
-void *__wrap_realloc(void *old, size_t size)
-{
-    void *block = is_refused() ? NULL : __real_realloc(old, size);
-    blocks += !old && block;
-    return block;
-}
-
-void __wrap_free(void *block)
-{
-    blocks -= block != NULL;
-    __real_free(block);
-}
-
 enum kind {
     OPEN, REGISTER, INSERT_ROWS, INSERT_FEW, INSERT_MANY, INSERT_OCTETS, DELETE, CANCEL, CLEAR_ALL,
-    PUBLISH_INSERTS, PUBLISH_NOTHING, PUBLISH_DELETE, PUBLISH_CANCEL, PUBLISH_CLEAR_ALL, RECEIPT_OF, KEEP, KINDS
+    PUBLISH_INSERTS, PUBLISH_NOTHING, PUBLISH_DELETE, PUBLISH_CANCEL, PUBLISH_CLEAR_ALL, KEEP, KINDS
 };
 
 static const char *const NAMES[KINDS] = {
@@ -61,53 +24,10 @@ static const char *const NAMES[KINDS] = {
     [PUBLISH_DELETE] = "`camel_publish`, of a delete, and the next one",
     [PUBLISH_CANCEL] = "`camel_publish`, of a cancel, and the next one",
     [PUBLISH_CLEAR_ALL] = "`camel_publish`, of a clear of all, and the next one",
-    [RECEIPT_OF] = "`camel_receipt_of`",
     [KEEP] = "`camel_keep`",
 };
 
-/* How often calls of each kind were made, how many requests failed one, and how many they did without. */
-struct tallies { long calls[KINDS], failed[KINDS], without[KINDS]; };
-static struct tallies tallies;
-
-/* Whether a call was refused memory, and is to be made again. */
-static bool has_failed(enum kind kind, camel_status status)
-{
-    bool has = status == CAMEL_OUT_OF_MEMORY;
-    tallies.calls[kind]++;
-    IS(!has || was_refused);
-    if (was_refused)
-        (has ? tallies.failed : tallies.without)[kind]++;
-    was_refused = false;
-    return has;
-}
-
-static camel_status counted(camel_status status)
-{
-    is_counting = false;
-    return status;
-}
-
-/* Makes a call whose requests are counted. */
-#define COUNTED(call) (is_counting = true, counted(call))
-
-/* Makes a call, and makes it again if memory is refused; nothing has changed then. */
-#define AGAIN(kind, call, is_unchanged)                                                                             \
-    do {                                                                                                            \
-        camel_status made_ = COUNTED(call);                                                                         \
-        if (has_failed(kind, made_)) {                                                                              \
-            IS(is_unchanged);                                                                                       \
-            made_ = COUNTED(call);                                                                                  \
-        }                                                                                                           \
-        RETURNS(CAMEL_OK, made_);                                                                                   \
-    } while (0)
-
-/* Makes a call that asks for no memory. */
-#define NONE(wanted, call)                                                                                          \
-    do {                                                                                                            \
-        long before_ = requests;                                                                                    \
-        RETURNS(wanted, COUNTED(call));                                                                             \
-        IS(requests == before_);                                                                                    \
-    } while (0)
+#include "refusing.h"
 
 static camel_status freed(void *handle)
 {
@@ -173,14 +93,19 @@ static void add_shown(camel_session *session, unsigned number, uint8_t dp)
     add_criteria(session, &imsi, dp);
 }
 
+/* The counts of the store, but that of publications that were held. */
+static void add_counts(void)
+{
+    camel_counts counts = { 0 };
+    NONE(CAMEL_OK, camel_counts_of(&store, &counts));
+    add(counts.subscribers), add(counts.published), add(counts.pending);
+}
+
 /* All that the store and a session show, in one number. */
 static uint64_t shown(void)
 {
-    uint64_t published = 0, pending = 0;
     digest = 0xcbf29ce484222325u;
-    NONE(CAMEL_OK, camel_published(&store, &published));
-    NONE(CAMEL_OK, camel_pending(&store, &pending));
-    add(published), add(pending);
+    add_counts();
     for (unsigned number = 1; number <= SHOWN; number++)
         for (int dp = 0; dp < 5; dp++)
             add_shown(&sessions[1], number, DPS[dp]);
@@ -241,11 +166,11 @@ static void submit_register(unsigned number)
 static void submit_octets(unsigned number)
 {
     struct argument argument = ARGUMENT[ALL_LISTS];
+    camel_imsi imsi = imsi_of(number);
     uint64_t before = shown(), place = 99;
     write_tbcd(number, argument.octets + IMSI_AT);
     AGAIN(INSERT_OCTETS,
-          camel_submit_map(&store, argument.operation, argument.octets + IMSI_AT, IMSI_OCTETS, argument.octets,
-                           argument.count, &place),
+          camel_submit_map(&store, argument.operation, &imsi, argument.octets, argument.count, &place),
           shown() == before && place == 0 && has_no_vt(number));
     IS(place == 0);
 }
@@ -287,7 +212,8 @@ static void come(unsigned first, unsigned last)
 /* Publishes all that is pending. */
 static void publish(enum kind kind)
 {
-    uint64_t published = 0, pending = 1, before = shown();
+    uint64_t before = shown();
+    camel_counts counts;
     camel_status status = COUNTED(camel_publish(&store));
     if (has_failed(kind, status)) {
         IS(shown() == before);
@@ -296,9 +222,8 @@ static void publish(enum kind kind)
         status = COUNTED(camel_publish(&store));
     }
     RETURNS(CAMEL_OK, status);
-    NONE(CAMEL_OK, camel_published(&store, &published));
-    NONE(CAMEL_OK, camel_pending(&store, &pending));
-    IS(published == accepted && pending == 0);
+    counts = counts_of(&store);
+    IS(counts.published == accepted && counts.pending == 0);
 }
 
 /* Publishes, and once more, which brings the other copy to the same. */
@@ -327,22 +252,70 @@ static void take_back(void)
     publish_to_both(PUBLISH_CLEAR_ALL);
 }
 
-/* What holds up a publication, a look and a receipt asks for no memory. */
-static void hold(camel_receipt *receipt)
+/* What holds up a publication, a look and a receipt asks for no memory, nor does a receipt. */
+static void hold(void)
 {
+    camel_receipt receipt = { 0 }, forged;
+    uint64_t holders = 99;
+    NONE(CAMEL_OK, camel_receipt_of(&store, &receipt));
     NONE(CAMEL_OK, camel_look(&sessions[0]));
     publish(PUBLISH_NOTHING);
+    NONE(CAMEL_OK, camel_holders(&store, &holders));
+    IS(holders == 1);
     NONE(CAMEL_HELD, camel_publish(&store));
     NONE(CAMEL_HELD, camel_look(&sessions[0]));
-    NONE(CAMEL_HELD, camel_learn(&sessions[0], receipt));
+    NONE(CAMEL_HELD, camel_learn(&sessions[0], &receipt));
     NONE(CAMEL_OK, camel_leave(&sessions[0]));
-    NONE(CAMEL_OK, camel_learn(&sessions[0], receipt));
+    NONE(CAMEL_OK, camel_learn(&sessions[0], &receipt));
+    NONE(CAMEL_OK, camel_holders(&store, &holders));
+    IS(holders == 0);
+    forged = receipt_of(&store);
+    forged.front++;
+    NONE(CAMEL_OTHER_STORE, camel_learn(&sessions[0], &forged));
+}
+
+/* What camel_keep looks at before it asks for memory. */
+static void keep_none(camel_subscriber *full)
+{
+    camel_imsi imsi = imsi_of(5), none = { 0 };
+    camel_subscriber kept = CAMEL_EMPTY;
+    bool is_there = false;
+    NONE(CAMEL_MALFORMED, camel_keep(&sessions[0], &none, full, &is_there));
+    NONE(CAMEL_WRONG_HANDLE, camel_keep((camel_session *)&store, &imsi, full, &is_there));
+    NONE(CAMEL_FULL_HANDLE, camel_keep(&sessions[0], &imsi, full, &is_there));
+    IS(!is_there && !kept.is_full);
+}
+
+/* All handles are empty, or a store is refused before any memory is asked for. */
+static void refuse_full_handles(void)
+{
+    static const size_t places[] = { 0, 2, 4 };
+    for (size_t at = 0; at < 3; at++) {
+        camel_store other = CAMEL_EMPTY, none = CAMEL_EMPTY;
+        camel_session own[5] = { CAMEL_EMPTY };
+        unsigned full = 0;
+        RETURNS(CAMEL_OK, camel_open(&other, &own[places[at]], 1, LIMIT, 1, 1));
+        NONE(CAMEL_FULL_HANDLE, camel_open(&none, own, 5, LIMIT, 1, 1));
+        for (size_t place = 0; place < 5; place++)
+            full += own[place].is_full;
+        IS(!none.is_full && full == 1 && own[places[at]].is_full);
+        camel_free(&own[places[at]]);
+        NONE(CAMEL_FULL_HANDLE, camel_open(&other, own, 5, LIMIT, 1, 1));
+        NONE(CAMEL_MALFORMED, camel_open(&other, own, 5, 0, 1, 1));
+        NONE(CAMEL_OTHER_VERSION, camel_open_version(1, &none, own, 5, LIMIT, 1, 1));
+        for (size_t place = 0; place < 5; place++)
+            IS(!own[place].is_full);
+        RETURNS(CAMEL_OK, camel_close(&other));
+    }
+    IS(blocks == 0);
 }
 
 static void make_data(void)
 {
     static const uint8_t tbcd[] = { 0x62, 0x02, 0x01, 0x00, 0x00, 0x00, 0x00, 0xf1 };
     camel_imsi imsi, same;
+    camel_imsi_digits digits = { 0 };
+    camel_imsi_tbcd octets = { 0 };
     camel_address address;
     camel_isdn_address isdn;
     NONE(CAMEL_OK, camel_imsi_of_tbcd(tbcd, sizeof tbcd, &imsi));
@@ -350,6 +323,9 @@ static void make_data(void)
     NONE(CAMEL_OK, camel_address_of(DESTINATION, sizeof DESTINATION, &address));
     NONE(CAMEL_OK, camel_isdn_address_of(SCF, sizeof SCF, &isdn));
     IS(imsi.number == same.number);
+    NONE(CAMEL_OK, camel_digits_of_imsi(&imsi, &digits));
+    NONE(CAMEL_OK, camel_tbcd_of_imsi(&imsi, &octets));
+    IS(digits.count == 15 && octets.count == sizeof tbcd);
 }
 
 /* Submits as many updates as the limit allows, which change nothing: no refused call took a place of theirs. */
@@ -364,10 +340,18 @@ static void fill(void)
 
 static void end_store(void)
 {
+    camel_imsi imsi = imsi_of(5);
+    camel_subscriber kept = CAMEL_EMPTY;
+    camel_decisions decisions = { { 0 } };
+    bool is_there = false;
     NONE(CAMEL_OK, camel_look(&sessions[0]));
     NONE(CAMEL_HELD, camel_close(&store));
     NONE(CAMEL_OK, camel_leave(&sessions[0]));
     NONE(CAMEL_OK, camel_close(&store));
+    NONE(CAMEL_NO_LOOK, camel_keep(&sessions[0], &imsi, &kept, &is_there));
+    NONE(CAMEL_OK, camel_decisions_of(&sessions[1], &decisions));
+    IS(decisions.by_reason[CAMEL_REASON_NONE] > 0);
+    NONE(CAMEL_OK, freed(NULL));
     NONE(CAMEL_OK, freed(&sessions[0]));
     NONE(CAMEL_OK, freed(&sessions[1]));
     IS(blocks == 0);
@@ -376,7 +360,6 @@ static void end_store(void)
 /* The life of a store. Returns what it shows in the end. */
 static uint64_t live(void)
 {
-    camel_receipt receipt = CAMEL_EMPTY;
     camel_subscriber kept = CAMEL_EMPTY;
     camel_imsi imsi = imsi_of(5);
     camel_event failure = event_of(5, 4);
@@ -386,15 +369,16 @@ static uint64_t live(void)
     requests = blocks = 0;
     accepted = 0;
     make_data();
+    refuse_full_handles();
     AGAIN(OPEN, camel_open(&store, sessions, 2, LIMIT, 1, 1),
           !store.is_full && !sessions[0].is_full && !sessions[1].is_full && blocks == 0);
     come(1, SUBSCRIBERS / 2);
     publish(PUBLISH_INSERTS);
     come(SUBSCRIBERS / 2 + 1, SUBSCRIBERS);
     publish_to_both(PUBLISH_INSERTS);
-    AGAIN(RECEIPT_OF, camel_receipt_of(&store, &receipt), !receipt.is_full);
-    hold(&receipt);
+    hold();
     AGAIN(KEEP, camel_keep(&sessions[0], &imsi, &kept, &is_there), !kept.is_full && !is_there);
+    keep_none(&kept);
     take_back();
     NONE(CAMEL_OK, camel_decide_kept(&kept, &failure, &answer));
     IS(is_there && answer.key == 101);
@@ -404,7 +388,6 @@ static uint64_t live(void)
     publish(PUBLISH_NOTHING);
     uint64_t end = shown();
     NONE(CAMEL_OK, freed(&kept));
-    NONE(CAMEL_OK, freed(&receipt));
     end_store();
     return end;
 }

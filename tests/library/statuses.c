@@ -20,6 +20,27 @@ static void malformed_data(void)
     IS(isdn.length == 7);
 }
 
+/* A library of another version opens nothing, whatever else is wrong. */
+static void other_versions(void)
+{
+    static const uint32_t versions[] = { 0, 1, CAMEL_ABI_VERSION + 1, UINT32_MAX };
+    camel_store store = CAMEL_EMPTY;
+    camel_session session = CAMEL_EMPTY;
+
+    for (size_t at = 0; at < sizeof versions / sizeof versions[0]; at++) {
+        RETURNS(CAMEL_OTHER_VERSION, camel_open_version(versions[at], &store, &session, 1, 10, 1, 1));
+        RETURNS(CAMEL_OTHER_VERSION, camel_open_version(versions[at], &store, &session, 0, 0, 3, 1));
+    }
+    IS(!store.is_full && !session.is_full);
+    RETURNS(CAMEL_OK, camel_open_version(CAMEL_ABI_VERSION, &store, &session, 1, 10, 1, 1));
+    RETURNS(CAMEL_OTHER_VERSION, camel_open_version(1, &store, &session, 1, 10, 1, 1));
+    camel_free(&session);
+    camel_free(&store);
+    IS(!store.is_full && !session.is_full);
+    camel_free(&store);
+    camel_free(NULL);
+}
+
 /* A store is opened whole, or not at all. */
 static void malformed_opening(void)
 {
@@ -35,11 +56,42 @@ static void malformed_opening(void)
     RETURNS(CAMEL_OK, camel_open(&store, &sessions[1], 1, 10, 2, 1));
     RETURNS(CAMEL_FULL_HANDLE, camel_open(&store, sessions, 1, 10, 1, 1));
     IS(!sessions[0].is_full);
+    RETURNS(CAMEL_MALFORMED, camel_open(&store, sessions, 1, 10, 0, 1));
     RETURNS(CAMEL_OK, camel_close(&store));
     RETURNS(CAMEL_FULL_HANDLE, camel_open(&store, sessions, 3, 10, 1, 1));
     IS(!store.is_full && !sessions[0].is_full && !sessions[2].is_full);
     camel_free(&sessions[1]);
     IS(!sessions[1].is_full);
+}
+
+/* A list of which the pointer is NULL has no items, whatever its count says. If it is sent, it has too few; one that is
+ * not sent is not looked at. */
+static void lists_of_none(camel_store *store, const camel_imsi *imsi)
+{
+    camel_row many[11], o = row_of(2, 100), vt = row_of(12, 100);
+    camel_insert none = { 0 };
+    camel_insert counted = {
+        .o = { .row_count = 3, .criteria_count = 3 }, .vt = { .row_count = 3, .criteria_count = SIZE_MAX }
+    };
+    camel_insert empty[] = {
+        { .o = { .has_rows = true } }, { .o = { .has_criteria = true } },
+        { .vt = { .has_rows = true } }, { .vt = { .has_criteria = true } },
+        { .o = { .has_rows = true, .row_count = 3 } }, { .vt = { .has_rows = true, .row_count = 3 } },
+        { .o = { &o, 1, NULL, 3, true, true } }, { .vt = { &vt, 1, NULL, 3, true, true } },
+        { .o = { .has_rows = true, .row_count = SIZE_MAX } },
+    };
+
+    for (size_t at = 0; at < sizeof empty / sizeof empty[0]; at++)
+        RETURNS(CAMEL_DATA_MISSING, camel_submit_insert(store, imsi, &empty[at]));
+    RETURNS(CAMEL_OK, camel_submit_insert(store, imsi, &none));
+    RETURNS(CAMEL_OK, camel_submit_insert(store, imsi, &counted));
+    for (size_t at = 0; at < 11; at++)
+        many[at] = row_of(3, 100);
+    none.o.rows = none.vt.rows = many;
+    none.o.row_count = none.vt.row_count = 11;
+    RETURNS(CAMEL_OK, camel_submit_insert(store, imsi, &none));
+    none.o.has_rows = true;
+    RETURNS(CAMEL_UNEXPECTED_DATA_VALUE, camel_submit_insert(store, imsi, &none));
 }
 
 /* Updates that the store rejects, or of which the data are none. */
@@ -49,24 +101,24 @@ static void rejected_updates(camel_store *store)
     camel_withdrawal what = { .o = true };
     camel_row row = row_of(2, 100), many = row_of(2, 0x80000000u), nowhere = { .key = 1, .dp = 2 };
     camel_o_criteria criteria = { .dp = 2 }, causes = { .dp = 2, .causes = { 1, { 17 } } };
-    camel_insert sent = { .has_o = true };
-    camel_t_criteria t_criteria = { .dp = 13 };
+    camel_insert sent = { .o = { .rows = &row, .has_rows = true } };
 
     RETURNS(CAMEL_MALFORMED, camel_submit_register(store, &none));
+    RETURNS(CAMEL_MALFORMED, camel_submit_insert(store, &none, &sent));
     RETURNS(CAMEL_MALFORMED, camel_submit_delete(store, &none, &what));
     RETURNS(CAMEL_MALFORMED, camel_submit_cancel(store, &none));
     RETURNS(CAMEL_UNIDENTIFIED_SUBSCRIBER, camel_submit_delete(store, &imsi, &what));
     RETURNS(CAMEL_UNIDENTIFIED_SUBSCRIBER, insert(store, 1, &row, 1, NULL, 0, NULL, 0, NULL, 0));
     RETURNS(CAMEL_OK, camel_submit_register(store, &imsi));
     RETURNS(CAMEL_DATA_MISSING, insert(store, 1, NULL, 0, &criteria, 1, NULL, 0, NULL, 0));
-    RETURNS(CAMEL_DATA_MISSING,
-            camel_submit_insert(store, &imsi, &sent, &row, 0, &criteria, 0, &row, 0, &t_criteria, 0));
+    RETURNS(CAMEL_DATA_MISSING, camel_submit_insert(store, &imsi, &sent));
     RETURNS(CAMEL_UNEXPECTED_DATA_VALUE, insert(store, 1, &many, 1, NULL, 0, NULL, 0, NULL, 0));
     RETURNS(CAMEL_UNEXPECTED_DATA_VALUE, insert(store, 1, &row, 1, &causes, 1, NULL, 0, NULL, 0));
     RETURNS(CAMEL_MALFORMED, insert(store, 1, &nowhere, 1, NULL, 0, NULL, 0, NULL, 0));
     criteria.has_number = true;
     criteria.number.number_count = 11;
     RETURNS(CAMEL_MALFORMED, insert(store, 1, &row, 1, &criteria, 1, NULL, 0, NULL, 0));
+    lists_of_none(store, &imsi);
     RETURNS(CAMEL_OK, insert(store, 1, &row, 1, NULL, 0, NULL, 0, NULL, 0));
     RETURNS(CAMEL_OK, camel_submit_clear_all(store));
     RETURNS(CAMEL_HISTORY_FULL, camel_submit_register(store, &imsi));
@@ -83,11 +135,11 @@ static struct argument with_octet(unsigned of, size_t at, uint8_t octet)
 /* Submits an argument in the dialogue of a subscriber, or of none, and tells the place. */
 static camel_status submit_in(camel_store *store, unsigned dialogue, const struct argument *argument, uint64_t *place)
 {
-    uint8_t imsi[IMSI_OCTETS];
-    write_tbcd(dialogue, imsi);
+    camel_imsi imsi = { 0 };
+    if (dialogue > 0)
+        imsi = imsi_of(dialogue);
     *place = 99;
-    return camel_submit_map(store, argument->operation, imsi, dialogue > 0 ? sizeof imsi : 0, argument->octets,
-                            argument->count, place);
+    return camel_submit_map(store, argument->operation, &imsi, argument->octets, argument->count, place);
 }
 
 #define RETURNS_AT(wanted, wanted_place, store, dialogue, ...)                                                      \
@@ -129,22 +181,21 @@ static void submitted_arguments(void)
 {
     camel_store store = CAMEL_EMPTY;
     camel_session session = CAMEL_EMPTY;
-    camel_imsi imsi = imsi_of(1);
+    camel_imsi imsi = imsi_of(1), malformed = { 1 };
     static const struct argument of_vt_criteria = {
         CAMEL_INSERT_SUBSCRIBER_DATA, 11, { 0x30, 0x09, 0xad, 0x07, 0xa8, 0x05, 0x30, 0x03, 0x0a, 0x01, 0x0d }
     };
-    uint64_t place = 99, pending = 99;
+    uint64_t place = 99;
 
     RETURNS(CAMEL_OK, camel_open(&store, &session, 1, 4, 1, 1));
     RETURNS_AT(CAMEL_UNIDENTIFIED_SUBSCRIBER, 0, &store, 1, ARGUMENT[O_CSI]);
     RETURNS(CAMEL_OK, camel_submit_register(&store, &imsi));
     faulty_arguments(&store);
     RETURNS_AT(CAMEL_DATA_MISSING, 0, &store, 1, of_vt_criteria);
-    RETURNS(CAMEL_MALFORMED, camel_submit_map(&store, CAMEL_CANCEL_LOCATION, (const uint8_t[2]){ 0x62, 0x02 }, 2,
-                                              ARGUMENT[CANCELLED].octets, ARGUMENT[CANCELLED].count, &place));
+    RETURNS(CAMEL_MALFORMED, camel_submit_map(&store, CAMEL_CANCEL_LOCATION, &malformed, ARGUMENT[CANCELLED].octets,
+                                              ARGUMENT[CANCELLED].count, &place));
     IS(place == 0);
-    RETURNS(CAMEL_OK, camel_pending(&store, &pending));
-    IS(pending == 1);
+    IS(counts_of(&store).pending == 1);
     RETURNS_AT(CAMEL_OK, 0, &store, 1, ARGUMENT[ALL_LISTS]);
     RETURNS_AT(CAMEL_OK, 0, &store, 0, ARGUMENT[BOTH_CSIS]);
     RETURNS_AT(CAMEL_OK, 0, &store, 0, ARGUMENT[CANCELLED]);
@@ -159,24 +210,37 @@ static void submitted_arguments(void)
 static void wrong_handles(camel_store *store, camel_session *session)
 {
     camel_store empty = CAMEL_EMPTY;
-    camel_receipt receipt = CAMEL_EMPTY;
+    camel_receipt receipt = { 7, 7 };
     camel_subscriber kept = CAMEL_EMPTY;
     camel_imsi imsi = imsi_of(1);
     camel_event event = event_of(1, 2);
     camel_answer answer = { .front = 7 };
     camel_row row = { .key = 7 };
-    uint64_t count = 7;
+    uint64_t bits = 7;
+    camel_counts counts = { .pending = 7 };
+    camel_decisions decisions = { { 7 } };
+    camel_insert sent = { 0 };
+    camel_withdrawal what = { 0 };
     camel_o_criteria of_o = { .dp = 7 };
     camel_t_criteria of_t = { .dp = 7 };
     bool is_there = true;
 
     RETURNS(CAMEL_WRONG_HANDLE, camel_submit_register(&empty, &imsi));
+    RETURNS(CAMEL_WRONG_HANDLE, camel_submit_insert(&empty, &imsi, &sent));
+    RETURNS(CAMEL_WRONG_HANDLE, camel_submit_delete(&empty, &imsi, &what));
+    RETURNS(CAMEL_WRONG_HANDLE, camel_submit_cancel((camel_store *)session, &imsi));
+    RETURNS(CAMEL_WRONG_HANDLE, camel_submit_clear_all(&empty));
     RETURNS(CAMEL_WRONG_HANDLE, camel_publish((camel_store *)session));
-    RETURNS(CAMEL_WRONG_HANDLE, camel_published(&empty, &count));
-    RETURNS(CAMEL_WRONG_HANDLE, camel_pending(&empty, &count));
-    IS(count == 7);
-    RETURNS(CAMEL_WRONG_HANDLE, camel_learn(session, &receipt));
+    RETURNS(CAMEL_WRONG_HANDLE, camel_counts_of(&empty, &counts));
+    RETURNS(CAMEL_WRONG_HANDLE, camel_counts_of((camel_store *)session, &counts));
+    RETURNS(CAMEL_WRONG_HANDLE, camel_holders(&empty, &bits));
+    RETURNS(CAMEL_WRONG_HANDLE, camel_holders((camel_store *)session, &bits));
+    RETURNS(CAMEL_WRONG_HANDLE, camel_decisions_of((camel_session *)store, &decisions));
+    IS(counts.pending == 7 && bits == 7 && decisions.by_reason[0] == 7);
+    RETURNS(CAMEL_WRONG_HANDLE, camel_learn((camel_session *)store, &receipt));
     RETURNS(CAMEL_WRONG_HANDLE, camel_receipt_of(&empty, &receipt));
+    RETURNS(CAMEL_WRONG_HANDLE, camel_receipt_of((camel_store *)session, &receipt));
+    IS(receipt.store == 7 && receipt.front == 7);
     RETURNS(CAMEL_WRONG_HANDLE, camel_decide((camel_session *)store, &event, &answer));
     RETURNS(CAMEL_WRONG_HANDLE, camel_decide_kept(&kept, &event, &answer));
     RETURNS(CAMEL_WRONG_HANDLE, camel_look((camel_session *)store));
@@ -188,9 +252,37 @@ static void wrong_handles(camel_store *store, camel_session *session)
     RETURNS(CAMEL_WRONG_HANDLE, camel_close((camel_store *)session));
     RETURNS(CAMEL_WRONG_HANDLE, camel_close(&empty));
     IS(of_o.dp == 7 && of_t.dp == 7);
-    IS(answer.front == 7 && row.key == 7 && is_there && !kept.is_full && !receipt.is_full);
-    RETURNS(CAMEL_FULL_HANDLE, camel_receipt_of(store, (camel_receipt *)session));
+    IS(answer.front == 7 && row.key == 7 && is_there && !kept.is_full);
     camel_free(&empty);
+}
+
+/* What camel_keep returns if more than one thing is wrong: of the data, of the session's handle, of the one to fill, of
+ * the look. That a refusal of memory comes behind these is in refused.c. */
+static void order_of_keep(void)
+{
+    camel_store store = CAMEL_EMPTY;
+    camel_session session = CAMEL_EMPTY, empty = CAMEL_EMPTY;
+    camel_subscriber full = CAMEL_EMPTY, kept = CAMEL_EMPTY;
+    camel_imsi imsi = imsi_of(1), none = { 0 };
+    bool is_there = false;
+
+    RETURNS(CAMEL_OK, camel_open(&store, &session, 1, 10, 1, 1));
+    RETURNS(CAMEL_OK, camel_submit_register(&store, &imsi));
+    RETURNS(CAMEL_OK, camel_publish(&store));
+    RETURNS(CAMEL_OK, camel_keep(&session, &imsi, &full, &is_there));
+    IS(is_there && full.is_full);
+    RETURNS(CAMEL_FULL_HANDLE, camel_keep(&session, &imsi, &full, &is_there));
+    RETURNS(CAMEL_OK, camel_close(&store));
+    is_there = true;
+    RETURNS(CAMEL_MALFORMED, camel_keep(&empty, &none, &full, &is_there));
+    RETURNS(CAMEL_MALFORMED, camel_keep(&session, &none, &full, &is_there));
+    RETURNS(CAMEL_WRONG_HANDLE, camel_keep(&empty, &imsi, &full, &is_there));
+    RETURNS(CAMEL_WRONG_HANDLE, camel_keep((camel_session *)&full, &imsi, &kept, &is_there));
+    RETURNS(CAMEL_FULL_HANDLE, camel_keep(&session, &imsi, &full, &is_there));
+    RETURNS(CAMEL_NO_LOOK, camel_keep(&session, &imsi, &kept, &is_there));
+    IS(is_there && full.is_full && !kept.is_full);
+    camel_free(&full);
+    camel_free(&session);
 }
 
 /* Events that are none. */
@@ -216,16 +308,23 @@ static void held_and_ended(camel_store *store, camel_session *session, camel_ses
     camel_event event = event_of(1, 2);
     camel_answer answer = { .front = 7 };
     camel_subscriber kept = CAMEL_EMPTY;
-    uint64_t pending = 7;
+    camel_counts counts = { .pending = 7 };
+    camel_receipt receipt = receipt_of(store);
+    uint64_t bits = 7;
     bool is_there = true;
 
     RETURNS(CAMEL_OK, camel_look(session));
     RETURNS(CAMEL_OK, camel_publish(store));
     RETURNS(CAMEL_HELD, camel_publish(store));
-    RETURNS(CAMEL_OK, camel_pending(store, &pending));
-    IS(pending == 0);
+    IS(counts_of(store).pending == 0);
     RETURNS(CAMEL_HELD, camel_close(store));
     RETURNS(CAMEL_WRONG_HANDLE, camel_publish(store));
+    RETURNS(CAMEL_WRONG_HANDLE, camel_counts_of(store, &counts));
+    RETURNS(CAMEL_WRONG_HANDLE, camel_holders(store, &bits));
+    RETURNS(CAMEL_WRONG_HANDLE, camel_receipt_of(store, &receipt));
+    IS(counts.pending == 7 && bits == 7);
+    RETURNS(CAMEL_HELD, camel_learn(session, &receipt));
+    RETURNS(CAMEL_NO_LOOK, camel_learn(other, &receipt));
     RETURNS(CAMEL_NO_LOOK, camel_decide(other, &event, &answer));
     RETURNS(CAMEL_NO_LOOK, camel_look(other));
     IS(answer.front == 7);
@@ -237,6 +336,7 @@ static void held_and_ended(camel_store *store, camel_session *session, camel_ses
     RETURNS(CAMEL_OK, camel_close(store));
     IS(!store->is_full);
     RETURNS(CAMEL_NO_LOOK, camel_look(session));
+    RETURNS(CAMEL_NO_LOOK, camel_learn(session, &receipt));
     RETURNS(CAMEL_OK, camel_leave(session));
 }
 
@@ -264,7 +364,9 @@ int main(void)
     IS(camel_abi_version() == CAMEL_ABI_VERSION);
     malformed_data();
     malformed_opening();
-    RETURNS(CAMEL_OK, camel_open(&store, sessions, 2, 3, 1, 1));
+    other_versions();
+    order_of_keep();
+    RETURNS(CAMEL_OK, camel_open(&store, sessions, 2, 6, 1, 1));
     rejected_updates(&store);
     submitted_arguments();
     wrong_handles(&store, &sessions[0]);
@@ -274,5 +376,9 @@ int main(void)
     camel_free(&sessions[1]);
     freed_behind_a_look();
     IS(strcmp(camel_status_name(CAMEL_HELD), "CAMEL_HELD") == 0);
+    IS(strcmp(camel_status_name(CAMEL_OTHER_VERSION), "CAMEL_OTHER_VERSION") == 0);
+    IS(strcmp(camel_status_name(105), "CAMEL_?") == 0);
+    IS(strcmp(camel_reason_name(CAMEL_REASON_NONE), "CAMEL_REASON_NONE") == 0);
+    IS(strcmp(camel_reason_name(CAMEL_REASONS), "CAMEL_REASON_?") == 0);
     return ended("statuses");
 }

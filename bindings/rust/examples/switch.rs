@@ -103,7 +103,7 @@ fn say(what: &str, answer: &Answer) {
     }
 }
 
-/// The IMSIs 262010000000001 and 262010000000002, as the dialogues with the HLR have them.
+/// The IMSIs 262010000000001 and 262010000000002, in TBCD octets as the dialogues with the HLR have them.
 const IMSI: &[u8] = &[0x62, 0x02, 0x01, 0x00, 0x00, 0x00, 0x00, 0xf1];
 const OTHER: &[u8] = &[0x62, 0x02, 0x01, 0x00, 0x00, 0x00, 0x00, 0xf2];
 
@@ -125,17 +125,14 @@ const ARGUMENT: &[u8] = &[
 ];
 
 /// Submits the argument in the dialogue of an IMSI.
-fn submit_data(store: &mut Store, imsi: &[u8]) -> Result<(), MapFault> {
+fn submit_data(store: &mut Store, imsi: Imsi) -> Result<(), MapFault> {
     store.submit_map(Operation::InsertSubscriberData, Some(imsi), ARGUMENT)
 }
 
-/// Publishes, and hands each thread a receipt.
+/// Publishes, and hands each thread the receipt.
 fn publish_to(store: &mut Store, queues: &[Queue]) -> Outcomes<()> {
-    store.publish()?;
-    for queue in queues {
-        queue.put(store.receipt()?)?;
-    }
-    Ok(())
+    let receipt = store.publish()?;
+    queues.iter().try_for_each(|queue| queue.put(receipt))
 }
 
 /// Runs the call-control threads, each with its session, and gives back the sessions.
@@ -166,6 +163,9 @@ fn hold_publications(store: &mut Store, session: &mut Session, other: Imsi) -> O
     store.publish()?;
     store.submit(&Update::Cancel { imsi: other })?;
     expect("a publication behind a look", store.publish(), Error::Held)?;
+    if !store.holders()?.eq([THREADS]) {
+        return Err("another session holds the publication up".into());
+    }
     look.leave();
     store.publish()?;
     println!("a publication was held, and made again");
@@ -200,10 +200,10 @@ fn main() -> Outcomes<()> {
     let mut own = sessions.pop().ok_or("there is no session")?;
     let (imsi, other) = (Imsi::from_tbcd(IMSI)?, Imsi::from_tbcd(OTHER)?);
     store.submit(&Update::Register { imsi })?;
-    submit_data(&mut store, IMSI)?;
+    submit_data(&mut store, imsi)?;
     expect(
         "data of a subscriber who is not registered",
-        submit_data(&mut store, OTHER).map_err(Error::from),
+        submit_data(&mut store, other).map_err(Error::from),
         Error::UnidentifiedSubscriber,
     )?;
     let sessions = run_calls(&mut store, sessions, imsi)?;

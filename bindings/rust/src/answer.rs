@@ -79,6 +79,37 @@ impl Reason {
     }
 }
 
+/// How many events a session has decided with each outcome, each count modulo 2^64.
+#[derive(Clone, Copy, Debug, PartialEq, Eq)]
+pub struct Decisions {
+    by_reason: [u64; ffi::REASONS],
+}
+
+impl Decisions {
+    /// How many triggered: a service was invoked.
+    pub fn triggered(&self) -> u64 {
+        self.by_reason[0]
+    }
+
+    /// How many did not trigger for this reason.
+    pub fn not_triggered(&self, reason: Reason) -> u64 {
+        self.by_reason[usize::from(reason.code())]
+    }
+
+    /// How many there are, modulo 2^64.
+    pub fn total(&self) -> u64 {
+        self.by_reason
+            .iter()
+            .fold(0, |total, count| total.wrapping_add(*count))
+    }
+
+    pub(crate) fn of_raw(decisions: ffi::Decisions) -> Decisions {
+        Decisions {
+            by_reason: decisions.by_reason,
+        }
+    }
+}
+
 impl Answer {
     #[inline]
     pub(crate) fn of_raw(answer: &ffi::Answer) -> Result<Answer, Error> {

@@ -2,7 +2,7 @@
 use crate::ffi;
 use std::fmt;
 
-/// Why a call did nothing: the statuses of `camel.h`, and what this crate finds itself.
+/// Why a call did nothing: the statuses of `camel.h`.
 ///
 /// Each call says what stands after its errors.
 #[derive(Clone, Copy, Debug, PartialEq, Eq, Hash)]
@@ -22,14 +22,6 @@ pub enum Error {
     NoPlace,
     /// The store has ended (104).
     NoLook,
-    /// A look is held (105): try again once it is left.
-    Held,
-    /// What was handed in is not an IMSI, an address, a detection point or a number in range (201).
-    Malformed,
-    /// The handle is empty or of another kind, or the store has ended (202). Safe code does not meet it.
-    WrongHandle,
-    /// The handle that is to be filled is not empty (203). Safe code does not meet it.
-    FullHandle,
     /// The octets of an argument are no elements of BER (401).
     MalformedOctets,
     /// An argument lacks a field that must be there (402).
@@ -44,16 +36,24 @@ pub enum Error {
     NoImsi,
     /// The argument has another IMSI than the dialogue (407).
     OtherImsi,
-    /// The receipt is of another store than the session (204, a number of the bindings).
+    /// A look is held (501): try again once it is left.
+    Held,
+    /// What was handed in is not an IMSI, an address, a detection point or a number in range (502).
+    Malformed,
+    /// The handle is empty or of another kind, or the store has ended (503). Safe code does not meet it.
+    WrongHandle,
+    /// The handle that is to be filled is not empty (504). Safe code does not meet it.
+    FullHandle,
+    /// The receipt is of another store than the session (505).
     OtherStore,
-    /// The library has other layouts than this crate (205, a number of the bindings).
+    /// The library has other layouts and functions than this crate (506).
     OtherVersion,
     /// The library returned a number that this crate does not know.
     Unknown(u32),
 }
 
 impl Error {
-    /// The number of the error: that of `camel.h`, or 204 or 205, which are of the bindings.
+    /// The number of the error, as in `camel.h`.
     pub const fn code(self) -> u32 {
         match self {
             Error::UnidentifiedSubscriber => 5,
@@ -63,10 +63,6 @@ impl Error {
             Error::OutOfMemory => 102,
             Error::NoPlace => 103,
             Error::NoLook => 104,
-            Error::Held => 105,
-            Error::Malformed => 201,
-            Error::WrongHandle => 202,
-            Error::FullHandle => 203,
             Error::MalformedOctets => 401,
             Error::MissingField => 402,
             Error::FieldTwice => 403,
@@ -74,8 +70,12 @@ impl Error {
             Error::WrongLength => 405,
             Error::NoImsi => 406,
             Error::OtherImsi => 407,
-            Error::OtherStore => 204,
-            Error::OtherVersion => 205,
+            Error::Held => 501,
+            Error::Malformed => 502,
+            Error::WrongHandle => 503,
+            Error::FullHandle => 504,
+            Error::OtherStore => 505,
+            Error::OtherVersion => 506,
             Error::Unknown(code) => code,
         }
     }
@@ -90,10 +90,6 @@ impl Error {
             102 => Error::OutOfMemory,
             103 => Error::NoPlace,
             104 => Error::NoLook,
-            105 => Error::Held,
-            201 => Error::Malformed,
-            202 => Error::WrongHandle,
-            203 => Error::FullHandle,
             401 => Error::MalformedOctets,
             402 => Error::MissingField,
             403 => Error::FieldTwice,
@@ -101,6 +97,12 @@ impl Error {
             405 => Error::WrongLength,
             406 => Error::NoImsi,
             407 => Error::OtherImsi,
+            501 => Error::Held,
+            502 => Error::Malformed,
+            503 => Error::WrongHandle,
+            504 => Error::FullHandle,
+            505 => Error::OtherStore,
+            506 => Error::OtherVersion,
             other => Error::Unknown(other),
         }
     }
@@ -116,10 +118,6 @@ impl fmt::Display for Error {
             Error::OutOfMemory => "out of memory",
             Error::NoPlace => "a session got no place",
             Error::NoLook => "the store has ended",
-            Error::Held => "a look is held",
-            Error::Malformed => "what was handed in is malformed",
-            Error::WrongHandle => "the handle is not of this call",
-            Error::FullHandle => "the handle is not empty",
             Error::MalformedOctets => "the octets are no elements of BER",
             Error::MissingField => "a field is missing",
             Error::FieldTwice => "a field comes twice",
@@ -127,6 +125,10 @@ impl fmt::Display for Error {
             Error::WrongLength => "the contents have a wrong length",
             Error::NoImsi => "there is no IMSI",
             Error::OtherImsi => "the IMSI is not that of the dialogue",
+            Error::Held => "a look is held",
+            Error::Malformed => "what was handed in is malformed",
+            Error::WrongHandle => "the handle is not of this call",
+            Error::FullHandle => "the handle is not empty",
             Error::OtherStore => "the receipt is of another store",
             Error::OtherVersion => "the library is of another version",
             Error::Unknown(_) => "a number that is not known",
@@ -153,10 +155,13 @@ mod tests {
     #[test]
     fn statuses_become_errors_of_their_number() {
         assert_eq!(done(0), Ok(()));
-        for status in 1..500 {
+        for status in 1..600 {
             assert_eq!(done(status).map_err(Error::code), Err(status));
         }
-        assert_eq!(done(105), Err(Error::Held));
-        assert_eq!(done(204), Err(Error::Unknown(204)));
+        assert_eq!(done(501), Err(Error::Held));
+        assert_eq!(done(506), Err(Error::OtherVersion));
+        for other in [105, 201, 205, 500, 507] {
+            assert_eq!(done(other), Err(Error::Unknown(other)));
+        }
     }
 }

@@ -183,9 +183,12 @@ impl Event {
 
 impl fmt::Debug for Event {
     fn fmt(&self, out: &mut fmt::Formatter<'_>) -> fmt::Result {
-        out.debug_struct("Event")
-            .field("dp", &self.0.dp)
-            .field("imsi", &self.0.imsi.number)
+        let mut fields = out.debug_struct("Event");
+        fields.field("dp", &self.0.dp);
+        if let Ok(imsi) = Imsi::of_raw(self.0.imsi) {
+            fields.field("imsi", &imsi);
+        }
+        fields
             .field("basic", &BasicService::of_raw(self.0.basic))
             .field("destination", &Address::of_raw(self.0.destination))
             .field("is_forwarded", &self.0.is_forwarded)

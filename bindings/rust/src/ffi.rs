@@ -2,7 +2,7 @@
 use std::ffi::c_void;
 use std::mem::{offset_of, size_of};
 
-pub const ABI_VERSION: u32 = 1;
+pub const ABI_VERSION: u32 = 2;
 
 pub type Status = u32;
 pub const OK: Status = 0;
@@ -31,7 +31,18 @@ macro_rules! handles {
     )* };
 }
 
-handles! { Store Session Receipt Subscriber }
+handles! { Store Session Subscriber }
+
+#[repr(C)]
+#[derive(Clone, Copy, PartialEq, Eq, Hash)]
+pub struct Receipt {
+    pub store: u64,
+    pub front: u64,
+}
+
+impl Receipt {
+    pub const NONE: Receipt = Receipt { store: 0, front: 0 };
+}
 
 #[repr(C)]
 #[derive(Clone, Copy)]
@@ -70,18 +81,18 @@ pub struct BasicService {
 #[repr(C)]
 #[derive(Clone, Copy)]
 pub struct Row {
-    pub key: u32,
-    pub handling: u32,
-    pub scf: IsdnAddress,
     pub dp: u8,
+    pub key: u32,
+    pub scf: IsdnAddress,
+    pub handling: u32,
 }
 
 impl Row {
     pub const NONE: Row = Row {
-        key: 0,
-        handling: 0,
-        scf: IsdnAddress::NONE,
         dp: 0,
+        key: 0,
+        scf: IsdnAddress::NONE,
+        handling: 0,
     };
 }
 
@@ -176,13 +187,23 @@ impl TCriteria {
     };
 }
 
+/// The lists of a CSI, whose criteria are `C`: `camel_sent_o_csi` and `camel_sent_vt_csi`.
+#[repr(C)]
+#[derive(Clone, Copy)]
+pub struct Sent<C> {
+    pub rows: *const Row,
+    pub row_count: usize,
+    pub criteria: *const C,
+    pub criteria_count: usize,
+    pub has_rows: bool,
+    pub has_criteria: bool,
+}
+
 #[repr(C)]
 #[derive(Clone, Copy)]
 pub struct Insert {
-    pub has_o: bool,
-    pub has_o_criteria: bool,
-    pub has_vt: bool,
-    pub has_t_criteria: bool,
+    pub o: Sent<OCriteria>,
+    pub vt: Sent<TCriteria>,
 }
 
 #[repr(C)]
@@ -228,6 +249,38 @@ impl Answer {
     };
 }
 
+#[repr(C)]
+#[derive(Clone, Copy)]
+pub struct Counts {
+    pub subscribers: u64,
+    pub published: u64,
+    pub pending: u64,
+    pub held: u64,
+}
+
+impl Counts {
+    pub const NONE: Counts = Counts {
+        subscribers: 0,
+        published: 0,
+        pending: 0,
+        held: 0,
+    };
+}
+
+pub const REASONS: usize = 6;
+
+#[repr(C)]
+#[derive(Clone, Copy)]
+pub struct Decisions {
+    pub by_reason: [u64; REASONS],
+}
+
+impl Decisions {
+    pub const NONE: Decisions = Decisions {
+        by_reason: [0; REASONS],
+    };
+}
+
 /// A call that writes what a subscriber has at a detection point, and whether there is anything.
 pub type FindAt<T> =
     unsafe extern "C" fn(*mut Session, *const Imsi, u8, *mut T, *mut bool) -> Status;
@@ -248,7 +301,8 @@ unsafe extern "C" {
         address: *mut IsdnAddress,
     ) -> Status;
 
-    pub fn camel_open(
+    pub fn camel_open_version(
+        abi_version: u32,
         store: *mut Store,
         sessions: *mut Session,
         session_count: usize,
@@ -258,19 +312,6 @@ unsafe extern "C" {
     ) -> Status;
 
     pub fn camel_submit_register(store: *mut Store, imsi: *const Imsi) -> Status;
-    pub fn camel_submit_insert(
-        store: *mut Store,
-        imsi: *const Imsi,
-        sent: *const Insert,
-        o: *const Row,
-        o_count: usize,
-        o_criteria: *const OCriteria,
-        o_criteria_count: usize,
-        vt: *const Row,
-        vt_count: usize,
-        t_criteria: *const TCriteria,
-        t_criteria_count: usize,
-    ) -> Status;
     pub fn camel_submit_delete(
         store: *mut Store,
         imsi: *const Imsi,
@@ -278,24 +319,25 @@ unsafe extern "C" {
     ) -> Status;
     pub fn camel_submit_cancel(store: *mut Store, imsi: *const Imsi) -> Status;
     pub fn camel_submit_clear_all(store: *mut Store) -> Status;
+    pub fn camel_submit_lists(store: *mut Store, imsi: *const Imsi, sent: *const Insert) -> Status;
     pub fn camel_submit_map(
         store: *mut Store,
         operation: u8,
-        imsi: *const u8,
-        imsi_octet_count: usize,
+        imsi: *const Imsi,
         argument: *const u8,
         argument_octet_count: usize,
         place: *mut u64,
     ) -> Status;
 
     pub fn camel_publish(store: *mut Store) -> Status;
-    pub fn camel_published(store: *mut Store, count: *mut u64) -> Status;
-    pub fn camel_pending(store: *mut Store, count: *mut u64) -> Status;
+    pub fn camel_holders(store: *mut Store, sessions: *mut u64) -> Status;
+    pub fn camel_counts_of(store: *const Store, counts: *mut Counts) -> Status;
 
-    pub fn camel_receipt_of(store: *mut Store, receipt: *mut Receipt) -> Status;
-    pub fn camel_learn(session: *mut Session, receipt: *mut Receipt) -> Status;
+    pub fn camel_receipt_of(store: *const Store, receipt: *mut Receipt) -> Status;
+    pub fn camel_learn(session: *mut Session, receipt: *const Receipt) -> Status;
 
     pub fn camel_decide(session: *mut Session, event: *const Event, answer: *mut Answer) -> Status;
+    pub fn camel_decisions_of(session: *const Session, decisions: *mut Decisions) -> Status;
 
     pub fn camel_look(session: *mut Session) -> Status;
     pub fn camel_leave(session: *mut Session) -> Status;
@@ -329,33 +371,39 @@ unsafe extern "C" {
         is_there: *mut bool,
     ) -> Status;
     pub fn camel_decide_kept(
-        subscriber: *mut Subscriber,
+        subscriber: *const Subscriber,
         event: *const Event,
         answer: *mut Answer,
     ) -> Status;
 
     pub fn camel_close(store: *mut Store) -> Status;
-    pub fn camel_free(handle: *mut c_void);
+    pub fn camel_empty(handle: *mut c_void);
 }
 
 // The sizes of camel.h, and the places of the fields behind which there is padding.
 const _: () = {
     assert!(size_of::<Store>() == 2 * size_of::<*mut c_void>());
     assert!(size_of::<Session>() == size_of::<Store>());
-    assert!(size_of::<Receipt>() == size_of::<Store>());
     assert!(size_of::<Subscriber>() == size_of::<Store>());
+    assert!(size_of::<Receipt>() == 16 && offset_of!(Receipt, front) == 8);
     assert!(size_of::<Imsi>() == 8);
     assert!(size_of::<Address>() == 21);
     assert!(size_of::<IsdnAddress>() == 10);
     assert!(size_of::<BasicService>() == 2);
-    assert!(size_of::<Row>() == 20 && offset_of!(Row, dp) == 18);
+    assert!(size_of::<Row>() == 24 && offset_of!(Row, key) == 4);
+    assert!(offset_of!(Row, scf) == 8 && offset_of!(Row, handling) == 20);
     assert!(size_of::<NumberCriterion>() == 106 && offset_of!(NumberCriterion, numbers) == 6);
     assert!(size_of::<BasicServices>() == 11);
     assert!(size_of::<Causes>() == 6);
     assert!(size_of::<OCriteria>() == 127 && offset_of!(OCriteria, causes) == 121);
     assert!(size_of::<TCriteria>() == 18);
-    assert!(size_of::<Insert>() == 4);
+    assert!(size_of::<Sent<OCriteria>>() == 40 && size_of::<Sent<TCriteria>>() == 40);
+    assert!(offset_of!(Sent<OCriteria>, has_rows) == 32);
+    assert!(offset_of!(Sent<OCriteria>, has_criteria) == 33);
+    assert!(size_of::<Insert>() == 80 && offset_of!(Insert, vt) == 40);
     assert!(size_of::<Withdrawal>() == 3);
     assert!(size_of::<Event>() == 40 && offset_of!(Event, cause) == 33);
     assert!(size_of::<Answer>() == 32 && offset_of!(Answer, reason) == 25);
+    assert!(size_of::<Counts>() == 32 && offset_of!(Counts, held) == 24);
+    assert!(size_of::<Decisions>() == 8 * REASONS);
 };

@@ -4,8 +4,8 @@ use std::cell::UnsafeCell;
 
 /// A handle that only this value has. It is never copied: a move copies its bytes and forgets the old ones.
 ///
-/// The cell lets a call that only reads take `&self`. It makes the type one that is not `Sync`, so that no two threads
-/// are in calls with one handle at a time.
+/// The cell lets the calls of a look take `&self`. It makes the type one that is not `Sync`, so that no two threads are
+/// in calls with one handle at a time.
 pub(crate) struct Owned<T: Handle>(UnsafeCell<T>);
 
 impl<T: Handle> Owned<T> {
@@ -19,8 +19,9 @@ impl<T: Handle> Owned<T> {
         Owned(UnsafeCell::new(handle))
     }
 
-    /// The handle for one call of the library. It is empty or as the library left it, and in no other call: no other
-    /// thread has a reference to it, and the library calls nothing back.
+    /// The handle for one call of the library. It is empty or as the library left it, and in no other call, except that
+    /// a [`Subscriber`](crate::Subscriber) may be in several that only read it: no other thread has a reference to it
+    /// else, and the library calls nothing back.
     pub fn at(&self) -> *mut T {
         self.0.get()
     }
@@ -30,7 +31,7 @@ impl<T: Handle> Drop for Owned<T> {
     fn drop(&mut self) {
         if self.0.get_mut().is_full() {
             // SAFETY: the handle is as the library left it, and in no other call, since this has it by `&mut`.
-            unsafe { ffi::camel_free(self.at().cast()) }
+            unsafe { ffi::camel_empty(self.at().cast()) }
         }
     }
 }

@@ -35,10 +35,10 @@
 //!
 //! # What this crate checks, and what it leaves to the switch
 //!
-//! The crate frees handles and never copies them, refuses a receipt of another store, and lets a handle be in one call
-//! at a time, so safe code reaches nothing that the library does not check. Three things are not seen by it: no call is
-//! made from a signal handler, none from the forked child of a process with threads, and `malloc`, `realloc` and `free`
-//! of the program are of one allocator.
+//! The crate frees handles and never copies them, and lets a handle be in one call at a time, or in several that only
+//! read it, so safe code reaches nothing that the library does not check. Four things are not seen by it: stores whose
+//! receipts are told apart have different seeds, no call is made from a signal handler, none from the forked child of a
+//! process with threads, and `malloc`, `realloc` and `free` of the program are of one allocator.
 #![warn(missing_docs)]
 #![deny(unsafe_op_in_unsafe_fn)]
 
@@ -55,15 +55,15 @@ mod session;
 mod store;
 mod update;
 
-pub use answer::{Answer, OnFailure, Outcome, Reason};
+pub use answer::{Answer, Decisions, OnFailure, Outcome, Reason};
 pub use criteria::{CallType, MatchType, NumberCriterion, OCriteria, Row, TCriteria};
 pub use error::Error;
 pub use event::{BasicService, Cause, DetectionPoint, Event};
 pub use map::{MapFault, Operation};
-pub use numbers::{Address, Imsi, IsdnAddress};
+pub use numbers::{Address, Imsi, ImsiDigits, ImsiTbcd, IsdnAddress};
 pub use receipt::{Receipt, Subscriber};
 pub use session::{Look, Session};
-pub use store::{Closing, MAX_SESSIONS, MAX_UPDATES, Profile, Store};
+pub use store::{Closing, Counts, Holders, MAX_SESSIONS, MAX_UPDATES, Profile, Store};
 pub use update::{Csis, Update, Withdrawal};
 
 /// The version of the layouts and functions of the library that is linked. [`Store::open`] compares it.

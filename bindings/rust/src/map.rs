@@ -1,7 +1,7 @@
 //! Arguments of MAP, as the octets that come from the HLR.
 use crate::error::done;
 use crate::handle::Owned;
-use crate::{Error, ffi};
+use crate::{Error, Imsi, ffi};
 use std::fmt;
 
 /// An operation of MAP by which the HLR changes subscriber data (TS 29.002).
@@ -70,26 +70,20 @@ impl From<MapFault> for Error {
 pub(crate) fn submit(
     store: &mut Owned<ffi::Store>,
     operation: Operation,
-    imsi: Option<&[u8]>,
+    imsi: Option<Imsi>,
     argument: &[u8],
 ) -> Result<(), MapFault> {
-    // To the library, no octets say that the dialogue has no IMSI.
-    if imsi.is_some_and(<[u8]>::is_empty) {
-        return Err(MapFault {
-            error: Error::Malformed,
-            place: 0,
-        });
-    }
-    let imsi = imsi.unwrap_or_default();
+    // To the library, the number 0 says that the dialogue has no IMSI.
+    let imsi = imsi.map_or(ffi::Imsi { number: 0 }, Imsi::raw);
     let mut place = 0;
-    // SAFETY: the handle is as the library left it, and in no other call, since this has it by `&mut`; each pointer and
-    // length are of one slice, and the pointer of a slice of none is not null; the place is apart from them.
+    // SAFETY: the handle is as the library left it, and in no other call, since this has it by `&mut`; the pointer and
+    // the length are of one slice, and the pointer of a slice of none is not null; the IMSI and the place are apart
+    // from them.
     let status = unsafe {
         ffi::camel_submit_map(
             store.at(),
             operation.code(),
-            imsi.as_ptr(),
-            imsi.len(),
+            &imsi,
             argument.as_ptr(),
             argument.len(),
             &mut place,

@@ -3,10 +3,14 @@ use crate::error::done;
 use crate::{Error, ffi};
 use std::fmt;
 use std::num::NonZeroU64;
+use std::ops::Deref;
 use std::str::FromStr;
 
-/// An IMSI in 8 octets, made once per call. Two are equal if their digits are.
-#[derive(Clone, Copy, Debug, PartialEq, Eq, Hash)]
+/// The nibble behind the last of an odd count of digits.
+const FILLER: u8 = 15;
+
+/// An IMSI in 8 octets, made once per call. Two are equal if their digits are, which it is written as.
+#[derive(Clone, Copy, PartialEq, Eq, Hash)]
 pub struct Imsi(NonZeroU64);
 
 impl Imsi {
@@ -33,7 +37,33 @@ impl Imsi {
         Imsi::of_raw(imsi)
     }
 
-    fn of_raw(imsi: ffi::Imsi) -> Result<Imsi, Error> {
+    /// Its 5 to 15 digits, as characters.
+    pub fn digits(self) -> ImsiDigits {
+        let count = (self.0.get() >> 56) as u8;
+        let mut value = self.0.get() & (u64::MAX >> 8);
+        let mut characters = [b'0'; 15];
+        for character in characters.iter_mut().take(count.into()).rev() {
+            *character += (value % 10) as u8;
+            value /= 10;
+        }
+        ImsiDigits { count, characters }
+    }
+
+    /// Its TBCD octets as in MAP, 3 to 8.
+    pub fn tbcd(self) -> ImsiTbcd {
+        let digits = self.digits();
+        let mut octets = [0; 8];
+        for (octet, pair) in octets.iter_mut().zip(digits.as_bytes().chunks(2)) {
+            let high = pair.get(1).map_or(FILLER, |digit| digit & 15);
+            *octet = high << 4 | pair[0] & 15;
+        }
+        ImsiTbcd {
+            count: digits.len().div_ceil(2) as u8,
+            octets,
+        }
+    }
+
+    pub(crate) fn of_raw(imsi: ffi::Imsi) -> Result<Imsi, Error> {
         NonZeroU64::new(imsi.number)
             .map(Imsi)
             .ok_or(Error::Malformed)
@@ -51,6 +81,66 @@ impl FromStr for Imsi {
 
     fn from_str(digits: &str) -> Result<Imsi, Error> {
         Imsi::from_digits(digits)
+    }
+}
+
+impl fmt::Display for Imsi {
+    fn fmt(&self, out: &mut fmt::Formatter<'_>) -> fmt::Result {
+        self.digits().fmt(out)
+    }
+}
+
+impl fmt::Debug for Imsi {
+    fn fmt(&self, out: &mut fmt::Formatter<'_>) -> fmt::Result {
+        write!(out, "Imsi({self})")
+    }
+}
+
+/// The digits of an [`Imsi`]: a text of the characters `0` to `9`.
+#[derive(Clone, Copy)]
+pub struct ImsiDigits {
+    count: u8,
+    characters: [u8; 15],
+}
+
+impl Deref for ImsiDigits {
+    type Target = str;
+
+    fn deref(&self) -> &str {
+        std::str::from_utf8(first(&self.characters, self.count)).unwrap_or_default()
+    }
+}
+
+impl fmt::Display for ImsiDigits {
+    fn fmt(&self, out: &mut fmt::Formatter<'_>) -> fmt::Result {
+        out.pad(self)
+    }
+}
+
+impl fmt::Debug for ImsiDigits {
+    fn fmt(&self, out: &mut fmt::Formatter<'_>) -> fmt::Result {
+        fmt::Debug::fmt(&**self, out)
+    }
+}
+
+/// The TBCD octets of an [`Imsi`], as [`Imsi::from_tbcd`] takes them.
+#[derive(Clone, Copy)]
+pub struct ImsiTbcd {
+    count: u8,
+    octets: [u8; 8],
+}
+
+impl Deref for ImsiTbcd {
+    type Target = [u8];
+
+    fn deref(&self) -> &[u8] {
+        first(&self.octets, self.count)
+    }
+}
+
+impl fmt::Debug for ImsiTbcd {
+    fn fmt(&self, out: &mut fmt::Formatter<'_>) -> fmt::Result {
+        write!(out, "{:02x?}", &**self)
     }
 }
 

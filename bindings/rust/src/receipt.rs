@@ -4,32 +4,43 @@ use crate::handle::Owned;
 use crate::{Answer, Error, Event, ffi};
 use std::fmt;
 
-/// A receipt of all that was published when it was made. It may move to another thread, as over a channel, and any
-/// number of sessions may learn it, one after the other. For sessions of several threads at once, ask the store for one
-/// each ([`Store::receipt`](crate::Store::receipt)): a receipt is not shared between threads.
-///
-/// ```compile_fail,E0277
-/// fn is_shared<T: Sync>() {}
-/// is_shared::<camel::Receipt>();
-/// ```
-pub struct Receipt {
-    pub(crate) handle: Owned<ffi::Receipt>,
-    pub(crate) store: u64,
+/// A receipt of all that was published when it was made: plain data, which may be copied and shared. Any number of
+/// sessions may learn it.
+#[derive(Clone, Copy, PartialEq, Eq, Hash)]
+pub struct Receipt(ffi::Receipt);
+
+impl Receipt {
+    /// How many updates it is of.
+    pub fn front(&self) -> u64 {
+        self.0.front
+    }
+
+    pub(crate) fn of_raw(receipt: ffi::Receipt) -> Receipt {
+        Receipt(receipt)
+    }
+
+    pub(crate) fn raw(&self) -> &ffi::Receipt {
+        &self.0
+    }
 }
 
 impl fmt::Debug for Receipt {
     fn fmt(&self, out: &mut fmt::Formatter<'_>) -> fmt::Result {
         out.debug_struct("Receipt")
-            .field("store", &self.store)
+            .field("front", &self.front())
             .finish_non_exhaustive()
     }
 }
 
 /// The record of a subscriber, which a call keeps from its set-up to its later detection points, whatever the HLR sends
-/// meanwhile. It holds nobody up, and outlives the store.
+/// meanwhile. It holds nobody up, and outlives the store. Threads may share it, and decide by it at the same time.
 pub struct Subscriber {
     pub(crate) handle: Owned<ffi::Subscriber>,
 }
+
+// SAFETY: the one call that is made by a shared reference takes the handle as const, and several such calls may be made
+// with it at the same time.
+unsafe impl Sync for Subscriber {}
 
 impl Subscriber {
     /// Decides an event by the record. The front of the answer is that of the look in which the record was kept. The

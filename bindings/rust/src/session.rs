@@ -2,7 +2,8 @@
 use crate::error::done;
 use crate::handle::Owned;
 use crate::{
-    Answer, DetectionPoint, Error, Event, Imsi, OCriteria, Receipt, Row, Subscriber, TCriteria, ffi,
+    Answer, Decisions, DetectionPoint, Error, Event, Imsi, OCriteria, Receipt, Row, Subscriber,
+    TCriteria, ffi,
 };
 use std::fmt;
 use std::marker::PhantomData;
@@ -31,16 +32,14 @@ use std::marker::PhantomData;
 /// ```
 pub struct Session {
     handle: Owned<ffi::Session>,
-    store: u64,
     /// Whether a look has begun and is not left. No call of this type finds it so, except behind a forgotten [`Look`].
     is_looking: bool,
 }
 
 impl Session {
-    pub(crate) fn of(handle: ffi::Session, store: u64) -> Session {
+    pub(crate) fn of(handle: ffi::Session) -> Session {
         Session {
             handle: Owned::of(handle),
-            store,
             is_looking: false,
         }
     }
@@ -74,14 +73,21 @@ impl Session {
     /// Learns a receipt: from then on the session sees at least what it is of. Any number of sessions may learn it.
     ///
     /// # Errors
-    /// The session is as before. [`Error::OtherStore`]: the receipt is not of the session's own store.
+    /// [`Error::OtherStore`]: the receipt is of another store than the session. [`Error::NoLook`]: the session's own
+    /// store has ended. The session sees what it saw.
     pub fn learn(&mut self, receipt: &Receipt) -> Result<(), Error> {
-        if receipt.store != self.store {
-            return Err(Error::OtherStore);
-        }
         self.leave_forgotten()?;
-        // SAFETY: both handles are fit for a call, as `Owned` says, and the receipt is of the session's own store.
-        done(unsafe { ffi::camel_learn(self.handle.at(), receipt.handle.at()) })
+        // SAFETY: the handle is fit for a call, as `Owned` says, and the receipt is apart from it.
+        done(unsafe { ffi::camel_learn(self.handle.at(), receipt.raw()) })
+    }
+
+    /// How many events the session and its looks have decided, by reason. It fails only as the library does of itself,
+    /// which safe code does not meet.
+    pub fn decisions(&self) -> Result<Decisions, Error> {
+        let mut decisions = ffi::Decisions::NONE;
+        // SAFETY: the handle is fit for a call, as `Owned` says, and the counts are apart from it.
+        done(unsafe { ffi::camel_decisions_of(self.handle.at(), &mut decisions) })?;
+        Ok(Decisions::of_raw(decisions))
     }
 
     /// The row that is stored for a subscriber at a detection point; None if there is none.
@@ -93,8 +99,8 @@ impl Session {
         self.row_over(imsi, dp)
     }
 
-    /// The criteria that are stored for a subscriber at a detection point of the O-CSI; None if there are none. They are
-    /// there even if there is no row, and have no effect then.
+    /// The criteria that are stored for a subscriber at a detection point of the O-CSI; None if there are none. They
+    /// are there even if there is no row, and have no effect then.
     ///
     /// # Errors
     /// As [`decide`](Session::decide).
@@ -221,9 +227,7 @@ impl Drop for Session {
 
 impl fmt::Debug for Session {
     fn fmt(&self, out: &mut fmt::Formatter<'_>) -> fmt::Result {
-        out.debug_struct("Session")
-            .field("store", &self.store)
-            .finish_non_exhaustive()
+        out.debug_struct("Session").finish_non_exhaustive()
     }
 }
 

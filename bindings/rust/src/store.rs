@@ -2,12 +2,8 @@
 use crate::error::done;
 use crate::ffi::Handle;
 use crate::handle::Owned;
-use crate::{Error, MapFault, Operation, Receipt, Session, Update, ffi, map};
+use crate::{Error, Imsi, MapFault, Operation, Receipt, Session, Update, ffi, map};
 use std::fmt;
-use std::sync::atomic::{AtomicU64, Ordering};
-
-/// The number of the next store that is opened. Its sessions and receipts carry it.
-static STORES: AtomicU64 = AtomicU64::new(0);
 
 /// The most sessions of a store.
 pub const MAX_SESSIONS: usize = 64;
@@ -25,6 +21,49 @@ pub enum Profile {
     Two = 2,
 }
 
+/// Counts of a store.
+#[derive(Clone, Copy, Debug, Default, PartialEq, Eq)]
+#[non_exhaustive]
+pub struct Counts {
+    /// How many subscribers have a record in what is published.
+    pub subscribers: u64,
+    /// How many updates are published.
+    pub published: u64,
+    /// How many updates are accepted, and not published.
+    pub pending: u64,
+    /// How many publications have failed with [`Error::Held`].
+    pub held: u64,
+}
+
+/// The sessions whose looks hold the next publication up: their places in what [`Store::open`] gave, from 0 on, in
+/// ascending order.
+#[derive(Clone, Debug, PartialEq, Eq)]
+pub struct Holders(u64);
+
+impl Holders {
+    /// One bit for each of them: bit i is that of the session at place i.
+    pub fn bits(&self) -> u64 {
+        self.0
+    }
+}
+
+impl Iterator for Holders {
+    type Item = usize;
+
+    fn next(&mut self) -> Option<usize> {
+        let place = self.0.trailing_zeros();
+        self.0 &= self.0.wrapping_sub(1);
+        (place < u64::BITS).then_some(place as usize)
+    }
+
+    fn size_hint(&self) -> (usize, Option<usize>) {
+        let count = self.0.count_ones() as usize;
+        (count, Some(count))
+    }
+}
+
+impl ExactSizeIterator for Holders {}
+
 /// The writer of a store. It may move to another thread, and is not shared.
 ///
 /// A store that is dropped ends, and leaves what looks hold to them; what is pending is dropped.
@@ -35,7 +74,6 @@ pub enum Profile {
 /// ```
 pub struct Store {
     handle: Owned<ffi::Store>,
-    number: u64,
 }
 
 impl Store {
@@ -54,21 +92,17 @@ impl Store {
         profile: Profile,
         seed: u64,
     ) -> Result<(Store, Vec<Session>), Error> {
-        if crate::abi_version() != ffi::ABI_VERSION {
-            return Err(Error::OtherVersion);
-        }
         if !(1..=MAX_SESSIONS).contains(&session_count) {
             return Err(Error::Malformed);
         }
-        let number = STORES.fetch_add(1, Ordering::Relaxed);
         let store = Store {
             handle: Owned::empty(),
-            number,
         };
         let mut handles = [const { ffi::Session::EMPTY }; MAX_SESSIONS];
         // SAFETY: all handles are empty, and the array has at least as many as are said.
         let status = unsafe {
-            ffi::camel_open(
+            ffi::camel_open_version(
+                ffi::ABI_VERSION,
                 store.handle.at(),
                 handles.as_mut_ptr(),
                 session_count,
@@ -81,7 +115,7 @@ impl Store {
         let sessions = handles
             .into_iter()
             .take(session_count)
-            .map(|handle| Session::of(handle, number))
+            .map(Session::of)
             .collect();
         done(status)?;
         Ok((store, sessions))
@@ -101,65 +135,64 @@ impl Store {
 
     /// Submits what an operation of MAP brings, by the octets of its argument: the parameter of the TCAP invoke, in BER
     /// as docs/RULES.md ("MAP arguments") says. A length is definite, in up to four octets, or indefinite, at most 16
-    /// deep, and no string that is read is in pieces. The IMSI is that of the dialogue in TBCD octets, if the dialogue
-    /// has one. No call sees the update before it is published.
+    /// deep, and no string that is read is in pieces. The IMSI is that of the dialogue, if the dialogue has one. No
+    /// call sees the update before it is published.
     ///
     /// # Errors
     /// The store is as before. [`Error::MalformedOctets`] to [`Error::OtherImsi`], [`Error::DataMissing`] and
-    /// [`Error::UnexpectedDataValue`]: the argument has a fault, at the place that is said. [`Error::Malformed`]: the
-    /// octets of the IMSI are none. The errors of [`submit`](Store::submit) else, at place 0.
+    /// [`Error::UnexpectedDataValue`]: the argument has a fault, at the place that is said. The errors of
+    /// [`submit`](Store::submit) else, at place 0.
     pub fn submit_map(
         &mut self,
         operation: Operation,
-        imsi: Option<&[u8]>,
+        imsi: Option<Imsi>,
         argument: &[u8],
     ) -> Result<(), MapFault> {
         map::submit(&mut self.handle, operation, imsi, argument)
     }
 
-    /// Publishes all that is pending, and gives a receipt of all that is published. If nothing is pending, it only
-    /// gives the receipt, and no look holds it up.
+    /// Publishes all that is pending, also if nothing is, and gives a receipt of all that is published. For a receipt
+    /// without a publication there is [`receipt`](Store::receipt).
     ///
     /// # Errors
-    /// [`Error::Held`]: a look is held that began before the last publication; all is pending as before. Publish again
-    /// once it is left; updates may be submitted meanwhile. [`Error::OutOfMemory`]: publish again. All is pending as
-    /// before, or, if [`pending`](Store::pending) is 0, all is published, and only the receipt was refused.
+    /// All is pending as before. [`Error::Held`]: a look is held that began before the last publication, of a session
+    /// that [`holders`](Store::holders) names. Publish again once it is left; updates may be submitted meanwhile.
+    /// [`Error::OutOfMemory`]: publish again.
     pub fn publish(&mut self) -> Result<Receipt, Error> {
-        if self.pending()? > 0 {
-            // SAFETY: the handle is fit for a call, as `Owned` says.
-            done(unsafe { ffi::camel_publish(self.handle.at()) })?;
-        }
+        // SAFETY: the handle is fit for a call, as `Owned` says.
+        done(unsafe { ffi::camel_publish(self.handle.at()) })?;
         self.receipt()
     }
 
-    /// A further receipt of all that is published.
-    ///
-    /// # Errors
-    /// [`Error::OutOfMemory`]: the store is as before; ask again.
+    /// A receipt of all that is published. It fails only as the library does of itself, which safe code does not meet.
     pub fn receipt(&self) -> Result<Receipt, Error> {
-        let receipt = Receipt {
-            handle: Owned::empty(),
-            store: self.number,
-        };
-        // SAFETY: both handles are fit for a call, as `Owned` says, and that of the receipt is empty.
-        done(unsafe { ffi::camel_receipt_of(self.handle.at(), receipt.handle.at()) })?;
-        Ok(receipt)
+        let mut receipt = ffi::Receipt::NONE;
+        // SAFETY: the handle is fit for a call, as `Owned` says, and the receipt is apart from it.
+        done(unsafe { ffi::camel_receipt_of(self.handle.at(), &mut receipt) })?;
+        Ok(Receipt::of_raw(receipt))
     }
 
-    /// How many updates are published. It fails only as the library does of itself, which safe code does not meet.
-    pub fn published(&self) -> Result<u64, Error> {
-        let mut count = 0;
-        // SAFETY: the handle is fit for a call, as `Owned` says, and the count is apart from it.
-        done(unsafe { ffi::camel_published(self.handle.at(), &mut count) })?;
-        Ok(count)
+    /// The sessions whose looks hold the next publication up; none if it goes through now. It fails as
+    /// [`receipt`](Store::receipt) does.
+    pub fn holders(&mut self) -> Result<Holders, Error> {
+        let mut sessions = 0;
+        // SAFETY: the handle is fit for a call, as `Owned` says, and the bits are apart from it.
+        done(unsafe { ffi::camel_holders(self.handle.at(), &mut sessions) })?;
+        Ok(Holders(sessions))
     }
 
-    /// How many updates are accepted, and not published. It fails as [`published`](Store::published) does.
-    pub fn pending(&self) -> Result<u64, Error> {
-        let mut count = 0;
-        // SAFETY: the handle is fit for a call, as `Owned` says, and the count is apart from it.
-        done(unsafe { ffi::camel_pending(self.handle.at(), &mut count) })?;
-        Ok(count)
+    /// How many subscribers and updates there are, and how often a publication was held. It fails as
+    /// [`receipt`](Store::receipt) does.
+    pub fn counts(&self) -> Result<Counts, Error> {
+        let mut counts = ffi::Counts::NONE;
+        // SAFETY: the handle is fit for a call, as `Owned` says, and the counts are apart from it.
+        done(unsafe { ffi::camel_counts_of(self.handle.at(), &mut counts) })?;
+        Ok(Counts {
+            subscribers: counts.subscribers,
+            published: counts.published,
+            pending: counts.pending,
+            held: counts.held,
+        })
     }
 
     /// Ends the store; what is pending is dropped. Sessions find then that it has ended ([`Error::NoLook`]).
@@ -179,9 +212,7 @@ impl Store {
 
 impl fmt::Debug for Store {
     fn fmt(&self, out: &mut fmt::Formatter<'_>) -> fmt::Result {
-        out.debug_struct("Store")
-            .field("number", &self.number)
-            .finish_non_exhaustive()
+        out.debug_struct("Store").finish_non_exhaustive()
     }
 }
 
@@ -204,5 +235,26 @@ impl Closing {
     /// As [`Store::close`].
     pub fn close(self) -> Result<(), Closing> {
         self.store.close()
+    }
+}
+
+#[cfg(test)]
+mod tests {
+    use super::*;
+
+    #[test]
+    fn holders_are_the_places_of_their_bits() {
+        for (bits, places) in [
+            (0, vec![]),
+            (1, vec![0]),
+            (1 << 63, vec![63]),
+            (0b1011, vec![0, 1, 3]),
+            (u64::MAX, (0..64).collect()),
+        ] {
+            let holders = Holders(bits);
+            assert_eq!(holders.bits(), bits);
+            assert_eq!(holders.len(), places.len());
+            assert_eq!(holders.collect::<Vec<_>>(), places);
+        }
     }
 }

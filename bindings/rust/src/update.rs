@@ -86,31 +86,26 @@ impl Update {
 /// The handle is of a store, as the library left it, and in no other call.
 unsafe fn submit_insert(store: *mut ffi::Store, imsi: Imsi, csis: &Csis) -> ffi::Status {
     let sent = ffi::Insert {
-        has_o: csis.o.is_some(),
-        has_o_criteria: csis.o_criteria.is_some(),
-        has_vt: csis.vt.is_some(),
-        has_t_criteria: csis.t_criteria.is_some(),
+        o: sent_of(&csis.o, &csis.o_criteria),
+        vt: sent_of(&csis.vt, &csis.t_criteria),
     };
-    let o = csis.o.as_deref().unwrap_or_default();
-    let o_criteria = csis.o_criteria.as_deref().unwrap_or_default();
-    let vt = csis.vt.as_deref().unwrap_or_default();
-    let t_criteria = csis.t_criteria.as_deref().unwrap_or_default();
-    // SAFETY: the handle is so; each pointer and length are of one slice, whose items are transparent over those of the
+    // SAFETY: the handle is so; each pointer and count are of one slice, whose items are transparent over those of the
     // library, and the pointer of a slice of none is not null.
-    unsafe {
-        ffi::camel_submit_insert(
-            store,
-            &imsi.raw(),
-            &sent,
-            o.as_ptr().cast(),
-            o.len(),
-            o_criteria.as_ptr().cast(),
-            o_criteria.len(),
-            vt.as_ptr().cast(),
-            vt.len(),
-            t_criteria.as_ptr().cast(),
-            t_criteria.len(),
-        )
+    unsafe { ffi::camel_submit_lists(store, &imsi.raw(), &sent) }
+}
+
+/// The lists of a CSI, where they lie. `C` is transparent over the criteria `R` of the library.
+fn sent_of<C, R>(rows: &Option<Vec<Row>>, criteria: &Option<Vec<C>>) -> ffi::Sent<R> {
+    let (has_rows, has_criteria) = (rows.is_some(), criteria.is_some());
+    let rows = rows.as_deref().unwrap_or_default();
+    let criteria = criteria.as_deref().unwrap_or_default();
+    ffi::Sent {
+        rows: rows.as_ptr().cast(),
+        row_count: rows.len(),
+        criteria: criteria.as_ptr().cast(),
+        criteria_count: criteria.len(),
+        has_rows,
+        has_criteria,
     }
 }
 

@@ -32,6 +32,22 @@ fn an_imsi_is_its_digits() {
 }
 
 #[test]
+fn an_imsi_gives_its_digits_back() {
+    for count in 5..=15 {
+        let digits = &"012345678901234"[..count];
+        let imsi = Imsi::from_digits(digits).unwrap();
+        assert_eq!(&*imsi.digits(), digits);
+        assert_eq!(imsi.to_string(), digits);
+        assert_eq!(format!("{imsi:?}"), format!("Imsi({digits})"));
+        assert_eq!(imsi.tbcd().len(), count.div_ceil(2));
+        assert_eq!(Imsi::from_tbcd(&imsi.tbcd()), Ok(imsi));
+    }
+    let imsi = Imsi::from_digits("26201").unwrap();
+    assert_eq!(*imsi.tbcd(), [0x62, 0x02, 0xf1]);
+    assert_eq!(format!("[{imsi:>7}]"), "[  26201]");
+}
+
+#[test]
 fn an_address_is_its_octets() {
     for count in 0..=21 {
         let octets = vec![0x91; count];
@@ -315,5 +331,6 @@ fn updates_count_for_the_limit() {
     store.submit(&Update::Cancel { imsi }).unwrap();
     store.submit(&Update::ClearAll).unwrap();
     assert_eq!(store.submit(&Update::ClearAll), Err(Error::HistoryFull));
-    assert_eq!((store.published(), store.pending()), (Ok(0), Ok(3)));
+    let counts = store.counts().unwrap();
+    assert_eq!((counts.published, counts.pending), (0, 3));
 }

@@ -2,7 +2,7 @@
 use camel::Error;
 use std::path::{Path, PathBuf};
 
-const ERRORS: [(Error, &str); 18] = [
+const ERRORS: [(Error, &str); 20] = [
     (
         Error::UnidentifiedSubscriber,
         "CAMEL_UNIDENTIFIED_SUBSCRIBER",
@@ -13,10 +13,6 @@ const ERRORS: [(Error, &str); 18] = [
     (Error::OutOfMemory, "CAMEL_OUT_OF_MEMORY"),
     (Error::NoPlace, "CAMEL_NO_PLACE"),
     (Error::NoLook, "CAMEL_NO_LOOK"),
-    (Error::Held, "CAMEL_HELD"),
-    (Error::Malformed, "CAMEL_MALFORMED"),
-    (Error::WrongHandle, "CAMEL_WRONG_HANDLE"),
-    (Error::FullHandle, "CAMEL_FULL_HANDLE"),
     (Error::MalformedOctets, "CAMEL_MALFORMED_OCTETS"),
     (Error::MissingField, "CAMEL_MISSING_FIELD"),
     (Error::FieldTwice, "CAMEL_FIELD_TWICE"),
@@ -24,6 +20,12 @@ const ERRORS: [(Error, &str); 18] = [
     (Error::WrongLength, "CAMEL_WRONG_LENGTH"),
     (Error::NoImsi, "CAMEL_NO_IMSI"),
     (Error::OtherImsi, "CAMEL_OTHER_IMSI"),
+    (Error::Held, "CAMEL_HELD"),
+    (Error::Malformed, "CAMEL_MALFORMED"),
+    (Error::WrongHandle, "CAMEL_WRONG_HANDLE"),
+    (Error::FullHandle, "CAMEL_FULL_HANDLE"),
+    (Error::OtherStore, "CAMEL_OTHER_STORE"),
+    (Error::OtherVersion, "CAMEL_OTHER_VERSION"),
 ];
 
 /// The header that lies beside the archive, or where both are installed.
@@ -66,16 +68,20 @@ fn numbers_are_those_of_the_header() {
 }
 
 #[test]
-fn numbers_of_the_bindings_are_no_status() {
-    for error in [Error::OtherStore, Error::OtherVersion] {
-        assert!(statuses().iter().all(|(_, number)| *number != error.code()));
-    }
+fn each_error_has_a_number_and_words_of_its_own() {
+    let mut numbers: Vec<_> = ERRORS.iter().map(|(error, _)| error.code()).collect();
+    let mut words: Vec<_> = ERRORS.iter().map(|(error, _)| error.to_string()).collect();
+    numbers.sort_unstable();
+    numbers.dedup();
+    words.sort_unstable();
+    words.dedup();
+    assert_eq!((numbers.len(), words.len()), (ERRORS.len(), ERRORS.len()));
 }
 
 #[test]
 fn errors_say_what_they_are() {
     let error: Box<dyn std::error::Error> = Box::new(Error::Held);
-    assert_eq!(error.to_string(), "a look is held (105)");
+    assert_eq!(error.to_string(), "a look is held (501)");
     assert_eq!(
         Error::Unknown(77).to_string(),
         "a number that is not known (77)"

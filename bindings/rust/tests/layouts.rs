@@ -10,6 +10,7 @@ mod ffi;
 #[test]
 fn types_have_the_sizes_of_the_library() {
     let own = [
+        size_of::<ffi::Receipt>(),
         size_of::<ffi::Imsi>(),
         size_of::<ffi::Address>(),
         size_of::<ffi::IsdnAddress>(),
@@ -20,14 +21,18 @@ fn types_have_the_sizes_of_the_library() {
         size_of::<ffi::NumberCriterion>(),
         size_of::<ffi::OCriteria>(),
         size_of::<ffi::TCriteria>(),
+        size_of::<ffi::Sent<ffi::OCriteria>>(),
+        size_of::<ffi::Sent<ffi::TCriteria>>(),
         size_of::<ffi::Insert>(),
         size_of::<ffi::Withdrawal>(),
         size_of::<ffi::Event>(),
         size_of::<ffi::Answer>(),
+        size_of::<ffi::Counts>(),
+        size_of::<ffi::Decisions>(),
         size_of::<ffi::Store>(),
     ]
     .map(|size| size as u32);
-    let mut of_library = [0; 16];
+    let mut of_library = [0; 32];
     // SAFETY: the array has at least as many places as are said.
     let count = unsafe { ffi::camel_layouts(of_library.as_mut_ptr(), of_library.len()) };
     assert_eq!(count as usize, own.len());

@@ -1,8 +1,8 @@
-//! What the crate adds to the library: receipts know their store, a store that is held comes back, a look is left.
+//! What the crate makes of the library: receipts are plain data, a store that is held comes back, a look is left.
 use camel::{
-    Address, Answer, BasicService, Cause, Closing, Csis, DetectionPoint, Error, Event, Imsi,
-    IsdnAddress, MAX_UPDATES, OnFailure, Outcome, Profile, Reason, Receipt, Row, Session, Store,
-    Subscriber, Update, Withdrawal,
+    Address, Answer, BasicService, Cause, Closing, Counts, Csis, Decisions, DetectionPoint, Error,
+    Event, Imsi, IsdnAddress, MAX_UPDATES, OnFailure, Outcome, Profile, Reason, Receipt, Row,
+    Session, Store, Subscriber, Update, Withdrawal,
 };
 
 fn imsi() -> Imsi {
@@ -61,15 +61,20 @@ fn no_trigger(front: u64, reason: Reason) -> Result<Answer, Error> {
 
 #[test]
 fn a_receipt_of_another_store_is_refused() {
-    let (store, mut session, _) = open();
+    let (store, mut session, mut ended) = open();
     let (other, mut of_other, _) = open();
     let receipt = other.receipt().unwrap();
+    assert_eq!(receipt.front(), 2);
     assert_eq!(session.learn(&receipt), Err(Error::OtherStore));
     assert_eq!(of_other.learn(&receipt), Ok(()));
     drop(other);
     assert_eq!(session.learn(&receipt), Err(Error::OtherStore));
-    assert_eq!(session.learn(&store.receipt().unwrap()), Ok(()));
+    let own = store.receipt().unwrap();
+    assert_eq!(session.learn(&own), Ok(()));
     assert_eq!(session.decide(&event()), trigger(2, 5));
+    assert!(store.close().is_ok());
+    assert_eq!(ended.learn(&receipt), Err(Error::OtherStore));
+    assert_eq!(ended.learn(&own), Err(Error::NoLook));
 }
 
 #[test]
@@ -139,15 +144,56 @@ fn a_look_holds_up_the_second_publication() {
     let receipt = store.publish().unwrap();
     other.learn(&receipt).unwrap();
     assert_eq!(other.decide(&event()), trigger(3, 6));
-    assert!(store.publish().is_ok(), "nothing is pending");
+    assert_eq!(store.publish().err(), Some(Error::Held), "of nothing");
     store.submit(&insert(7)).unwrap();
     assert_eq!(store.publish().err(), Some(Error::Held));
-    assert_eq!((store.published(), store.pending()), (Ok(3), Ok(1)));
+    assert_eq!(counts(&store), (3, 1, 2));
+    assert!(store.holders().unwrap().eq([0]));
     assert_eq!(look.decide(&event()), trigger(2, 5));
     drop(look);
+    assert_eq!(store.holders().unwrap().bits(), 0);
     session.learn(&store.publish().unwrap()).unwrap();
     assert_eq!(session.decide(&event()), trigger(4, 7));
-    assert_eq!((store.published(), store.pending()), (Ok(4), Ok(0)));
+    assert_eq!(counts(&store), (4, 0, 2));
+}
+
+/// How many updates are published, how many are pending, and how many publications were held.
+fn counts(store: &Store) -> (u64, u64, u64) {
+    let counts = store.counts().unwrap();
+    (counts.published, counts.pending, counts.held)
+}
+
+#[test]
+fn subscribers_are_counted_once_published() {
+    let (mut store, _, _) = open();
+    let other = Imsi::from_digits("26201").unwrap();
+    let mut after = |update: Update| {
+        store.submit(&update).unwrap();
+        let before = store.counts().unwrap().subscribers;
+        store.publish().unwrap();
+        (before, store.counts().unwrap().subscribers)
+    };
+    assert_eq!(after(Update::Register { imsi: other }), (1, 2));
+    assert_eq!(after(Update::Register { imsi: other }), (2, 2));
+    assert_eq!(after(Update::Cancel { imsi: other }), (2, 1));
+    assert_eq!(after(Update::ClearAll), (1, 0));
+}
+
+#[test]
+fn each_holder_is_named() {
+    let (mut store, mut sessions) = Store::open(64, MAX_UPDATES, Profile::One, 1).unwrap();
+    let looks: Vec<_> = sessions
+        .iter_mut()
+        .step_by(21)
+        .map(|session| session.look().unwrap())
+        .collect();
+    assert_eq!(store.holders().unwrap().count(), 0);
+    store.publish().unwrap();
+    assert_eq!(store.publish(), Err(Error::Held));
+    assert!(store.holders().unwrap().eq([0, 21, 42, 63]));
+    drop(looks);
+    assert_eq!(store.holders().unwrap().count(), 0);
+    store.publish().unwrap();
 }
 
 #[test]
@@ -205,6 +251,18 @@ fn each_reason_is_given() {
     store.submit(&Update::ClearAll).unwrap();
     session.learn(&store.publish().unwrap()).unwrap();
     assert_eq!(session.decide(&event()), no_trigger(3, Reason::Unknown));
+    session.look().unwrap().decide(&event()).unwrap();
+    let decisions = session.decisions().unwrap();
+    assert_eq!((decisions.total(), decisions.triggered()), (4, 0));
+    for (reason, count) in [
+        (Reason::Unknown, 2),
+        (Reason::NoCsi, 0),
+        (Reason::NotArmed, 1),
+        (Reason::Emergency, 1),
+        (Reason::Criteria, 0),
+    ] {
+        assert_eq!(decisions.not_triggered(reason), count, "{reason:?}");
+    }
 }
 
 #[test]
@@ -233,16 +291,33 @@ fn a_store_is_opened_in_its_ranges() {
 #[test]
 fn handles_move_between_threads() {
     fn is_send<T: Send>() {}
-    is_send::<(Store, Closing, Session, Receipt, Subscriber, Update, Event)>();
+    fn is_shared<T: Copy + Send + Sync>() {}
+    fn is_read<T: Send + Sync>() {}
+    is_send::<(Store, Closing, Session, Update, Event)>();
+    is_shared::<(Receipt, Counts, Decisions, Imsi, Answer)>();
+    is_read::<Subscriber>();
     let (store, mut session, mut other) = open();
     let receipt = store.receipt().unwrap();
     let ended = std::thread::spawn(move || {
         session.learn(&receipt).unwrap();
-        (session.decide(&event()), receipt, store.close().is_ok())
+        (session.decide(&event()), store.close().is_ok())
     });
-    let (answer, receipt, is_closed) = ended.join().unwrap();
-    assert_eq!(answer, trigger(2, 5));
-    assert!(is_closed);
-    assert_eq!(other.learn(&receipt), Ok(()));
+    assert_eq!(ended.join().unwrap(), (trigger(2, 5), true));
+    assert_eq!(other.learn(&receipt), Err(Error::NoLook));
     assert_eq!(other.decide(&event()), Err(Error::NoLook));
+}
+
+#[test]
+fn threads_decide_by_one_record() {
+    let (_store, mut session, _) = open();
+    let kept = session.keep(imsi()).unwrap().unwrap();
+    std::thread::scope(|scope| {
+        for _ in 0..4 {
+            scope.spawn(|| {
+                for _ in 0..1000 {
+                    assert_eq!(kept.decide(&event()), trigger(2, 5));
+                }
+            });
+        }
+    });
 }

@@ -3,8 +3,6 @@ pub mod BoxCode
 pub mod BoxRows
 pub mod LayoutLemmas
 pub mod ObjectDrop
-pub mod ObjectLemmas
 pub mod OctetsLemmas
 pub mod ReadingLemmas
-pub mod SubmissionLemmas
 pub mod Values

@@ -2,8 +2,7 @@
 use Rattle.std.proofs.Common.{◌≡◌, ◌∙◌, ℕ, refl, sym, ap, subst, ◌⊎◌, inl, inr, ⊎_elim, arith}
 use Rattle.std.specs.Prelude.{Option, Result, Ok, Err}
 use Rattle.camel_rows.specs.declared.subscriber.update.Update.{Update}
-use Rattle.camel_vlr.specs.Store.{submission_refusal}
-use Rattle.camel_c.proofs.ReadingLemmas.{always, no_fault, same_value}
+use Rattle.camel_c.proofs.ReadingLemmas.{no_fault, same_value}
 use Rattle.camel_c.specs.OctetsSubmission.{ReadsOctets, SubmitsOctets, octets_fault_code, octets_fault_place}
 use Rattle.camel_c.specs.Submission.{Submits}
 use Rattle.camel_c.specs.declared.object.Object.{Object}
@@ -16,24 +15,12 @@ submits_update update status before after submits = record {
   submitted = λ e. refl;
   unchanged = submits.unchanged;
   update = λ other is.
-      (subst (λ (u : Update). Submits (Ok u) status before after) (same_value update other is) submits, refl);
+      (inl (subst (λ (u : Update). Submits (Ok u) status before after) (same_value update other is) submits), refl);
   faulty = λ fault is. absurd (no_fault update fault is);
 }
 
 not_both : (status : ℕ) → status ≡ 102 → status ≡ 0 → ⊥
 not_both status refused e = omega (arith, e, refused)
-
--- an update for which memory is refused
-out_of_memory : (update : Update) (status : ℕ) (before after : Option Object)
-    → status ≡ 102 → after ≡ before → Submits (Ok update) status before after
-out_of_memory update status before after refused same = record {
-  submitted = λ e. absurd (not_both status refused e);
-  unchanged = λ _. same;
-  faulty = λ fault e. absurd (no_fault update fault e);
-  refused = λ other store is held. always _ (submission_refusal store other) (λ why. inr refused);
-  only = λ other store is held. inr (inl refused);
-  wrong = λ other is. inr (inr refused);
-}
 
 -- octets for which memory is refused
 octets_out_of_memory : (reading : Result Update OctetsFault) (status place : ℕ) (before after : Option Object)
@@ -41,7 +28,7 @@ octets_out_of_memory : (reading : Result Update OctetsFault) (status place : ℕ
 octets_out_of_memory reading status place before after refused same = record {
   submitted = λ e. absurd (not_both status refused.0 e);
   unchanged = λ _. same;
-  update = λ update is. (out_of_memory update status before after refused.0 same, refused.1);
+  update = λ update is. (inr (refused.0, same), refused.1);
   faulty = λ fault is. inr refused;
 }
 

@@ -1,6 +1,6 @@
 -- The machine values of a `CamelHandle`. Assumes `Logic`.
 use Rattle.std.proofs.Common.{◌≡◌, Bool, true, false, List, [], ◌∷◌, ◌++◌, refl, ◌∙◌}
-use Rattle.std.specs.Prelude.{Option, Some, None}
+use Rattle.std.specs.Prelude.{Option, Some, None, is_some}
 use lib.Dec.{T}
 use mathlib.Core.Bool.{◌&&◌}
 use seplogic.Ra.Ura.{Ura}
@@ -54,3 +54,11 @@ module _ {M : Type 1} {𝓤 : Ura M} {𝓛 : Logic 𝓤} {K : Type 0} {Γ : List
   handle_cases t p false (Some x) none one = use1 𝓛 (given ⊥ (‵ ftrue)) (never_e 𝓤 _) $ learn t (λ z. absurd z)
   handle_cases t p true None none one = use1 𝓛 (given ⊥ (‵ ftrue)) (never_e 𝓤 _) $ learn t (λ z. absurd z)
   handle_cases t p true (Some x) none one = fpick t (λ a. one a x refl refl)
+
+  -- a handle is full exactly if it has an object
+  pub handle_tells : K → (p : Ptr) (b : Bool) (v : Option R.Denot)
+      → (b ≡ is_some v → Seq K 𝓛 (‵ (handle_owns R p b v) ∷ Γ) G) → Seq K 𝓛 (‵ (handle_owns R p b v) ∷ Γ) G
+  handle_tells t p false None go = go refl
+  handle_tells t p false (Some x) go = use1 𝓛 (given ⊥ (‵ ftrue)) (never_e 𝓤 _) $ learn t (λ z. absurd z)
+  handle_tells t p true None go = use1 𝓛 (given ⊥ (‵ ftrue)) (never_e 𝓤 _) $ learn t (λ z. absurd z)
+  handle_tells t p true (Some x) go = go refl

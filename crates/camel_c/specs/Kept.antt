@@ -1,19 +1,17 @@
 -- What is decided by the record of a subscriber that a call keeps.
-use Rattle.std.specs.Prelude.{◌≡◌, ◌⊎◌, Bool, Option, Some, None, IfSome, IsSomeAnd, is_some, length}
+use Rattle.std.specs.Prelude.{◌≡◌, ◌≢◌, ◌⊎◌, ℕ, Option, Some, None, IfSome, IsSomeAnd, is_some, length}
 use Rattle.camel_rows.specs.Decision.{by_record}
 use Rattle.camel_rows.specs.Event.{EventData}
 use Rattle.camel_rows.specs.Outcome.{outcome_of}
 use Rattle.camel_rows.specs.Subscriber.{SubscriberData}
 use Rattle.camel_rows.specs.declared.trigger.outcome.Answer.{Answer}
-use Rattle.camel_criteria.specs.declared.refusal.Refusal.TheVariants.{NoGuard, OutOfMemory}
 use Rattle.camel_vlr.specs.Session.{SessionData}
-use Rattle.camel_c.specs.Change.{GetsNoLook}
+use Rattle.camel_c_data.specs.Flag.{flag_of}
 use Rattle.camel_c.specs.Shows.{Shows}
-use Rattle.camel_c.specs.declared.failure.Failure.{Failure}
-use Rattle.camel_c.specs.declared.failure.Failure.TheVariants as failure
 use Rattle.camel_c.specs.declared.kept_subscriber.KeptSubscriber.{KeptSubscriber}
 use Rattle.camel_c.specs.declared.object.Object.{Object}
 use Rattle.camel_c.specs.declared.object.Object.TheVariants as object
+use Rattle.camel_c.specs.declared.thread_session.ThreadSession.{ThreadSession}
 
 -- the outcome by the record, and how many updates the front has that it is from
 abbrev pub answer_by : KeptSubscriber → EventData → Answer
@@ -30,18 +28,17 @@ abbrev pub KeepsShown : SessionData → Option SubscriberData → Option KeptSub
 KeepsShown shown None kept = kept ≡ None
 KeepsShown shown (Some stored) kept = IsSomeAnd kept (Keeps shown stored)
 
--- nothing is kept, for this reason
-abbrev pub FailsToKeep : Option Object → Option Object → Failure → Type 0
-FailsToKeep before after why = ((why ≡ failure.Refused NoGuard) × GetsNoLook before after)
-    ⊎ (((shown : SessionData) × (why ≡ failure.Refused OutOfMemory) × Shows before shown after)
-    ⊎ (((why ≡ failure.WrongHandle) ⊎ (why ≡ failure.FullHandle)) × (after ≡ before)))
-
 -- a handle that was empty is filled with the record that is found, or stays empty
-pub record FillsKept (shown : SessionData) (found : Option SubscriberData) (before after : Option Object) (is_there : Bool) : Type 0 where
+pub record FillsKept (shown : SessionData) (found : Option SubscriberData) (before after : Option Object) (is_there : ℕ) : Type 0 where
   pub empty : before ≡ None
-  pub told : is_there ≡ is_some found
+  pub told : is_there ≡ flag_of (is_some found)
   pub kept : IfSome found (λ stored. (kept : KeptSubscriber) × (after ≡ Some (object.Kept kept)) × Keeps shown stored kept)
   pub none : found ≡ None → after ≡ None
 
 abbrev pub HoldsKept : Option Object → Type 0
 HoldsKept held = (kept : KeptSubscriber) × (held ≡ Some (object.Kept kept))
+
+-- a session has looked, and memory was refused
+abbrev pub ShowsInVain : Option Object → Option Object → Type 0
+ShowsInVain before after = (own : ThreadSession) × (shown : SessionData) × (left : ThreadSession)
+    × (before ≡ Some (object.Session own)) × (after ≡ Some (object.Session left)) × Shows own shown left

@@ -1,12 +1,15 @@
 pub mod Change
+pub mod Counts
 pub mod Decides
 pub mod Failure
 pub mod Handle
+pub mod Holding
 pub mod Kept
 pub mod Layouts
 pub mod Object
 pub mod OctetsSubmission
 pub mod Opening
+pub mod Receipts
 pub mod Shown
 pub mod Shows
 pub mod Submission

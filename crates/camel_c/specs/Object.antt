@@ -1,18 +1,16 @@
 -- What a handle of C holds.
-use Rattle.std.specs.Prelude.{◌≡◌, List, Option, Some}
+use Rattle.std.specs.Prelude.{◌≡◌, true, false, List, Option, Some}
 use Rattle.camel_rows.specs.declared.subscriber.update.Update.{Update}
-use Rattle.camel_vlr.specs.Prefix.{PrefixData}
-use Rattle.camel_vlr.specs.Session.{SessionData}
-use Rattle.camel_vlr.specs.Store.{StoreData}
-use Rattle.camel_c.specs.declared.looking.LookingSession.{LookingSession}
+use Rattle.camel_c.specs.declared.object.LiveStore.{LiveStore}
 use Rattle.camel_c.specs.declared.object.Object.{Object}
 use Rattle.camel_c.specs.declared.object.Object.TheVariants as object
 use Rattle.camel_c.specs.declared.object.Stage.{Stage}
 use Rattle.camel_c.specs.declared.object.Stage.TheVariants as stage
 use Rattle.camel_c.specs.declared.object.Store.{Store}
+use Rattle.camel_c.specs.declared.thread_session.ThreadSession.{ThreadSession}
 
 -- a store that takes updates
-abbrev pub live_store : StoreData → Object
+abbrev pub live_store : LiveStore → Object
 live_store store = object.Store (record { stage = stage.Live store })
 
 -- a store whose end a look holds up, with the updates that it published last
@@ -24,18 +22,23 @@ abbrev pub at_stage : Stage → Option Object
 at_stage s = Some (object.Store (record { stage = s }))
 
 abbrev pub HoldsLiveStore : Option Object → Type 0
-HoldsLiveStore held = (store : StoreData) × (held ≡ Some (live_store store))
+HoldsLiveStore held = (store : LiveStore) × (held ≡ Some (live_store store))
+
+-- a store that takes updates, and of which it is known that no look holds the next publication up
+abbrev pub HoldsFreeStore : Option Object → Type 0
+HoldsFreeStore held = (store : LiveStore) × (held ≡ Some (live_store store)) × (store.vlr.free ≡ true)
 
 abbrev pub HoldsStore : Option Object → Type 0
 HoldsStore held = (store : Store) × (held ≡ Some (object.Store store))
 
+-- a session, with a look or without one
+abbrev pub HoldsAnySession : Option Object → Type 0
+HoldsAnySession held = (own : ThreadSession) × (held ≡ Some (object.Session own))
+
 -- a session without a look
 abbrev pub HoldsSession : Option Object → Type 0
-HoldsSession held = (session : SessionData) × (held ≡ Some (object.Session session))
-
-abbrev pub HoldsReceipt : Option Object → Type 0
-HoldsReceipt held = (receipt : PrefixData) × (held ≡ Some (object.Receipt receipt))
+HoldsSession held = (own : ThreadSession) × (held ≡ Some (object.Session own)) × (own.session.looks ≡ false)
 
 -- a session whose look has begun
 abbrev pub HoldsLook : Option Object → Type 0
-HoldsLook held = (looking : LookingSession) × (held ≡ Some (object.Look looking))
+HoldsLook held = (own : ThreadSession) × (held ≡ Some (object.Session own)) × (own.session.looks ≡ true)

@@ -1,6 +1,5 @@
 -- Submissions of the octets of an argument of MAP: the update that they are, and what the store makes of it.
-use Rattle.std.specs.Prelude.{◌≡◌, ◌≢◌, ◌⊎◌, ℕ, List, [], ◌∷◌, Option, Some, None, Result, Ok, Err, IsOk}
-use Rattle.camel_tbcd.specs.Imsi.{imsi_of_tbcd}
+use Rattle.std.specs.Prelude.{◌≡◌, ◌≢◌, ◌⊎◌, ◌==◌, ℕ, List, Option, Some, None, Result, Ok, Err, IsOk, if◌then◌else◌}
 use Rattle.camel_ber.specs.Reading.{◌>>=◌}
 use Rattle.camel_rows.specs.declared.subscriber.update.Update.{Update}
 use Rattle.camel_map.specs.MapFault.{map_fault_code}
@@ -9,14 +8,16 @@ use Rattle.camel_map.specs.Reading.{whole}
 use Rattle.camel_map.specs.Update.{update_of}
 use Rattle.camel_map.specs.declared.map_fault.MapFault.{MapFault}
 use Rattle.camel_map.specs.declared.operation.Operation.{Operation}
-use Rattle.camel_c.specs.Submission.{Submits}
+use Rattle.camel_c_data.specs.Imsi.{imsi_in}
+use Rattle.camel_c_data.specs.declared.imsi.CamelImsi.{CamelImsi}
+use Rattle.camel_c.specs.Submission.{ReadsAndSubmits}
 use Rattle.camel_c.specs.declared.object.Object.{Object}
 use Rattle.camel_c.specs.declared.submitting_map.OctetsFault.{OctetsFault}
 use Rattle.camel_c.specs.declared.submitting_map.OctetsFault.TheVariants.{Argument, Malformed, OutOfMemory}
 
 -- the number of a fault
 abbrev pub octets_fault_code : OctetsFault → ℕ
-octets_fault_code Malformed = 201
+octets_fault_code Malformed = 502
 octets_fault_code OutOfMemory = 102
 octets_fault_code (Argument fault) = map_fault_code fault.kind
 
@@ -30,11 +31,11 @@ octets_fault_place (Argument fault) = fault.place
 abbrev pub operation_in : ℕ → Result Operation OctetsFault
 operation_in code = elim (operation_of code) [ None ↦ Err Malformed | Some operation ↦ Ok operation ]
 
--- the IMSI of a dialogue, of which no octets say that it has none
-abbrev pub dialogue_in : List ℕ → Result (Option (List ℕ)) OctetsFault
-dialogue_in [] = Ok None
-dialogue_in (first ∷ more) =
-    elim (imsi_of_tbcd (first ∷ more)) [ Ok imsi ↦ Ok (Some imsi) | Err fault ↦ Err Malformed ]
+-- the IMSI of a dialogue, of which the number 0 says that it has none
+abbrev pub dialogue_in : CamelImsi → Result (Option (List ℕ)) OctetsFault
+dialogue_in held =
+    if held.number == 0 then Ok None
+    else elim (imsi_in held) [ Ok imsi ↦ Ok (Some imsi) | Err fault ↦ Err Malformed ]
 
 -- a fault is one of the argument
 abbrev pub in_argument : {A : Type 0} → Result A MapFault → Result A OctetsFault
@@ -42,7 +43,7 @@ in_argument (Ok value) = Ok value
 in_argument (Err fault) = Err (Argument fault)
 
 -- the update that octets are, as the argument of the operation of a code in the dialogue of an IMSI
-unfoldable pub octets_in : ℕ → List ℕ → List ℕ → Result Update OctetsFault
+unfoldable pub octets_in : ℕ → CamelImsi → List ℕ → Result Update OctetsFault
 octets_in code imsi argument = do
   operation ← operation_in code
   dialogue ← dialogue_in imsi
@@ -60,7 +61,7 @@ pub record SubmitsOctets (reading : Result Update OctetsFault) (status place : �
   pub submitted : status ≡ 0 → IsOk reading
   pub unchanged : status ≢ 0 → after ≡ before
   -- the octets are an update, which is submitted as one of fields is, and the fault is at no octet
-  pub update : (update : Update) → reading ≡ Ok update → Submits (Ok update) status before after × (place ≡ 0)
+  pub update : (update : Update) → reading ≡ Ok update → ReadsAndSubmits (Ok update) status before after × (place ≡ 0)
   -- the octets are none
   pub faulty : (fault : OctetsFault) → reading ≡ Err fault
       → ((status ≡ octets_fault_code fault) × (place ≡ octets_fault_place fault)) ⊎ ((status ≡ 102) × (place ≡ 0))

@@ -3,11 +3,15 @@ use Rattle.std.specs.Prelude.{◌≡◌, ◌==◌, ◌≤◌, ℕ, List, map, Op
 use Rattle.camel_tbcd.specs.declared.profile.Profile.{Profile}
 use Rattle.camel_tbcd.specs.declared.profile.Profile.TheVariants.{One, Two}
 use Rattle.camel_rows.specs.Store.{no_updates}
-use Rattle.camel_vlr.specs.Store.{StoreData, fresh_session}
+use Rattle.camel_vlr.specs.Prefix.{StoreId}
+use Rattle.camel_vlr.specs.Store.{fresh_session}
+use Rattle.camel_c_data.specs.Decisions.{no_decisions}
 use Rattle.camel_c.specs.Object.{live_store}
 use Rattle.camel_c.specs.declared.handle.CamelHandle.{CamelHandle}
+use Rattle.camel_c.specs.declared.object.LiveStore.{LiveStore}
 use Rattle.camel_c.specs.declared.object.Object.{Object}
 use Rattle.camel_c.specs.declared.object.Object.TheVariants as object
+use Rattle.camel_c.specs.declared.thread_session.ThreadSession.{ThreadSession}
 
 -- the profile of a number
 abbrev pub profile_of : ℕ → Option Profile
@@ -32,9 +36,19 @@ AllEmpty handles = All (λ handle. handle.value ≡ None) handles
 abbrev pub HoldAsBefore : List CamelHandle → List CamelHandle → Type 0
 HoldAsBefore before after = map (λ (handle : CamelHandle). handle.value) after ≡ map (λ (handle : CamelHandle). handle.value) before
 
--- a handle holds a store with no updates, of this limit and of the profile of this number, and the others hold each a
--- session of it that has seen and learnt nothing
+-- a session of a store of this number that has seen, learnt and decided nothing
+abbrev pub new_session : StoreId → ℕ → ThreadSession
+new_session store number = record { session = fresh_session store; store = number; decisions = no_decisions }
+
+-- it is a store of this limit and profile with no updates, and no publication was held up
+pub record IsNew (most : ℕ) (under : Profile) (live : LiveStore) : Type 0 where
+  pub updates : live.vlr.updates ≡ no_updates
+  pub limit : live.vlr.store.limit ≡ most
+  pub profile : live.vlr.store.profile ≡ under
+  pub held : live.held ≡ 0
+
+-- a handle holds such a store, of the profile of this number, and the others hold each a new session of it
 abbrev pub Opens : ℕ → ℕ → Option Object → List CamelHandle → Type 0
-Opens limit profile held sessions = (store : StoreData) × (held ≡ Some (live_store store))
-    × (store.updates ≡ no_updates) × (store.store.limit ≡ limit) × (profile_of profile ≡ Some store.store.profile)
-    × AllHold (object.Session (fresh_session store.store)) sessions
+Opens limit number held sessions = (live : LiveStore) × (profile : Profile) × (profile_of number ≡ Some profile)
+    × (held ≡ Some (live_store live)) × IsNew limit profile live
+    × AllHold (object.Session (new_session live.vlr.store live.number)) sessions

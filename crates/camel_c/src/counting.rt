@@ -1,94 +1,90 @@
-//! How many updates a store has.
+//! What stores and sessions have counted.
 
-ghost use Rattle.std.specs.Prelude.{◌≡◌, ◌≢◌, ◌⊎◌, Err, Some, IfOk, IsOk};
-ghost use Rattle.camel_c.specs.Change.{Counts};
-ghost use Rattle.camel_c.specs.Object.{HoldsLiveStore};
-ghost use Rattle.camel_c.specs.declared.failure.Failure.TheVariants as failure;
+ghost use Rattle.std.specs.Prelude.{◌≡◌, ◌≢◌, ◌⊎◌, Some};
+ghost use Rattle.camel_c.specs.Counts.{Counts};
+ghost use Rattle.camel_c.specs.Object.{HoldsAnySession, HoldsLiveStore};
+ghost use Rattle.camel_c.specs.declared.object.Object.TheVariants as object;
+ghost use Rattle.camel_c.specs.declared.thread_session.ThreadSession.{ThreadSession};
 
-use crate::failure::{Failure, status};
+use crate::failure::Failure;
 use crate::handle::CamelHandle;
 use crate::object::{Object, Stage};
-use core::mem::replace_with;
-use std::alloc::Global;
+use camel_c_data::{CamelCounts, CamelDecisions};
 
-/// Tells how many updates are published. It fails with 202 if the handle holds no store that takes updates, and leaves
-/// the count as it was.
+/// Writes how many subscribers have a record in what is published, how many updates are published and pending, and how
+/// many publications a look held up.
+///
+/// It fails with 503 if the handle holds no store that takes updates, and leaves the counts as they were.
 #[unsafe(no_mangle)]
-pub extern "C" fn camel_published(alloc: Global, store: &mut CamelHandle, count: &mut u64) -> u32
-    ensures counted { result ≡ 0 → Counts (λ u. u.published) store.old.value count.new }
+pub extern "C" fn camel_counts_of(store: &mut CamelHandle, counts: &mut CamelCounts) -> u32
+    ensures counted { result ≡ 0 → Counts store.old.value counts.new }
     ensures same { store.new.value ≡ store.old.value }
-    ensures unchanged { result ≢ 0 → count.new ≡ count.old }
+    ensures unwritten { result ≢ 0 → counts.new ≡ counts.old }
     ensures only { HoldsLiveStore store.old.value → result ≡ 0 }
-    ensures wrong { HoldsLiveStore store.old.value ⊎ (result ≡ 202) }
+    ensures wrong { HoldsLiveStore store.old.value ⊎ (result ≡ 503) }
 {
-    match replace_with(store, alloc, count_by_handle) {
-        Ok(counted) => {
-            *count = counted.published;
-            0
-        }
-        Err(why) => why.code(),
+    if !store.is_full() {
+        return Failure::WrongHandle.code();
     }
+    count_held(store.get_mut(), counts)
 }
 
-/// Tells how many updates are pending. It fails with 202 if the handle holds no store that takes updates, and leaves
-/// the count as it was.
-#[unsafe(no_mangle)]
-pub extern "C" fn camel_pending(alloc: Global, store: &mut CamelHandle, count: &mut u64) -> u32
-    ensures counted { result ≡ 0 → Counts (λ u. u.pending) store.old.value count.new }
-    ensures same { store.new.value ≡ store.old.value }
-    ensures unchanged { result ≢ 0 → count.new ≡ count.old }
-    ensures only { HoldsLiveStore store.old.value → result ≡ 0 }
-    ensures wrong { HoldsLiveStore store.old.value ⊎ (result ≡ 202) }
-{
-    match replace_with(store, alloc, count_by_handle) {
-        Ok(counted) => {
-            *count = counted.pending;
-            0
-        }
-        Err(why) => why.code(),
-    }
-}
-
-/// How many updates of a store are published, and how many are pending.
-#[derive(Clone, Copy)]
-struct UpdateCounts {
-    published: u64,
-    pending: u64,
-}
-
-fn count_by_handle(
-    handle: CamelHandle,
-    alloc: Global,
-) -> (CamelHandle, Result<UpdateCounts, Failure>)
-    ensures published { IfOk result.1 (λ counts. Counts (λ u. u.published) handle.value counts.published) }
-    ensures pending { IfOk result.1 (λ counts. Counts (λ u. u.pending) handle.value counts.pending) }
-    ensures same { result.0.value ≡ handle.value }
-    ensures only { HoldsLiveStore handle.value → IsOk result.1 }
-    ensures wrong { HoldsLiveStore handle.value ⊎ (result.1 ≡ Err failure.WrongHandle) }
-{
-    match handle.into_box(alloc) {
-        Some(held) => {
-            let counts = counts_of(&*held);
-            (CamelHandle::of(held), counts)
-        }
-        None => (CamelHandle::empty(), Err(Failure::WrongHandle)),
-    }
-}
-
-fn counts_of(held: &Object) -> Result<UpdateCounts, Failure>
-    ensures published { IfOk result (λ counts. Counts (λ u. u.published) (Some held.now) counts.published) }
-    ensures pending { IfOk result (λ counts. Counts (λ u. u.pending) (Some held.now) counts.pending) }
-    ensures only { HoldsLiveStore (Some held.now) → IsOk result }
-    ensures wrong { HoldsLiveStore (Some held.now) ⊎ (result ≡ Err failure.WrongHandle) }
+fn count_held(held: &Object, counts: &mut CamelCounts) -> u32
+    ensures counted { result ≡ 0 → Counts (Some held.now) counts.new }
+    ensures unwritten { result ≢ 0 → counts.new ≡ counts.old }
+    ensures only { HoldsLiveStore (Some held.now) → result ≡ 0 }
+    ensures wrong { HoldsLiveStore (Some held.now) ⊎ (result ≡ 503) }
 {
     match held {
         Object::Store(store) => match &store.stage {
-            Stage::Live(vlr) => Ok(UpdateCounts {
-                published: vlr.published(),
-                pending: vlr.pending(),
-            }),
-            Stage::Closing(_) | Stage::Closed => Err(Failure::WrongHandle),
+            Stage::Live(live) => {
+                *counts = CamelCounts {
+                    subscribers: live.vlr.subscribers() as u64,
+                    published: live.vlr.published(),
+                    pending: live.vlr.pending(),
+                    held: live.held,
+                };
+                0
+            }
+            Stage::Closing(_) | Stage::Closed => Failure::WrongHandle.code(),
         },
-        _ => Err(Failure::WrongHandle),
+        _ => Failure::WrongHandle.code(),
+    }
+}
+
+/// Writes how many events a session has decided with each reason.
+///
+/// It fails with 503 if the handle holds no session, and leaves the counts as they were.
+#[unsafe(no_mangle)]
+pub extern "C" fn camel_decisions_of(
+    session: &mut CamelHandle,
+    decisions: &mut CamelDecisions,
+) -> u32
+    ensures counted { result ≡ 0 → (own : ThreadSession) × (session.old.value ≡ Some (object.Session own))
+        × (decisions.new ≡ own.decisions) }
+    ensures same { session.new.value ≡ session.old.value }
+    ensures unwritten { result ≢ 0 → decisions.new ≡ decisions.old }
+    ensures only { HoldsAnySession session.old.value → result ≡ 0 }
+    ensures wrong { HoldsAnySession session.old.value ⊎ (result ≡ 503) }
+{
+    if !session.is_full() {
+        return Failure::WrongHandle.code();
+    }
+    write_decisions(session.get_mut(), decisions)
+}
+
+fn write_decisions(held: &Object, decisions: &mut CamelDecisions) -> u32
+    ensures counted { result ≡ 0 → (own : ThreadSession) × (Some held.now ≡ Some (object.Session own))
+        × (decisions.new ≡ own.decisions) }
+    ensures unwritten { result ≢ 0 → decisions.new ≡ decisions.old }
+    ensures only { HoldsAnySession (Some held.now) → result ≡ 0 }
+    ensures wrong { HoldsAnySession (Some held.now) ⊎ (result ≡ 503) }
+{
+    match held {
+        Object::Session(own) => {
+            *decisions = own.decisions;
+            0
+        }
+        _ => Failure::WrongHandle.code(),
     }
 }

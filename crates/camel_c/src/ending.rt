@@ -1,12 +1,12 @@
 //! Ending a store.
 
-ghost use Rattle.std.specs.Prelude.{◌≡◌, ◌⊎◌, Err, None, Some, IfErr, OnOk};
+ghost use Rattle.std.specs.Prelude.{◌≡◌, ◌⊎◌, false, None, Some, true};
 ghost use Rattle.camel_c.specs.Change.{IsHeldUp};
 ghost use Rattle.camel_c.specs.Object.{HoldsStore, at_stage};
-ghost use Rattle.camel_c.specs.declared.failure.Failure.TheVariants as failure;
 ghost use Rattle.camel_c.specs.declared.object.Stage.TheVariants as stage;
 
-use crate::failure::{Failure, status};
+use crate::failure::Failure;
+use crate::filling::camel_empty;
 use crate::handle::CamelHandle;
 use crate::object::{Object, Stage};
 use core::mem::replace_with;
@@ -14,60 +14,58 @@ use std::alloc::Global;
 
 /// Ends a store and frees it, which leaves its handle empty. What is pending is dropped. It does not wait.
 ///
-/// Each look that is held goes on until it is left, and no session begins another. It fails with 105 if one is held: then
-/// the store takes no more updates, and it is to be called again once the look is left. It fails with 202 if the handle
+/// Each look that is held goes on until it is left, and no session begins another. It fails with 501 if one is held: then
+/// the store takes no more updates, and it is to be called again once the look is left. It fails with 503 if the handle
 /// holds no store; then nothing is changed.
 #[unsafe(no_mangle)]
 pub extern "C" fn camel_close(alloc: Global, store: &mut CamelHandle) -> u32
     ensures closed { result ≡ 0 → store.new.value ≡ None }
-    ensures held { result ≡ 105 → IsHeldUp store.old.value store.new.value }
-    ensures only { HoldsStore store.old.value → (result ≡ 0) ⊎ (result ≡ 105) }
-    ensures wrong { HoldsStore store.old.value ⊎ ((result ≡ 202) × (store.new.value ≡ store.old.value)) }
+    ensures held { result ≡ 501 → IsHeldUp store.old.value store.new.value }
+    ensures only { HoldsStore store.old.value → (result ≡ 0) ⊎ (result ≡ 501) }
+    ensures wrong { HoldsStore store.old.value ⊎ ((result ≡ 503) × (store.new.value ≡ store.old.value)) }
 {
-    status(replace_with(store, alloc, close_by_handle))
-}
-
-fn close_by_handle(handle: CamelHandle, alloc: Global) -> (CamelHandle, Result<(), Failure>)
-    ensures closed { OnOk result.1 (result.0.value ≡ None) }
-    ensures held { HoldsStore handle.value
-        → IfErr result.1 (λ why. (why ≡ failure.Held) × IsHeldUp handle.value result.0.value) }
-    ensures wrong { HoldsStore handle.value
-        ⊎ ((result.1 ≡ Err failure.WrongHandle) × (result.0.value ≡ handle.value)) }
-{
-    let Some(mut held) = handle.into_box(alloc) else {
-        return (CamelHandle::empty(), Err(Failure::WrongHandle));
-    };
-    match close_held(&mut *held) {
-        Ok(()) => {
-            drop(held);
-            (CamelHandle::empty(), Ok(()))
-        }
-        Err(why) => (CamelHandle::of(held), Err(why)),
+    if !store.is_full() {
+        return Failure::WrongHandle.code();
     }
+    let done = close_held(store.get_mut());
+    if done == 0 {
+        camel_empty(alloc, store);
+    }
+    done
 }
 
-fn close_held(held: &mut Object) -> Result<(), Failure>
-    ensures held { HoldsStore (Some held.old)
-        → IfErr result (λ why. (why ≡ failure.Held) × IsHeldUp (Some held.old) (Some held.new)) }
-    ensures wrong { HoldsStore (Some held.old) ⊎ ((result ≡ Err failure.WrongHandle) × (held.new ≡ held.old)) }
+fn close_held(held: &mut Object) -> u32
+    ensures held { result ≡ 501 → IsHeldUp (Some held.old) (Some held.new) }
+    ensures only { HoldsStore (Some held.old) → (result ≡ 0) ⊎ (result ≡ 501) }
+    ensures wrong { HoldsStore (Some held.old) ⊎ ((result ≡ 503) × (held.new ≡ held.old)) }
 {
     match held {
-        Object::Store(store) => replace_with(&mut store.stage, (), close_stage),
-        _ => Err(Failure::WrongHandle),
+        Object::Store(store) => {
+            if replace_with(&mut store.stage, (), close_stage) {
+                0
+            } else {
+                Failure::Held.code()
+            }
+        }
+        _ => Failure::WrongHandle.code(),
     }
 }
 
-fn close_stage(before: Stage, _with: ()) -> (Stage, Result<(), Failure>)
-    ensures closed { OnOk result.1 (result.0 ≡ stage.Closed) }
-    ensures held { IfErr result.1 (λ why. (why ≡ failure.Held) × IsHeldUp (at_stage before) (at_stage result.0)) }
+/// Ends a store, and tells whether it has ended.
+fn close_stage(before: Stage, _with: ()) -> (Stage, bool)
+    ensures closed { result.1 ≡ true → result.0 ≡ stage.Closed }
+    ensures held { result.1 ≡ false → IsHeldUp (at_stage before) (at_stage result.0) }
 {
     let closed = match before {
-        Stage::Live(vlr) => vlr.close(),
+        Stage::Live(live) => live.into_vlr().close(),
         Stage::Closing(closing) => closing.close(),
-        Stage::Closed => return (Stage::Closed, Ok(())),
+        Stage::Closed => return (Stage::Closed, true),
     };
     match closed {
-        Ok(_) => (Stage::Closed, Ok(())),
-        Err(closing) => (Stage::Closing(closing), Err(Failure::Held)),
+        Ok(records) => {
+            drop(records);
+            (Stage::Closed, true)
+        }
+        Err(closing) => (Stage::Closing(closing), false),
     }
 }

@@ -1,6 +1,6 @@
 //! Why a call of C fails.
 
-ghost use Rattle.std.specs.Prelude.{◌≡◌, ◌≢◌, IfErr, OnErr, OnOk};
+ghost use Rattle.std.specs.Prelude.{◌≡◌, ◌≢◌};
 ghost use Rattle.camel_c.specs.Failure.{failure_code};
 
 use camel_criteria::Refusal;
@@ -8,16 +8,20 @@ use camel_criteria::Refusal;
 /// Why a call did not do what it says.
 #[derive(Clone, Copy)]
 pub enum Failure {
-    /// 5, 35, 36 and 101 to 104: the store refuses it.
+    /// 102: memory was refused. 104: the store has ended.
     Refused(Refusal),
-    /// 105: a look that is held stands in the way. It may be tried again.
+    /// 501: a look that is held stands in the way. It may be tried again.
     Held,
-    /// 201: what was passed is not what the call asks for.
+    /// 502: what was passed is not what the call asks for.
     Malformed,
-    /// 202: the handle is empty, or holds an object of another kind.
+    /// 503: the handle is empty, or holds an object of another kind, or a store that has ended.
     WrongHandle,
-    /// 203: the handle that the call is to fill holds an object.
+    /// 504: the handle that the call is to fill holds an object.
     FullHandle,
+    /// 505: the receipt is of another store than the session, or of more updates than are published.
+    OtherStore,
+    /// 506: the caller knows other layouts than the library has.
+    OtherVersion,
 }
 
 impl Failure {
@@ -28,22 +32,12 @@ impl Failure {
     {
         match self {
             Failure::Refused(why) => u32::from(why.code()),
-            Failure::Held => 105,
-            Failure::Malformed => 201,
-            Failure::WrongHandle => 202,
-            Failure::FullHandle => 203,
+            Failure::Held => 501,
+            Failure::Malformed => 502,
+            Failure::WrongHandle => 503,
+            Failure::FullHandle => 504,
+            Failure::OtherStore => 505,
+            Failure::OtherVersion => 506,
         }
-    }
-}
-
-/// The status of a call: 0 if it did what it says, and else the number of the failure.
-pub(crate) fn status(done: Result<(), Failure>) -> u32
-    ensures done { OnOk done (result ≡ 0) }
-    ensures failed { IfErr done (λ why. result ≡ failure_code why) }
-    ensures some { OnErr done (result ≢ 0) }
-{
-    match done {
-        Ok(()) => 0,
-        Err(why) => why.code(),
     }
 }

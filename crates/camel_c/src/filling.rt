@@ -1,6 +1,6 @@
 //! Filling a handle and emptying it: the calls that allocate and free.
 
-ghost use Rattle.std.specs.Prelude.{◌≡◌, ◌⊎◌, Err, Some, None, IfErr, OnErr, OnOk, is_none};
+ghost use Rattle.std.specs.Prelude.{◌≡◌, ◌⊎◌, Err, Some, None, IfErr, OnErr, OnOk};
 ghost use Rattle.camel_c.specs.declared.failure.Failure.TheVariants as failure;
 
 use crate::failure::Failure;
@@ -36,23 +36,12 @@ pub(crate) fn fill(
     }
 }
 
-/// Whether a handle is empty.
-pub(crate) fn is_empty(handle: CamelHandle, alloc: Global) -> (CamelHandle, bool)
-    ensures same { result.0.value ≡ handle.value }
-    ensures empty { result.1 ≡ is_none handle.value }
-{
-    match handle.into_box(alloc) {
-        Some(held) => (CamelHandle::of(held), false),
-        None => (CamelHandle::empty(), true),
-    }
-}
-
 /// Frees what a handle holds, and leaves it empty. An empty one stays so.
 ///
 /// A store that was not closed ends too: each look that is held goes on until it is left, and no session begins another.
 /// Its data are freed when the last of them is left.
 #[unsafe(no_mangle)]
-pub extern "C" fn camel_free(alloc: Global, handle: &mut CamelHandle)
+pub extern "C" fn camel_empty(alloc: Global, handle: &mut CamelHandle)
     ensures { handle.new.value ≡ None }
 {
     replace_with(handle, alloc, empty);

@@ -1,6 +1,6 @@
 //! The handle by which C keeps an object.
 
-ghost use Rattle.std.specs.Prelude.{◌≡◌, true, false, Option, Some, None, MatchOption};
+ghost use Rattle.std.specs.Prelude.{◌≡◌, true, false, Option, Some, None, is_some, IsSome, MatchOption};
 ghost use Rattle.std.specs.Coded.{coded_option};
 ghost use Rattle.camel_c.specs.contracts.object.Object.{the_row};
 ghost use Rattle.camel_c.specs.declared.object.Object.{Object};
@@ -12,7 +12,7 @@ use std::ptr::null_mut;
 
 /// A handle of C: the pointer of a box that holds an object, or nothing. All zeros are an empty handle.
 ///
-/// A call that changes the object takes the handle apart and puts the same box back, so that it takes no memory.
+/// A call changes the object in its box: a call that fills the handle allocates the box, and one that empties it frees it.
 #[repr(C)]
 pub struct CamelHandle {
     at: *mut u8,
@@ -29,6 +29,10 @@ impl Model for CamelHandle {
 }
 
 impl CamelHandle {
+    ghost use Rattle.std.specs.Borrow.{Lends, sem};
+    ghost use Rattle.camel_c.specs.Holding.{with_object};
+    ghost use Rattle.camel_c.specs.contracts.handle.CamelHandle.{the_row as handle_row};
+
     /// An empty handle.
     pub(crate) fn empty() -> CamelHandle
         ensures { result.value ≡ None }
@@ -47,6 +51,24 @@ impl CamelHandle {
             at: Box::into_raw(whole) as *mut u8,
             is_full: true,
         }
+    }
+
+    /// Whether there is an object.
+    #[inline]
+    pub(crate) fn is_full(&mut self) -> bool
+        ensures { (result ≡ is_some self.old.value) × (self.new ≡ self.old) }
+    {
+        self.is_full
+    }
+
+    /// The object of a full handle, borrowed where it is.
+    #[inline]
+    pub(crate) fn get_mut(&mut self) -> &mut Object
+        requires { IsSome self.old.value }
+        ensures* writes_back { sem 𝓛 (Lends handle_row the_row self.entry result (with_object self.entry.now)) }
+        ensures value { self.old.value ≡ Some result.now }
+    {
+        unsafe { &mut *(self.at as *mut Object) }
     }
 
     /// The box of a full handle. A `Global` takes no bytes, so C passes none, and whichever is given frees the box.

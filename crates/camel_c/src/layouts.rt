@@ -5,24 +5,29 @@ ghost use Rattle.camel_c.specs.Layouts.{layout_sizes};
 
 use crate::handle::CamelHandle;
 use camel_c_data::{
-    CamelAddress, CamelAnswer, CamelBasicService, CamelBasicServices, CamelCauses, CamelEvent,
-    CamelImsi, CamelInsert, CamelIsdnAddress, CamelNumberCriterion, CamelOCriteria, CamelRow,
-    CamelTCriteria, CamelWithdrawal,
+    CamelAddress, CamelAnswer, CamelBasicService, CamelBasicServices, CamelCauses, CamelCounts,
+    CamelDecisions, CamelEvent, CamelImsi, CamelInsert, CamelIsdnAddress, CamelNumberCriterion,
+    CamelOCriteria, CamelReceipt, CamelRow, CamelSentOCsi, CamelSentVtCsi, CamelTCriteria,
+    CamelWithdrawal,
 };
 use std::mem::size_of;
 
 /// The version of the layouts and of the functions: `CAMEL_ABI_VERSION` of the header.
+pub(crate) const ABI_VERSION: u32 = 2;
+
+/// The version of the layouts and of the functions, as the library has them.
 #[unsafe(no_mangle)]
 pub extern "C" fn camel_abi_version() -> u32
-    ensures { result ≡ 1 }
+    ensures { result ≡ 2 }
 {
-    1
+    ABI_VERSION
 }
 
-const LAYOUT_COUNT: usize = 15;
+const LAYOUT_COUNT: usize = 20;
 
 /// The sizes of the types of the header in its order, and then of a handle.
 const LAYOUT_SIZES: [u32; LAYOUT_COUNT] = [
+    size_of::<CamelReceipt>() as u32,
     size_of::<CamelImsi>() as u32,
     size_of::<CamelAddress>() as u32,
     size_of::<CamelIsdnAddress>() as u32,
@@ -33,10 +38,14 @@ const LAYOUT_SIZES: [u32; LAYOUT_COUNT] = [
     size_of::<CamelNumberCriterion>() as u32,
     size_of::<CamelOCriteria>() as u32,
     size_of::<CamelTCriteria>() as u32,
+    size_of::<CamelSentOCsi>() as u32,
+    size_of::<CamelSentVtCsi>() as u32,
     size_of::<CamelInsert>() as u32,
     size_of::<CamelWithdrawal>() as u32,
     size_of::<CamelEvent>() as u32,
     size_of::<CamelAnswer>() as u32,
+    size_of::<CamelCounts>() as u32,
+    size_of::<CamelDecisions>() as u32,
     size_of::<CamelHandle>() as u32,
 ];
 
@@ -44,9 +53,9 @@ const LAYOUT_SIZES: [u32; LAYOUT_COUNT] = [
 /// returns how many there are.
 #[unsafe(no_mangle)]
 pub extern "C" fn camel_layouts(sizes: &mut [u32]) -> u32
-    ensures count { result ≡ 15 }
-    ensures written { take 15 sizes.new ≡ take (length sizes.old) layout_sizes }
-    ensures rest { drop 15 sizes.new ≡ drop 15 sizes.old }
+    ensures count { result ≡ 20 }
+    ensures written { take 20 sizes.new ≡ take (length sizes.old) layout_sizes }
+    ensures rest { drop 20 sizes.new ≡ drop 20 sizes.old }
 {
     let count = sizes.len().min(LAYOUT_COUNT);
     sizes[..count].copy_from_slice(&LAYOUT_SIZES[..count]);

@@ -1,8 +1,8 @@
 //! The store of `camel_vlr` for switches in C and Rust: a static library.
 //!
-//! C keeps stores, sessions and receipts by handles, and a [`CamelHandle`] says what one is. A call returns 0 if it did
-//! what it says, and else the number of a [`Failure`], or of the fault of an argument of MAP: then nothing is changed,
-//! unless the call says otherwise.
+//! C keeps stores, sessions and records of subscribers by handles, and a [`CamelHandle`] says what one is. A call returns
+//! 0 if it did what it says, and else the number of a [`Failure`], or of the fault of an argument of MAP: then nothing is
+//! changed, unless the call says otherwise.
 //!
 //! What no check reaches, the caller owes: a handle is empty, that is all zeros, or as a call left it; one call at a time
 //! takes a handle, and none takes the same one twice; pointers are not null; and `malloc`, `realloc` and `free` are those
@@ -19,7 +19,6 @@ mod handle;
 mod keeping;
 mod kept_subscriber;
 mod layouts;
-mod looking;
 mod looks;
 mod making;
 mod object;
@@ -30,6 +29,7 @@ mod showing;
 mod shown_at;
 mod submitting;
 mod submitting_map;
+mod thread_session;
 
 pub use failure::Failure;
 pub use handle::CamelHandle;

@@ -11,14 +11,14 @@ use crate::failure::Failure;
 use camel_c_data::{CamelAddress, CamelImsi, CamelIsdnAddress};
 use camel_tbcd::{CallAddress, Imsi, IsdnAddress};
 
-/// Writes the IMSI that 3 to 8 TBCD octets are (TS 29.002). It fails with 201 if they are none, and leaves the IMSI as
+/// Writes the IMSI that 3 to 8 TBCD octets are (TS 29.002). It fails with 502 if they are none, and leaves the IMSI as
 /// it was.
 #[unsafe(no_mangle)]
 pub extern "C" fn camel_imsi_of_tbcd(octets: &[u8], imsi: &mut CamelImsi) -> u32
     ensures written { result ≡ 0 → imsi_in imsi.new ≡ ok_or_malformed (imsi_of_tbcd octets.now) }
     ensures unchanged { result ≢ 0 → imsi.new ≡ imsi.old }
     ensures only { IsOk (imsi_of_tbcd octets.now) → result ≡ 0 }
-    ensures malformed { IsErr (imsi_of_tbcd octets.now) → result ≡ 201 }
+    ensures malformed { IsErr (imsi_of_tbcd octets.now) → result ≡ 502 }
 {
     match Imsi::from_tbcd(octets) {
         Ok(made) => {
@@ -29,13 +29,13 @@ pub extern "C" fn camel_imsi_of_tbcd(octets: &[u8], imsi: &mut CamelImsi) -> u32
     }
 }
 
-/// Writes the IMSI that 5 to 15 characters 0 to 9 are. It fails with 201 if they are none, and leaves the IMSI as it was.
+/// Writes the IMSI that 5 to 15 characters 0 to 9 are. It fails with 502 if they are none, and leaves the IMSI as it was.
 #[unsafe(no_mangle)]
 pub extern "C" fn camel_imsi_of_digits(digits: &[u8], imsi: &mut CamelImsi) -> u32
     ensures written { result ≡ 0 → imsi_in imsi.new ≡ ok_or_malformed (imsi_of_ascii digits.now) }
     ensures unchanged { result ≢ 0 → imsi.new ≡ imsi.old }
     ensures only { IsOk (imsi_of_ascii digits.now) → result ≡ 0 }
-    ensures malformed { IsErr (imsi_of_ascii digits.now) → result ≡ 201 }
+    ensures malformed { IsErr (imsi_of_ascii digits.now) → result ≡ 502 }
 {
     match Imsi::from_ascii(digits) {
         Ok(made) => {
@@ -46,14 +46,14 @@ pub extern "C" fn camel_imsi_of_digits(digits: &[u8], imsi: &mut CamelImsi) -> u
     }
 }
 
-/// Writes the AddressString of these octets, 1 to 20 (TS 29.002). It fails with 201 if they are none, and leaves the
+/// Writes the AddressString of these octets, 1 to 20 (TS 29.002). It fails with 502 if they are none, and leaves the
 /// address as it was.
 #[unsafe(no_mangle)]
 pub extern "C" fn camel_address_of(octets: &[u8], address: &mut CamelAddress) -> u32
     ensures written { result ≡ 0 → call_address_in address.new ≡ Ok octets.now }
     ensures unchanged { result ≢ 0 → address.new ≡ address.old }
     ensures only { 1 ≤ length octets.now → length octets.now ≤ max_address_length → result ≡ 0 }
-    ensures malformed { (result ≡ 0) ⊎ (result ≡ 201) }
+    ensures malformed { (result ≡ 0) ⊎ (result ≡ 502) }
 {
     match CallAddress::from_bytes(octets) {
         Ok(made) => {
@@ -64,14 +64,14 @@ pub extern "C" fn camel_address_of(octets: &[u8], address: &mut CamelAddress) ->
     }
 }
 
-/// Writes the ISDN-AddressString of these octets, 1 to 9 (TS 29.002). It fails with 201 if they are none, and leaves the
+/// Writes the ISDN-AddressString of these octets, 1 to 9 (TS 29.002). It fails with 502 if they are none, and leaves the
 /// address as it was.
 #[unsafe(no_mangle)]
 pub extern "C" fn camel_isdn_address_of(octets: &[u8], address: &mut CamelIsdnAddress) -> u32
     ensures written { result ≡ 0 → isdn_address_in address.new ≡ Ok octets.now }
     ensures unchanged { result ≢ 0 → address.new ≡ address.old }
     ensures only { 1 ≤ length octets.now → length octets.now ≤ max_isdn_address_length → result ≡ 0 }
-    ensures malformed { (result ≡ 0) ⊎ (result ≡ 201) }
+    ensures malformed { (result ≡ 0) ⊎ (result ≡ 502) }
 {
     match IsdnAddress::from_bytes(octets) {
         Ok(made) => {

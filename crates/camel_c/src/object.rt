@@ -3,13 +3,36 @@
 ghost use Rattle.std.specs.Prelude.{◌≡◌};
 
 use crate::kept_subscriber::KeptSubscriber;
-use crate::looking::LookingSession;
-use camel_vlr::{Closing, Receipt, WaitFreeSession, WaitFreeVlr};
+use crate::thread_session::ThreadSession;
+use camel_vlr::{Closing, WaitFreeVlr};
+
+/// A store that takes updates.
+pub struct LiveStore {
+    pub vlr: WaitFreeVlr,
+    /// Its number, by which its sessions know its receipts.
+    pub number: u64,
+    /// How many publications a look held up, modulo 2^64.
+    pub held: u64,
+}
+
+impl LiveStore {
+    /// The store, without what is counted of it.
+    pub(crate) fn into_vlr(self) -> WaitFreeVlr
+        ensures { result ≡ self.vlr }
+    {
+        let LiveStore {
+            vlr,
+            number: _number,
+            held: _held,
+        } = self;
+        vlr
+    }
+}
 
 /// How far a store is.
 pub enum Stage {
     /// It takes updates.
-    Live(WaitFreeVlr),
+    Live(LiveStore),
     /// A look holds its end up.
     Closing(Closing),
     /// It has ended. A box that held a store has to hold something until it is freed.
@@ -35,7 +58,7 @@ impl Drop for Store {
     fn drop(self) {
         let Store { stage } = self;
         match stage {
-            Stage::Live(store) => store.abandon(),
+            Stage::Live(live) => live.into_vlr().abandon(),
             Stage::Closing(closing) => closing.abandon(),
             Stage::Closed => {}
         }
@@ -46,18 +69,16 @@ impl Drop for Store {
 #[derive(Drop)]
 pub enum Object {
     Store(Store),
-    /// A session without a look.
-    Session(WaitFreeSession),
-    /// A session whose look has begun.
-    Look(LookingSession),
-    Receipt(Receipt),
+    Session(ThreadSession),
     /// The record of a subscriber.
     Kept(KeptSubscriber),
 }
 
 /// That this is proved shows that each kind of object is `Send`: C may hand any handle to another thread.
-pub fn is_sendable(object: Object) {
-    hand_over(object);
+pub fn are_sendable(store: Store, session: ThreadSession, kept: KeptSubscriber) {
+    hand_over(store);
+    hand_over(session);
+    hand_over(kept);
 }
 
 fn hand_over<T: Send + Drop>(object: T) {

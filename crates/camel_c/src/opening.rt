@@ -1,34 +1,40 @@
 //! Opening a store with its sessions.
 
-ghost use Rattle.std.specs.Prelude.{◌≡◌, ◌≢◌, ◌≤◌, ◌⊎◌, Some, None, All, IfErr, IfSome, IsNone, IsSome, OnErr, OnOk, length, vec_len};
-ghost use Rattle.camel_rows.specs.Store.{no_updates};
+ghost use Rattle.std.specs.Prelude.{◌≡◌, ◌≢◌, ◌≤◌, ◌⊎◌, Some, None, All, IfErr, OnErr, OnOk, length, true, false, vec_len};
 ghost use Rattle.camel_vlr.specs.Session.{SessionData};
-ghost use Rattle.camel_vlr.specs.Store.{StoreData, fresh_session};
+ghost use Rattle.camel_c_data.specs.Decisions.{no_decisions};
 ghost use Rattle.camel_c.specs.Object.{live_store};
-ghost use Rattle.camel_c.specs.Opening.{AllEmpty, AllHold, CanOpen, HoldAsBefore, Opens, profile_of};
+ghost use Rattle.camel_c.specs.Opening.{AllEmpty, AllHold, CanOpen, HoldAsBefore, IsNew, Opens, new_session, profile_of};
 ghost use Rattle.camel_c.specs.declared.failure.Failure.TheVariants as failure;
+ghost use Rattle.camel_c.specs.declared.object.LiveStore.{LiveStore};
 ghost use Rattle.camel_c.specs.declared.object.Object.TheVariants as object;
 
-use crate::failure::{Failure, status};
-use crate::filling::{camel_free, fill};
+use crate::failure::Failure;
+use crate::filling::{camel_empty, fill};
 use crate::handle::CamelHandle;
-use crate::object::{Object, Stage, Store};
+use crate::layouts::ABI_VERSION;
+use crate::object::{LiveStore, Object, Stage, Store};
+use crate::thread_session::ThreadSession;
+use camel_c_data::CamelDecisions;
 use camel_criteria::Refusal;
 use camel_table::Seed;
 use camel_tbcd::Profile;
 use camel_vlr::{MAX_PLACES, MAX_UPDATES, WaitFreeSession, WaitFreeVlr};
 use core::mem::replace_with;
 use std::alloc::Global;
+use std::hash::BuildHasher;
 
 /// Opens a store that takes at most `limit` updates (1 to 2^63 - 1), with 1 to 64 sessions, which decide under profile 1
 /// or 2, and fills the handles. The seed of its tables is secret and random: with one that is known, whoever chooses
-/// IMSIs can make look-ups slow.
+/// IMSIs can make look-ups slow. The store's number is made of it, so receipts of stores with one seed are not told apart.
 ///
-/// It fails with 201 for an argument out of range, with 203 if a handle is not empty, and with 102 if memory was refused;
-/// it names 103 too, which no run meets. Then all handles are as before.
+/// It fails with 506 if the caller knows another version of the layouts, with 502 for an argument out of range, with 504
+/// if a handle is not empty, and with 102 if memory was refused; it names 103 too, which no run meets. Then all handles
+/// are as before.
 #[unsafe(no_mangle)]
-pub extern "C" fn camel_open(
+pub extern "C" fn camel_open_version(
     alloc: Global,
+    version: u32,
     store: &mut CamelHandle,
     sessions: &mut [CamelHandle],
     limit: u64,
@@ -36,19 +42,30 @@ pub extern "C" fn camel_open(
     seed: u64,
 ) -> u32
     ensures opened { result ≡ 0 → Opens limit profile store.new.value sessions.new }
-    ensures empty { result ≡ 0 → (store.old.value ≡ None) × AllEmpty sessions.old }
     ensures unchanged { result ≢ 0 → (store.new.value ≡ store.old.value) × HoldAsBefore sessions.old sessions.new }
-    ensures only { CanOpen (length sessions.old) limit profile
-        → (result ≡ 0) ⊎ ((result ≡ 102) ⊎ ((result ≡ 103) ⊎ (result ≡ 203))) }
-    ensures malformed { CanOpen (length sessions.old) limit profile ⊎ (result ≡ 201) }
+    ensures version { (version ≡ 2) ⊎ (result ≡ 506) }
+    ensures malformed { version ≡ 2 → CanOpen (length sessions.old) limit profile ⊎ (result ≡ 502) }
+    ensures full { version ≡ 2 → CanOpen (length sessions.old) limit profile
+        → ((store.old.value ≡ None) × AllEmpty sessions.old) ⊎ (result ≡ 504) }
+    ensures only { version ≡ 2 → CanOpen (length sessions.old) limit profile → store.old.value ≡ None
+        → AllEmpty sessions.old → (result ≡ 0) ⊎ ((result ≡ 102) ⊎ (result ≡ 103)) }
 {
+    if version != ABI_VERSION {
+        return Failure::OtherVersion.code();
+    }
     let count = sessions.len();
     if count < 1 || MAX_PLACES < count || limit < 1 || MAX_UPDATES < limit {
         return Failure::Malformed.code();
     }
-    match profile_of_number(profile) {
-        Some(profile) => status(open(alloc, store, sessions, limit, profile, Seed::new(seed))),
-        None => Failure::Malformed.code(),
+    let Some(profile) = profile_of_number(profile) else {
+        return Failure::Malformed.code();
+    };
+    if store.is_full() || !are_empty(sessions) {
+        return Failure::FullHandle.code();
+    }
+    match open(alloc, store, sessions, limit, profile, seed) {
+        Ok(()) => 0,
+        Err(why) => u32::from(why.code()),
     }
 }
 
@@ -63,87 +80,94 @@ fn profile_of_number(number: u8) -> Option<Profile>
     }
 }
 
+/// Whether no handle holds anything.
+fn are_empty(handles: &mut [CamelHandle]) -> bool
+    ensures same { handles.new ≡ handles.old }
+    ensures yes { result ≡ true → AllEmpty handles.old }
+    ensures no { AllEmpty handles.old → result ≡ true }
+{
+    match handles.split_first_mut() {
+        Some((first, rest)) => !first.is_full() && are_empty(rest),
+        None => true,
+    }
+}
+
 fn open(
     alloc: Global,
     store: &mut CamelHandle,
     sessions: &mut [CamelHandle],
     limit: u64,
     profile: Profile,
-    seed: Seed,
-) -> Result<(), Failure>
+    seed: u64,
+) -> Result<(), Refusal>
     requires places { (1 ≤ length sessions.old) × (length sessions.old ≤ 64) }
     requires limit { (1 ≤ limit) × (limit ≤ 9223372036854775807) }
-    ensures opened { OnOk result ((opened : StoreData) × (store.new.value ≡ Some (live_store opened))
-        × (opened.updates ≡ no_updates) × (opened.store.limit ≡ limit) × (opened.store.profile ≡ profile)
-        × AllHold (object.Session (fresh_session opened.store)) sessions.new) }
-    ensures empty { OnOk result ((store.old.value ≡ None) × AllEmpty sessions.old) }
+    requires empty { (store.old.value ≡ None) × AllEmpty sessions.old }
+    ensures opened { OnOk result ((live : LiveStore) × (store.new.value ≡ Some (live_store live)) × IsNew limit profile live
+        × AllHold (object.Session (new_session live.vlr.store live.number)) sessions.new) }
     ensures unchanged { OnErr result ((store.new.value ≡ store.old.value) × HoldAsBefore sessions.old sessions.new) }
-    ensures only { IfErr result (λ why. (why ≡ failure.FullHandle)
-        ⊎ ((why ≡ failure.Refused Refusal.OutOfMemory) ⊎ (why ≡ failure.Refused Refusal.NoPlace))) }
+    ensures only { IfErr result (λ why. (why ≡ Refusal.OutOfMemory) ⊎ (why ≡ Refusal.NoPlace)) }
 {
-    match WaitFreeVlr::open_wait_free(alloc, sessions.len(), limit, profile, seed) {
-        Ok((vlr, mut seated)) => {
-            let made = Object::Store(Store::of(Stage::Live(vlr)));
-            match replace_with(store, (alloc, made), fill) {
-                Ok(()) => fill_sessions(alloc, store, sessions, &mut seated),
-                Err(why) => Err(why),
+    let seed = Seed::new(seed);
+    let number = seed.hash_one(0u64);
+    let (vlr, mut seated) = WaitFreeVlr::open_wait_free(
+        alloc,
+        sessions.len(),
+        limit,
+        profile,
+        seed,
+    )?;
+    let live = LiveStore {
+        vlr,
+        number,
+        held: 0,
+    };
+    let made = Object::Store(Store::of(Stage::Live(live)));
+    match replace_with(store, (alloc, made), fill) {
+        Ok(()) => match fill_all(alloc, number, sessions, &mut seated) {
+            Ok(()) => Ok(()),
+            Err(why) => {
+                camel_empty(alloc, store);
+                Err(why)
             }
-        }
-        Err(why) => Err(Failure::Refused(why)),
+        },
+        Err(_) => Err(Refusal::OutOfMemory),
     }
 }
 
-/// Fills the handles of the sessions, or empties that of the store again.
-fn fill_sessions(
-    alloc: Global,
-    store: &mut CamelHandle,
-    handles: &mut [CamelHandle],
-    sessions: &mut Vec<WaitFreeSession>,
-) -> Result<(), Failure>
-    requires { length handles.old ≡ vec_len sessions.old }
-    ensures filled { (fresh : SessionData) → All (λ session. session ≡ fresh) sessions.old.items
-        → OnOk result (AllHold (object.Session fresh) handles.new) }
-    ensures store { OnOk result (store.new.value ≡ store.old.value) }
-    ensures empty { OnOk result (AllEmpty handles.old) }
-    ensures unchanged { OnErr result ((store.new.value ≡ None) × HoldAsBefore handles.old handles.new) }
-    ensures only { IfErr result (λ why. (why ≡ failure.FullHandle) ⊎ (why ≡ failure.Refused Refusal.OutOfMemory)) }
-{
-    match fill_all(alloc, handles, sessions) {
-        Ok(()) => Ok(()),
-        Err(why) => {
-            camel_free(alloc, store);
-            Err(why)
-        }
-    }
-}
-
-/// Puts a session into each handle, or leaves each as it was.
+/// Puts a session into each handle, or leaves each empty.
 fn fill_all(
     alloc: Global,
+    number: u64,
     handles: &mut [CamelHandle],
     sessions: &mut Vec<WaitFreeSession>,
-) -> Result<(), Failure>
-    requires { length handles.old ≡ vec_len sessions.old }
+) -> Result<(), Refusal>
+    requires count { length handles.old ≡ vec_len sessions.old }
+    requires empty { AllEmpty handles.old }
     ensures filled { (fresh : SessionData) → All (λ session. session ≡ fresh) sessions.old.items
-        → OnOk result (AllHold (object.Session fresh) handles.new) }
-    ensures empty { OnOk result (AllEmpty handles.old) }
+        → OnOk result (AllHold (object.Session (record { session = fresh; store = number; decisions = no_decisions })) handles.new) }
     ensures unchanged { OnErr result (HoldAsBefore handles.old handles.new) }
-    ensures only { IfErr result (λ why. (why ≡ failure.FullHandle) ⊎ (why ≡ failure.Refused Refusal.OutOfMemory)) }
+    ensures only { IfErr result (λ why. why ≡ Refusal.OutOfMemory) }
 {
-    let Some((first, rest)) = handles.split_first_mut() else {
+    let Some((last, others)) = handles.split_last_mut() else {
         return Ok(());
     };
     let Some(session) = sessions.pop() else {
         return Ok(());
     };
-    match replace_with(first, (alloc, Object::Session(session)), fill) {
-        Ok(()) => match fill_all(alloc, rest, sessions) {
+    let made = Object::Session(ThreadSession {
+        session,
+        store: number,
+        decisions: CamelDecisions::none(),
+    });
+    match replace_with(last, (alloc, made), fill) {
+        Ok(()) => match fill_all(alloc, number, others, sessions) {
             Ok(()) => Ok(()),
             Err(why) => {
-                camel_free(alloc, first);
+                camel_empty(alloc, last);
                 Err(why)
             }
         },
-        Err(why) => Err(why),
+        Err(_) => Err(Refusal::OutOfMemory),
     }
 }

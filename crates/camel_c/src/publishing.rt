@@ -1,75 +1,93 @@
 //! Publishing what is pending.
 
-ghost use Rattle.std.specs.Prelude.{◌≡◌, ◌≢◌, ◌⊎◌, Err, Some, IfErr, OnErr, OnOk};
-ghost use Rattle.camel_rows.specs.Store.{all_published};
-ghost use Rattle.camel_c.specs.Change.{ChangesUpdates};
-ghost use Rattle.camel_c.specs.Failure.{failure_of_publication};
-ghost use Rattle.camel_c.specs.Object.{HoldsLiveStore};
-ghost use Rattle.camel_c.specs.declared.failure.Failure.TheVariants as failure;
+ghost use Rattle.std.specs.Prelude.{◌≡◌, ◌≢◌, ◌⊎◌, ◌==◌, Some};
+ghost use Rattle.camel_c.specs.Change.{ChangesStore, with_free, with_held, with_published};
+ghost use Rattle.camel_c.specs.Object.{HoldsFreeStore, HoldsLiveStore};
 
-use crate::failure::{Failure, status};
+use crate::failure::Failure;
 use crate::handle::CamelHandle;
-use crate::object::{Object, Stage};
+use crate::object::{LiveStore, Object, Stage};
 use camel_criteria::Refusal;
 use camel_vlr::Unpublished;
-use core::mem::replace_with;
-use std::alloc::Global;
 
 /// Publishes all that is pending, also if nothing is. It does not wait. When it returns, each session's next look shows
 /// all of it.
 ///
-/// It fails with 105 if a look keeps the copy that is to be changed, with 102 if memory was refused, and with 202 if the
-/// handle holds no store that takes updates. Then nothing was published, and all is pending as before.
+/// It fails with 501 if a look keeps the copy that is to be changed, which is counted, with 102 if memory was refused,
+/// and with 503 if the handle holds no store that takes updates. Then nothing was published, and all is pending as before.
+/// It does not fail with 501 if `camel_holders` has told of no session since the last publication.
 #[unsafe(no_mangle)]
-pub extern "C" fn camel_publish(alloc: Global, store: &mut CamelHandle) -> u32
-    ensures published { result ≡ 0 → ChangesUpdates all_published store.old.value store.new.value }
-    ensures unchanged { result ≢ 0 → store.new.value ≡ store.old.value }
-    ensures only { HoldsLiveStore store.old.value → (result ≡ 0) ⊎ ((result ≡ 102) ⊎ (result ≡ 105)) }
-    ensures wrong { HoldsLiveStore store.old.value ⊎ (result ≡ 202) }
+pub extern "C" fn camel_publish(store: &mut CamelHandle) -> u32
+    ensures published { result ≡ 0 → ChangesStore with_published store.old.value store.new.value }
+    ensures held { result ≡ 501 → ChangesStore with_held store.old.value store.new.value }
+    ensures free { HoldsFreeStore store.old.value → result ≢ 501 }
+    ensures unchanged { (result ≡ 102) ⊎ (result ≡ 503) → store.new.value ≡ store.old.value }
+    ensures only { HoldsLiveStore store.old.value → (result ≡ 0) ⊎ ((result ≡ 102) ⊎ (result ≡ 501)) }
+    ensures wrong { HoldsLiveStore store.old.value ⊎ (result ≡ 503) }
 {
-    status(replace_with(store, alloc, publish_by_handle))
-}
-
-fn publish_by_handle(handle: CamelHandle, alloc: Global) -> (CamelHandle, Result<(), Failure>)
-    ensures published { OnOk result.1 (ChangesUpdates all_published handle.value result.0.value) }
-    ensures unchanged { OnErr result.1 (result.0.value ≡ handle.value) }
-    ensures only { HoldsLiveStore handle.value
-        → IfErr result.1 (λ why. (why ≡ failure.Held) ⊎ (why ≡ failure.Refused Refusal.OutOfMemory)) }
-    ensures wrong { HoldsLiveStore handle.value ⊎ (result.1 ≡ Err failure.WrongHandle) }
-{
-    match handle.into_box(alloc) {
-        Some(mut held) => {
-            let done = publish_held(&mut *held);
-            (CamelHandle::of(held), done)
-        }
-        None => (CamelHandle::empty(), Err(Failure::WrongHandle)),
+    if !store.is_full() {
+        return Failure::WrongHandle.code();
     }
+    publish_held(store.get_mut())
 }
 
-fn publish_held(held: &mut Object) -> Result<(), Failure>
-    ensures published { OnOk result (ChangesUpdates all_published (Some held.old) (Some held.new)) }
-    ensures unchanged { OnErr result (held.new ≡ held.old) }
-    ensures only { HoldsLiveStore (Some held.old)
-        → IfErr result (λ why. (why ≡ failure.Held) ⊎ (why ≡ failure.Refused Refusal.OutOfMemory)) }
-    ensures wrong { HoldsLiveStore (Some held.old) ⊎ (result ≡ Err failure.WrongHandle) }
+fn publish_held(held: &mut Object) -> u32
+    ensures published { result ≡ 0 → ChangesStore with_published (Some held.old) (Some held.new) }
+    ensures held { result ≡ 501 → ChangesStore with_held (Some held.old) (Some held.new) }
+    ensures free { HoldsFreeStore (Some held.old) → result ≢ 501 }
+    ensures unchanged { (result ≡ 102) ⊎ (result ≡ 503) → held.new ≡ held.old }
+    ensures only { HoldsLiveStore (Some held.old) → (result ≡ 0) ⊎ ((result ≡ 102) ⊎ (result ≡ 501)) }
+    ensures wrong { HoldsLiveStore (Some held.old) ⊎ (result ≡ 503) }
 {
     match held {
         Object::Store(store) => match &mut store.stage {
-            Stage::Live(vlr) => match vlr.publish() {
-                Ok(_) => Ok(()),
-                Err(why) => Err(unpublished(why)),
+            Stage::Live(LiveStore { vlr, held, .. }) => match vlr.publish() {
+                Ok(_) => 0,
+                Err(Unpublished::Held) => {
+                    *held = held.wrapping_add(1);
+                    Failure::Held.code()
+                }
+                Err(Unpublished::OutOfMemory) => Failure::Refused(Refusal::OutOfMemory).code(),
             },
-            Stage::Closing(_) | Stage::Closed => Err(Failure::WrongHandle),
+            Stage::Closing(_) | Stage::Closed => Failure::WrongHandle.code(),
         },
-        _ => Err(Failure::WrongHandle),
+        _ => Failure::WrongHandle.code(),
     }
 }
 
-fn unpublished(why: Unpublished) -> Failure
-    ensures { result ≡ failure_of_publication why }
+/// Tells whose looks hold the next publication up: bit i is that of the session in handle i of `camel_open`, from 0. It
+/// takes no memory, and does not wait.
+///
+/// It fails with 503 if the handle holds no store that takes updates, and writes nothing.
+#[unsafe(no_mangle)]
+pub extern "C" fn camel_holders(store: &mut CamelHandle, sessions: &mut u64) -> u32
+    ensures told { result ≡ 0 → ChangesStore (with_free (sessions.new == 0)) store.old.value store.new.value }
+    ensures none { HoldsFreeStore store.old.value → sessions.new ≡ 0 }
+    ensures unchanged { result ≢ 0 → (store.new.value ≡ store.old.value) × (sessions.new ≡ sessions.old) }
+    ensures only { HoldsLiveStore store.old.value → result ≡ 0 }
+    ensures wrong { HoldsLiveStore store.old.value ⊎ (result ≡ 503) }
 {
-    match why {
-        Unpublished::Held => Failure::Held,
-        Unpublished::OutOfMemory => Failure::Refused(Refusal::OutOfMemory),
+    if !store.is_full() {
+        return Failure::WrongHandle.code();
+    }
+    tell_holders(store.get_mut(), sessions)
+}
+
+fn tell_holders(held: &mut Object, sessions: &mut u64) -> u32
+    ensures told { result ≡ 0 → ChangesStore (with_free (sessions.new == 0)) (Some held.old) (Some held.new) }
+    ensures none { HoldsFreeStore (Some held.old) → sessions.new ≡ 0 }
+    ensures unchanged { result ≢ 0 → (held.new ≡ held.old) × (sessions.new ≡ sessions.old) }
+    ensures only { HoldsLiveStore (Some held.old) → result ≡ 0 }
+    ensures wrong { HoldsLiveStore (Some held.old) ⊎ (result ≡ 503) }
+{
+    match held {
+        Object::Store(store) => match &mut store.stage {
+            Stage::Live(live) => {
+                *sessions = live.vlr.holders();
+                0
+            }
+            Stage::Closing(_) | Stage::Closed => Failure::WrongHandle.code(),
+        },
+        _ => Failure::WrongHandle.code(),
     }
 }

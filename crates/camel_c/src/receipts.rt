@@ -1,163 +1,114 @@
 //! Receipts: what a writer gives, and what a session learns.
 
-ghost use Rattle.std.specs.Prelude.{◌≡◌, ◌≢◌, ◌⊎◌, Err, Some, None, IfOk, IsOk, OnErr, OnOk};
-ghost use Rattle.camel_vlr.specs.Prefix.{PrefixData};
-ghost use Rattle.camel_c.specs.Change.{GivesReceipt, LearnsReceipt, SuitsSession};
-ghost use Rattle.camel_c.specs.Object.{HoldsLiveStore, HoldsLook, HoldsReceipt, HoldsSession};
-ghost use Rattle.camel_c.specs.declared.failure.Failure.TheVariants as failure;
+ghost use Rattle.std.specs.Prelude.{◌≡◌, ◌≢◌, ◌⊎◌, length, Some, None, IfSome};
+ghost use Rattle.camel_vlr.specs.Session.{SessionData};
+ghost use Rattle.camel_c.specs.Object.{HoldsAnySession, HoldsLiveStore, HoldsLook, HoldsSession};
+ghost use Rattle.camel_c.specs.Receipts.{GivesReceipt, IsForeign, LearnsReceipt, RejectsReceipt};
+ghost use Rattle.camel_c.specs.Shows.{Shows};
 ghost use Rattle.camel_c.specs.declared.object.Object.TheVariants as object;
+ghost use Rattle.camel_c.specs.declared.thread_session.ThreadSession.{ThreadSession};
 
-use crate::failure::{Failure, status};
-use crate::filling::fill;
+use crate::failure::Failure;
 use crate::handle::CamelHandle;
 use crate::object::{Object, Stage};
-use camel_vlr::Receipt;
-use core::mem::replace_with;
-use std::alloc::Global;
+use crate::thread_session::ThreadSession;
+use camel_c_data::CamelReceipt;
+use camel_criteria::Refusal;
 
-/// Fills an empty handle with a receipt of all that is published. One receipt serves any number of sessions, one after
-/// another.
+/// Writes a receipt of all that is published. It takes no memory. Any number of sessions may learn it.
 ///
-/// It fails with 202 if the store's handle holds no store that takes updates, with 203 if the receipt's handle is not
-/// empty, and with 102 if memory was refused. Then nothing is changed.
+/// It fails with 503 if the handle holds no store that takes updates, and leaves the receipt as it was.
 #[unsafe(no_mangle)]
-pub extern "C" fn camel_receipt_of(
-    alloc: Global,
-    store: &mut CamelHandle,
-    receipt: &mut CamelHandle,
-) -> u32
-    ensures given { result ≡ 0 → (r : PrefixData) × GivesReceipt store.old.value r
-        × (receipt.old.value ≡ None) × (receipt.new.value ≡ Some (object.Receipt r)) }
+pub extern "C" fn camel_receipt_of(store: &mut CamelHandle, receipt: &mut CamelReceipt) -> u32
+    ensures given { result ≡ 0 → GivesReceipt store.old.value receipt.new }
     ensures same { store.new.value ≡ store.old.value }
-    ensures unchanged { result ≢ 0 → receipt.new.value ≡ receipt.old.value }
-    ensures only { HoldsLiveStore store.old.value → receipt.old.value ≡ None → (result ≡ 0) ⊎ (result ≡ 102) }
-    ensures full { HoldsLiveStore store.old.value → (receipt.old.value ≡ None) ⊎ (result ≡ 203) }
-    ensures wrong { HoldsLiveStore store.old.value ⊎ (result ≡ 202) }
+    ensures unwritten { result ≢ 0 → receipt.new ≡ receipt.old }
+    ensures only { HoldsLiveStore store.old.value → result ≡ 0 }
+    ensures wrong { HoldsLiveStore store.old.value ⊎ (result ≡ 503) }
 {
-    match replace_with(store, alloc, receipt_by_handle) {
-        Ok(made) => status(replace_with(receipt, (alloc, Object::Receipt(made)), fill)),
-        Err(why) => why.code(),
+    if !store.is_full() {
+        return Failure::WrongHandle.code();
     }
+    write_receipt(store.get_mut(), receipt)
 }
 
-fn receipt_by_handle(handle: CamelHandle, alloc: Global) -> (CamelHandle, Result<Receipt, Failure>)
-    ensures given { IfOk result.1 (GivesReceipt handle.value) }
-    ensures same { result.0.value ≡ handle.value }
-    ensures only { HoldsLiveStore handle.value → IsOk result.1 }
-    ensures wrong { HoldsLiveStore handle.value ⊎ (result.1 ≡ Err failure.WrongHandle) }
-{
-    match handle.into_box(alloc) {
-        Some(held) => {
-            let receipt = receipt_of(&*held);
-            (CamelHandle::of(held), receipt)
-        }
-        None => (CamelHandle::empty(), Err(Failure::WrongHandle)),
-    }
-}
-
-fn receipt_of(held: &Object) -> Result<Receipt, Failure>
-    ensures given { IfOk result (GivesReceipt (Some held.now)) }
-    ensures only { HoldsLiveStore (Some held.now) → IsOk result }
-    ensures wrong { HoldsLiveStore (Some held.now) ⊎ (result ≡ Err failure.WrongHandle) }
+fn write_receipt(held: &Object, receipt: &mut CamelReceipt) -> u32
+    ensures given { result ≡ 0 → GivesReceipt (Some held.now) receipt.new }
+    ensures unwritten { result ≢ 0 → receipt.new ≡ receipt.old }
+    ensures only { HoldsLiveStore (Some held.now) → result ≡ 0 }
+    ensures wrong { HoldsLiveStore (Some held.now) ⊎ (result ≡ 503) }
 {
     match held {
         Object::Store(store) => match &store.stage {
-            Stage::Live(vlr) => Ok(vlr.receipt()),
-            Stage::Closing(_) | Stage::Closed => Err(Failure::WrongHandle),
+            Stage::Live(live) => {
+                *receipt = CamelReceipt {
+                    store: live.number,
+                    front: live.vlr.published(),
+                };
+                0
+            }
+            Stage::Closing(_) | Stage::Closed => Failure::WrongHandle.code(),
         },
-        _ => Err(Failure::WrongHandle),
+        _ => Failure::WrongHandle.code(),
     }
 }
 
-/// Lets a session learn a receipt: its later looks show at least what the receipt shows. The receipt stays in its
-/// handle, for other sessions. It takes no memory.
+/// Lets a session learn a receipt: it looks at what is published, and leaves the look, so its later looks show at least
+/// what the receipt says. It takes no memory and does not wait.
 ///
-/// The receipt has to be of the session's own store, which nothing checks. It fails with 105 if a look has begun, and
-/// with 202 if a handle does not hold what it should; then nothing is changed.
+/// It fails with 501 if a look has begun, with 503 if the handle holds no session, with 505 if the receipt is of another
+/// store, and with 104 if the store has ended; then nothing is changed. It fails with 505 too if the receipt is of more
+/// updates than the session's store has published: then the session has looked.
 #[unsafe(no_mangle)]
-pub extern "C" fn camel_learn(
-    alloc: Global,
-    session: &mut CamelHandle,
-    receipt: &mut CamelHandle,
-) -> u32
-    requires own_store { (r : PrefixData) → receipt.old.value ≡ Some (object.Receipt r)
-        → SuitsSession r session.old.value }
-    ensures learnt { result ≡ 0 → (r : PrefixData) × (receipt.old.value ≡ Some (object.Receipt r))
-        × LearnsReceipt r session.old.value session.new.value }
-    ensures same { receipt.new.value ≡ receipt.old.value }
-    ensures unchanged { result ≢ 0 → session.new.value ≡ session.old.value }
-    ensures only { HoldsSession session.old.value → HoldsReceipt receipt.old.value → result ≡ 0 }
-    ensures held { HoldsLook session.old.value → HoldsReceipt receipt.old.value → result ≡ 105 }
-    ensures wrong { ((HoldsSession session.old.value ⊎ HoldsLook session.old.value) × HoldsReceipt receipt.old.value)
-        ⊎ (result ≡ 202) }
+pub extern "C" fn camel_learn(session: &mut CamelHandle, receipt: &CamelReceipt) -> u32
+    ensures learnt { result ≡ 0 → (own : ThreadSession) × (shown : SessionData) × (left : ThreadSession)
+        × (session.old.value ≡ Some (object.Session own)) × (session.new.value ≡ Some (object.Session left))
+        × LearnsReceipt receipt.now own shown left }
+    ensures other { result ≡ 505 → RejectsReceipt receipt.now session.old.value session.new.value }
+    ensures foreign { IsForeign receipt.now session.old.value → result ≡ 505 }
+    ensures unchanged { result ≢ 0 → result ≢ 505 → session.new.value ≡ session.old.value }
+    ensures only { HoldsSession session.old.value → (result ≡ 0) ⊎ ((result ≡ 104) ⊎ (result ≡ 505)) }
+    ensures held { HoldsLook session.old.value → result ≡ 501 }
+    ensures wrong { HoldsAnySession session.old.value ⊎ (result ≡ 503) }
 {
-    match replace_with(receipt, alloc, copy_by_handle) {
-        Ok(learnt) => status(replace_with(session, (alloc, learnt), learn_by_handle)),
-        Err(why) => why.code(),
+    if !session.is_full() {
+        return Failure::WrongHandle.code();
     }
+    learn_held(session.get_mut(), receipt)
 }
 
-fn copy_by_handle(handle: CamelHandle, alloc: Global) -> (CamelHandle, Result<Receipt, Failure>)
-    ensures copy { IfOk result.1 (λ receipt. handle.value ≡ Some (object.Receipt receipt)) }
-    ensures same { result.0.value ≡ handle.value }
-    ensures only { HoldsReceipt handle.value → IsOk result.1 }
-    ensures wrong { HoldsReceipt handle.value ⊎ (result.1 ≡ Err failure.WrongHandle) }
-{
-    match handle.into_box(alloc) {
-        Some(held) => {
-            let receipt = receipt_in(&*held);
-            (CamelHandle::of(held), receipt)
-        }
-        None => (CamelHandle::empty(), Err(Failure::WrongHandle)),
-    }
-}
-
-fn receipt_in(held: &Object) -> Result<Receipt, Failure>
-    ensures copy { IfOk result (λ receipt. held.now ≡ object.Receipt receipt) }
-    ensures only { HoldsReceipt (Some held.now) → IsOk result }
-    ensures wrong { HoldsReceipt (Some held.now) ⊎ (result ≡ Err failure.WrongHandle) }
+fn learn_held(held: &mut Object, receipt: &CamelReceipt) -> u32
+    ensures learnt { result ≡ 0 → (own : ThreadSession) × (shown : SessionData) × (left : ThreadSession)
+        × (Some held.old ≡ Some (object.Session own)) × (Some held.new ≡ Some (object.Session left))
+        × LearnsReceipt receipt.now own shown left }
+    ensures other { result ≡ 505 → RejectsReceipt receipt.now (Some held.old) (Some held.new) }
+    ensures foreign { IsForeign receipt.now (Some held.old) → result ≡ 505 }
+    ensures unchanged { result ≢ 0 → result ≢ 505 → held.new ≡ held.old }
+    ensures only { HoldsSession (Some held.old) → (result ≡ 0) ⊎ ((result ≡ 104) ⊎ (result ≡ 505)) }
+    ensures held { HoldsLook (Some held.old) → result ≡ 501 }
+    ensures wrong { HoldsAnySession (Some held.old) ⊎ (result ≡ 503) }
 {
     match held {
-        Object::Receipt(receipt) => Ok(receipt.copy()),
-        _ => Err(Failure::WrongHandle),
+        Object::Session(own) if own.session.is_looking() => Failure::Held.code(),
+        Object::Session(own) if own.store != receipt.store => Failure::OtherStore.code(),
+        Object::Session(own) => match own.see() {
+            None => Failure::Refused(Refusal::NoGuard).code(),
+            Some(front) if front < receipt.front => Failure::OtherStore.code(),
+            Some(_) => 0,
+        },
+        _ => Failure::WrongHandle.code(),
     }
 }
 
-fn learn_by_handle(
-    handle: CamelHandle,
-    with: (Global, Receipt),
-) -> (CamelHandle, Result<(), Failure>)
-    requires { SuitsSession with.1 handle.value }
-    ensures learnt { OnOk result.1 (LearnsReceipt with.1 handle.value result.0.value) }
-    ensures unchanged { OnErr result.1 (result.0.value ≡ handle.value) }
-    ensures only { HoldsSession handle.value → IsOk result.1 }
-    ensures held { HoldsLook handle.value → result.1 ≡ Err failure.Held }
-    ensures wrong { HoldsSession handle.value ⊎ (HoldsLook handle.value ⊎ (result.1 ≡ Err failure.WrongHandle)) }
-{
-    let (alloc, receipt) = with;
-    match handle.into_box(alloc) {
-        Some(mut held) => {
-            let done = learn_held(&mut *held, receipt);
-            (CamelHandle::of(held), done)
-        }
-        None => (CamelHandle::empty(), Err(Failure::WrongHandle)),
-    }
-}
-
-fn learn_held(held: &mut Object, receipt: Receipt) -> Result<(), Failure>
-    requires { SuitsSession receipt (Some held.old) }
-    ensures learnt { OnOk result (LearnsReceipt receipt (Some held.old) (Some held.new)) }
-    ensures unchanged { OnErr result (held.new ≡ held.old) }
-    ensures only { HoldsSession (Some held.old) → IsOk result }
-    ensures held { HoldsLook (Some held.old) → result ≡ Err failure.Held }
-    ensures wrong { HoldsSession (Some held.old) ⊎ (HoldsLook (Some held.old) ⊎ (result ≡ Err failure.WrongHandle)) }
-{
-    match held {
-        Object::Session(session) => {
-            session.learn(receipt);
-            Ok(())
-        }
-        Object::Look(_) => Err(Failure::Held),
-        _ => Err(Failure::WrongHandle),
+impl ThreadSession {
+    /// Looks, and tells how many updates the front has; None if the store has ended.
+    fn see(&mut self) -> Option<u64>
+        ensures seen { IfSome result (λ front. (shown : SessionData) × Shows self.old shown self.new × (front ≡ length shown.seen)) }
+        ensures no_look { result ≡ None → self.new ≡ self.old }
+    {
+        let had_begun = self.begin()?;
+        let front = self.session.front();
+        self.end(had_begun);
+        Some(front)
     }
 }

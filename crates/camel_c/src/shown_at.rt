@@ -20,8 +20,9 @@ pub(crate) trait ShownAt: Copy {
 }
 
 impl ShownAt for CamelRow {
+    ghost use Rattle.camel_c_data.specs.Row.{ShowsRow};
     ghost use Rattle.camel_c.specs.Shown.{row_shown};
-    ghost use Rattle.camel_c.specs.Shows.{Finds, ShowsRow};
+    ghost use Rattle.camel_c.specs.Shows.{Finds};
 
     ghost is_found = { λ shown imsi dp found. Finds ShowsRow (row_shown shown imsi dp) found };
 

@@ -7,6 +7,7 @@ ghost use Rattle.camel_c.specs.OctetsSubmission.{ReadsOctets, SubmitsOctets, dia
 
 use crate::handle::CamelHandle;
 use crate::submitting::submit;
+use camel_c_data::CamelImsi;
 use camel_criteria::Refusal;
 use camel_map::{MapFault, MapFaultKind, Operation, decode};
 use camel_rows::Update;
@@ -16,7 +17,7 @@ use std::alloc::Global;
 /// Why octets are not submitted.
 #[derive(Clone, Copy)]
 enum OctetsFault {
-    /// 201: the operation is none by which an HLR changes subscriber data, or the IMSI of the dialogue is none.
+    /// 502: the operation is none by which an HLR changes subscriber data, or the IMSI of the dialogue is none.
     Malformed,
     /// 102: memory was refused while the argument was decoded.
     OutOfMemory,
@@ -30,7 +31,7 @@ impl OctetsFault {
         ensures { result ≡ octets_fault_code self.now }
     {
         match self {
-            OctetsFault::Malformed => 201,
+            OctetsFault::Malformed => 502,
             OctetsFault::OutOfMemory => 102,
             OctetsFault::Argument(fault) => fault.code(),
         }
@@ -50,39 +51,34 @@ impl OctetsFault {
 /// Submits what the octets of an argument of MAP are: once it is published, the subscriber has what the HLR sent.
 ///
 /// The operation is cancelLocation (3), insertSubscriberData (7) or deleteSubscriberData (8). The IMSI is that of the
-/// dialogue in TBCD octets, or has none if the dialogue has no IMSI. The argument is the parameter of a TCAP invoke.
+/// dialogue, and its number is 0 if the dialogue has none. The argument is the parameter of a TCAP invoke.
 ///
-/// It fails with 201 if the operation is none of these or the IMSI is none, and with 401 to 407, 35 or 36 if the
+/// It fails with 502 if the operation is none of these or the IMSI is none, and with 401 to 407, 35 or 36 if the
 /// argument has a fault, whose octet it writes to the place; else the place is 0. It fails with 5 or 35 if the store
-/// does not accept the update, with 101 if it has taken as many as it may, with 102 if memory was refused, and with 202
+/// does not accept the update, with 101 if it has taken as many as it may, with 102 if memory was refused, and with 503
 /// if the handle holds no store that takes updates. Then it is as if it had not been submitted.
 #[unsafe(no_mangle)]
 pub extern "C" fn camel_submit_map(
     alloc: Global,
     store: &mut CamelHandle,
     operation: u8,
-    imsi: &[u8],
+    imsi: &CamelImsi,
     argument: &[u8],
     place: &mut u64,
 ) -> u32
     ensures { SubmitsOctets (octets_in operation imsi.now argument.now) result place.new store.old.value store.new.value }
 {
     let read = read_octets(alloc, operation, imsi, argument);
-    submit_read(alloc, store, read, place)
+    submit_read(store, read, place)
 }
 
-fn submit_read(
-    alloc: Global,
-    store: &mut CamelHandle,
-    read: Result<Update, OctetsFault>,
-    place: &mut u64,
-) -> u32
+fn submit_read(store: &mut CamelHandle, read: Result<Update, OctetsFault>, place: &mut u64) -> u32
     ensures { SubmitsOctets read result place.new store.old.value store.new.value }
 {
     match read {
         Ok(update) => {
             *place = 0;
-            submit(alloc, store, Ok(update))
+            submit(store, Ok(update))
         }
         Err(fault) => {
             *place = fault.place();
@@ -96,7 +92,7 @@ fn submit_read(
 fn read_octets(
     alloc: Global,
     operation: u8,
-    imsi: &[u8],
+    imsi: &CamelImsi,
     argument: &[u8],
 ) -> Result<Update, OctetsFault>
     ensures { ReadsOctets result (octets_in operation imsi.now argument.now) }
@@ -112,14 +108,14 @@ fn read_operation(code: u8) -> Result<Operation, OctetsFault>
     Operation::of_code(code).ok_or(OctetsFault::Malformed)
 }
 
-/// The IMSI of a dialogue, of which no octets say that it has none.
-fn read_dialogue(octets: &[u8]) -> Result<Option<Imsi>, OctetsFault>
-    ensures { result ≡ dialogue_in octets.now }
+/// The IMSI of a dialogue, of which the number 0 says that it has none.
+fn read_dialogue(held: &CamelImsi) -> Result<Option<Imsi>, OctetsFault>
+    ensures { result ≡ dialogue_in held.now }
 {
-    if octets.is_empty() {
+    if held.number == 0 {
         return Ok(None);
     }
-    match Imsi::from_tbcd(octets) {
+    match held.read() {
         Ok(imsi) => Ok(Some(imsi)),
         Err(_) => Err(OctetsFault::Malformed),
     }

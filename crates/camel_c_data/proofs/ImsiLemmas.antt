@@ -7,10 +7,9 @@ use Rattle.std.specs.Prelude.{Result, is_ok}
 use Rattle.std.specs.List.{position_or_len}
 use Rattle.std.specs.declared.result.Result.TheVariants.{Err, Ok}
 use Rattle.camel_tbcd.specs.Imsi.{IsImsi, imsi_of}
-use Rattle.camel_tbcd.specs.ImsiOrder.{IsNumberOfNone, order_number}
-use Rattle.camel_tbcd.specs.PackedImsi.{digits_of_number}
+use Rattle.camel_tbcd.specs.ImsiNumber.{IsNumberOfNone, digits_of_number, imsi_number}
 use Rattle.camel_tbcd.specs.declared.imsi.ImsiFault.{ImsiFault}
-use Rattle.camel_tbcd.proofs.PackedImsiLemmas.{digits_of_order}
+use Rattle.camel_tbcd.proofs.ImsiNumberLemmas.{digits_of_imsi}
 use Rattle.camel_c_data.specs.Imsi.{imsi_in, with_number}
 use Rattle.camel_c_data.specs.Reading.{◌>>=◌, ok_or_malformed}
 use Rattle.camel_c_data.specs.declared.data_fault.DataFault.TheVariants.{Malformed}
@@ -53,18 +52,18 @@ is-imsi_of true false some values digits least most first made = absurd (true≢
 is-imsi_of false many some values digits least most first made = absurd (true≢false (sym (ap is_ok (rw least at made))))
 
 -- an IMSI is read by its number
-pub reads : (held : CamelImsi) (digits : List ℕ) → IsImsi digits → order_number digits ≡ held.number → imsi_in held ≡ Ok digits
+pub reads : (held : CamelImsi) (digits : List ℕ) → IsImsi digits → imsi_number digits ≡ held.number → imsi_in held ≡ Ok digits
 unfolding imsi_in
 reads held digits is its =
     let made : imsi_of (digits_of_number held.number) ≡ Ok digits =
-    ap (λ n. imsi_of (digits_of_number n)) (sym its) ∙ ap imsi_of (digits_of_order digits is) ∙ imsi_of-is digits is in
+    ap (λ n. imsi_of (digits_of_number n)) (sym its) ∙ ap imsi_of (digits_of_imsi digits is) ∙ imsi_of-is digits is in
     rw made (rw its (grind (arith, nat_tests)))
 
 none_with : (number : ℕ) (made : Result (List ℕ) ImsiFault) → ((digits : List ℕ) → made ≡ Ok digits → IsImsi digits)
     → IsNumberOfNone number → (ok_or_malformed made >>= with_number number) ≡ Err Malformed
 none_with number (Err fault) is none = refl
 none_with number (Ok digits) is none =
-    let other : order_number digits ≡ number → ⊥ = none digits (is digits refl) in
+    let other : imsi_number digits ≡ number → ⊥ = none digits (is digits refl) in
     grind (arith, nat_tests, other)
 
 -- the number of none is malformed

@@ -1,45 +1,42 @@
 -- An answer by its fields.
-use Rattle.std.specs.Prelude.{◌≡◌, ℕ, ◌==◌, false, Result, Ok, Err, if◌then◌else◌}
-use Rattle.camel_criteria.specs.declared.handling.Handling.{Handling}
-use Rattle.camel_criteria.specs.declared.handling.Handling.TheVariants.{Continue, Release}
+use Rattle.std.specs.Prelude.{◌≡◌, ℕ, Ok}
 use Rattle.camel_rows.specs.declared.trigger.decision.Reason.{Reason}
 use Rattle.camel_rows.specs.declared.trigger.decision.Reason.TheVariants.{Unknown, NoCsi, NotArmed, Emergency, Criteria}
 use Rattle.camel_rows.specs.declared.trigger.outcome.Answer.{Answer}
 use Rattle.camel_rows.specs.declared.trigger.outcome.Outcome.{Outcome}
 use Rattle.camel_rows.specs.declared.trigger.outcome.Outcome.TheVariants.{Trigger, NoTrigger}
 use Rattle.camel_c_data.specs.Address.{isdn_address_in}
-use Rattle.camel_c_data.specs.Reading.{◌>>=◌}
+use Rattle.camel_c_data.specs.Row.{handling_number}
 use Rattle.camel_c_data.specs.declared.answer.CamelAnswer.{CamelAnswer}
-use Rattle.camel_c_data.specs.declared.data_fault.DataFault.{DataFault}
-use Rattle.camel_c_data.specs.declared.data_fault.DataFault.TheVariants.{Malformed}
 
--- the reason of this number
-abbrev pub reason_in : ℕ → Result Reason DataFault
-reason_in number =
-    if number == 1 then Ok Unknown
-    else if number == 2 then Ok NoCsi
-    else if number == 3 then Ok NotArmed
-    else if number == 4 then Ok Emergency
-    else if number == 5 then Ok Criteria
-    else Err Malformed
+-- the number of a reason
+abbrev pub reason_number : Reason → ℕ
+reason_number Unknown = 1
+reason_number NoCsi = 2
+reason_number NotArmed = 3
+reason_number Emergency = 4
+reason_number Criteria = 5
 
-abbrev pub handling_in : CamelAnswer → Handling
-handling_in answer = if answer.is_release then Release else Continue
-
--- the outcome that the fields are
-abbrev pub outcome_in : CamelAnswer → Result Outcome DataFault
-outcome_in answer =
-    if answer.is_trigger
-    then (isdn_address_in answer.scf >>= λ scf. Ok (Trigger answer.dp answer.key scf (handling_in answer)))
-    else (reason_in answer.reason >>= λ reason. Ok (NoTrigger reason))
-
--- the answer that the fields are
-unfoldable pub answer_in : CamelAnswer → Result Answer DataFault
-answer_in answer = outcome_in answer >>= λ outcome. Ok (record { front = answer.front; outcome = outcome })
+-- the number of the reason why no service is invoked, and 0 if one is
+abbrev pub outcome_number : Outcome → ℕ
+outcome_number (Trigger dp key scf handling) = 0
+outcome_number (NoTrigger reason) = reason_number reason
 
 -- the fields of a row are 0, and have no octets
 pub record HasNoRow (answer : CamelAnswer) : Type 0 where
   pub key : answer.key ≡ 0
   pub scf : answer.scf.length ≡ 0
   pub dp : answer.dp ≡ 0
-  pub handling : answer.is_release ≡ false
+  pub handling : answer.is_release ≡ 0
+
+-- the fields are those of an outcome, the four values of the row or none
+abbrev pub ShowsOutcome : Outcome → CamelAnswer → Type 0
+ShowsOutcome (Trigger dp key scf handling) fields = (fields.is_trigger ≡ 1) × (fields.dp ≡ dp) × (fields.key ≡ key)
+    × (isdn_address_in fields.scf ≡ Ok scf) × (fields.is_release ≡ handling_number handling)
+ShowsOutcome (NoTrigger reason) fields = (fields.is_trigger ≡ 0) × HasNoRow fields
+
+-- the fields are those of an answer
+pub record ShowsAnswer (answer : Answer) (fields : CamelAnswer) : Type 0 where
+  pub front : fields.front ≡ answer.front
+  pub reason : fields.reason ≡ outcome_number answer.outcome
+  pub outcome : ShowsOutcome answer.outcome fields

@@ -6,7 +6,7 @@ use Rattle.camel_c_data.specs.declared.data_fault.DataFault.{DataFault}
 use Rattle.camel_c_data.specs.declared.data_fault.DataFault.TheVariants.{Malformed, Refused}
 
 abbrev pub data_fault_code : DataFault → ℕ
-data_fault_code Malformed = 201
+data_fault_code Malformed = 502
 data_fault_code (Refused refusal) = refusal_code refusal
 
 -- memory is refused

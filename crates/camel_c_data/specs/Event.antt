@@ -5,6 +5,7 @@ use Rattle.camel_rows.specs.Event.{EventData}
 use Rattle.camel_rows.specs.declared.trigger.event.TdpEvent.TheVariants.{CollectedInfo, RouteSelectFailure, TerminatingAttempt, Busy, NoAnswer}
 use Rattle.camel_c_data.specs.Address.{call_address_in}
 use Rattle.camel_c_data.specs.BasicService.{basic_service_in}
+use Rattle.camel_c_data.specs.Flag.{is_set}
 use Rattle.camel_c_data.specs.Imsi.{imsi_in}
 use Rattle.camel_c_data.specs.Reading.{◌>>=◌, some_or_malformed}
 use Rattle.camel_c_data.specs.declared.data_fault.DataFault.{DataFault}
@@ -20,7 +21,7 @@ abbrev pub collected_info_in : CamelEvent → Result EventData DataFault
 collected_info_in event = do
   imsi ← imsi_in event.imsi
   destination ← call_address_in event.destination
-  Ok (CollectedInfo imsi destination (basic_service_in event.basic) event.is_forwarded)
+  Ok (CollectedInfo imsi destination (basic_service_in event.basic) (is_set event.is_forwarded))
 
 -- DP 4
 abbrev pub route_select_failure_in : CamelEvent → Result EventData DataFault
@@ -28,7 +29,7 @@ route_select_failure_in event = do
   imsi ← imsi_in event.imsi
   destination ← call_address_in event.destination
   cause ← cause_in event.cause
-  Ok (RouteSelectFailure imsi destination (basic_service_in event.basic) event.is_forwarded cause)
+  Ok (RouteSelectFailure imsi destination (basic_service_in event.basic) (is_set event.is_forwarded) cause)
 
 -- DP 12
 abbrev pub terminating_attempt_in : CamelEvent → Result EventData DataFault

@@ -3,9 +3,11 @@ pub mod Answer
 pub mod BasicService
 pub mod Criteria
 pub mod DataFault
+pub mod Decisions
 pub mod EntryLists
 pub mod Event
 pub mod FirstItems
+pub mod Flag
 pub mod Imsi
 pub mod NumberCriterion
 pub mod Reading

@@ -1,6 +1,8 @@
 -- TDP rows and CSIs by their fields.
-use Rattle.std.specs.Prelude.{Bool, List, Option, Result}
+use Rattle.std.specs.Prelude.{◌≡◌, ℕ, Bool, List, Option, Result, Ok}
 use Rattle.camel_criteria.specs.Handling.{handling_of}
+use Rattle.camel_criteria.specs.declared.handling.Handling.{Handling}
+use Rattle.camel_criteria.specs.declared.handling.Handling.TheVariants.{Continue, Release}
 use Rattle.camel_rows.specs.Received.{o_csi_of, vt_csi_of}
 use Rattle.camel_rows.specs.TdpRow.{TdpRowData, tdp_row_of}
 use Rattle.camel_c_data.specs.Address.{isdn_address_in}
@@ -20,3 +22,13 @@ o_csi_in is_sent rows = sent_list row_in o_csi_of is_sent rows
 -- the VT-CSI of these rows
 unfoldable pub vt_csi_in : Bool → List CamelRow → Result (Option (List TdpRowData)) DataFault
 vt_csi_in is_sent rows = sent_list row_in vt_csi_of is_sent rows
+
+-- the number of a default call handling, of those that TS 29.002 names
+abbrev pub handling_number : Handling → ℕ
+handling_number Continue = 0
+handling_number Release = 1
+
+-- the fields are those of a row, whose default call handling is one of the two that TS 29.002 names
+pub record ShowsRow (row : TdpRowData) (fields : CamelRow) : Type 0 where
+  pub same : row_in fields ≡ Ok row
+  pub handling : fields.handling ≡ handling_number row.handling

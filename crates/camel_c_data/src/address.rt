@@ -1,9 +1,10 @@
-ghost use Rattle.std.specs.Prelude.{◌≡◌, Ok};
+ghost use Rattle.std.specs.Prelude.{◌≡◌, Ok, Err, IfErr, IfOk};
+ghost use Rattle.camel_tbcd.specs.Address.{octets};
 ghost use Rattle.camel_c_data.specs.Address.{call_address_in, isdn_address_in};
 
 use crate::data_fault::DataFault;
-use crate::first_items::{first_items, room_with};
-use camel_tbcd::{CallAddress, IsdnAddress, MAX_ADDRESS_LENGTH, MAX_ISDN_ADDRESS_LENGTH};
+use crate::first_items::room_with;
+use camel_tbcd::{Address, CallAddress, IsdnAddress, MAX_ADDRESS_LENGTH, MAX_ISDN_ADDRESS_LENGTH};
 use std::mem::size_of;
 
 /// An AddressString of TS 29.002, as the destination of a call: the first `length` octets, 1 to 20. What is behind them
@@ -30,15 +31,15 @@ impl CamelAddress {
         }
     }
 
-    /// The address that the fields are.
+    /// The address that the fields are, borrowed where they lie.
     ///
-    /// Fails with `Malformed` (201) for no octets and for more than 20.
+    /// Fails with `Malformed` (502) for no octets and for more than 20.
     #[tactic(auto, unfolding(crate::specs::Address::call_address_in))]
-    pub fn read(&self) -> Result<CallAddress, DataFault>
-        ensures { result ≡ call_address_in self.now }
+    pub fn lend(&self) -> Result<Address<'_>, DataFault>
+        ensures lent { IfOk result (λ address. call_address_in self.now ≡ Ok (octets address)) }
+        ensures malformed { IfErr result (λ fault. call_address_in self.now ≡ Err fault) }
     {
-        let octets = first_items(&self.octets, self.length)?;
-        Ok(CallAddress::from_bytes(octets)?)
+        Ok(Address::in_room(&self.octets, self.length)?)
     }
 }
 
@@ -54,15 +55,15 @@ pub struct CamelIsdnAddress {
 const _: () = prove!(size_of::<CamelIsdnAddress>() == 10);
 
 impl CamelIsdnAddress {
-    /// The fields of an address. They read as that address.
+    /// The fields of an address, with octets 0xFF behind it. They read as that address.
+    #[inline]
     #[tactic(auto, unfolding(crate::specs::Address::isdn_address_in))]
     pub fn of(address: &IsdnAddress) -> CamelIsdnAddress
         ensures { isdn_address_in result ≡ Ok address.now }
     {
-        let octets = address.lend().bytes();
         CamelIsdnAddress {
-            length: octets.len() as u8,
-            octets: room_with(octets),
+            length: address.len(),
+            octets: *address.room(),
         }
     }
 
@@ -78,12 +79,11 @@ impl CamelIsdnAddress {
 
     /// The address that the fields are.
     ///
-    /// Fails with `Malformed` (201) for no octets and for more than 9.
+    /// Fails with `Malformed` (502) for no octets and for more than 9.
     #[tactic(auto, unfolding(crate::specs::Address::isdn_address_in))]
     pub fn read(&self) -> Result<IsdnAddress, DataFault>
         ensures { result ≡ isdn_address_in self.now }
     {
-        let octets = first_items(&self.octets, self.length)?;
-        Ok(IsdnAddress::from_bytes(octets)?)
+        Ok(IsdnAddress::in_room(&self.octets, self.length)?)
     }
 }

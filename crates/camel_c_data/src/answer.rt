@@ -1,9 +1,11 @@
-ghost use Rattle.std.specs.Prelude.{◌≡◌, Ok, IsFalse, IsTrue};
-ghost use Rattle.camel_c_data.specs.Answer.{HasNoRow, answer_in, reason_in};
+ghost use Rattle.std.specs.Prelude.{◌≡◌, ◌≤◌, Ok};
+ghost use Rattle.camel_rows.specs.Decision.{decision_data};
+ghost use Rattle.camel_rows.specs.Outcome.{outcome_of};
+ghost use Rattle.camel_c_data.specs.Answer.{ShowsAnswer, reason_number};
 
 use crate::address::CamelIsdnAddress;
 use camel_criteria::Handling;
-use camel_rows::{Answer, Outcome, Reason};
+use camel_rows::{Decision, Reason};
 use std::mem::size_of;
 
 /// What is returned for a call event: what was decided, and the front over whose data it was decided.
@@ -21,10 +23,10 @@ pub struct CamelAnswer {
     pub scf: CamelIsdnAddress,
     /// The trigger detection point.
     pub dp: u8,
-    /// The default call handling: whether the call is released if the dialogue between gsmSSF and gsmSCF fails.
-    pub is_release: bool,
-    /// Whether a service is invoked.
-    pub is_trigger: bool,
+    /// The default call handling: 1 if the call is released if the dialogue between gsmSSF and gsmSCF fails.
+    pub is_release: u8,
+    /// 1 if a service is invoked.
+    pub is_trigger: u8,
     /// Why none is invoked: 1 there is no record of the IMSI, 2 the CSI is not stored, 3 the CSI has no row of the
     /// detection point, 4 the call is an emergency call, 5 the criteria are not met.
     pub reason: u8,
@@ -33,44 +35,37 @@ pub struct CamelAnswer {
 const _: () = prove!(size_of::<CamelAnswer>() == 32);
 
 impl CamelAnswer {
-    /// The fields of an answer.
-    #[tactic(auto, unfolding(crate::specs::Answer::answer_in))]
-    pub fn of(answer: &Answer) -> CamelAnswer
-        ensures same { answer_in result ≡ Ok answer.now }
-        ensures no_reason { IsTrue result.is_trigger → result.reason ≡ 0 }
-        ensures no_row { IsFalse result.is_trigger → HasNoRow result }
+    /// Writes the answer that a decision is, over a front of so many updates. Each field is written once, where it lies.
+    #[inline]
+    pub fn write(&mut self, front: u64, decision: &Decision)
+        ensures { ShowsAnswer (record { front = front; outcome = outcome_of (decision_data decision.now) }) self.new }
     {
-        match answer.outcome {
-            Outcome::Trigger {
-                dp,
-                key,
-                scf,
-                handling,
-            } => CamelAnswer {
-                front: answer.front,
-                key,
-                scf: CamelIsdnAddress::of(&scf),
-                dp,
-                is_release: matches!(handling, Handling::Release),
-                is_trigger: true,
-                reason: 0,
-            },
-            Outcome::NoTrigger(reason) => CamelAnswer {
-                front: answer.front,
-                key: 0,
-                scf: CamelIsdnAddress::none(),
-                dp: 0,
-                is_release: false,
-                is_trigger: false,
-                reason: reason_number(reason),
-            },
+        self.front = front;
+        match decision {
+            Decision::Trigger { row, .. } => {
+                self.key = row.key();
+                self.scf = CamelIsdnAddress::of(&row.scf_address());
+                self.dp = row.dp();
+                self.is_release = u8::from(matches!(row.handling(), Handling::Release));
+                self.is_trigger = 1;
+                self.reason = 0;
+            }
+            Decision::NoTrigger(reason) => {
+                self.key = 0;
+                self.scf = CamelIsdnAddress::none();
+                self.dp = 0;
+                self.is_release = 0;
+                self.is_trigger = 0;
+                self.reason = number_of(*reason);
+            }
         }
     }
 }
 
 /// The number of a reason.
-fn reason_number(reason: Reason) -> u8
-    ensures { reason_in result ≡ Ok reason }
+fn number_of(reason: Reason) -> u8
+    ensures number { result ≡ reason_number reason }
+    ensures some { 1 ≤ result }
 {
     match reason {
         Reason::Unknown => 1,

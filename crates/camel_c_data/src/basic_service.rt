@@ -1,4 +1,4 @@
-ghost use Rattle.std.specs.Prelude.{◌≡◌};
+ghost use Rattle.std.specs.Prelude.{◌≡◌, ◌≤◌};
 ghost use Rattle.camel_c_data.specs.BasicService.{basic_service_in};
 
 use camel_criteria::BasicService;
@@ -9,7 +9,8 @@ use std::mem::size_of;
 #[repr(C)]
 #[derive(Clone, Copy, Debug, PartialEq, Eq)]
 pub struct CamelBasicService {
-    pub is_bearer: bool,
+    /// Not 0 for a bearer service.
+    pub is_bearer: u8,
     pub code: u8,
 }
 
@@ -18,17 +19,12 @@ const _: () = prove!(size_of::<CamelBasicService>() == 2);
 impl CamelBasicService {
     /// The fields of a basic service.
     pub(crate) fn of(service: BasicService) -> CamelBasicService
-        ensures { basic_service_in result ≡ service }
+        ensures same { basic_service_in result ≡ service }
+        ensures flag { result.is_bearer ≤ 1 }
     {
         match service {
-            BasicService::Bearer(code) => CamelBasicService {
-                is_bearer: true,
-                code,
-            },
-            BasicService::Tele(code) => CamelBasicService {
-                is_bearer: false,
-                code,
-            },
+            BasicService::Bearer(code) => CamelBasicService { is_bearer: 1, code },
+            BasicService::Tele(code) => CamelBasicService { is_bearer: 0, code },
         }
     }
 
@@ -36,7 +32,7 @@ impl CamelBasicService {
     pub fn read(&self) -> BasicService
         ensures { result ≡ basic_service_in self.now }
     {
-        if self.is_bearer {
+        if self.is_bearer != 0 {
             BasicService::Bearer(self.code)
         } else {
             BasicService::Tele(self.code)

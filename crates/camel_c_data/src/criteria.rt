@@ -20,15 +20,15 @@ pub struct CamelOCriteria {
     /// The trigger detection point.
     pub dp: u8,
     /// Whether there is a destination number criterion. It is not looked at otherwise.
-    pub has_number: bool,
+    pub has_number: u8,
     /// The destination number criterion.
     pub number: CamelNumberCriterion,
     /// The basic service criterion.
     pub basic: CamelBasicServices,
     /// Whether there is a call type criterion.
-    pub has_call_type: bool,
+    pub has_call_type: u8,
     /// Whether the call type criterion asks for forwarded calls; else for those that are not forwarded.
-    pub is_forwarded: bool,
+    pub is_forwarded: u8,
     /// The cause criterion.
     pub causes: CamelCauses,
 }
@@ -43,14 +43,14 @@ impl CamelOCriteria {
         let call_type = entry.call_type();
         CamelOCriteria {
             dp: entry.dp(),
-            has_number: entry.number().is_some(),
+            has_number: u8::from(entry.number().is_some()),
             number: match entry.number() {
                 Some(number) => CamelNumberCriterion::of(number),
                 None => CamelNumberCriterion::none(),
             },
             basic: CamelBasicServices::of(entry.basic()),
-            has_call_type: call_type.is_some(),
-            is_forwarded: matches!(call_type, Some(CallType::Forwarded)),
+            has_call_type: u8::from(call_type.is_some()),
+            is_forwarded: u8::from(matches!(call_type, Some(CallType::Forwarded))),
             causes: CamelCauses::of(entry.causes()),
         }
     }
@@ -74,7 +74,7 @@ impl CamelOCriteria {
     fn read_number(&self, alloc: Global) -> Result<Option<NumberCriterion>, DataFault>
         ensures { ReadsAs result (number_in self.now) }
     {
-        if !self.has_number {
+        if self.has_number == 0 {
             return Ok(None);
         }
         Ok(Some(self.number.read(alloc)?))
@@ -83,10 +83,10 @@ impl CamelOCriteria {
     fn call_type(&self) -> Option<CallType>
         ensures { result ≡ call_type_in self.now }
     {
-        if !self.has_call_type {
+        if self.has_call_type == 0 {
             return None;
         }
-        Some(if self.is_forwarded {
+        Some(if self.is_forwarded != 0 {
             CallType::Forwarded
         } else {
             CallType::NotForwarded

@@ -10,7 +10,7 @@ use std::fmt;
 /// Why the data of a C caller are not taken. Nothing was made, and no memory is held.
 #[derive(Clone, Copy, Debug, PartialEq, Eq)]
 pub enum DataFault {
-    /// 201: fields are not what they stand for: an IMSI, an address, a cause, a detection point, or a count of items
+    /// 502: fields are not what they stand for: an IMSI, an address, a cause, a detection point, or a count of items
     /// for which there is room.
     Malformed,
     /// The data are refused, with the refusal's number. `OutOfMemory` (102) is one of these.
@@ -23,7 +23,7 @@ impl DataFault {
         ensures { result ≡ data_fault_code self.now }
     {
         match self {
-            DataFault::Malformed => 201,
+            DataFault::Malformed => 502,
             DataFault::Refused(refusal) => refusal.code(),
         }
     }

@@ -1,8 +1,8 @@
 //! The lists that entries of criteria of both CSIs have.
 
-ghost use Rattle.std.specs.Prelude.{◌≡◌, ◌≤◌, Ok, IfErr, IfOk, length, map, take};
+ghost use Rattle.std.specs.Prelude.{◌≡◌, ◌≤◌, All, Ok, IfErr, IfOk, length, map, take};
 ghost use Rattle.camel_c_data.specs.BasicService.{basic_service_in};
-ghost use Rattle.camel_c_data.specs.EntryLists.{basic_services_in, causes_in};
+ghost use Rattle.camel_c_data.specs.EntryLists.{AreFlags, basic_services_in, causes_in};
 ghost use Rattle.camel_c_data.specs.Reading.{ReadsList};
 
 use crate::basic_service::CamelBasicService;
@@ -28,7 +28,8 @@ impl CamelBasicServices {
     #[tactic(auto, unfolding(crate::specs::EntryLists::basic_services_in))]
     pub(crate) fn of(services: &[BasicService]) -> CamelBasicServices
         requires { length services.now ≤ MAX_BASIC_SERVICES }
-        ensures { basic_services_in result ≡ Ok services.now }
+        ensures same { basic_services_in result ≡ Ok services.now }
+        ensures flags { AreFlags result }
     {
         CamelBasicServices {
             count: services.len() as u8,
@@ -38,7 +39,7 @@ impl CamelBasicServices {
 
     /// The basic services that the fields are.
     ///
-    /// Fails with `Malformed` (201) for more than 5, and with `OutOfMemory` (102) if memory is refused.
+    /// Fails with `Malformed` (502) for more than 5, and with `OutOfMemory` (102) if memory is refused.
     #[tactic(auto, unfolding(crate::specs::EntryLists::basic_services_in))]
     pub fn read(&self, alloc: Global) -> Result<Vec<BasicService>, DataFault>
         ensures { ReadsList result (basic_services_in self.now) }
@@ -50,7 +51,8 @@ impl CamelBasicServices {
 /// A room with the fields of basic services, and those of none behind them.
 fn services_with(services: &[BasicService]) -> [CamelBasicService; MAX_BASIC_SERVICES]
     requires { length services.now ≤ MAX_BASIC_SERVICES }
-    ensures { map basic_service_in (take (length services.now) result) ≡ services.now }
+    ensures same { map basic_service_in (take (length services.now) result) ≡ services.now }
+    ensures flags { All (λ service. service.is_bearer ≤ 1) result }
 {
     let mut room = [CamelBasicService::of(BasicService::Tele(0)); MAX_BASIC_SERVICES];
     for at in 0..services.len() {
@@ -93,7 +95,7 @@ impl CamelCauses {
 
     /// The causes that the fields are, each any octet.
     ///
-    /// Fails with `Malformed` (201) for more than 5.
+    /// Fails with `Malformed` (502) for more than 5.
     #[tactic(auto, unfolding(crate::specs::EntryLists::causes_in))]
     pub fn read(&self) -> Result<&[u8], DataFault>
         ensures listed { IfOk result (λ causes. causes_in self.now ≡ Ok causes.now) }

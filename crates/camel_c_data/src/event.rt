@@ -1,4 +1,5 @@
-ghost use Rattle.std.specs.Prelude.{◌≡◌};
+ghost use Rattle.std.specs.Prelude.{◌≡◌, Ok, Err, IfErr, IfOk};
+ghost use Rattle.camel_rows.specs.Event.{event_data};
 ghost use Rattle.camel_c_data.specs.Event.{cause_in, event_in};
 
 use crate::address::CamelAddress;
@@ -8,7 +9,7 @@ use crate::imsi::CamelImsi;
 use camel_criteria::{
     BUSY, COLLECTED_INFO, Cause, NO_ANSWER, ROUTE_SELECT_FAILURE, TERMINATING_ATTEMPT,
 };
-use camel_rows::{CallEvent, TdpEvent};
+use camel_rows::{Event, TdpEvent};
 use std::mem::size_of;
 
 /// A call event at a trigger detection point (TS 23.078): 2, 4, 12, 13 or 14.
@@ -27,7 +28,7 @@ pub struct CamelEvent {
     /// The trigger detection point.
     pub dp: u8,
     /// Whether the call is forwarded.
-    pub is_forwarded: bool,
+    pub is_forwarded: u8,
     /// The cause of the release, 0 to 127.
     pub cause: u8,
 }
@@ -35,28 +36,29 @@ pub struct CamelEvent {
 const _: () = prove!(size_of::<CamelEvent>() == 40);
 
 impl CamelEvent {
-    /// The event that the fields are.
+    /// The event that the fields are, with its destination borrowed where it lies.
     ///
-    /// Fails with `Malformed` (201) if the detection point is none of these, and if a field that is read is no IMSI, no
+    /// Fails with `Malformed` (502) if the detection point is none of these, and if a field that is read is no IMSI, no
     /// address or no cause.
     #[tactic(auto, unfolding(crate::specs::Event::event_in))]
-    pub fn read(&self) -> Result<CallEvent, DataFault>
-        ensures { result ≡ event_in self.now }
+    pub fn lend(&self) -> Result<Event<'_>, DataFault>
+        ensures lent { IfOk result (λ event. event_in self.now ≡ Ok (event_data event)) }
+        ensures malformed { IfErr result (λ fault. event_in self.now ≡ Err fault) }
     {
         let imsi = self.imsi.read()?;
         let basic = self.basic.read();
         match self.dp {
             COLLECTED_INFO => Ok(TdpEvent::CollectedInfo {
                 imsi,
-                destination: self.destination.read()?,
+                destination: self.destination.lend()?,
                 basic,
-                forwarded: self.is_forwarded,
+                forwarded: self.is_forwarded != 0,
             }),
             ROUTE_SELECT_FAILURE => Ok(TdpEvent::RouteSelectFailure {
                 imsi,
-                destination: self.destination.read()?,
+                destination: self.destination.lend()?,
                 basic,
-                forwarded: self.is_forwarded,
+                forwarded: self.is_forwarded != 0,
                 cause: read_cause(self.cause)?,
             }),
             TERMINATING_ATTEMPT => Ok(TdpEvent::TerminatingAttempt { imsi, basic }),

@@ -5,7 +5,7 @@ use crate::data_fault::DataFault;
 
 /// The first items of a room, so many as are counted.
 ///
-/// Fails with `Malformed` (201) if there is no room for so many.
+/// Fails with `Malformed` (502) if there is no room for so many.
 pub(crate) fn first_items<T>(room: &[T], count: u8) -> Result<&[T], DataFault>
     ensures taken { IfOk result (λ items. first_items count room.now ≡ Ok items.now) }
     ensures malformed { IfErr result (λ fault. first_items count room.now ≡ Err fault) }

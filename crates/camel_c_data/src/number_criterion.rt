@@ -18,7 +18,7 @@ use std::mem::size_of;
 #[derive(Clone, Copy, Debug)]
 pub struct CamelNumberCriterion {
     /// Whether the criterion is met if the destination is listed; else it is met if it is not.
-    pub is_enabling: bool,
+    pub is_enabling: u8,
     pub number_count: u8,
     pub length_count: u8,
     pub lengths: [u8; MAX_LENGTHS],
@@ -34,7 +34,7 @@ impl CamelNumberCriterion {
         ensures { ShowsNumber criterion.now result }
     {
         CamelNumberCriterion {
-            is_enabling: matches!(criterion.match_type(), MatchType::Enabling),
+            is_enabling: u8::from(matches!(criterion.match_type(), MatchType::Enabling)),
             number_count: criterion.numbers().len() as u8,
             length_count: criterion.lengths().len() as u8,
             lengths: room_with(criterion.lengths()),
@@ -45,7 +45,7 @@ impl CamelNumberCriterion {
     /// No criterion: no number and no length.
     pub(crate) fn none() -> CamelNumberCriterion {
         CamelNumberCriterion {
-            is_enabling: false,
+            is_enabling: 0,
             number_count: 0,
             length_count: 0,
             lengths: [0; MAX_LENGTHS],
@@ -55,7 +55,7 @@ impl CamelNumberCriterion {
 
     /// The criterion that the fields are.
     ///
-    /// Fails with `Malformed` (201) for more than 10 numbers, for a number that is no address and for more than 3
+    /// Fails with `Malformed` (502) for more than 10 numbers, for a number that is no address and for more than 3
     /// lengths, then as [`NumberCriterion::new`], and with `OutOfMemory` (102) if memory is refused. Nothing was made
     /// then.
     #[tactic(auto, unfolding(crate::specs::NumberCriterion::number_criterion_in, crate::specs::NumberCriterion::numbers_in, crate::specs::NumberCriterion::lengths_in))]
@@ -72,7 +72,7 @@ impl CamelNumberCriterion {
     fn match_type(&self) -> MatchType
         ensures { result ≡ match_type_in self.now }
     {
-        if self.is_enabling {
+        if self.is_enabling != 0 {
             MatchType::Enabling
         } else {
             MatchType::Inhibiting

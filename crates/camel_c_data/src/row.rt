@@ -1,6 +1,6 @@
-ghost use Rattle.std.specs.Prelude.{◌≡◌, Ok};
+ghost use Rattle.std.specs.Prelude.{◌≡◌};
 ghost use Rattle.camel_c_data.specs.Reading.{ReadsAs, ReadsList, each_of};
-ghost use Rattle.camel_c_data.specs.Row.{o_csi_in, row_in, vt_csi_in};
+ghost use Rattle.camel_c_data.specs.Row.{ShowsRow, o_csi_in, row_in, vt_csi_in};
 
 use crate::address::CamelIsdnAddress;
 use crate::data_fault::DataFault;
@@ -14,39 +14,39 @@ use std::mem::size_of;
 #[repr(C)]
 #[derive(Clone, Copy, Debug)]
 pub struct CamelRow {
+    /// The trigger detection point.
+    pub dp: u8,
     /// The service key, 0 to 2147483647.
     pub key: u32,
+    /// The gsmSCF address.
+    pub scf: CamelIsdnAddress,
     /// The default call handling as it was received: 0 is continue and 1 release; TS 29.002 has values 2 to 31 treated
     /// as continue, and values above 31 as release.
     pub handling: u32,
-    /// The gsmSCF address.
-    pub scf: CamelIsdnAddress,
-    /// The trigger detection point.
-    pub dp: u8,
 }
 
-const _: () = prove!(size_of::<CamelRow>() == 20);
+const _: () = prove!(size_of::<CamelRow>() == 24);
 
 impl CamelRow {
     /// The fields of a row. They read as that row; the default call handling is 0 or 1.
     #[tactic(auto, unfolding(crate::specs::Row::row_in))]
     pub fn of(row: &TdpRow) -> CamelRow
-        ensures { row_in result ≡ Ok row.now }
+        ensures { ShowsRow row.now result }
     {
         CamelRow {
+            dp: row.dp(),
             key: row.key(),
+            scf: CamelIsdnAddress::of(&row.scf_address()),
             handling: match row.handling() {
                 Handling::Continue => 0,
                 Handling::Release => 1,
             },
-            scf: CamelIsdnAddress::of(&row.scf_address()),
-            dp: row.dp(),
         }
     }
 
     /// The row that the fields are.
     ///
-    /// Fails with `Malformed` (201) if the gsmSCF address is none, and then with `UnexpectedDataValue` (36) for a
+    /// Fails with `Malformed` (502) if the gsmSCF address is none, and then with `UnexpectedDataValue` (36) for a
     /// service key over 2147483647.
     #[tactic(auto, unfolding(crate::specs::Row::row_in))]
     pub fn read(&self) -> Result<TdpRow, DataFault>

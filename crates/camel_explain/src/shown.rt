@@ -60,7 +60,8 @@ pub(crate) struct ShownImsi<'a>(pub(crate) &'a Imsi);
 
 impl<'a> fmt::Display for ShownImsi<'a> {
     fn fmt<W: fmt::Write>(&self, f: &mut fmt::Formatter<W>) -> fmt::Result {
-        for digit in self.0.digits() {
+        let digits = self.0.digits();
+        for digit in digits.as_slice() {
             write!(f, "{digit}")?;
         }
         Ok(())

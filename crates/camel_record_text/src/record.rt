@@ -38,7 +38,8 @@ pub fn append_update(out: &mut Vec<u8>, update: &Update) -> Result<(), AllocErro
 /// Appends a word and an IMSI.
 fn append_imsi(out: &mut Vec<u8>, word: &str, imsi: &Imsi) -> Result<(), AllocError> {
     append_text(out, word)?;
-    for digit in imsi.digits() {
+    let digits = imsi.digits();
+    for digit in digits.as_slice() {
         append_decimal(out, u64::from(*digit))?;
     }
     Ok(())

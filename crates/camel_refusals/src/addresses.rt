@@ -1,7 +1,7 @@
 //! Addresses and IMSIs.
 
 use crate::failure::{Failure, Lost, check};
-use camel_tbcd::{Address, CallAddress, Imsi, IsdnAddress, PackedImsi, Profile};
+use camel_tbcd::{Address, CallAddress, Imsi, ImsiSlot, IsdnAddress, Profile};
 
 const DIGITS: [u8; 15] = [2, 6, 2, 0, 1, 0, 0, 0, 0, 0, 0, 0, 0, 0, 7];
 
@@ -40,10 +40,14 @@ fn show(rt: &impl Print, address: &Address) -> Result<(), Failure> {
 
 fn imsis(rt: &impl Print) -> Result<(), Failure> {
     let imsi = Imsi::from_digits(&DIGITS)?;
-    let packed = PackedImsi::of(&imsi);
+    let slot = ImsiSlot::of(imsi);
     check(imsi == Imsi::from_tbcd(&TBCD)?, Lost::Equality)?;
-    check(packed.is(&imsi) && packed.imsi() == imsi, Lost::Equality)?;
-    println!(rt; "{:?} {} {}", imsi.digits(), imsi.number(), packed.number())?;
+    check(slot.is(&imsi) && slot.imsi() == Some(imsi), Lost::Equality)?;
+    check(
+        Imsi::from_number(imsi.number()) == Some(imsi),
+        Lost::Equality,
+    )?;
+    println!(rt; "{:?} {}", imsi.digits().as_slice(), imsi.number())?;
     let other = Imsi::from_digits(&DIGITS[1..])?;
     println!(rt; "{:?}", imsi.cmp(&other))?;
     Ok(())

@@ -39,7 +39,7 @@ fn check_rows(rt: &impl Abort, update: &Update) -> Result<(), Fail> {
         return Err(Fail::new("no insert"));
     };
     let digits = [2, 6, 2, 0, 1, 0, 9, 8, 7, 6, 5, 4, 3, 2, 1];
-    assert_eq!(rt; imsi.digits(), digits.as_slice());
+    assert_eq!(rt; imsi.digits().as_slice(), digits.as_slice());
     let csi = o.ok_or("no O-CSI")?;
     let scf = [0x91, 0x94, 0x71, 0x16, 0x00, 0x00];
     check_row(rt, csi.get(0), 4, 9, &[0x91, 0xaf], Handling::Release)?;

@@ -8,9 +8,10 @@ use Rattle.std.specs.Option.{is_some}
 use Rattle.std.specs.Ordering.{nat_cmp}
 use Rattle.std.proofs.lemmas.Slice.Zip.{AllZip-long}
 use Rattle.camel_table.specs.ByImsi.{ByImsi, HasSameKeys, is_same, map_of}
-use Rattle.camel_table.specs.Buckets.{IsTable}
+use Rattle.camel_table.specs.Buckets.{ArePlaced, IsTable, table_map}
 use Rattle.camel_table.specs.Segments.{AreFull, joined}
 use Rattle.camel_table.specs.Slots.{in_slot}
+use Rattle.camel_table.proofs.BucketsLemmas.{get-table}
 
 -- lists that are the same place by place are the same
 pub same_list : {A : Type 0} (R : A → A → Type 0) → ((x y : A) → R x y → y ≡ x) → (xs ys : List A) → AllZip R xs ys → ys ≡ xs
@@ -77,6 +78,14 @@ module _ {V : Type 0} where
   same_keys_at R keys (m ∷ ms) [] all at imsi = absurd all
   same_keys_at R keys (m ∷ ms) (n ∷ ns) all zero imsi = keys m n all.0 imsi
   same_keys_at R keys (m ∷ ms) (n ∷ ns) all (suc at) imsi = same_keys_at R keys ms ns all.1 at imsi
+
+  -- a clone of the buckets of a table has the same keys
+  pub table_keys : (R : ByImsi V → ByImsi V → Type 0) → ((m n : ByImsi V) → R m n → HasSameKeys m n) → (place : List ℕ → ℕ) (buckets clones : List (ByImsi V))
+      → AllZip R buckets clones → ArePlaced place buckets → ArePlaced place clones → HasSameKeys (table_map buckets) (table_map clones)
+  table_keys R keys place buckets clones all placed copied imsi =
+      ap is_some (get-table place clones copied imsi)
+      ∙ same_keys_at R keys buckets clones all (place imsi) imsi
+      ∙ ap is_some (sym (get-table place buckets placed imsi))
 
   -- a clone of a table is whole
   pub whole_clone : (R : ByImsi V → ByImsi V → Type 0) → ((m n : ByImsi V) → R m n → HasSameKeys m n) → (place : ℕ → ℕ → List ℕ → ℕ) (level count : ℕ) (buckets clones : List (ByImsi V))

@@ -2,8 +2,10 @@ pub mod AddressingLemmas
 pub mod BucketLemmas
 pub mod BucketsLemmas
 pub mod CloneLemmas
+pub mod CountLemmas
 pub mod Hashing
 pub mod InlineLemmas
+pub mod KeyCountLemmas
 pub mod ListedLemmas
 pub mod SegmentsLemmas
 pub mod SlotsLemmas

@@ -1,5 +1,5 @@
 -- A table stays whole, and its map is the one that is meant, after each change of a bucket.
-use Rattle.std.proofs.Common.{◌≡◌, ◌⊎◌, ◌∙◌, ℕ, zero, suc, ◌+◌, ◌-◌, ◌<◌, ◌≤◌, ◌^◌, ◌==◌, Bool, true, false, cond, not, T, List, [], ◌∷◌, ◌++◌, Option, None, Result, Ok, Err, OnErr, OnOk, length, slice_index_or, slice_set, inl, inr, refl, sym, ap, subst, arith, length-append}
+use Rattle.std.proofs.Common.{◌≡◌, ◌⊎◌, ◌∙◌, ℕ, zero, suc, ◌+◌, ◌-◌, ◌<◌, ◌≤◌, ◌^◌, ◌==◌, Bool, true, false, cond, not, T, List, [], ◌∷◌, ◌++◌, Option, None, length, slice_index_or, slice_set, inl, inr, refl, sym, ap, subst, arith, length-append}
 use Rattle.std.specs.FinMap.{empty, get, get-empty, get-remove, insert, remove, retain_keys, same_map}
 use Rattle.std.specs.Cmp.Lexicographic.{slice_cmp, nat_list_cmp_total}
 use Rattle.std.specs.Option.{is_some}
@@ -109,12 +109,13 @@ module _ {V : Type 0} (hash : List ℕ → ℕ) where
               ap table_map there ∙ insert-table (by hash level count) buckets whole.placed key (in_buckets some key) value,
             )
 
-        -- a value that is inserted, or not if memory is refused
-        pub tried : {E : Type 0} (r : Result (Unit {0}) E) (value : V) → OnOk r (new ≡ insert old key value) → OnErr r (new ≡ old)
-            → IsTable (by hash) level count (slice_set buckets at new) × (OnOk r (table_map (slice_set buckets at new) ≡ insert (table_map buckets) key value)
-            × OnErr r (table_map (slice_set buckets at new) ≡ table_map buckets))
-        tried (Ok x) value put same = let there = inserted value put in (there.0, (there.1, tt))
-        tried (Err e) value put same = let back = unchanged same in (subst (IsTable (by hash) level count) (sym back) whole, (tt, ap table_map back))
+        -- a value that is inserted, and whether it is the first of its key, of the map of which the table is the view
+        pub put : (value : V) (is_new : Bool) (self : ByImsi V) → table_map buckets ≡ self → new ≡ insert old key value → is_new ≡ not (is_some (get old key))
+            → (table_map (slice_set buckets at new) ≡ insert self key value) × (is_new ≡ not (is_some (get self key)))
+        put value is_new self view same first = (
+          (inserted value same).1 ∙ ap (λ m. insert m key value) view,
+          first ∙ ap (λ o. not (is_some o)) (value_before ∙ ap (λ m. get m key) view),
+        )
 
         pub removed : new ≡ remove old key
             → IsTable (by hash) level count (slice_set buckets at new) × (table_map (slice_set buckets at new) ≡ remove (table_map buckets) key)
@@ -219,12 +220,3 @@ module _ {V : Type 0} (hash : List ℕ → ℕ) where
                 },
                 ap table_map divided ∙ divided-same (by hash level count) (by hash next (count + 1)) buckets whole.placed at count apart spare below moves,
               )
-
--- what an insertion left stays if the map is the same, by whatever it came about
-pub over : {M E : Type 0} (r : Result (Unit {0}) E) (P : M → M) (new stored before self : M) → new ≡ stored → before ≡ self → OnOk r (stored ≡ P before) → OnOk r (new ≡ P self)
-over (Ok x) P new stored before self is view put = is ∙ put ∙ ap P view
-over (Err e) P new stored before self is view put = tt
-
-pub over_none : {M E : Type 0} (r : Result (Unit {0}) E) (new stored before self : M) → new ≡ stored → before ≡ self → OnErr r (stored ≡ before) → OnErr r (new ≡ self)
-over_none (Ok x) new stored before self is view same = tt
-over_none (Err e) new stored before self is view same = is ∙ same ∙ view

@@ -2,7 +2,7 @@
 use Rattle.std.specs.Prelude.{ℕ, ◌+◌, ◌%◌, ◌^◌, nat_lt, List, if◌then◌else◌}
 use Rattle.std.specs.List.{fold}
 use Rattle.std.specs.Hash as input
-use Rattle.camel_tbcd.specs.ImsiOrder.{order_number}
+use Rattle.camel_tbcd.specs.ImsiNumber.{imsi_number}
 
 -- the bucket of a hash among so many, of which there were 2 ^ level when the present round of divisions began: that of
 -- the next round, if there is such a bucket already, and else that of the round before
@@ -15,4 +15,4 @@ hash_of finish write initial number = finish (fold write initial (input.u64 numb
 
 -- the bucket of an IMSI, by the hasher of its number
 abbrev pub bucket_of : {H : Type 0} → (H → ℕ) → (H → List ℕ → H) → H → ℕ → ℕ → List ℕ → ℕ
-bucket_of finish write initial level count imsi = bucket_in level count (hash_of finish write initial (order_number imsi))
+bucket_of finish write initial level count imsi = bucket_in level count (hash_of finish write initial (imsi_number imsi))

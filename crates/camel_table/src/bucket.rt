@@ -1,7 +1,7 @@
 ghost use Rattle.std.specs.Prelude.{◌≡◌, ◌≤◌, ◌==◌, ◌++◌, [], not, filter, find, vec_capacity, vec_len, IfOk, position, OnErr, OnOk, IsSome, None, Some};
 ghost use Rattle.std.specs.Borrow.{sem};
 ghost use Rattle.std.specs.FinMap as map;
-ghost use Rattle.std.specs.Option.{option_copied, option_map};
+ghost use Rattle.std.specs.Option.{is_some, option_copied, option_map};
 ghost use Rattle.camel_table.specs.ByImsi.{ListsEachOnceMore, is_same, map_of};
 ghost use Rattle.camel_table.specs.Addressing.{bucket_of};
 ghost use Rattle.camel_table.specs.Lending.{lends_value};
@@ -9,7 +9,7 @@ ghost use Rattle.camel_table.specs.Lending.{lends_value};
 use crate::addressing::Addressing;
 use crate::entry::Entry;
 use crate::inline_entries::InlineEntries;
-use camel_tbcd::{Imsi, PackedImsi};
+use camel_tbcd::Imsi;
 use std::alloc::{AllocError, Global};
 use std::hash::BuildHasher;
 use std::marker::Model;
@@ -104,17 +104,20 @@ impl<V: Default + Drop> Bucket<V> {
         }
     }
 
-    /// Puts a value in the place of the one that an IMSI has, or of none. Fails with `AllocError` if memory is refused;
-    /// then nothing changes.
-    pub(crate) fn insert(&mut self, imsi: &Imsi, value: V) -> Result<(), AllocError>
+    /// Puts a value in the place of the one that an IMSI has, or of none, and returns whether it had none. Fails with
+    /// `AllocError` if memory is refused; then nothing changes.
+    pub(crate) fn insert(&mut self, imsi: &Imsi, value: V) -> Result<bool, AllocError>
         ensures put { OnOk result (self.new ≡ map.insert self.old imsi.now value) }
+        ensures is_new { IfOk result (λ is_new. is_new ≡ not (is_some (map.get self.old imsi.now))) }
         ensures unchanged { OnErr result (self.new ≡ self.old) }
     {
-        if self.get(imsi).is_none() {
-            return self.add(imsi, value);
+        let is_new = self.get(imsi).is_none();
+        if is_new {
+            self.add(imsi, value)?;
+        } else {
+            *self.value_mut(imsi) = value;
         }
-        *self.value_mut(imsi) = value;
-        Ok(())
+        Ok(is_new)
     }
 
     /// Puts the value of an IMSI that has none. Fails with `AllocError` if memory is refused; then nothing changes.
@@ -123,7 +126,7 @@ impl<V: Default + Drop> Bucket<V> {
         ensures added { OnOk result (self.new ≡ map.insert self.old imsi.now value) }
         ensures unchanged { OnErr result (self.new ≡ self.old) }
     {
-        let key = PackedImsi::of(imsi);
+        let key = *imsi;
         if self.inline.has_room() {
             self.inline.push(Entry { key, value });
             return Ok(());
@@ -134,12 +137,15 @@ impl<V: Default + Drop> Bucket<V> {
         Ok(())
     }
 
-    /// Takes the entry of an IMSI out, if there is one.
-    pub(crate) fn remove(&mut self, imsi: &Imsi)
-        ensures { self.new ≡ map.remove self.old imsi.now }
+    /// Takes the entry of an IMSI out, and returns whether there was one.
+    pub(crate) fn remove(&mut self, imsi: &Imsi) -> bool
+        ensures removed { self.new ≡ map.remove self.old imsi.now }
+        ensures was { result ≡ is_some (map.get self.old imsi.now) }
     {
+        let was = self.get(imsi).is_some();
         self.inline.remove(imsi);
         self.more.retain(|entry| !entry.is(imsi));
+        was
     }
 
     /// Splits the entries: those with this bucket stay, and the others are returned. Fails with `AllocError` if memory

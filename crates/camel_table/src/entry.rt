@@ -3,7 +3,7 @@ ghost use Rattle.camel_table.specs.ByImsi.{is_same};
 ghost use Rattle.camel_table.specs.Addressing.{bucket_of};
 
 use crate::addressing::Addressing;
-use camel_tbcd::{Imsi, PackedImsi};
+use camel_tbcd::Imsi;
 use std::alloc::AllocError;
 use std::hash::BuildHasher;
 use std::marker::Model;
@@ -11,7 +11,7 @@ use std::marker::Model;
 /// A key with its value.
 #[derive(Debug, Drop)]
 pub(crate) struct Entry<V> {
-    pub(crate) key: PackedImsi,
+    pub(crate) key: Imsi,
     pub(crate) value: V,
 }
 
@@ -27,13 +27,13 @@ impl<V> Entry<V> {
     pub(crate) fn is(&self, imsi: &Imsi) -> bool
         ensures { result ≡ is_same imsi.now self.now.0 }
     {
-        self.key.is(imsi)
+        *imsi == self.key
     }
 
     pub(crate) fn imsi(&self) -> Imsi
         ensures { result ≡ self.now.0 }
     {
-        self.key.imsi()
+        self.key
     }
 
     pub(crate) fn value(&self) -> &V

@@ -209,7 +209,7 @@ fn push_imsi(key: &ImsiSlot, is_listed: bool, imsis: &mut Vec<Imsi>) -> Result<(
     ensures { OnOk result (imsis.new.items ≡ imsis.old.items ++ (if is_listed then [] else option_to_list key.now)) }
 {
     match key.imsi() {
-        Some(imsi) if !is_listed => imsis.push(imsi.imsi())?,
+        Some(imsi) if !is_listed => imsis.push(imsi)?,
         _ => {}
     }
     Ok(())

@@ -3,6 +3,7 @@
 
 mod addressing;
 mod bucket;
+mod buckets;
 mod entry;
 mod inline_entries;
 mod seed;

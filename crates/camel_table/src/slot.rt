@@ -24,7 +24,7 @@ pub(crate) fn has_imsi_of(key: &ImsiSlot, other: &ImsiSlot) -> bool
     ensures { result ≡ has_imsi_of key.now other.now }
 {
     match other.imsi() {
-        Some(imsi) => key.is(&imsi.imsi()),
+        Some(imsi) => key.is(&imsi),
         None => false,
     }
 }

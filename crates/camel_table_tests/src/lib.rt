@@ -2,6 +2,8 @@
 #![tactic(auto)]
 
 #[cfg(test)]
+mod count;
+#[cfg(test)]
 mod growth;
 #[cfg(test)]
 mod one_bucket;

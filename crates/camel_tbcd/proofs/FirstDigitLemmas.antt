@@ -1,51 +1,39 @@
--- The number of the first digits of an IMSI.
-use Rattle.std.proofs.Common.{◌≡◌, ◌∙◌, ℕ, zero, suc, ◌+◌, ◌-◌, ◌*◌, ◌%◌, ◌<◌, ◌≤◌, ◌^◌, List, [], ◌∷◌, ◌++◌, length, refl, sym, ap, arith}
-use Rattle.std.proofs.Math.Nat.{mod-eq_of_lt, mul-lt-mul_of_pos_right, mul_assoc, one-le-pow, pow-suc}
-use Rattle.std.proofs.lemmas.List.{length-append}
-use Rattle.std.proofs.lemmas.Nat.{pow-add}
-use Rattle.camel_tbcd.specs.ImsiOrder.{IsNumberOf, order_number, with_places}
-use Rattle.camel_tbcd.proofs.ImsiOrderLemmas.{grown}
-use Rattle.camel_tbcd.proofs.ShiftLemmas.{pow-16}
+-- The first digits of an IMSI, as their count and their decimal value.
+use Rattle.std.proofs.Common.{◌≡◌, ◌∙◌, ℕ, zero, suc, ◌+◌, ◌*◌, ◌/◌, ◌%◌, ◌<◌, ◌≤◌, ◌^◌, List, [], ◌∷◌, ◌++◌, drop, length, slice_set, ap, ap₂, sym, arith}
+use Rattle.std.proofs.Math.Nat.{div-div-eq-div-mul, div-one, pow-le-pow_right, pow-succ'}
+use Rattle.std.proofs.lemmas.List.{append_assoc, drop-set}
+use Rattle.std.proofs.lemmas.Nat.{div-mul-add, mod-mul-add}
+use Rattle.camel_tbcd.specs.ImsiNumber.{last_digits}
+use Rattle.camel_tbcd.proofs.DecimalLemmas.{length-last}
 
--- a digit more is a place more
-pub with_digit : (number digit : ℕ) (digits : List ℕ) → with_places number (suc (length digits)) (digits ++ digit ∷ []) ≡ with_places number (length digits) digits * 16 + (digit + 1)
-with_digit number digit [] = refl
-with_digit number digit (first ∷ digits) = with_digit (number * 16 + (first + 1)) digit digits
+-- the last digit stands behind those of a tenth
+pub last_apart : (count value : ℕ) → last_digits (suc count) value ≡ last_digits count (value / 10) ++ value % 10 ∷ []
+last_apart zero value = ap (λ n. n % 10 ∷ []) (div-one value)
+last_apart (suc count) value =
+    ap₂ (λ first more. first % 10 ∷ more) (ap (λ n. value / n) (pow-succ' 10 count) ∙ sym (div-div-eq-div-mul value 10 (10 ^ count))) (last_apart count value)
 
--- the number of one digit more
-pub grown_number : (number digit : ℕ) (digits more : List ℕ) → length digits < 15 → digit ≤ 9 → more ≡ digits ++ digit ∷ [] → IsNumberOf number digits → IsNumberOf (number * 16 + digit + 1) more
-grown_number number digit digits more few decimal is number_of =
-    let longer : length more ≡ suc (length digits) = rw is (length-append digits (digit ∷ []) ∙ omega arith) in
-    let next : number * 16 + digit + 1 ≡ with_places 0 (suc (length digits)) (digits ++ digit ∷ []) =
-    omega arith ∙ ap (λ n. n * 16 + (digit + 1)) number_of.0 ∙ sym (with_digit 0 digit digits) in
-    let fits : number * 16 + (digit + 1) < 16 ^ (length digits + 1) = grown (length digits) number (digit + 1) (omega arith) number_of.1 in
-    let place : suc (length digits) ≡ length digits + 1 = omega arith in
-    (rw (longer, is) next, rw (longer, place) (omega (arith, fits)))
+-- one digit more
+pub last_more : (count value digit : ℕ) → digit ≤ 9 → last_digits (suc count) (value * 10 + digit) ≡ last_digits count value ++ digit ∷ []
+last_more count value digit decimal =
+    last_apart count (value * 10 + digit)
+    ∙ ap₂ (λ rest last. last_digits count rest ++ last ∷ [])
+    (div-mul-add value 10 digit (omega (arith, decimal))) (mod-mul-add value 10 digit (omega (arith, decimal)))
 
--- places without a digit are factors of 16
-empty_places : (number places : ℕ) → with_places number places [] ≡ number * 16 ^ places
-empty_places number zero = omega arith
-empty_places number (suc places) =
-    empty_places (number * 16) places ∙ mul_assoc number 16 (16 ^ places) ∙ ap (λ n. number * n) (omega (arith, pow-suc 16 places))
+pub fewer : (count value : ℕ) (digits : List ℕ) → last_digits count value ≡ digits → length digits < 15 → count < 15
+fewer count value digits same few = omega (arith, ap length same, length-last count value, few)
 
-with_rest : (number places : ℕ) (digits : List ℕ) → with_places number (length digits + places) digits ≡ with_places number (length digits) digits * 16 ^ places
-with_rest number places [] =
-    let none : 0 + places ≡ places = omega arith in
-    ap (λ n. with_places number n []) none ∙ empty_places number places
-with_rest number places (digit ∷ digits) =
-    let more : suc (length digits) + places ≡ suc (length digits + places) = omega arith in
-    ap (λ n. with_places number n (digit ∷ digits)) more ∙ with_rest (number * 16 + (digit + 1)) places digits
+-- so many digits, and one more, fit in 64 bits
+pub few_more : (count value : ℕ) → count < 15 → value < 10 ^ count → value < 10 ^ 14
+few_more count value few fits =
+    let most : 10 ^ count ≤ 10 ^ 14 = pow-le-pow_right {n = 10} (omega arith) {i = count} {j = 14} (omega arith) in
+    omega (arith, fits, most)
 
--- shifted by the places that are left, it is the number of an IMSI
-pub shifted_number : (number : ℕ) (digits : List ℕ) → length digits ≤ 15 → number ≡ with_places 0 (length digits) digits → number < 16 ^ length digits
-    → number * 2 ^ (4 * (15 - length digits)) % 18446744073709551616 ≡ order_number digits
-shifted_number number digits few is fits =
-    let left : ℕ = 15 - length digits in
-    let all : length digits + left ≡ 15 = omega arith in
-    let whole : 16 ^ length digits * 16 ^ left ≡ 1152921504606846976 = sym (pow-add 16 (length digits) left) ∙ ap (λ n. 16 ^ n) all in
-    let small : number * 16 ^ left < 16 ^ length digits * 16 ^ left = mul-lt-mul_of_pos_right fits (one-le-pow left 16 (omega arith)) in
-    ap (λ n. number * n % 18446744073709551616) (pow-16 left)
-    ∙ mod-eq_of_lt (omega (arith, whole, small))
-    ∙ ap (λ n. n * 16 ^ left) is
-    ∙ sym (with_rest 0 left digits)
-    ∙ ap (λ n. with_places 0 n digits) all
+-- the digits that are left, before those that are read from the last one on
+pub digit_read : (at value : ℕ) (read all : List ℕ) → at < length read
+    → last_digits (suc at) value ++ drop (suc at) read ≡ all → last_digits at (value / 10) ++ drop at (slice_set read at (value % 10)) ≡ all
+digit_read at value read all room so_far =
+    let next : suc at ≡ at + 1 = omega arith in
+    ap (λ rest. last_digits at (value / 10) ++ rest) (drop-set read at (value % 10) room ∙ ap (λ n. value % 10 ∷ drop n read) (sym next))
+    ∙ sym (append_assoc (last_digits at (value / 10)) (value % 10 ∷ []) (drop (suc at) read))
+    ∙ ap (λ first. first ++ drop (suc at) read) (sym (last_apart at value))
+    ∙ so_far

@@ -11,7 +11,7 @@ length-first : (octets : List ℕ) → length (first_nibbles octets) ≡ 16
 unfolding first_nibbles
 length-first octets = length-take-le 16 _ (omega (arith, length-append (nibbles (drop 1 octets)) (replicate 16 15), length-replicate {A = ℕ} 16 15))
 
-first_small : (octets : List ℕ) → All IsOctet octets → All IsNibble (first_nibbles octets)
+pub first_small : (octets : List ℕ) → All IsOctet octets → All IsNibble (first_nibbles octets)
 unfolding first_nibbles
 first_small octets small =
     All-take IsNibble 16 _

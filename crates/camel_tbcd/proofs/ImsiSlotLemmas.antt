@@ -2,22 +2,22 @@
 use Rattle.std.proofs.Common.{◌≡◌, ◌∙◌, ℕ, ◌≤◌, true, false, cond, nat_eq, List, [], Some, None, IfSome, length, sym, ap, ap₂, subst, refl, arith}
 use Rattle.std.proofs.lemmas.Bool.{eqb-true}
 use Rattle.camel_tbcd.specs.Imsi.{IsImsi}
-use Rattle.camel_tbcd.specs.ImsiOrder.{order_number}
+use Rattle.camel_tbcd.specs.ImsiNumber.{imsi_number}
 use Rattle.camel_tbcd.specs.ImsiSlot.{imsi_of_number, is_in_slot}
-use Rattle.camel_tbcd.specs.PackedImsi.{digits_of_number}
-use Rattle.camel_tbcd.proofs.ImsiOrderLemmas.{same_number}
-use Rattle.camel_tbcd.proofs.PackedImsiLemmas.{digits_of_order}
+use Rattle.camel_tbcd.specs.ImsiNumber.{digits_of_number}
+use Rattle.camel_tbcd.proofs.ImsiNumberLemmas.{same_by_order}
+use Rattle.camel_tbcd.proofs.ImsiNumberLemmas.{digits_of_imsi}
 
-some_number : (imsi : List ℕ) → IsImsi imsi → order_number imsi ≡ 0 → ⊥
+some_number : (imsi : List ℕ) → IsImsi imsi → imsi_number imsi ≡ 0 → ⊥
 some_number imsi is zero =
-    let none : [] ≡ imsi = sym (ap digits_of_number zero) ∙ digits_of_order imsi is in
+    let none : [] ≡ imsi = sym (ap digits_of_number zero) ∙ digits_of_imsi imsi is in
     let least = subst (λ digits. 5 ≤ length digits) (sym none) is.least in
     omega (arith, least)
 
-pub in_slot : (imsi : List ℕ) (own number : ℕ) → own ≡ order_number imsi → IsImsi imsi → IfSome (imsi_of_number number) (λ digits. IsImsi digits × (number ≡ order_number digits))
+pub in_slot : (imsi : List ℕ) (own number : ℕ) → own ≡ imsi_number imsi → IsImsi imsi → IfSome (imsi_of_number number) (λ digits. IsImsi digits × (number ≡ imsi_number digits))
     → nat_eq own number ≡ is_in_slot imsi (imsi_of_number number)
 in_slot imsi own number its is slot =
-    elim (nat_eq number 0) as (λ b. nat_eq number 0 ≡ b → IfSome (cond b None (Some (digits_of_number number))) (λ digits. IsImsi digits × (number ≡ order_number digits))
+    elim (nat_eq number 0) as (λ b. nat_eq number 0 ≡ b → IfSome (cond b None (Some (digits_of_number number))) (λ digits. IsImsi digits × (number ≡ imsi_number digits))
     → nat_eq own number ≡ is_in_slot imsi (cond b None (Some (digits_of_number number)))) [
       | true ↦ λ none free.
           let zero = eqb-true number 0 none in
@@ -25,5 +25,5 @@ in_slot imsi own number its is slot =
             | true ↦ λ same. absurd (some_number imsi is (sym its ∙ eqb-true own number same ∙ zero))
             | false ↦ λ differ. refl
           ] refl
-      | false ↦ λ some held. ap₂ nat_eq its held.1 ∙ same_number imsi (digits_of_number number) is held.0
+      | false ↦ λ some held. ap₂ nat_eq its held.1 ∙ same_by_order imsi (digits_of_number number) is held.0
     ] refl slot

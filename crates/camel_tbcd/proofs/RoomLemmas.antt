@@ -16,7 +16,7 @@ length-room most octets fits =
     length-append octets (drop (length octets) fill) ∙ omega (arith, length-drop (length octets) fill)
 
 -- the number that std makes of 8 octets is that of their nibbles
-from_le_bytes-8 : (room : List ℕ) → length room ≡ 8 → from_le_bytes w64 room ≡ packed (nibbles room)
+pub from_le_bytes-8 : (room : List ℕ) → length room ≡ 8 → from_le_bytes w64 room ≡ packed (nibbles room)
 from_le_bytes-8 (a ∷ b ∷ c ∷ d ∷ e ∷ f ∷ g ∷ h ∷ []) full = omega arith
 from_le_bytes-8 room full = absurd (omega arith)
 

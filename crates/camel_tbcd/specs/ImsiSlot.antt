@@ -2,7 +2,7 @@
 use Rattle.std.specs.Prelude.{ℕ, nat_eq, Bool, false, List, Option, Some, None, if◌then◌else◌}
 use Rattle.std.specs.Cmp.Lexicographic.{slice_cmp}
 use Rattle.std.specs.Ordering.{eq_by_cmp, nat_cmp}
-use Rattle.camel_tbcd.specs.PackedImsi.{digits_of_number}
+use Rattle.camel_tbcd.specs.ImsiNumber.{digits_of_number}
 
 -- the IMSI of a number
 abbrev pub imsi_of_number : ℕ → Option (List ℕ)

@@ -5,11 +5,10 @@ pub mod DigitList
 pub mod Digits
 pub mod Imsi
 pub mod ImsiFault
-pub mod ImsiOrder
+pub mod ImsiNumber
 pub mod ImsiSlot
 pub mod IsdnAddress
 pub mod Nature
 pub mod PackedDigits
-pub mod PackedImsi
 pub mod Profile
 pub mod ShortList

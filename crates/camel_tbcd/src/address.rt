@@ -1,4 +1,4 @@
-ghost use Rattle.std.specs.Prelude.{◌≡◌, ◌≤◌, ◌<◌, ◌↔◌, [], ◌∷◌, length, IfOk, IsTrue, IsErrOf, OnOk};
+ghost use Rattle.std.specs.Prelude.{◌≡◌, ◌≤◌, ◌<◌, ◌↔◌, [], ◌∷◌, length, take, IfOk, IsTrue, IsErrOf, OnOk};
 ghost use Rattle.camel_tbcd.specs.Nature.{nature_of, plan_of};
 ghost use Rattle.camel_tbcd.specs.AddressFault.{address_fault_code};
 ghost use Rattle.camel_tbcd.specs.AddressLength.{IsAddress, max_address_length};
@@ -68,9 +68,24 @@ impl<'a> Address<'a> {
         ensures empty { IsErrOf result AddressFault.Empty ↔ (length bytes.now ≡ 0) }
         ensures too_long { IsErrOf result AddressFault.TooLong ↔ (max_address_length < length bytes.now) }
     {
-        check_length(bytes, MAX_ADDRESS_LENGTH)?;
+        check_length(bytes.len(), MAX_ADDRESS_LENGTH)?;
         Ok(Address {
             digits: Digits::of_address(bytes),
+        })
+    }
+
+    /// The address in the first `len` octets of a room, borrowed where it lies. What is behind them is not looked at.
+    ///
+    /// Fails with `Empty` (1) for no octets, and with `TooLong` (2) for more than 20.
+    pub fn in_room(room: &'a [u8; MAX_ADDRESS_LENGTH], len: u8) -> Result<Address<'a>, AddressFault>
+        ensures address { IfOk result (λ address. octets address ≡ take len room.now) }
+        ensures empty { IsErrOf result AddressFault.Empty ↔ (len ≡ 0) }
+        ensures too_long { IsErrOf result AddressFault.TooLong ↔ (max_address_length < len) }
+    {
+        let len = usize::from(len);
+        check_length(len, MAX_ADDRESS_LENGTH)?;
+        Ok(Address {
+            digits: Digits::in_room(room, len),
         })
     }
 
@@ -143,15 +158,15 @@ fn compared_bits(profile: Profile) -> u8
     }
 }
 
-// The fault of octets that are no address of at most so many.
-pub(crate) fn check_length(bytes: &[u8], most: usize) -> Result<(), AddressFault>
-    ensures address { OnOk result (IsAddress most bytes.now) }
-    ensures empty { IsErrOf result AddressFault.Empty ↔ (length bytes.now ≡ 0) }
-    ensures too_long { IsErrOf result AddressFault.TooLong ↔ (most < length bytes.now) }
+// The fault of so many octets if an address has 1 to `most`.
+pub(crate) fn check_length(len: usize, most: usize) -> Result<(), AddressFault>
+    ensures address { OnOk result ((1 ≤ len) × (len ≤ most)) }
+    ensures empty { IsErrOf result AddressFault.Empty ↔ (len ≡ 0) }
+    ensures too_long { IsErrOf result AddressFault.TooLong ↔ (most < len) }
 {
-    match bytes.len() {
+    match len {
         0 => Err(AddressFault::Empty),
-        len if len > most => Err(AddressFault::TooLong),
+        _ if len > most => Err(AddressFault::TooLong),
         _ => Ok(()),
     }
 }

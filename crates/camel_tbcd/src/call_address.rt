@@ -3,7 +3,8 @@ ghost use Rattle.camel_tbcd.specs.Address.{octets};
 ghost use Rattle.camel_tbcd.specs.AddressLength.{IsAddress, max_address_length};
 
 use crate::address::{Address, AddressFault, MAX_ADDRESS_LENGTH, check_length};
-use crate::kept_octets::KeptOctets;
+use crate::digits::{Digits, room_number};
+use crate::short_list::ShortList;
 use std::marker::Model;
 
 /// An owned AddressString of TS 29.002, as the destination of a call: 1 to 20 octets.
@@ -11,7 +12,7 @@ use std::marker::Model;
 /// Contracts see it as the list of its octets. Two are equal if their octets are.
 #[derive(Clone, Copy, Debug, PartialEq, Eq)]
 pub struct CallAddress {
-    octets: KeptOctets<MAX_ADDRESS_LENGTH>,
+    octets: ShortList<MAX_ADDRESS_LENGTH>,
 }
 
 impl Model for CallAddress {
@@ -36,9 +37,9 @@ impl CallAddress {
         ensures empty { IsErrOf result AddressFault.Empty ↔ (length bytes.now ≡ 0) }
         ensures too_long { IsErrOf result AddressFault.TooLong ↔ (max_address_length < length bytes.now) }
     {
-        check_length(bytes, MAX_ADDRESS_LENGTH)?;
+        check_length(bytes.len(), MAX_ADDRESS_LENGTH)?;
         Ok(CallAddress {
-            octets: KeptOctets::from_slice(bytes),
+            octets: ShortList::from_slice(bytes),
         })
     }
 
@@ -47,6 +48,7 @@ impl CallAddress {
         ensures same { octets result ≡ self.now }
         ensures address { IsAddress max_address_length self.now }
     {
-        self.octets.lend()
+        let number = room_number(self.octets.room());
+        Address::of_digits(Digits::of_numbered(self.octets.as_slice(), number))
     }
 }

@@ -4,7 +4,7 @@ ghost use Rattle.std.specs.List.{starts_with};
 ghost use mathlib.Core.List.{IsPrefix};
 ghost use Rattle.camel_tbcd.specs.AddressLength.{IsAddress, max_address_length};
 ghost use Rattle.camel_tbcd.specs.Digits.{digits, nibbles};
-ghost use Rattle.camel_tbcd.specs.PackedDigits.{packed, packed_digits};
+ghost use Rattle.camel_tbcd.specs.PackedDigits.{IsFirstFiller, packed, packed_digits};
 
 use crate::address::MAX_ADDRESS_LENGTH;
 use crate::short_list::ShortList;
@@ -15,10 +15,9 @@ use crate::short_list::ShortList;
 #[derive(Clone, Copy, Debug)]
 pub struct Digits<'a> {
     bytes: &'a [u8],
-    len: usize,
     // The digits of octets 2 to 9 as one number, so that up to 16 digits are compared in one step.
     number: u64,
-    ghost counted: { len ≡ length (digits bytes.now) },
+    ghost address: { IsAddress max_address_length bytes.now },
     ghost octets: { All (λ octet. octet < 256) bytes.now },
     ghost numbered: { number ≡ packed_digits bytes.now },
 }
@@ -33,18 +32,28 @@ impl<'a> Digits<'a> {
     {
         Digits {
             bytes,
-            len: digit_count(bytes),
             number: packed_digits(bytes),
         }
     }
 
-    // The digits of an address of these octets, by their count and their number, which are known.
-    pub(crate) fn of_counted(bytes: &'a [u8], len: usize, number: u64) -> Digits<'a>
-        requires counted { len ≡ length (digits bytes.now) }
+    // The digits of an address of these octets, by their number, which is known.
+    pub(crate) fn of_numbered(bytes: &'a [u8], number: u64) -> Digits<'a>
+        requires address { IsAddress max_address_length bytes.now }
         requires numbered { number ≡ packed_digits bytes.now }
         ensures { result.bytes.now ≡ bytes.now }
     {
-        Digits { bytes, len, number }
+        Digits { bytes, number }
+    }
+
+    // The digits of the address in the first `len` octets of a room, read where they lie.
+    pub(crate) fn in_room(room: &'a [u8; MAX_ADDRESS_LENGTH], len: usize) -> Digits<'a>
+        requires { (1 ≤ len) × (len ≤ max_address_length) }
+        ensures { result.bytes.now ≡ take len room.now }
+    {
+        Digits {
+            bytes: &room[..len],
+            number: first_number(room, len),
+        }
     }
 
     // The octets of the address that has these digits.
@@ -65,21 +74,21 @@ impl<'a> Digits<'a> {
     pub fn len(&self) -> usize
         ensures { result ≡ length (digit_list self.now) }
     {
-        self.len
+        digit_count(self.bytes, self.number)
     }
 
     /// Whether there is no digit.
     pub fn is_empty(&self) -> bool
         ensures { IsTrue result ↔ (digit_list self.now ≡ []) }
     {
-        self.len == 0
+        self.len() == 0
     }
 
     /// The digit at a place, from 0; None from `len` on.
     pub fn get(&self, at: usize) -> Option<u8>
         ensures { result ≡ slice_get (digit_list self.now) at }
     {
-        if at < self.len {
+        if at < self.len() {
             Some(nibble(self.bytes, at))
         } else {
             None
@@ -97,10 +106,11 @@ impl<'a> Digits<'a> {
     fn has_front(&self, front: &Digits) -> bool
         ensures { IsTrue result ↔ IsPrefix (digit_list front.now) (digit_list self.now) }
     {
-        if self.len < front.len || !self.has_same_first(front, front.len.min(PACKED_DIGITS)) {
+        let count = front.len();
+        if self.len() < count || !self.has_same_first(front, count.min(PACKED_DIGITS)) {
             return false;
         }
-        for at in PACKED_DIGITS..front.len {
+        for at in PACKED_DIGITS..count {
             if nibble(self.bytes, at) != nibble(front.bytes, at) {
                 return false;
             }
@@ -126,7 +136,7 @@ impl<'a> Digits<'a> {
     pub fn same(&self, other: &Digits) -> bool
         ensures { IsTrue result ↔ (digit_list self.now ≡ digit_list other.now) }
     {
-        self.len == other.len && self.begins_with(other)
+        self.len() == other.len() && self.begins_with(other)
     }
 }
 
@@ -139,13 +149,20 @@ fn nibble(bytes: &[u8], at: usize) -> u8
     if at % 2 == 0 { octet % 16 } else { octet / 16 }
 }
 
-// How many nibbles are after octet 1 and before the first filler.
-pub(crate) fn digit_count(bytes: &[u8]) -> usize
-    requires { IsAddress max_address_length bytes.now }
+// How many digits an address has whose digits of octets 2 to 9 are this number. Octets behind these are read only if no
+// filler is in them.
+pub(crate) fn digit_count(bytes: &[u8], number: u64) -> usize
+    requires address { IsAddress max_address_length bytes.now }
+    requires octets { All (λ octet. octet < 256) bytes.now }
+    requires numbered { number ≡ packed_digits bytes.now }
     ensures { result ≡ length (digits bytes.now) }
 {
+    let count = first_filler(number);
+    if count < PACKED_DIGITS {
+        return count;
+    }
     let end = bytes.len() - 1;
-    for at in 0..end {
+    for at in PACKED_DIGITS / 2..end {
         let octet = bytes[1 + at];
         if octet % 16 == FILLER {
             return 2 * at;
@@ -155,6 +172,16 @@ pub(crate) fn digit_count(bytes: &[u8]) -> usize
         }
     }
     2 * end
+}
+
+// The place of the first filler among the 16 nibbles of a number; 16 if none is a filler.
+fn first_filler(number: u64) -> usize
+    ensures { IsFirstFiller number result }
+{
+    // The bits of the number at which two ones begin, and of these the ones at which two more follow: a filler is four.
+    let pairs = number & (number >> 1);
+    let fillers = pairs & (pairs >> 2) & LOWEST_BITS;
+    (fillers.trailing_zeros() / 4) as usize
 }
 
 // The digits of octets 2 to 9 as one number.
@@ -175,8 +202,27 @@ pub(crate) fn room_number(room: &[u8]) -> u64
     ])
 }
 
+// The digits of octets 2 to 9 of the address in the first `len` octets of a room as one number. It is one read, in
+// which fillers take the place of what is behind the address.
+pub(crate) fn first_number(room: &[u8], len: usize) -> u64
+    requires room { 9 ≤ length room.now }
+    requires octets { All (λ octet. octet < 256) room.now }
+    requires len { (1 ≤ len) × (len ≤ length room.now) }
+    ensures { result ≡ packed_digits (take len room.now) }
+{
+    let number = room_number(room);
+    if len > PACKED_DIGITS / 2 {
+        return number;
+    }
+    let end = 8 * (len - 1);
+    number % (1 << end) + (u64::MAX << end)
+}
+
 // How many digits are compared as one number: as many as a u64 has room for.
 const PACKED_DIGITS: usize = 16;
+
+// The lowest bit of each nibble of a number.
+const LOWEST_BITS: u64 = 0x1111_1111_1111_1111;
 
 /// The nibble that fills an odd count of digits, 1111 of TS 29.002.
 pub(crate) const FILLER: u8 = 15;

@@ -1,17 +1,16 @@
-ghost use Rattle.std.specs.Prelude.{◌≡◌, ◌≤◌, ◌↔◌, length, position, take, ◌*◌, nat_eq, nat_lt, All, IsNone, IfOk, IfSome, IsOk};
+ghost use Rattle.std.specs.Prelude.{◌≡◌, ◌≤◌, ◌^◌, ◌/◌, ◌%◌, ◌↔◌, length, position, take, ◌*◌, nat_eq, nat_lt, All, IsNone, IfOk, IfSome, IsOk};
 ghost use Rattle.std.specs.Ordering.{nat_cmp, as_partial_cmp};
 ghost use Rattle.std.specs.Cmp.{partial_equiv_from_equiv, partial_order_from_agreeing_total};
 ghost use Rattle.std.specs.Cmp.Lexicographic.{slice_cmp, pointwise, nat_list_cmp_total, nat_list_eq_equiv, texts_ties};
 ghost use Rattle.std.proofs.Common.{refl};
 ghost use Rattle.camel_tbcd.specs.Digits.{nibbles};
 ghost use Rattle.camel_tbcd.specs.Imsi.{IsImsi, digit_values, imsi_of, imsi_of_ascii, imsi_of_nibbles, imsi_of_tbcd, without_filler};
-ghost use Rattle.camel_tbcd.specs.ImsiOrder.{IsNumberOfNone, order_number};
+ghost use Rattle.camel_tbcd.specs.ImsiNumber.{IsNumberOfNone, digits_of_number, imsi_number};
 ghost use Rattle.camel_tbcd.specs.ImsiFault.{imsi_fault_code};
 
 use crate::digits::FILLER;
 use crate::first_digits::FirstDigits;
-use crate::packed_imsi::digits_in_places;
-use crate::short_list::ShortList;
+use crate::imsi_digits::ImsiDigits;
 use std::cmp::Ordering;
 use std::error::Error;
 use std::fmt;
@@ -63,30 +62,29 @@ impl Error for ImsiFault {}
 
 /// An international mobile subscriber identity of TS 23.003: 5 to 15 digits, each 0 to 9.
 ///
-/// Contracts see it as the list of its digits. Equality and order are those of the lists, and the order
-/// is lexicographic.
+/// It takes 8 octets, and one comparison tells whether two are equal. Contracts see it as the list of its digits.
+/// Equality and order are those of the lists, and the order is lexicographic.
 #[derive(Clone, Copy, Debug)]
 pub struct Imsi {
-    digits: ShortList<MAX_IMSI_DIGITS>,
-    // The digits as one number whose order is theirs, so that a look-up by IMSI compares in one step.
-    order: u64,
+    // The count of the digits in the highest octet, and their decimal value in the others.
+    number: u64,
 }
 
 impl Model for Imsi {
     ghost use Rattle.std.specs.Prelude.{◌≡◌, ℕ, List};
     ghost use Rattle.std.proofs.Common.{sym};
     ghost use Rattle.camel_tbcd.specs.Imsi.{IsImsi};
-    ghost use Rattle.camel_tbcd.specs.ImsiOrder.{order_number};
+    ghost use Rattle.camel_tbcd.specs.ImsiNumber.{digits_of_number, imsi_number};
 
     ghost Value = { List ℕ };
 
-    ghost view = { λ a. a.digits };
+    ghost view = { λ a. digits_of_number a.number };
 
-    ghost invariant = { λ a. IsImsi a.digits × (a.order ≡ order_number a.digits) };
+    ghost invariant = { λ a. IsImsi (digits_of_number a.number) × (a.number ≡ imsi_number (digits_of_number a.number)) };
 
-    ghost inverse = { λ digits. record { digits = digits; order = order_number digits } };
+    ghost inverse = { λ digits. record { number = imsi_number digits } };
 
-    ghost inverse_ok = { λ a h i. record { digits = a.digits; order = sym h.1 i } };
+    ghost inverse_ok = { λ a h i. record { number = sym h.1 i } };
 }
 
 impl Imsi {
@@ -147,21 +145,33 @@ impl Imsi {
         Imsi::from_nibbles(without_filler(&nibbles[..2 * octets.len()]))
     }
 
-    /// The IMSI of which this is the [`number`](Imsi::number); None if it is the number of none.
+    /// The IMSI of which this is the [`number`](Imsi::number); None if it is the number of none. It takes three
+    /// comparisons.
     pub fn from_number(number: u64) -> Option<Imsi>
         ensures imsi { IfSome result IsImsi }
-        ensures number { IfSome result (λ imsi. order_number imsi ≡ number) }
+        ensures number { IfSome result (λ imsi. imsi_number imsi ≡ number) }
         ensures none { IsNone result → IsNumberOfNone number }
     {
-        let first = digits_in_places(number)?;
-        if first.len() < MIN_IMSI_DIGITS {
+        let count = digit_count(number);
+        if count < MIN_IMSI_DIGITS {
             return None;
         }
-        let imsi = Imsi::of_first(&first);
-        if imsi.order != number {
+        if count > MAX_IMSI_DIGITS {
             return None;
         }
-        Some(imsi)
+        if decimal_value(number) >= power_of_ten(count) {
+            return None;
+        }
+        Some(Imsi { number })
+    }
+
+    // The IMSI of this number, which is known to be that of one.
+    pub(crate) fn of_number(number: u64) -> Imsi
+        requires imsi { IsImsi (digits_of_number number) }
+        requires number { number ≡ imsi_number (digits_of_number number) }
+        ensures { result ≡ digits_of_number number }
+    {
+        Imsi { number }
     }
 
     fn from_nibbles(nibbles: &[u8]) -> Result<Imsi, ImsiFault>
@@ -194,27 +204,67 @@ impl Imsi {
         ensures { result ≡ first.now }
     {
         Imsi {
-            digits: first.digits(),
-            order: first.order_number(),
+            number: first.number(),
         }
     }
 
-    /// Its digits, each as its value, the first one first.
-    pub fn digits(&self) -> &[u8]
-        ensures same { result.now ≡ self.now }
+    /// Its digits, read out of its number.
+    pub fn digits(&self) -> ImsiDigits
+        ensures same { result ≡ self.now }
         ensures imsi { IsImsi self.now }
     {
-        self.digits.as_slice()
+        ImsiDigits::of_value(digit_count(self.number), decimal_value(self.number))
     }
 
-    /// Its digits as one number: the greater of two IMSIs has the greater one, and equal ones have the same.
+    /// Its number: how many digits it has in the highest octet, and their decimal value below. That of the IMSI
+    /// 262010000000001 is `15 << 56 | 262010000000001`. Equal IMSIs have the same number.
     pub fn number(&self) -> u64
-        ensures number { result ≡ order_number self.now }
+        ensures number { result ≡ imsi_number self.now }
         ensures imsi { IsImsi self.now }
     {
-        self.order
+        self.number
     }
 }
+
+// How many digits the IMSI of a number has: the highest octet.
+fn digit_count(number: u64) -> usize
+    ensures { result ≡ number / 2 ^ 56 }
+{
+    (number >> VALUE_BITS) as usize
+}
+
+// The decimal value of the digits of the IMSI of a number: the bits below the highest octet.
+fn decimal_value(number: u64) -> u64
+    ensures { result ≡ number % 2 ^ 56 }
+{
+    number % (1 << VALUE_BITS)
+}
+
+// How many bits of the number of an IMSI are for the decimal value of its digits.
+pub(crate) const VALUE_BITS: u32 = 56;
+
+// 10 to the power of a count of digits of an IMSI: one read of a table.
+fn power_of_ten(count: usize) -> u64
+    requires { (5 ≤ count) × (count ≤ 15) }
+    ensures { result ≡ 10 ^ count }
+{
+    POWERS_OF_TEN[count - MIN_IMSI_DIGITS]
+}
+
+// 10 to the power of each count of digits of an IMSI, from 5 to 15.
+const POWERS_OF_TEN: [u64; 11] = [
+    100_000,
+    1_000_000,
+    10_000_000,
+    100_000_000,
+    1_000_000_000,
+    10_000_000_000,
+    100_000_000_000,
+    1_000_000_000_000,
+    10_000_000_000_000,
+    100_000_000_000_000,
+    1_000_000_000_000_000,
+];
 
 // The nibbles of the octets, low nibble first, and 0 after them.
 fn nibbles_of(octets: &[u8]) -> [u8; 16]
@@ -256,7 +306,7 @@ impl PartialEq for Imsi {
     ghost laws = { partial_equiv_from_equiv nat_list_eq_equiv };
 
     fn eq(&self, other: &Imsi) -> bool {
-        self.digits() == other.digits()
+        self.number == other.number
     }
 }
 
@@ -284,6 +334,6 @@ impl Ord for Imsi {
     ghost matches_eq = { texts_ties };
 
     fn cmp(&self, other: &Imsi) -> Ordering {
-        self.order.cmp(&other.order)
+        self.digits().as_slice().cmp(other.digits().as_slice())
     }
 }

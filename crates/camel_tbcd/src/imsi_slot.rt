@@ -2,7 +2,6 @@ ghost use Rattle.std.specs.Prelude.{◌≡◌, None, Some};
 ghost use Rattle.camel_tbcd.specs.ImsiSlot.{is_in_slot};
 
 use crate::imsi::Imsi;
-use crate::packed_imsi::PackedImsi;
 use std::marker::Model;
 
 /// An IMSI in 8 octets, or none: the key of a place of a table, which may be free.
@@ -10,21 +9,21 @@ use std::marker::Model;
 /// Contracts see it as the list of its digits, or none.
 #[derive(Debug, Drop)]
 pub struct ImsiSlot {
-    // The number of its digits. That of an IMSI is never 0.
+    // The number of the IMSI, which is never 0, or 0.
     number: u64,
 }
 
 impl Model for ImsiSlot {
     ghost use Rattle.std.specs.Prelude.{◌≡◌, ℕ, List, Option, IfSome};
     ghost use Rattle.camel_tbcd.specs.Imsi.{IsImsi};
-    ghost use Rattle.camel_tbcd.specs.ImsiOrder.{order_number};
+    ghost use Rattle.camel_tbcd.specs.ImsiNumber.{imsi_number};
     ghost use Rattle.camel_tbcd.specs.ImsiSlot.{imsi_of_number};
 
     ghost Value = { Option (List ℕ) };
 
     ghost view = { λ a. imsi_of_number a.number };
 
-    ghost invariant = { λ a. IfSome (imsi_of_number a.number) (λ digits. IsImsi digits × (a.number ≡ order_number digits)) };
+    ghost invariant = { λ a. IfSome (imsi_of_number a.number) (λ digits. IsImsi digits × (a.number ≡ imsi_number digits)) };
 }
 
 impl ImsiSlot {
@@ -36,7 +35,7 @@ impl ImsiSlot {
     }
 
     /// The slot of an IMSI.
-    pub fn of(imsi: PackedImsi) -> ImsiSlot
+    pub fn of(imsi: Imsi) -> ImsiSlot
         ensures { result ≡ Some imsi }
     {
         ImsiSlot {
@@ -61,9 +60,12 @@ impl ImsiSlot {
     }
 
     /// Its IMSI, if it has one.
-    pub fn imsi(&self) -> Option<PackedImsi>
+    pub fn imsi(&self) -> Option<Imsi>
         ensures { result ≡ self.now }
     {
-        PackedImsi::of_number(self.number)
+        match self.number {
+            0 => None,
+            number => Some(Imsi::of_number(number)),
+        }
     }
 }

@@ -1,4 +1,4 @@
-ghost use Rattle.std.specs.Prelude.{◌≡◌, ◌+◌, ◌<◌, ◌↔◌, ◌&&◌, length, nat_eq, IfOk, IsErrOf};
+ghost use Rattle.std.specs.Prelude.{◌≡◌, ◌+◌, ◌<◌, ◌≤◌, ◌↔◌, ◌&&◌, length, nat_eq, take, IfOk, IsErrOf};
 ghost use Rattle.std.specs.Cmp.{partial_equiv_from_equiv};
 ghost use Rattle.std.specs.Cmp.Lexicographic.{nat_list_eq_equiv, pointwise};
 ghost use Rattle.std.specs.List.{starts_with};
@@ -8,9 +8,10 @@ ghost use Rattle.camel_tbcd.specs.DigitList.{digit_list};
 ghost use Rattle.camel_tbcd.specs.Digits.{digits};
 ghost use Rattle.camel_tbcd.specs.PackedDigits.{packed_digits};
 ghost use Rattle.camel_tbcd.specs.Profile.{agrees};
+ghost use Rattle.camel_tbcd.specs.ShortList.{room_with};
 
 use crate::address::{Address, AddressFault, check_length, differing_bits};
-use crate::digits::{Digits, digit_count, room_number};
+use crate::digits::{Digits, digit_count, first_number, room_number};
 use crate::profile::Profile;
 use crate::short_list::ShortList;
 use std::marker::Model;
@@ -61,18 +62,37 @@ impl IsdnAddress {
         ensures empty { IsErrOf result AddressFault.Empty ↔ (length bytes.now ≡ 0) }
         ensures too_long { IsErrOf result AddressFault.TooLong ↔ (max_isdn_address_length < length bytes.now) }
     {
-        check_length(bytes, MAX_ISDN_ADDRESS_LENGTH)?;
-        Ok(IsdnAddress::of_octets(bytes))
+        check_length(bytes.len(), MAX_ISDN_ADDRESS_LENGTH)?;
+        let octets = ShortList::from_slice(bytes);
+        Ok(IsdnAddress::of_room(octets.room(), bytes.len()))
     }
 
-    fn of_octets(octets: &[u8]) -> IsdnAddress
-        requires { IsAddress max_isdn_address_length octets.now }
-        ensures { result ≡ octets.now }
+    /// Keeps the address in the first `len` octets of a room. Nothing is copied octet by octet.
+    ///
+    /// Fails with `Empty` (1) for no octets, and with `TooLong` (2) for more than 9.
+    pub fn in_room(
+        room: &[u8; MAX_ISDN_ADDRESS_LENGTH],
+        len: u8,
+    ) -> Result<IsdnAddress, AddressFault>
+        ensures address { IfOk result (λ address. address ≡ take len room.now) }
+        ensures empty { IsErrOf result AddressFault.Empty ↔ (len ≡ 0) }
+        ensures too_long { IsErrOf result AddressFault.TooLong ↔ (max_isdn_address_length < len) }
     {
-        let fewer = MOST_DIGITS - digit_count(octets);
+        let len = usize::from(len);
+        check_length(len, MAX_ISDN_ADDRESS_LENGTH)?;
+        Ok(IsdnAddress::of_room(room, len))
+    }
+
+    // The address in the first `len` octets of a room.
+    fn of_room(room: &[u8; MAX_ISDN_ADDRESS_LENGTH], len: usize) -> IsdnAddress
+        requires { (1 ≤ len) × (len ≤ max_isdn_address_length) }
+        ensures { result ≡ take len room.now }
+    {
+        let number = first_number(room, len);
+        let fewer = MOST_DIGITS - digit_count(&room[..len], number);
         IsdnAddress {
-            room: *ShortList::<MAX_ISDN_ADDRESS_LENGTH>::from_slice(octets).room(),
-            counts: COUNT_PLACE * fewer as u8 + octets.len() as u8,
+            room: filled_room(room, len, number),
+            counts: COUNT_PLACE * fewer as u8 + len as u8,
         }
     }
 
@@ -82,6 +102,22 @@ impl IsdnAddress {
         ensures address { IsAddress max_isdn_address_length self.now }
     {
         Address::of_digits(self.read())
+    }
+
+    /// How many octets it has, 1 to 9.
+    pub fn len(&self) -> u8
+        ensures len { result ≡ length self.now }
+        ensures address { IsAddress max_isdn_address_length self.now }
+    {
+        self.counts % COUNT_PLACE
+    }
+
+    /// The room of its octets, to be copied at once: they are the first ones, and 0xff is in the places behind them.
+    pub fn room(&self) -> &[u8; MAX_ISDN_ADDRESS_LENGTH]
+        ensures octets { take (length self.now) result.now ≡ self.now }
+        ensures filled { result.now ≡ room_with max_isdn_address_length self.now }
+    {
+        &self.room
     }
 
     /// Its digits, as those of the address that it lends.
@@ -111,7 +147,7 @@ impl IsdnAddress {
         ensures octets { result.bytes.now ≡ self.now }
         ensures address { IsAddress max_isdn_address_length self.now }
     {
-        Digits::of_counted(self.octets(), MOST_DIGITS - self.fewer(), self.number())
+        Digits::of_numbered(self.octets(), self.number())
     }
 
     // Its octets.
@@ -135,6 +171,23 @@ impl IsdnAddress {
     {
         room_number(&self.room)
     }
+}
+
+// The first `len` octets of a room, of whose digits this is the number, with fillers behind them.
+fn filled_room(
+    room: &[u8; MAX_ISDN_ADDRESS_LENGTH],
+    len: usize,
+    number: u64,
+) -> [u8; MAX_ISDN_ADDRESS_LENGTH]
+    requires len { (1 ≤ len) × (len ≤ max_isdn_address_length) }
+    requires number { number ≡ packed_digits (take len room.now) }
+    ensures { result ≡ room_with max_isdn_address_length (take len room.now) }
+{
+    let digits = number.to_le_bytes();
+    [
+        room[0], digits[0], digits[1], digits[2], digits[3], digits[4], digits[5], digits[6],
+        digits[7],
+    ]
 }
 
 impl PartialEq for IsdnAddress {

@@ -1,8 +1,8 @@
 //! Addresses and IMSIs in the encodings of 3GPP TS 29.002.
 //!
 //! An address is borrowed as an [`Address`] or kept as an [`IsdnAddress`] or a [`CallAddress`]. An [`Imsi`] is kept as
-//! its digits, or in 8 octets as a [`PackedImsi`] or, where there may be none, an [`ImsiSlot`]. A [`Profile`] says
-//! whether the numbering plans of two addresses are compared. No call of this crate takes memory.
+//! one number, which gives its [`ImsiDigits`], or as an [`ImsiSlot`] if there may be none. A [`Profile`] says whether
+//! the numbering plans of two addresses are compared. No call of this crate takes memory.
 #![tactic(auto)]
 
 mod address;
@@ -10,10 +10,9 @@ mod call_address;
 mod digits;
 mod first_digits;
 mod imsi;
+mod imsi_digits;
 mod imsi_slot;
 mod isdn_address;
-mod kept_octets;
-mod packed_imsi;
 mod profile;
 mod short_list;
 
@@ -23,7 +22,7 @@ pub use digits::Digits;
 pub use imsi::{
     Imsi, ImsiFault, MAX_IMSI_DIGITS, MAX_IMSI_OCTETS, MIN_IMSI_DIGITS, MIN_IMSI_OCTETS,
 };
+pub use imsi_digits::ImsiDigits;
 pub use imsi_slot::ImsiSlot;
 pub use isdn_address::{IsdnAddress, MAX_ISDN_ADDRESS_LENGTH};
-pub use packed_imsi::PackedImsi;
 pub use profile::Profile;

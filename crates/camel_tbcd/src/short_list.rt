@@ -1,7 +1,7 @@
-ghost use Rattle.std.specs.Prelude.{◌≡◌, ◌<◌, ◌≤◌, ◌++◌, ◌∷◌, [], length, nat_eq, take};
+ghost use Rattle.std.specs.Prelude.{◌≡◌, ◌<◌, ◌≤◌, length, nat_eq};
 ghost use Rattle.std.specs.Cmp.{partial_equiv_from_equiv};
 ghost use Rattle.std.specs.Cmp.Lexicographic.{nat_list_eq_equiv, pointwise};
-ghost use Rattle.camel_tbcd.specs.ShortList.{IsKept, room_with};
+ghost use Rattle.camel_tbcd.specs.ShortList.{room_with};
 
 use std::marker::Model;
 
@@ -17,7 +17,7 @@ pub(crate) struct ShortList<const MOST: usize> {
 }
 
 // Two fillers of TBCD digits: so behind the digits of an address there is always one.
-pub(crate) const FILL: u8 = 255;
+const FILL: u8 = 255;
 
 impl<const MOST: usize> Model for ShortList<MOST> {
     ghost use Rattle.std.specs.Prelude.{ℕ, List, length, take};
@@ -36,34 +36,6 @@ impl<const MOST: usize> Model for ShortList<MOST> {
 }
 
 impl<const MOST: usize> ShortList<MOST> {
-    // No item.
-    pub(crate) fn new() -> Self
-        ensures { result ≡ [] }
-    {
-        ShortList {
-            room: [FILL; MOST],
-            len: 0,
-        }
-    }
-
-    // The first `len` items of a room, with `FILL` in the places that are left.
-    pub(crate) fn of_room(room: [u8; MOST], len: u8) -> Self
-        requires { IsKept MOST room len }
-        ensures { result ≡ take len room.entry }
-    {
-        ShortList { room, len }
-    }
-
-    // Adds an item behind the others.
-    pub(crate) fn push(&mut self, item: u8)
-        requires room { length self.old < MOST }
-        requires counted { MOST < 256 }
-        ensures { self.new ≡ self.old ++ item ∷ [] }
-    {
-        self.room[usize::from(self.len)] = item;
-        self.len += 1;
-    }
-
     // Keeps the items.
     pub(crate) fn from_slice(items: &[u8]) -> Self
         requires fits { length items.now ≤ MOST }

@@ -127,6 +127,44 @@ fn reads_the_digits_of_an_address(rt: HostRuntime) -> Result<(), Fail> {
     check_digits(&rt, &[0xa1, 0xba, 0xdc, 0xfe], &[10, 11, 12, 13, 14])
 }
 
+/// Octets behind an address in its room are none of its digits, also if they are digits of their own.
+#[test]
+fn reads_the_address_in_a_room(rt: HostRuntime) -> Result<(), Fail> {
+    let mut room = [0x21; 20];
+    room[0] = 0x91;
+    for (len, count) in [(1, 0), (2, 2), (8, 14), (9, 16), (10, 18), (20, 38)] {
+        let address = Address::in_room(&room, len)?;
+        assert_eq!(rt; address.bytes(), &room[..usize::from(len)]);
+        assert_eq!(rt; address.digits().len(), count, "of {len} octets");
+    }
+    assert_eq!(rt; Address::in_room(&room, 0).err(), Some(AddressFault::Empty));
+    assert_eq!(rt;
+        Address::in_room(&room, 21).err(),
+        Some(AddressFault::TooLong)
+    );
+    Ok(())
+}
+
+#[test]
+fn lends_the_room_of_an_isdn_address(rt: HostRuntime) -> Result<(), Fail> {
+    let octets = [0x91, 0x94, 0x71, 0xf6, 0x21, 0x43, 0x65, 0x87, 0x09];
+    let kept = IsdnAddress::in_room(&octets, 4)?;
+    let filled = [0x91, 0x94, 0x71, 0xf6, 0xff, 0xff, 0xff, 0xff, 0xff];
+    assert_eq!(rt; kept.room(), &filled);
+    assert_eq!(rt; kept.len(), 4);
+    assert_eq!(rt; kept, IsdnAddress::from_bytes(&octets[..4])?);
+    assert_eq!(rt; IsdnAddress::in_room(&octets, 9)?.room(), &octets);
+    assert_eq!(rt;
+        IsdnAddress::in_room(&octets, 0).err(),
+        Some(AddressFault::Empty)
+    );
+    assert_eq!(rt;
+        IsdnAddress::in_room(&octets, 10).err(),
+        Some(AddressFault::TooLong)
+    );
+    Ok(())
+}
+
 /// Checks whether the digits of these octets begin with those of others, and whether they are the same.
 fn check_compared(
     rt: &impl Abort,

@@ -4,7 +4,7 @@ use std::test::Fail;
 
 /// Whether an IMSI has just these digits.
 fn has_digits(imsi: Result<Imsi, ImsiFault>, digits: &[u8]) -> Result<bool, ImsiFault> {
-    Ok(imsi?.digits() == digits)
+    Ok(imsi?.digits().as_slice() == digits)
 }
 
 /// By TS 23.003 an IMSI has at most 15 digits.
@@ -49,6 +49,46 @@ fn keeps_the_digits_of_characters(rt: HostRuntime) {
             Some(fault),
             "of {characters:?}"
         );
+    }
+}
+
+/// The number has the count of digits in its highest octet, and their decimal value below.
+#[test]
+fn has_the_number_of_its_digits(rt: HostRuntime) -> Result<(), Fail> {
+    let cases: [(&[u8], u64, u64); 5] = [
+        (b"262010000000001", 15, 262_010_000_000_001),
+        (b"001010123456789", 15, 1_010_123_456_789),
+        (b"999999999999999", 15, 999_999_999_999_999),
+        (b"00101", 5, 101),
+        (b"001010", 6, 1_010),
+    ];
+    for (characters, count, value) in cases {
+        let imsi = Imsi::from_ascii(characters)?;
+        let number = count << 56 | value;
+        assert_eq!(rt; imsi.number(), number, "of {characters:?}");
+        assert_eq!(rt; Imsi::from_number(number), Some(imsi), "of {characters:?}");
+    }
+    assert_eq!(rt;
+        Imsi::from_ascii(b"262010000000001")?.number(),
+        1_081_125_920_568_919_041
+    );
+    Ok(())
+}
+
+#[test]
+fn has_no_other_number(rt: HostRuntime) {
+    for (count, value) in [
+        (0, 0),
+        (0, 262_010_000_000_001),
+        (4, 9_999),
+        (5, 100_000),
+        (14, 262_010_000_000_001),
+        (15, 1_000_000_000_000_000),
+        (16, 262_010_000_000_001),
+        (255, 0),
+    ] {
+        let number: u64 = count << 56 | value;
+        assert_eq!(rt; Imsi::from_number(number), None, "of {count} and {value}");
     }
 }
 

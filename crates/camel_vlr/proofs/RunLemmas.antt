@@ -1,11 +1,27 @@
 -- What a session answers, put together.
-use Rattle.std.proofs.Common.{◌≡◌, ◌∙◌, List, [], ◌∷◌, ◌++◌, refl, sym, ap}
+use Rattle.std.proofs.Common.{◌≡◌, ◌∙◌, List, [], ◌∷◌, ◌++◌, refl, sym, subst, ap}
+use Rattle.camel_rows.specs.Answer.{answer_over}
 use Rattle.camel_rows.specs.Event.{EventData}
+use Rattle.camel_rows.specs.Front.{IsFront}
 use Rattle.camel_rows.specs.declared.subscriber.update.Update.{Update}
 use Rattle.camel_rows.specs.declared.trigger.outcome.Answer.{Answer}
 use Rattle.camel_vlr.specs.Prefix.{StoreId}
 use Rattle.camel_vlr.specs.Run.{Answers, Run, last_seen}
-use Rattle.camel_vlr.specs.Session.{SessionData}
+use Rattle.camel_vlr.specs.Session.{LeavesLook, Sees, SessionData}
+
+-- an event is answered over the front of a look, which is left then
+pub Answers-one : (before looking after : SessionData) (event : EventData) (answer : Answer)
+    → Sees before looking → answer ≡ answer_over before.store.profile looking.seen event → LeavesLook looking after
+    → Answers before (event ∷ []) (answer ∷ []) after
+Answers-one before looking after event answer sees decided left =
+    let front = subst (λ (s : StoreId). IsFront s.limit looking.seen) sees.store sees.front in
+    record {
+      fronts = looking.seen ∷ [];
+      run = (record { is_front = front; later = sees.later; reaches = sees.told; decided = decided }, tt);
+      seen = ap (λ (s : SessionData). s.seen) left;
+      told = ap (λ (s : SessionData). s.told) left ∙ sees.keeps;
+      store = ap (λ (s : SessionData). s.store) left ∙ sees.store;
+    }
 
 pub last_seen-append : (seen : List Update) (fronts later : List (List Update)) → last_seen seen (fronts ++ later) ≡ last_seen (last_seen seen fronts) later
 last_seen-append seen [] later = refl

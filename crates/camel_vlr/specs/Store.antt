@@ -1,15 +1,16 @@
 -- The store, as its public calls see it.
-use Rattle.std.specs.Prelude.{[], Option}
+use Rattle.std.specs.Prelude.{[], Bool, Option}
 use Rattle.camel_criteria.specs.declared.refusal.Refusal.{Refusal}
 use Rattle.camel_rows.specs.Store.{Updates, store_refusal}
 use Rattle.camel_rows.specs.declared.subscriber.update.Update.{Update}
 use Rattle.camel_vlr.specs.Prefix.{StoreId}
 use Rattle.camel_vlr.specs.Session.{SessionData, session_told_nothing}
 
--- which store it is, and the updates that it has accepted
+-- which store it is, the updates that it has accepted, and whether it is known that no look holds up the next publication
 pub record StoreData : Type 0 where
   pub store : StoreId
   pub updates : Updates
+  pub free : Bool
 
 -- why an update is not accepted
 abbrev pub submission_refusal : StoreData → Update → Option Refusal

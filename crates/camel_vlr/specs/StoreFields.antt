@@ -1,5 +1,5 @@
 -- The data of a store from its fields, and what the fields keep.
-use Rattle.std.specs.Prelude.{◌≡◌, ℕ, ◌≤◌, List}
+use Rattle.std.specs.Prelude.{◌≡◌, ℕ, ◌≤◌, List, true}
 use Rattle.camel_rows.specs.Front.{Extends, IsFront}
 use Rattle.camel_rows.specs.Store.{IsAdmissionOfUpdates, Updates, accepted_updates}
 use Rattle.camel_rows.specs.declared.subscriber.update.Update.{Update}
@@ -23,7 +23,7 @@ abbrev pub limit_in : {W S : Type 0} → Ghosts W S → Inside W S → ℕ
 limit_in g a = (g.shown a.writer).front.store.limit
 
 abbrev pub store_of : {W S : Type 0} → Ghosts W S → Inside W S → StoreData
-store_of g a = record { store = (g.shown a.writer).front.store; updates = updates_in g a }
+store_of g a = record { store = (g.shown a.writer).front.store; updates = updates_in g a; free = a.free.value }
 
 pub record IsStore {W S : Type 0} (g : Ghosts W S) (a : Inside W S) : Type 0 where
   pub shown : IsOfItsFront (g.shown a.writer)
@@ -36,3 +36,4 @@ pub record IsStore {W S : Type 0} (g : Ghosts W S) (a : Inside W S) : Type 0 whe
   -- the history goes beyond what is published, and not beyond what is pending
   pub within : Extends (accepted_updates (updates_in g a)) a.history.updates
   pub beyond : Extends a.history.updates (published_in g a)
+  pub free : a.free.value ≡ true → g.free a.writer

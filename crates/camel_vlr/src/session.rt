@@ -142,6 +142,14 @@ impl<S: Seat> Session<S> {
         true
     }
 
+    /// Whether a look has begun that is not left yet.
+    #[inline]
+    pub fn is_looking(&self) -> bool
+        ensures { result ≡ self.now.looks }
+    {
+        self.seat.has_copy()
+    }
+
     /// Leaves the look, if one has begun.
     pub fn leave(&mut self)
         ensures { LeavesLook self.old self.new }

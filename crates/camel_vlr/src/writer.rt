@@ -2,6 +2,8 @@
 
 ghost use Rattle.std.specs.Prelude.{◌≡◌, ◌+◌, ◌≤◌, ◌⊎◌, [], ◌∷◌, ◌++◌, Some, None, length, true, false, vec_len, All, IfErr, IfOk, IfSome, OnErr, OnOk};
 ghost use Rattle.camel_rows.specs.Front.{IsFront};
+ghost use Rattle.std.specs.FinMap as map;
+ghost use Rattle.camel_rows.specs.Update.{records_of};
 ghost use Rattle.camel_rows.specs.Store.{accepted_updates, all_published, no_updates, with_update};
 ghost use Rattle.camel_vlr.specs.Store.{fresh_session, submission_refusal};
 
@@ -25,6 +27,7 @@ use camel_rows::{Admission, Update};
 use camel_tbcd::Profile;
 use std::alloc::Global;
 use std::marker::Model;
+use std::snapshot::Snapshot;
 
 /// The most updates that a store may take: more than any switch lives to see.
 pub const MAX_UPDATES: u64 = 0x7FFF_FFFF_FFFF_FFFF;
@@ -34,8 +37,9 @@ pub const MAX_PLACES: usize = 64;
 
 /// The store's one writer. It takes updates, and publishes them.
 ///
-/// Contracts see which store it is, with the most updates that it takes and its profile, and the lists of the updates
-/// that are published and pending. It can't be dropped: [`Vlr::close`] or [`Vlr::end`] ends it.
+/// Contracts see which store it is, with the most updates that it takes and its profile, the lists of the updates that
+/// are published and pending, and whether it is known that no look holds up the next publication. It can't be dropped:
+/// [`Vlr::close`] or [`Vlr::end`] ends it.
 pub struct Vlr<W: Publisher = LeftRightWriter> {
     writer: W,
     history: History,
@@ -45,6 +49,8 @@ pub struct Vlr<W: Publisher = LeftRightWriter> {
     profile: Profile,
     /// Where the pending updates are.
     alloc: Global,
+    /// Whether it is known that no look holds up the next publication.
+    free: Snapshot<bool>,
 }
 
 impl<W: Publisher> Model for Vlr<W> {
@@ -61,7 +67,8 @@ impl<W: Publisher> Model for Vlr<W> {
 impl<W: Publisher> Vlr<W> {
     /// So many sessions, none of which has seen or learnt anything.
     pub(crate) fn seat_all(&mut self, places: usize) -> Result<Vec<Session<W::Place>>, Refusal>
-        requires { self.old.updates.published ≡ [] }
+        requires empty { self.old.updates.published ≡ [] }
+        requires free { self.old.free ≡ false }
         ensures same { self.new ≡ self.old }
         ensures places { IfOk result (λ sessions. vec_len sessions ≡ places) }
         ensures sessions { IfOk result (λ sessions. All (λ s. s ≡ fresh_session self.new.store) sessions.items) }
@@ -76,7 +83,8 @@ impl<W: Publisher> Vlr<W> {
 
     /// A session that knows which store it is of.
     fn seat(&mut self) -> Result<Session<W::Place>, Refusal>
-        requires { self.old.updates.published ≡ [] }
+        requires empty { self.old.updates.published ≡ [] }
+        requires free { self.old.free ≡ false }
         ensures same { self.new ≡ self.old }
         ensures session { IfOk result (λ s. s ≡ fresh_session self.new.store) }
         ensures only { IfErr result (λ why. (why ≡ Refusal.OutOfMemory) ⊎ (why ≡ Refusal.NoPlace)) }
@@ -113,15 +121,21 @@ impl<W: Publisher> Vlr<W> {
     pub(crate) fn publish_by<H: Drop>(&mut self, by: H) -> Result<(), W::Why>
     where
         W: Publishes<H>,
-        ensures published { OnOk result (self.new ≡ record self.old { updates = all_published self.old.updates }) }
+        ensures published { OnOk result (self.new
+            ≡ record self.old { updates = all_published self.old.updates; free = false }) }
         ensures unchanged { OnErr result (self.new ≡ self.old) }
+        ensures held { self.old.free ≡ true → IfErr result (λ why. W.is_held why → ⊥) }
+        ensures known { self.old.free ≡ true → (writer : W) × W.free writer }
     {
         extend_history(&mut self.history, &self.writer);
         let front = self.history.prefix();
-        self.writer.append(Operation::Front(front.copy()))?;
+        let Ok(()) = self.writer.append(Operation::Front(front.copy())) else {
+            return Err(W::out_of_memory());
+        };
         if let Err(why) = self.writer.publish_all(by, front) {
             return Err(why);
         }
+        self.free = Snapshot::of(&false);
         Ok(())
     }
 
@@ -138,6 +152,13 @@ impl<W: Publisher> Vlr<W> {
         ensures { result ≡ self.now.store.profile }
     {
         self.profile
+    }
+
+    /// How many subscribers have a record in what is published.
+    pub fn subscribers(&self) -> usize
+        ensures { result ≡ map.len (records_of self.now.updates.published) }
+    {
+        self.writer.published().records.len()
     }
 
     /// How many updates are published.

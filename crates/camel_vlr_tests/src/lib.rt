@@ -18,6 +18,8 @@ mod fronts;
 #[cfg(test)]
 mod given;
 #[cfg(test)]
+mod holders;
+#[cfg(test)]
 mod limits;
 #[cfg(test)]
 mod looking;

@@ -1,13 +1,12 @@
 -- The writer closes a place: it takes each slot that the reader does not have, and each later look is refused.
-use Rattle.std.proofs.Common.{◌≡◌, ℕ, ◌+◌, ◌%◌, ◌^◌, ◌≤◌, Bool, true, false, not, None, [], ◌∷◌, refl, sym, subst, arith, ◌∙◌}
-use Rattle.std.specs.Prelude.{slice_index}
+use Rattle.std.proofs.Common.{◌≡◌, ℕ, ◌+◌, ◌%◌, ◌^◌, Bool, true, false, not, None, [], ◌∷◌, refl, sym, subst, arith, ◌∙◌}
 use Rattle.std.specs.declared.option.Option.{Option}
 use mathlib.Core.Option as home
 use lib.ListN.{get_elem?}
 use Rattle.atomic_table.specs.Table.{Step, keeps, takes, chain, Allows}
 use Rattle.two_copies.specs.declared.place.Part.{Part}
-use Rattle.two_copies.specs.declared.place.Part.TheVariants.{Whole, Idle, Looking, Leaving, Refused, HasOther, HasNone, Closed}
-use Rattle.two_copies.specs.Place.{ahead, apart, back, behind, closed, ClosesWithNone, ClosesWithOther, fresh, index_of, IsClosedWord, IsGood, Kept, known_of, leaving, looked, newest_of, PlaceData, RefusesLooks, SeatData, Stage, state_of, writing}
+use Rattle.two_copies.specs.declared.place.Part.TheVariants.{Whole, Idle, Looking, Leaving, HasOther, HasNone, Closed}
+use Rattle.two_copies.specs.Place.{ahead, apart, back, behind, closed, ClosesWithNone, ClosesWithOther, fresh, index_of, IsClosedWord, IsGood, Kept, known_of, leaving, looked, newest_of, SeatData, Stage, state_of, writing}
 use Rattle.two_copies.proofs.Views.{Moves, at_state, by_writer, by_neither, is_only}
 
 module _ {X : Type 0} (holds : Option X → Type 0) (follows : Option X → Option X → Type 0) where

@@ -2,6 +2,7 @@ pub mod Closing
 pub mod Dividing
 pub mod Entering
 pub mod Leaving
+pub mod HeldLemmas
 pub mod LogLemmas
 pub mod PlacesLemmas
 pub mod Reclaiming

@@ -2,7 +2,7 @@
 use Rattle.std.specs.Prelude.{ℕ, List, All, length}
 use Rattle.std.specs.Arc.{arc_value}
 use Rattle.two_copies.specs.Log.{pending_in}
-use Rattle.two_copies.specs.WriterEnd.{IsFreeAt}
+use Rattle.two_copies.specs.WriterEnd.{IsFreeAt, held_in}
 use Rattle.two_copies.specs.declared.apply.Apply.{Ghosts}
 use Rattle.two_copies.specs.declared.copies.Copies.{Copies}
 
@@ -22,3 +22,7 @@ module _ {T O F S : Type 0} {g : Ghosts T O S} where
   -- the writer has the slot for the next copy of each place
   abbrev pub IsFree : Copies T O F S g → Type 0
   IsFree copies = All IsFreeAt copies.places.items
+
+  -- the places of which the writer lacks it: a bit for each, the lowest for the first reader
+  abbrev pub held_by : Copies T O F S g → ℕ
+  held_by copies = held_in copies.places.items

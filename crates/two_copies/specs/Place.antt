@@ -19,6 +19,14 @@ abbrev pub index_of : Bool → ℕ
 index_of false = 8
 index_of true = 9
 
+-- whether what lies here is the second slot
+abbrev pub is_second : ℕ → Bool
+is_second index = index == 9
+
+-- a slot lies here
+abbrev pub IsSlotIndex : ℕ → Type 0
+IsSlotIndex index = index ≡ index_of (is_second index)
+
 -- whether the two are one slot
 abbrev pub is_same : Bool → Bool → Bool
 is_same false newest = not newest
@@ -156,6 +164,10 @@ module _ {X : Type 0} where
   abbrev pub writing : Bool → Bool → Option X → SeatData X
   writing newest true shown = (HasOther newest shown, (index_of (not newest), None) ∷ [])
   writing newest false shown = (HasNone newest shown, [])
+
+  -- the reader's seat, which took this out of the slot that lies here, and has these others
+  abbrev pub looking : ℕ → Option X → List (ℕ × Option X) → SeatData X
+  looking index taken others = (Looking (is_second index) taken, (index_of (is_second index), None) ∷ others)
 
   -- each slot that a seat has is empty
   abbrev pub AreEmpty : List (ℕ × Option X) → Type 0

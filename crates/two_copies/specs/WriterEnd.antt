@@ -1,10 +1,10 @@
 -- What clauses see of the writer's end of a place.
-use Rattle.std.specs.Prelude.{◌≡◌, Some, true, IsSomeAnd}
+use Rattle.std.specs.Prelude.{◌≡◌, ◌+◌, ◌*◌, ℕ, List, [], ◌∷◌, Some, not, true, IsSomeAnd}
 use Rattle.std.specs.declared.alloc.Global.{Global}
 use Rattle.std.specs.declared.option.Option.{Option}
 use Rattle.std.specs.declared.sync.Arc.{Arc}
 use Rattle.std.specs.Arc.{arc_value}
-use Rattle.two_copies.specs.Place.{HasClosed, known_of}
+use Rattle.two_copies.specs.Place.{HasClosed, known_of, number}
 use Rattle.two_copies.specs.Slot.{value_in}
 use Rattle.two_copies.specs.declared.place.writer_end.WriterEnd.{WriterEnd}
 
@@ -24,6 +24,11 @@ module _ {T F : Type 0} where
   -- the writer has the slot for the next copy
   abbrev pub IsFreeAt : WriterEnd T F → Type 0
   IsFreeAt end = end.has_other ≡ true
+
+  -- which of the places are held, where the writer lacks that slot: a bit for each, the lowest for the first
+  abbrev pub held_in : List (WriterEnd T F) → ℕ
+  held_in [] = 0
+  held_in (end ∷ ends) = number (not end.has_other) + 2 * held_in ends
 
   -- the copy that is to be shown next has this value
   abbrev pub IsNextAt : T → WriterEnd T F → Type 0

@@ -10,7 +10,9 @@ use crate::apply::Apply;
 use crate::ending::Ending;
 use crate::log::Log;
 use crate::place::writer_end::WriterEnd;
-use crate::places::{Places, add, close_all, prepare_all, reclaim_all, remove_left, show_all};
+use crate::places::{
+    Places, close_all, next_place, prepare_all, put, reclaim_all, reclaim_each, show_all,
+};
 use crate::reader::Reader;
 use crate::rule::CopyRule;
 use std::alloc::{AllocError, Global};
@@ -74,7 +76,7 @@ pub struct Copies<T: Drop + Apply<O>, O: Drop, F: CopyRule<T>> {
 }
 
 impl<T: Drop + Apply<O>, O: Drop, F: CopyRule<T>> Copies<T, O, F> {
-    ghost use Rattle.two_copies.specs.Copies.{IsFree, pending_of, reader_count, shown_by};
+    ghost use Rattle.two_copies.specs.Copies.{IsFree, held_by, pending_of, reader_count, shown_by};
     ghost use Rattle.two_copies.specs.declared.copies.NoReader.TheVariants.{NoPlace};
     ghost use Rattle.two_copies.specs.declared.copies.Unpublished.TheVariants.{Held};
     ghost use Rattle.two_copies.specs.Ending.{closed_count, value_of};
@@ -97,30 +99,32 @@ impl<T: Drop + Apply<O>, O: Drop, F: CopyRule<T>> Copies<T, O, F> {
         })
     }
 
-    /// A further reader of what is shown, with a place of some 700 octets. It fails with `NoPlace` if
-    /// [`MAX_READERS`] readers are there; one that was dropped no longer counts. If memory is refused, all is as before.
+    /// A further reader of what is shown, with a place of some 700 octets. It takes the place of a reader that was
+    /// dropped, if there is one. It fails with `NoPlace` if [`MAX_READERS`] readers are there; one that was dropped no
+    /// longer counts. If memory is refused, all is as before.
     pub fn reader(&mut self) -> Result<Reader<T, F>, NoReader>
         requires { F.holds (shown_by self.old) }
         ensures seen { IfOk result (λ reader. seen_by reader ≡ Some (shown_by self.old)) }
         ensures no_place { result ≡ Err NoPlace → reader_count self.old ≡ MAX_READERS }
         ensures same { (shown_by self.new ≡ shown_by self.old) × (pending_of self.new ≡ pending_of self.old) }
     {
-        remove_left(&mut self.places);
-        if self.places.len() >= MAX_READERS {
+        let place = next_place(&self.places);
+        if place >= MAX_READERS {
             return Err(NoReader::NoPlace);
         }
-        Ok(self.add_place()?)
+        Ok(self.add_place(place)?)
     }
 
-    fn add_place(&mut self) -> Result<Reader<T, F>, AllocError>
+    fn add_place(&mut self, place: usize) -> Result<Reader<T, F>, AllocError>
         requires holds { F.holds (shown_by self.old) }
-        requires room { reader_count self.old < MAX_READERS }
+        requires place { place ≤ reader_count self.old }
+        requires room { place < MAX_READERS }
         ensures seen { IfOk result (λ reader. seen_by reader ≡ Some (shown_by self.old)) }
         ensures same { (shown_by self.new ≡ shown_by self.old) × (pending_of self.new ≡ pending_of self.old) }
     {
         let share = Arc::try_clone(&self.shown)?;
         let (end, reader) = WriterEnd::new(self.alloc, share)?;
-        add(&mut self.places, end)?;
+        put(&mut self.places, place, end)?;
         Ok(reader)
     }
 
@@ -153,6 +157,20 @@ impl<T: Drop + Apply<O>, O: Drop, F: CopyRule<T>> Copies<T, O, F> {
         reclaim_all(&mut self.places)
     }
 
+    /// Which readers hold up the next publication, each by a look that keeps the copy which is to be changed: bit 0 is
+    /// set if the first reader does, and so on in the order in which they were made. A reader that was dropped leaves
+    /// its bit to the next one that is made. 0 is returned exactly if [`Copies::is_free`] would return true. It takes a
+    /// step at each place, and no memory.
+    pub fn holders(&mut self) -> u64
+        ensures held { result ≡ held_by self.new }
+        ensures free { (result ≡ 0) ↔ IsFree self.new }
+        ensures keeps { IsFree self.old → result ≡ 0 }
+        ensures same { (shown_by self.new ≡ shown_by self.old) × (pending_of self.new ≡ pending_of self.old) }
+        ensures places { reader_count self.new ≡ reader_count self.old }
+    {
+        reclaim_each(&mut self.places)
+    }
+
     /// Publishes all that is pending, at once for each reader, and for all of them when it returns. It does not wait.
     ///
     /// It applies the operations of the last publication and then the pending ones to the copy that is not shown, and
@@ -169,6 +187,7 @@ impl<T: Drop + Apply<O>, O: Drop, F: CopyRule<T>> Copies<T, O, F> {
         ensures none { OnOk result (pending_of self.new ≡ []) }
         ensures unchanged { OnErr result ((shown_by self.new ≡ shown_by self.old) × (pending_of self.new ≡ pending_of self.old)) }
         ensures free { IsFree self.old → result ≢ Err Held }
+        ensures keeps { OnErr result (IsFree self.old → IsFree self.new) }
     {
         if !self.is_free() {
             return Err(Unpublished::Held);

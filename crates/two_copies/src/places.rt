@@ -1,8 +1,10 @@
 //! What the writer does at each place in turn.
-ghost use Rattle.std.specs.Prelude.{◌≡◌, ◌+◌, ◌≤◌, ◌↔◌, true, length, All, IsTrue, OnOk};
+ghost use Rattle.std.specs.Prelude.{◌≡◌, ◌<◌, ◌≤◌, ◌↔◌, ℕ, true, length, All, IsTrue, OnOk};
 ghost use Rattle.std.specs.Arc.{arc_value};
-ghost use Rattle.two_copies.specs.WriterEnd.{IsClosedAt, IsFreeAt, IsNextAt, ShowsAt};
+ghost use Rattle.two_copies.specs.WriterEnd.{IsClosedAt, IsFreeAt, IsNextAt, ShowsAt, held_in};
+ghost use Rattle.two_copies.specs.declared.copies.TheConstants.{MAX_READERS};
 
+use crate::copies::MAX_READERS;
 use crate::place::writer_end::WriterEnd;
 use crate::rule::CopyRule;
 use std::alloc::{AllocError, Global};
@@ -10,14 +12,31 @@ use std::sync::Arc;
 
 pub(crate) type Places<T, F> = Vec<WriterEnd<T, F>, Global>;
 
-/// Puts a place behind the others.
-pub(crate) fn add<T: Drop, F: CopyRule<T>>(
+/// Where a further place goes: to that of a reader which was dropped, or else behind the others. So no place moves.
+pub(crate) fn next_place<T: Drop, F: CopyRule<T>>(places: &Places<T, F>) -> usize
+    ensures { result ≤ length places.now.items }
+{
+    let mut next: usize = 0;
+    while next < places.len() && !places[next].is_left() {
+        next += 1;
+    }
+    next
+}
+
+/// Puts a place where another one was, or behind the others.
+pub(crate) fn put<T: Drop, F: CopyRule<T>>(
     places: &mut Places<T, F>,
+    place: usize,
     end: WriterEnd<T, F>,
 ) -> Result<(), AllocError>
-    ensures len { length places.new.items ≤ length places.old.items + 1 }
+    requires { place ≤ length places.old.items }
+    ensures len { (most : ℕ) → place < most → length places.old.items ≤ most → length places.new.items ≤ most }
     ensures shown { (shown : T) → ShowsAt shown end → All (ShowsAt shown) places.old.items → All (ShowsAt shown) places.new.items }
 {
+    if place < places.len() {
+        places[place] = end;
+        return Ok(());
+    }
     places.reserve(1)?;
     places.push_reserved(end);
     Ok(())
@@ -38,6 +57,26 @@ pub(crate) fn reclaim_all<T: Drop, F: CopyRule<T>>(places: &mut Places<T, F>) ->
         next += 1;
     }
     true
+}
+
+/// Takes the slot for the next copy from each place whose reader does not have it. Returns which places are held.
+pub(crate) fn reclaim_each<T: Drop, F: CopyRule<T>>(places: &mut Places<T, F>) -> u64
+    requires { length places.old.items ≤ MAX_READERS }
+    ensures held { result ≡ held_in places.new.items }
+    ensures keeps { All IsFreeAt places.old.items → All IsFreeAt places.new.items }
+    ensures len { length places.new.items ≡ length places.old.items }
+    ensures shown { (shown : T) → All (ShowsAt shown) places.old.items → All (ShowsAt shown) places.new.items }
+{
+    let mut held: u64 = 0;
+    let mut next = places.len();
+    while next > 0 {
+        next -= 1;
+        held *= 2;
+        if !places[next].reclaim() {
+            held += 1;
+        }
+    }
+    held
 }
 
 /// Makes a share of this copy for each place, to be shown there next.
@@ -79,14 +118,6 @@ pub(crate) fn show_all<T: Drop, F: CopyRule<T>>(
         places[next].show();
         next += 1;
     }
-}
-
-/// Removes the places whose readers were dropped.
-pub(crate) fn remove_left<T: Drop, F: CopyRule<T>>(places: &mut Places<T, F>)
-    ensures len { length places.new.items ≤ length places.old.items }
-    ensures shown { (shown : T) → All (ShowsAt shown) places.old.items → All (ShowsAt shown) places.new.items }
-{
-    places.retain(|place| !place.is_left());
 }
 
 /// Closes each place, whether or not its reader looks.

@@ -1,10 +1,10 @@
 //! A reader and its looks.
-ghost use Rattle.std.specs.Prelude.{◌≡◌, ◌∷◌, Some, None, IfErr, IfOk, IsErr, IsSomeAnd};
+ghost use Rattle.std.specs.Prelude.{◌≡◌, Some, None, IfErr, IfOk, IsErr, IsSomeAnd};
 ghost use Rattle.std.specs.Arc.{arc_value};
 ghost use Rattle.atomic_table.specs.Table.{rest};
-ghost use Rattle.two_copies.specs.Place.{AreEmpty, index_of, known_of};
+ghost use Rattle.two_copies.specs.Place.{AreEmpty, IsSlotIndex, known_of, looking};
 ghost use Rattle.two_copies.specs.Seated.{IsSeated};
-ghost use Rattle.two_copies.specs.declared.place.Part.TheVariants.{Idle, Looking};
+ghost use Rattle.two_copies.specs.declared.place.Part.TheVariants.{Idle};
 
 use crate::place::steps::{enter, leave};
 use crate::place::{Board, PlaceSeat};
@@ -31,10 +31,12 @@ pub struct Reader<T: Drop, F: CopyRule<T>> {
 pub struct Look<T: Drop, F: CopyRule<T>> {
     board: Arc<Board<T, F>, Global>,
     seat: PlaceSeat<T>,
-    slot: bool,
+    /// Where its slot lies. A look is moved often, and with a `bool` it would be moved in pieces that overlap.
+    slot: usize,
     shown: Arc<T, Global>,
     ghost seated: { IsSeated seat.table_id (arc_value board).shared.table_id },
-    ghost looks: { seat.me ≡ (Looking slot (Some shown), (index_of slot, None) ∷ rest seat.me.1) },
+    ghost is_slot: { IsSlotIndex slot },
+    ghost looks: { seat.me ≡ looking slot (Some shown) (rest seat.me.1) },
     ghost empty: { AreEmpty seat.me.1 },
 }
 

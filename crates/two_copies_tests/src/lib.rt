@@ -8,6 +8,8 @@ mod freeing;
 #[cfg(test)]
 mod held_looks;
 #[cfg(test)]
+mod holders;
+#[cfg(test)]
 mod looking;
 #[cfg(test)]
 mod places;

@@ -14,7 +14,7 @@ struct update {
     camel_imsi imsi;
     bool is_cancel;
     bool is_new;
-    camel_insert sent;
+    bool has_o, has_vt;
     uint8_t o_count, o_criteria_count, vt_count;
     camel_row o[2], vt[2];
     camel_o_criteria o_criteria;

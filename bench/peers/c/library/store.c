@@ -58,13 +58,10 @@ struct session *store_session(struct store *store, unsigned place)
 /* The lowest four bits of an IMSI of the workload count its digits, of which the first is in the highest four bits. */
 static camel_imsi imsi_from(uint64_t number)
 {
-    size_t count = number & 15;
-    uint8_t digits[15];
-    camel_imsi imsi;
-    for (size_t place = 0; place < count; place++)
-        digits[place] = '0' + (number >> (60 - 4 * place) & 15);
-    expect_ok(camel_imsi_of_digits(digits, count, &imsi));
-    return imsi;
+    uint64_t count = number & 15, value = 0;
+    for (uint64_t place = 0; place < count; place++)
+        value = 10 * value + (number >> (60 - 4 * place) & 15);
+    return (camel_imsi){ count << 56 | value };
 }
 
 static camel_isdn_address isdn_from(const struct isdn_address *address)
@@ -130,10 +127,10 @@ static uint8_t rows_from(const struct csi *csi, camel_row rows[2])
     for (size_t place = 0; place < csi->rows; place++) {
         const struct tdp_row *row = &csi->row[place];
         rows[place] = (camel_row){
-            .key = row->service_key,
-            .handling = row->handling,
-            .scf = isdn_from(&row->scf),
             .dp = row->detection_point,
+            .key = row->service_key,
+            .scf = isdn_from(&row->scf),
+            .handling = row->handling,
         };
     }
     return (uint8_t)csi->rows;
@@ -160,13 +157,10 @@ struct update update_of(struct change change)
     };
     if (!change.is_cancel) {
         struct record record = record_of(change.subscriber, change.version);
-        update.sent = (camel_insert){
-            .has_o = record.o.is_present,
-            .has_o_criteria = record.numbers > 0,
-            .has_vt = record.vt.is_present,
-        };
+        update.has_o = record.o.is_present;
+        update.has_vt = record.vt.is_present;
         update.o_count = rows_from(&record.o, update.o);
-        update.o_criteria_count = update.sent.has_o_criteria;
+        update.o_criteria_count = record.numbers > 0;
         update.o_criteria = criteria_from(&record);
         update.vt_count = rows_from(&record.vt, update.vt);
     }
@@ -175,16 +169,24 @@ struct update update_of(struct change change)
 
 static void submit(camel_store *store, const struct update *update)
 {
-    static const camel_t_criteria none[1];
     if (update->is_cancel) {
         expect_ok(camel_submit_cancel(store, &update->imsi));
         return;
     }
     if (update->is_new)
         expect_ok(camel_submit_register(store, &update->imsi));
-    expect_ok(camel_submit_insert(store, &update->imsi, &update->sent, update->o, update->o_count,
-                                  &update->o_criteria, update->o_criteria_count, update->vt, update->vt_count,
-                                  none, 0));
+    camel_insert sent = {
+        .o = {
+            .rows = update->o,
+            .row_count = update->o_count,
+            .criteria = &update->o_criteria,
+            .criteria_count = update->o_criteria_count,
+            .has_rows = update->has_o,
+            .has_criteria = update->o_criteria_count > 0,
+        },
+        .vt = { .rows = update->vt, .row_count = update->vt_count, .has_rows = update->has_vt },
+    };
+    expect_ok(camel_submit_insert(store, &update->imsi, &sent));
 }
 
 /* A look that a decision is made by holds a publication up until it is left. */

@@ -4,7 +4,7 @@ use crate::counts::Counts;
 use crate::model::{Model, Record, decide};
 use crate::plain::{self, Event};
 use crate::shared::{Checked, Shared};
-use camel::{Answer, Error, OCriteria, Row, Subscriber, TCriteria};
+use camel::{Answer, Decisions, Error, OCriteria, Row, Subscriber, TCriteria};
 use std::collections::VecDeque;
 use std::fmt::Debug;
 use std::sync::Arc;
@@ -53,6 +53,8 @@ pub struct Audit<'a> {
     model: Arc<Model>,
     pub kept: VecDeque<Kept>,
     pub counts: Counts,
+    /// How many answers of each outcome the session has given.
+    decided: [u64; 6],
 }
 
 impl<'a> Audit<'a> {
@@ -65,6 +67,19 @@ impl<'a> Audit<'a> {
             model: Arc::new(none),
             kept: VecDeque::new(),
             counts: Counts::default(),
+            decided: [0; 6],
+        }
+    }
+
+    /// Compares what the session has counted with the answers that it has given, all of which were audited.
+    pub fn check_decisions(&self, decisions: &Decisions) -> Checked<()> {
+        if convert::outcomes(decisions) == self.decided {
+            Ok(())
+        } else {
+            Err(format!(
+                "caller {}: {decisions:?}, and not {:?}",
+                self.caller, self.decided
+            ))
         }
     }
 
@@ -81,6 +96,7 @@ impl<'a> Audit<'a> {
         match given.what {
             What::Answer(event, answer) => {
                 let record = self.model.record(event.subscriber).cloned();
+                self.decided[convert::place(&answer.outcome)] += 1;
                 self.check_answer(&event, &answer, record.as_deref())
             }
             What::Row(subscriber, dp, row) => {

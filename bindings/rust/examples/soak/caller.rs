@@ -1,4 +1,5 @@
-//! A call-control thread: it asks its session in bursts, keeps what it gives with its front, and audits that behind them.
+//! A call-control thread: it asks its session in bursts, keeps what it gives with its front, and audits that behind
+//! them.
 use crate::audit::{At, Audit, Given, What};
 use crate::convert;
 use crate::plain::{self, POINTS};

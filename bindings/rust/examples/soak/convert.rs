@@ -1,9 +1,9 @@
 //! From plain data to those of the crate.
 use crate::plain;
 use camel::{
-    Address, Answer, BasicService, CallType, Cause, Csis, DetectionPoint, Error, Event, Imsi,
-    IsdnAddress, MatchType, NumberCriterion, OCriteria, OnFailure, Outcome, Reason, Row, TCriteria,
-    Update, Withdrawal,
+    Address, Answer, BasicService, CallType, Cause, Csis, Decisions, DetectionPoint, Error, Event,
+    Imsi, IsdnAddress, MatchType, NumberCriterion, OCriteria, OnFailure, Outcome, Reason, Row,
+    TCriteria, Update, Withdrawal,
 };
 
 fn service(service: &plain::Service) -> BasicService {
@@ -172,4 +172,17 @@ pub fn place(outcome: &Outcome) -> usize {
         Outcome::Trigger { .. } => 0,
         Outcome::NoTrigger(reason) => usize::from(Reason::code(*reason)),
     }
+}
+
+/// The counts of a session in the order of these names.
+pub fn outcomes(decisions: &Decisions) -> [u64; 6] {
+    let none = |reason| decisions.not_triggered(reason);
+    [
+        decisions.triggered(),
+        none(Reason::Unknown),
+        none(Reason::NoCsi),
+        none(Reason::NotArmed),
+        none(Reason::Emergency),
+        none(Reason::Criteria),
+    ]
 }

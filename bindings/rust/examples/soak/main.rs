@@ -3,11 +3,12 @@
 //!     cargo run --release --example soak -- [--decisions N] [--seconds N] [--subscribers N] [--seed N]
 //!
 //! The writer lets the subscribers come, submits random updates in batches of random sizes, and publishes them; a
-//! publication that is held is tried again. Each caller asks its session in bursts, keeps each answer with its front, and
-//! audits them behind the burst: each is the decision of a plain model at the answer's own front, no front is shorter than
-//! one that the session saw or learnt, or that was published when it was asked, and each is that of a publication. At the
-//! end all that is stored is compared with the model, and the memory with that of the first quarter. It ends with
-//! `0 differences`, or prints the first difference and ends with status 1.
+//! publication that is held is tried again. Each caller asks its session in bursts, keeps each answer with its front,
+//! and audits them behind the burst: each is the decision of a plain model at the answer's own front, no front is
+//! shorter than one that the session saw or learnt, or that was published when it was asked, and each is that of a
+//! publication. At the end all that is stored is compared with the model, what the store and each session have counted
+//! with what was done, and the memory with that of the first quarter. It ends with `0 differences`, or prints the first
+//! difference and ends with status 1.
 mod audit;
 mod caller;
 mod convert;
@@ -158,6 +159,9 @@ impl<'a> Soak<'a> {
         }
         let mut sessions = Vec::new();
         for (session, caller) in ended {
+            let decisions = session.decisions();
+            let decisions = decisions.map_err(|error| format!("decisions: {error}"))?;
+            caller.audit.check_decisions(&decisions)?;
             counts += &caller.audit.counts;
             sessions.push(session);
         }

@@ -5,11 +5,12 @@ use std::sync::Arc;
 /// How many subscribers are in a block.
 const BLOCK: usize = 64;
 
-/// The subscriber data: a record or none for each subscriber, in blocks. A copy of the data has the same blocks until one
-/// of the two is changed.
+/// The subscriber data: a record or none for each subscriber, in blocks. A copy of the data has the same blocks until
+/// one of the two is changed.
 #[derive(Clone)]
 pub struct Model {
     blocks: Vec<Arc<Vec<Option<Arc<Record>>>>>,
+    subscribers: u64,
 }
 
 #[derive(Clone, Default)]
@@ -45,7 +46,13 @@ impl Model {
         let none = Arc::new(vec![None; BLOCK]);
         Model {
             blocks: vec![none; count.div_ceil(BLOCK)],
+            subscribers: 0,
         }
+    }
+
+    /// How many subscribers have a record.
+    pub fn subscribers(&self) -> u64 {
+        self.subscribers
     }
 
     pub fn record(&self, subscriber: Subscriber) -> Option<&Arc<Record>> {
@@ -56,6 +63,12 @@ impl Model {
         &mut Arc::make_mut(&mut self.blocks[subscriber / BLOCK])[subscriber % BLOCK]
     }
 
+    fn put(&mut self, subscriber: Subscriber, record: Option<Arc<Record>>) {
+        let is_there = record.is_some();
+        let was_there = std::mem::replace(self.place(subscriber), record).is_some();
+        self.subscribers = self.subscribers + u64::from(is_there) - u64::from(was_there);
+    }
+
     /// Applies an update, or gives each number by which it may be refused.
     pub fn apply(&mut self, update: &Update) -> Result<(), Vec<u32>> {
         let refusals = self.refusals(update);
@@ -63,8 +76,8 @@ impl Model {
             return Err(refusals);
         }
         match update {
-            Update::Register(subscriber) => *self.place(*subscriber) = Some(Arc::default()),
-            Update::Cancel(subscriber) => *self.place(*subscriber) = None,
+            Update::Register(subscriber) => self.put(*subscriber, Some(Arc::default())),
+            Update::Cancel(subscriber) => self.put(*subscriber, None),
             Update::ClearAll => *self = Model::new(self.blocks.len() * BLOCK),
             Update::Delete(subscriber, o, vt, everything) => self.change(*subscriber, |record| {
                 if *o || *everything {

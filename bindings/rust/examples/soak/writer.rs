@@ -45,7 +45,7 @@ impl Writer<'_> {
         while self.shared.is_at_work() {
             self.batch()?;
             let receipt = self.publish()?;
-            self.hand_out(receipt)?;
+            self.hand_out(receipt);
             turn += 1;
             if turn % TURNS == 0 {
                 self.memory.look();
@@ -123,56 +123,72 @@ impl Writer<'_> {
     fn publish(&mut self) -> Checked<Receipt> {
         loop {
             let front = self.counts.accepted;
-            let before = self.published()?;
+            let before = self.store_counts()?;
             self.shared.show(front, Arc::new(self.model.clone()));
             match self.store.publish() {
                 Ok(receipt) => {
                     self.shared.has_published(front);
-                    self.counts.publications += u64::from(front > before);
-                    return if self.published()? == front && self.store.pending() == Ok(0) {
-                        Ok(receipt)
-                    } else {
-                        Err(format!(
-                            "writer: {:?} published, and not {front}",
-                            self.store.published()
-                        ))
-                    };
+                    self.counts.publications += u64::from(front > before.published);
+                    let subscribers = self.model.subscribers();
+                    self.expect_counts("published", front, 0, subscribers)?;
+                    return Ok(receipt);
                 }
                 Err(Error::Held) => self.counts.held += 1,
                 Err(error) => return Err(format!("publish: {error}")),
             }
-            if self.published()? != before || self.store.pending() != Ok(front - before) {
-                return Err(format!(
-                    "writer: a publication of {front} that was held changed the counts"
-                ));
-            }
+            self.expect_counts(
+                "held",
+                before.published,
+                front - before.published,
+                before.subscribers,
+            )?;
             if self.random.once_in(3) {
-                self.shared.hide(front);
+                if front > before.published {
+                    self.shared.hide(front);
+                }
                 self.batch()?;
             }
             yield_now();
         }
     }
 
-    fn published(&self) -> Checked<u64> {
+    fn store_counts(&self) -> Checked<camel::Counts> {
         self.store
-            .published()
-            .map_err(|error| format!("published: {error}"))
+            .counts()
+            .map_err(|error| format!("counts: {error}"))
+    }
+
+    /// Compares what the store counts behind a publication.
+    fn expect_counts(
+        &self,
+        what: &str,
+        published: u64,
+        pending: u64,
+        subscribers: u64,
+    ) -> Checked<()> {
+        let counts = self.store_counts()?;
+        let wanted = (published, pending, subscribers, self.counts.held);
+        let found = (
+            counts.published,
+            counts.pending,
+            counts.subscribers,
+            counts.held,
+        );
+        if found == wanted {
+            Ok(())
+        } else {
+            Err(format!("writer: {what}: {counts:?}, and not {wanted:?}"))
+        }
     }
 
     /// Sends a receipt to some callers. One that has ended takes none.
-    fn hand_out(&mut self, receipt: Receipt) -> Checked<()> {
+    fn hand_out(&mut self, receipt: Receipt) {
         let front = self.counts.accepted;
         for caller in &self.callers {
             if self.random.once_in(3) {
-                let further = self
-                    .store
-                    .receipt()
-                    .map_err(|error| format!("receipt: {error}"))?;
-                let _ = caller.send((further, front));
+                let _ = caller.send((receipt, front));
             }
         }
         let _ = self.callers[self.random.below(self.callers.len())].send((receipt, front));
-        Ok(())
     }
 }

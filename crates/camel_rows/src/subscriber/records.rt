@@ -65,6 +65,13 @@ impl Records {
         self.table.get(imsi)
     }
 
+    /// How many subscribers have a record. It counts none, since their number is kept.
+    pub fn len(&self) -> usize
+        ensures { result ≡ map.len self.now }
+    {
+        self.table.len()
+    }
+
     /// Each subscriber's IMSI, once, in no order that is promised.
     ///
     /// Fails with `OutOfMemory` (102) if memory is refused.

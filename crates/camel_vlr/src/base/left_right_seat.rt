@@ -29,6 +29,10 @@ impl Seat for LeftRightSeat {
         replace_with(self, (), LeftRightSeat::take_copy)
     }
 
+    fn has_copy(&self) -> bool {
+        matches!(self, LeftRightSeat::Reading(_))
+    }
+
     fn copy(&self) -> &PublishedCopy {
         match self {
             LeftRightSeat::Reading(reading) => reading.get(),

@@ -36,6 +36,9 @@ impl Publisher for LeftRightWriter {
 
     ghost pending = { pending_operations };
 
+    // A publication waits for the looks that hold it up, so it is never known that there is none.
+    ghost free = { λ _. ⊥ };
+
     fn published(&self) -> &PublishedCopy {
         Writer::published(self)
     }
@@ -58,6 +61,13 @@ impl Publisher for LeftRightWriter {
 
 impl<R: Wait> Publishes<&R> for LeftRightWriter {
     type Why = AllocError;
+
+    // It waits for the look instead.
+    ghost is_held = { λ _. ⊥ };
+
+    fn out_of_memory() -> AllocError {
+        AllocError
+    }
 
     fn publish_all(&mut self, by: &R, front: Prefix) -> Result<(), AllocError> {
         replace_with(self, (by, front), publish_all)

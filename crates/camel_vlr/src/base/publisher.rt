@@ -34,6 +34,9 @@ pub trait Publisher: Sized {
     /// The operations that are pending.
     ghost pending: { Self → List Operation };
 
+    /// No look holds up the next publication, whatever sessions do until then.
+    ghost free: { Self → Type 0 };
+
     /// The copy that is published.
     fn published(&self) -> &PublishedCopy
         ensures { result.now ≡ shown self.now };
@@ -44,7 +47,8 @@ pub trait Publisher: Sized {
         ensures tells { KnowsNoLess tells self.old self.new }
         ensures pending { MatchResult result
             (λ _. pending self.new ≡ pending self.old ++ operation ∷ [])
-            (λ _. pending self.new ≡ pending self.old) };
+            (λ _. pending self.new ≡ pending self.old) }
+        ensures free { free self.old → free self.new };
 
     /// A place for a session, at which all is known that is known to the writer. It fails with `OutOfMemory` (102) if
     /// memory was refused, and with `NoPlace` (103) if there is none.
@@ -61,7 +65,14 @@ pub trait Publisher: Sized {
 /// A base whose writer publishes by a handle `H`.
 pub trait Publishes<H>: Publisher {
     /// Why nothing was published.
-    type Why: Drop + From<AllocError>;
+    type Why: Drop;
+
+    /// It was because a look holds up the publication.
+    ghost is_held: { Self.Why → Type 0 };
+
+    /// It was because memory was refused.
+    fn out_of_memory() -> Self::Why
+        ensures { is_held result → ⊥ };
 
     /// Publishes all that is pending, of which the last is the front that all of it makes.
     fn publish_all(&mut self, by: H, front: Prefix) -> Result<(), Self::Why>
@@ -76,5 +87,7 @@ pub trait Publishes<H>: Publisher {
         ensures none { OnOk result (Self.pending self.new ≡ []) }
         ensures unchanged { OnErr result ((Self.shown self.new ≡ Self.shown self.old)
             × KnowsNoLess Self.tells self.old self.new
-            × (Self.pending self.new ≡ Self.pending self.old)) };
+            × (Self.pending self.new ≡ Self.pending self.old)) }
+        ensures free { OnErr result (Self.free self.old → Self.free self.new) }
+        ensures held { Self.free self.old → IfErr result (λ why. is_held why → ⊥) };
 }

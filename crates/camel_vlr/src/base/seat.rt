@@ -1,4 +1,4 @@
-ghost use Rattle.std.specs.Prelude.{◌≡◌, Some, None, true, false, IsSome, IsSomeAnd};
+ghost use Rattle.std.specs.Prelude.{◌≡◌, Some, None, true, false, IsSome, IsSomeAnd, is_some};
 ghost use Rattle.camel_vlr.specs.Seat.{Enters, KnowsNoLess};
 
 use crate::published_copy::PublishedCopy;
@@ -19,6 +19,10 @@ pub trait Seat: Drop + Sized {
     fn enter(&mut self) -> bool
         ensures yes { result ≡ true → IsSomeAnd (copy_of self.new) (Enters knows self.old self.new) }
         ensures no { result ≡ false → (copy_of self.new ≡ None) × KnowsNoLess knows self.old self.new };
+
+    /// Whether it has a copy.
+    fn has_copy(&self) -> bool
+        ensures { result ≡ is_some (copy_of self.now) };
 
     /// The copy of the look.
     fn copy(&self) -> &PublishedCopy

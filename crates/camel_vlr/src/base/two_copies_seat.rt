@@ -45,6 +45,10 @@ impl Seat for TwoCopiesSeat {
         replace_with(self, (), TwoCopiesSeat::take_copy)
     }
 
+    fn has_copy(&self) -> bool {
+        matches!(self, TwoCopiesSeat::Looking(_))
+    }
+
     fn copy(&self) -> &PublishedCopy {
         match self {
             TwoCopiesSeat::Looking(look) => look.get(),

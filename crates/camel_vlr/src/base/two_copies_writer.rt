@@ -15,7 +15,7 @@ use two_copies::{Copies, NoReader, Unpublished};
 pub type TwoCopiesWriter = Copies<PublishedCopy, Operation, FrontsGrow>;
 
 impl Publisher for TwoCopiesWriter {
-    ghost use Rattle.two_copies.specs.Copies.{pending_of, shown_by};
+    ghost use Rattle.two_copies.specs.Copies.{IsFree, pending_of, shown_by};
     ghost use Rattle.camel_vlr.specs.Rule.{IsPrefixOf};
 
     type Place = TwoCopiesSeat;
@@ -25,6 +25,8 @@ impl Publisher for TwoCopiesWriter {
     ghost shown = { shown_by };
 
     ghost pending = { pending_of };
+
+    ghost free = { IsFree };
 
     fn published(&self) -> &PublishedCopy {
         self.shown()
@@ -44,7 +46,16 @@ impl Publisher for TwoCopiesWriter {
 }
 
 impl Publishes<()> for TwoCopiesWriter {
+    ghost use Rattle.std.specs.Prelude.{◌≡◌};
+    ghost use Rattle.two_copies.specs.declared.copies.Unpublished.TheVariants.{Held};
+
     type Why = Unpublished;
+
+    ghost is_held = { λ why. why ≡ Held };
+
+    fn out_of_memory() -> Unpublished {
+        Unpublished::OutOfMemory
+    }
 
     fn publish_all(&mut self, _by: (), _front: Prefix) -> Result<(), Unpublished> {
         self.publish()

@@ -1,6 +1,7 @@
 //! What a session answers to call events.
 
 ghost use Rattle.std.specs.Prelude.{◌≡◌, ◌<◌, ◌+◌, ◌⊎◌, [], ◌∷◌, ◌++◌, false, Err, List, length, take, vec_len, IfErr, IfOk, OnErr, OnOk};
+ghost use Rattle.camel_rows.specs.Event.{event_data};
 ghost use Rattle.camel_rows.specs.declared.trigger.outcome.Answer.{Answer};
 ghost use Rattle.camel_vlr.specs.Run.{Answers};
 ghost use Rattle.camel_vlr.specs.Session.{LeavesLook};
@@ -9,7 +10,7 @@ use crate::base::seat::Seat;
 use crate::session::Session;
 use crate::session::look::NoLook;
 use camel_criteria::Refusal;
-use camel_rows::{Answer, CallEvent, Outcome};
+use camel_rows::{Answer, CallEvent, Event, Outcome};
 
 impl<S: Seat> Session<S> {
     /// The answer to an event, by a look of its own, which has ended when it returns. It takes no lock, does not wait,
@@ -21,10 +22,20 @@ impl<S: Seat> Session<S> {
         ensures refused { OnErr result (LeavesLook self.old self.new) }
         ensures looks { self.new.looks ≡ false }
     {
+        self.answer_to(&event.lend())
+    }
+
+    /// The answer to a borrowed event, as [`Session::answer`] gives it to one of its own: for a caller that keeps the
+    /// event elsewhere, as one in C.
+    pub fn answer_to(&mut self, event: &Event) -> Result<Answer, NoLook>
+        ensures answers { IfOk result (λ answer. Answers self.old (event_data event.now ∷ []) (answer ∷ []) self.new) }
+        ensures refused { OnErr result (LeavesLook self.old self.new) }
+        ensures looks { self.new.looks ≡ false }
+    {
         let look = self.look()?;
         let answer = Answer {
             front: look.front(),
-            outcome: Outcome::of(&look.decide(&event.lend())),
+            outcome: Outcome::of(&look.decide(event)),
         };
         look.leave();
         Ok(answer)

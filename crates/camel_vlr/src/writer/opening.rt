@@ -1,6 +1,6 @@
 //! A store over `left_right`: how it begins, publishes, and ends without a word.
 
-ghost use Rattle.std.specs.Prelude.{◌≡◌, ◌≤◌, ◌⊎◌, vec_len, All, IfErr, IfOk, OnErr, OnOk};
+ghost use Rattle.std.specs.Prelude.{◌≡◌, ◌≤◌, ◌⊎◌, false, vec_len, All, IfErr, IfOk, OnErr, OnOk};
 ghost use Rattle.camel_rows.specs.Front.{IsFront};
 ghost use Rattle.camel_rows.specs.Store.{all_published, no_updates};
 ghost use Rattle.camel_vlr.specs.Store.{fresh_session};
@@ -21,6 +21,7 @@ use camel_tbcd::Profile;
 use left_right::writer::Writer;
 use std::alloc::Global;
 use std::random::RandomSource;
+use std::snapshot::Snapshot;
 use std::sync::Wait;
 
 impl Vlr {
@@ -92,6 +93,7 @@ impl Vlr {
         requires limit { (1 ≤ terms.limit) × (terms.limit ≤ MAX_UPDATES) }
         ensures empty { IfOk result (λ r. (r.updates ≡ no_updates) × (r.store.limit ≡ terms.limit)) }
         ensures profile { IfOk result (λ r. r.store.profile ≡ terms.profile) }
+        ensures free { IfOk result (λ r. r.free ≡ false) }
         ensures only { IfErr result (λ why. why ≡ Refusal.OutOfMemory) }
     {
         let history = History::new(terms);
@@ -111,6 +113,7 @@ impl Vlr {
                 admission: Admission::seeded(alloc, terms.limit, seed),
                 profile: terms.profile,
                 alloc,
+                free: Snapshot::of(&false),
             }),
             Err(_) => {
                 drop(writer.take(rt));
@@ -145,6 +148,7 @@ impl Vlr {
             admission: _admission,
             profile: _profile,
             alloc: _alloc,
+            free: _free,
         } = self;
         drop(writer.take(rt));
     }

@@ -25,6 +25,7 @@ pub(crate) fn accept<W: Publisher>(
     requires before { change.before ≡ value_of admission.old.directory (update_imsi update) }
     ensures shown { W.shown writer.new ≡ W.shown writer.old }
     ensures tells { KnowsNoLess W.tells writer.old writer.new }
+    ensures free { W.free writer.old → W.free writer.new }
     ensures pending { OnOk result (updates_among (W.pending writer.new)
         ≡ updates_among (W.pending writer.old) ++ update ∷ []) }
     ensures none { OnErr result (W.pending writer.new ≡ W.pending writer.old) }
@@ -54,6 +55,7 @@ fn accept_new<W: Publisher>(
     requires new { value_of admission.old.directory (Some imsi) ≡ None }
     ensures shown { W.shown writer.new ≡ W.shown writer.old }
     ensures tells { KnowsNoLess W.tells writer.old writer.new }
+    ensures free { W.free writer.old → W.free writer.new }
     ensures pending { MatchResult result
         (λ _. W.pending writer.new
         ≡ W.pending writer.old ++ operation.Update update ∷ [])

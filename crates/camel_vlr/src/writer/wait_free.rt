@@ -1,6 +1,6 @@
 //! A store over `two_copies`, whose writer does not wait: how it begins, publishes and ends.
 
-ghost use Rattle.std.specs.Prelude.{◌≡◌, ◌≤◌, ◌⊎◌, vec_len, All, IfErr, IfOk, MatchResult, OnErr, OnOk};
+ghost use Rattle.std.specs.Prelude.{◌≡◌, ◌≢◌, ◌==◌, ◌≤◌, ◌⊎◌, true, false, vec_len, All, Err, IfErr, IfOk, MatchResult, OnErr, OnOk};
 ghost use Rattle.camel_rows.specs.Front.{IsFront};
 ghost use Rattle.camel_rows.specs.Store.{all_published, no_updates};
 ghost use Rattle.camel_rows.specs.Update.{records_of};
@@ -21,6 +21,7 @@ use camel_table::Seed;
 use camel_tbcd::Profile;
 use std::alloc::{AllocError, Global};
 use std::marker::Model;
+use std::snapshot::Snapshot;
 use two_copies::{Copies, Ending, Unpublished};
 
 /// A store whose writer does not wait: where that of a [`Vlr`] would wait for a look, a publication is refused. It takes
@@ -73,6 +74,7 @@ impl Vlr<TwoCopiesWriter> {
         requires limit { (1 ≤ terms.limit) × (terms.limit ≤ MAX_UPDATES) }
         ensures empty { IfOk result (λ r. (r.updates ≡ no_updates) × (r.store.limit ≡ terms.limit)) }
         ensures profile { IfOk result (λ r. r.store.profile ≡ terms.profile) }
+        ensures free { IfOk result (λ r. r.free ≡ false) }
     {
         let history = History::new(terms);
         let front = history.prefix();
@@ -85,6 +87,7 @@ impl Vlr<TwoCopiesWriter> {
             admission: Admission::seeded(alloc, terms.limit, seed),
             profile: terms.profile,
             alloc,
+            free: Snapshot::of(&false),
         })
     }
 
@@ -95,24 +98,43 @@ impl Vlr<TwoCopiesWriter> {
     /// `OutOfMemory` if memory was refused. Either way nothing was published, all is pending as before, and it may be
     /// tried again.
     pub fn publish(&mut self) -> Result<Receipt, Unpublished>
-        ensures published { OnOk result (self.new ≡ record self.old { updates = all_published self.old.updates }) }
+        ensures published { OnOk result (self.new
+            ≡ record self.old { updates = all_published self.old.updates; free = false }) }
         ensures receipt { IfOk result (λ receipt. receipt ≡ record { store = self.old.store; updates = self.new.updates.published }) }
         ensures front { OnOk result (IsFront self.new.store.limit self.new.updates.published) }
         ensures unchanged { OnErr result (self.new ≡ self.old) }
+        ensures held { self.old.free ≡ true → result ≢ Err Unpublished.Held }
     {
-        if !self.is_free() {
+        if !self.writer.is_free() {
             return Err(Unpublished::Held);
         }
-        self.publish_by(())?;
+        if let Err(why) = self.publish_by(()) {
+            return Err(why);
+        }
         Ok(self.receipt())
     }
 
     /// Whether no look keeps the copy that is to be changed: then the next publication is not `Held`, whatever sessions
     /// do meanwhile. It takes a step at the place of each session, up to the first that is held, and no memory.
     pub fn is_free(&mut self) -> bool
-        ensures { self.new ≡ self.old }
+        ensures known { self.new ≡ record self.old { free = result } }
+        ensures keeps { self.old.free ≡ true → result ≡ true }
     {
-        self.writer.is_free()
+        let is_free = self.writer.is_free();
+        self.free = Snapshot::of(&is_free);
+        is_free
+    }
+
+    /// Which sessions hold up the next publication, each by a look that keeps the copy which is to be changed: bit 0 is
+    /// set if the first session that [`Vlr::open_wait_free`] returned does, and so on in their order. 0 is returned
+    /// exactly if [`Vlr::is_free`] would return true. It takes a step at the place of each session, and no memory.
+    pub fn holders(&mut self) -> u64
+        ensures known { self.new ≡ record self.old { free = result == 0 } }
+        ensures keeps { self.old.free ≡ true → result ≡ 0 }
+    {
+        let holders = self.writer.holders();
+        self.free = Snapshot::of(&(holders == 0));
+        holders
     }
 
     /// Ends the store, and gives the records that the published updates leave. What is pending is dropped. It does not
@@ -131,6 +153,7 @@ impl Vlr<TwoCopiesWriter> {
             admission: _admission,
             profile: _profile,
             alloc: _alloc,
+            free: _free,
         } = self;
         match writer.end() {
             Ok(copy) => Ok(copy.records),

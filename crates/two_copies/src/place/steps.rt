@@ -1,10 +1,10 @@
 //! The steps at a place. Each is one change of its word, with the slot that it takes or gives back.
-ghost use Rattle.std.specs.Prelude.{◌≡◌, [], ◌∷◌, IfSome, None, Some, not, true, false};
+ghost use Rattle.std.specs.Prelude.{◌≡◌, ◌==◌, ◌%◌, [], IfSome, None, Some, not, true, false};
 ghost use Rattle.atomic_table.specs.Table.{rest};
-ghost use Rattle.two_copies.specs.Place.{AreEmpty, HasClosed, index_of, is_same, known_of, RefusesLooks, writing};
+ghost use Rattle.two_copies.specs.Place.{AreEmpty, HasClosed, index_of, is_same, is_second, IsSlotIndex, known_of, looking, RefusesLooks, writing};
 ghost use Rattle.two_copies.specs.Seated.{IsSeated};
 ghost use Rattle.two_copies.specs.Slot.{Follows, Holds};
-ghost use Rattle.two_copies.specs.declared.place.Part.TheVariants.{Idle, Leaving, Looking, Whole};
+ghost use Rattle.two_copies.specs.declared.place.Part.TheVariants.{Idle, Leaving, Whole};
 
 use crate::place::board::{CLOSED, FIRST_SLOT, LOOKING, RETURNED, WORD};
 use crate::place::{
@@ -21,10 +21,19 @@ fn index(slot: bool) -> usize
     if slot { FIRST_SLOT + 1 } else { FIRST_SLOT }
 }
 
-fn is_newest(slot: bool, newest: bool) -> bool
-    ensures { result ≡ is_same slot newest }
+/// Where the newest slot lies, by the word of its place.
+fn newest_in(word: u64) -> usize
+    ensures slot { IsSlotIndex result }
+    ensures newest { is_second result ≡ (word % 2 == 1) }
 {
-    if slot { newest } else { !newest }
+    FIRST_SLOT + (word % 2) as usize
+}
+
+fn is_newest(slot: usize, word: u64) -> bool
+    requires { IsSlotIndex slot }
+    ensures { result ≡ is_same (is_second slot) (word % 2 == 1) }
+{
+    slot == newest_in(word)
 }
 
 /// Splits the reader's seat off.
@@ -44,17 +53,18 @@ pub(crate) fn divide<T, F: CopyRule<T>>(
     reader
 }
 
-/// The reader takes the newest slot, and what is in it. At a closed place it takes nothing, and from then on knows of
-/// nothing that is shown.
+/// The reader takes the newest slot, and what is in it. Returns where that slot lies, and the copy. At a closed place
+/// it takes nothing, and from then on knows of nothing that is shown.
 pub(crate) fn enter<T: Drop, F: CopyRule<T>>(
     board: &Board<T, F>,
     seat: &mut PlaceSeat<T>,
-) -> Option<(bool, Arc<T, Global>)>
+) -> Option<(usize, Arc<T, Global>)>
     requires seated { IsSeated seat.old.table_id board.now.shared.table_id }
     requires idle { seat.old.me ≡ (Idle (known_of seat.old.me.0), seat.old.me.1) }
     requires empty { AreEmpty seat.old.me.1 }
     ensures same { seat.new.table_id ≡ seat.old.table_id }
-    ensures looks { IfSome result (λ r. seat.new.me ≡ (Looking r.0 (Some r.1), (index_of r.0, None) ∷ rest seat.new.me.1)) }
+    ensures slot { IfSome result (λ r. IsSlotIndex r.0) }
+    ensures looks { IfSome result (λ r. seat.new.me ≡ looking r.0 (Some r.1) (rest seat.new.me.1)) }
     ensures holds { IfSome result (λ r. Holds F.holds (Some r.1)) }
     ensures follows { IfSome result (λ r. Follows F.follows (known_of seat.old.me.0) (Some r.1)) }
     ensures refused { result ≡ None → seat.new.me ≡ (Idle None, seat.new.me.1) }
@@ -65,8 +75,8 @@ pub(crate) fn enter<T: Drop, F: CopyRule<T>>(
         board.shared.fetch_sub::<Settle>(seat, WORD, LOOKING);
         return None;
     }
-    let slot = found % 2 == 1;
-    let taken = board.shared.exchange(seat, index(slot), None);
+    let slot = newest_in(found);
+    let taken = board.shared.exchange(seat, slot, None);
     let Some(shown) = taken else { unreachable!() };
     Some((slot, shown))
 }
@@ -76,25 +86,25 @@ pub(crate) fn enter<T: Drop, F: CopyRule<T>>(
 pub(crate) fn leave<T: Drop, F: CopyRule<T>>(
     board: &Board<T, F>,
     seat: &mut PlaceSeat<T>,
-    slot: bool,
+    slot: usize,
     shown: Arc<T, Global>,
 )
     requires seated { IsSeated seat.old.table_id board.now.shared.table_id }
-    requires looks { seat.old.me ≡ (Looking slot (Some shown), (index_of slot, None) ∷ rest seat.old.me.1) }
+    requires slot { IsSlotIndex slot }
+    requires looks { seat.old.me ≡ looking slot (Some shown) (rest seat.old.me.1) }
     requires empty { AreEmpty seat.old.me.1 }
     ensures same { seat.new.table_id ≡ seat.old.table_id }
     ensures idle { seat.new.me ≡ (Idle (Some shown), seat.new.me.1) }
     ensures empty { AreEmpty seat.new.me.1 }
 {
-    let place = index(slot);
-    let emptied = board.shared.exchange(seat, place, Some(shown));
+    let emptied = board.shared.exchange(seat, slot, Some(shown));
     let None = emptied else { unreachable!() };
     let found = board.shared.fetch_sub::<Leave>(seat, WORD, LOOKING);
     if found >= CLOSED {
-        drop(board.shared.exchange(seat, place, None));
+        drop(board.shared.exchange(seat, slot, None));
         return;
     }
-    if !is_newest(slot, found % 2 == 1) {
+    if !is_newest(slot, found) {
         report(board, seat);
     }
 }

@@ -1,4 +1,5 @@
-use Rattle.std.proofs.Common.{◌≡◌, length, map, take}
+use Rattle.std.proofs.Common.{◌≡◌, ◌≤◌, All, length, map, take}
+use Rattle.camel_c_data.specs.declared.basic_service.CamelBasicService.{CamelBasicService}
 use Rattle.camel_c_data.specs.BasicService.{basic_service_in}
 use Rattle.camel_c_data.proofs.entry_lists.services_with.Given as goal
 
@@ -6,5 +7,6 @@ use Rattle.camel_c_data.proofs.entry_lists.services_with.Given as goal
 abbrev pub invariant-loop-at : goal.invariant-loop-at
 invariant-loop-at l = record {
   whole : length l.room ≡ 5;
+  flags : All (λ (service : CamelBasicService). service.is_bearer ≤ 1) l.room;
   so_far : map basic_service_in (take l.at l.room) ≡ take l.at l.services;
 }

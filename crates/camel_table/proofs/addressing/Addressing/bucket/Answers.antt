@@ -1,20 +1,23 @@
-use Rattle.std.proofs.Common.{◌∙◌, ◌%◌, ◌<◌, ◌≤◌, sym, ap, subst}
+use Rattle.std.proofs.Common.{◌≡◌, ◌∙◌, ◌<◌, ◌≤◌, ◌+◌, ◌-◌, ◌/◌, ◌^◌, bit_and, sym, ap, subst, arith}
+use Rattle.std.proofs.lemmas.Nat.{and_mask}
 use Rattle.camel_table.specs.Addressing.{bucket_in}
-use Rattle.camel_table.proofs.AddressingLemmas.{place_narrow, place_wide, shifted_one, shifted_two}
+use Rattle.camel_table.proofs.AddressingLemmas.{double, place_narrow, place_wide, some_power}
 use Rattle.camel_table.proofs.addressing.Addressing.bucket.Goals as goal
 
 pub returns-then-bucket-self : goal.returns-then-bucket-self
 returns-then-bucket-self g c =
     let self = c.args.self.now in
     let hash = c.hash_one-hash.result in
-    let wide = ap (λ n. hash % n) (shifted_two self.level c.requires) in
-    wide ∙ sym (place_wide self.level self.count hash (subst (λ n. n < self.count) wide c.if-bucket-self.true)) ∙ ap (bucket_in self.level self.count) c.hash_one-hash.ensures
+    let wide = ap (bit_and hash) self.masks ∙ and_mask hash (1 + self.level) in
+    wide ∙ sym (place_wide self.level self.count hash (subst (λ n. n < self.count) wide c.if-bucket-self.true))
+    ∙ ap (bucket_in self.level self.count) c.hash_one-hash.ensures
 
 pub returns-else-bucket-self : goal.returns-else-bucket-self
 returns-else-bucket-self g c =
     let self = c.args.self.now in
     let hash = c.hash_one-hash.result in
-    let wide = ap (λ n. hash % n) (shifted_two self.level c.requires) in
-    ap (λ n. hash % n) (shifted_one self.level c.requires)
+    let wide = ap (bit_and hash) self.masks ∙ and_mask hash (1 + self.level) in
+    let half : self.mask / 2 ≡ 2 ^ self.level - 1 = omega (arith, self.masks, double self.level, some_power self.level) in
+    ap (bit_and hash) half ∙ and_mask hash self.level
     ∙ sym (place_narrow self.level self.count hash (subst (λ n. self.count ≤ n) wide c.if-bucket-self.false))
     ∙ ap (bucket_in self.level self.count) c.hash_one-hash.ensures

@@ -8,16 +8,17 @@ returns-clause-within g c =
     let self = c.args.self.now in
     let within = c.requires.within in
     let wide = shifted_two self.level c.requires.low in
-    elim c.if-is_over.branch [
+    rw (c.new.ensures.count, c.new.ensures.level)
+    (elim c.if-is_over.branch [
       | then-is_over w ↦
           let whole : self.count ≡ 2 ^ (1 + self.level) = w.if-is_over.true ∙ wide in
           let began = c.requires.began in
           let more = double (1 + self.level) in
-          let next : 2 ^ (1 + c.if-is_over.result) ≡ 2 ^ (1 + (1 + self.level)) = ap (λ n. 2 ^ (1 + n)) (w.result-is ∙ omega arith) in
+          let next : 2 ^ (1 + c.if-is_over.level) ≡ 2 ^ (1 + (1 + self.level)) = ap (λ n. 2 ^ (1 + n)) (w.level-is ∙ omega arith) in
           let some = some_power (1 + self.level) in
           omega (arith, whole, more, next, some)
       | else-is_over w ↦
-          let next : 2 ^ (1 + c.if-is_over.result) ≡ 2 ^ (1 + self.level) = ap (λ n. 2 ^ (1 + n)) w.result-is in
+          let next : 2 ^ (1 + c.if-is_over.level) ≡ 2 ^ (1 + self.level) = ap (λ n. 2 ^ (1 + n)) w.level-is in
           let other = λ (e : self.count ≡ 2 ^ (1 + self.level)). w.if-is_over.false (e ∙ sym wide) in
-          less_than self.count (2 ^ (1 + self.level)) (2 ^ (1 + c.if-is_over.result)) within other next
-    ]
+          less_than self.count (2 ^ (1 + self.level)) (2 ^ (1 + c.if-is_over.level)) within other next
+    ])

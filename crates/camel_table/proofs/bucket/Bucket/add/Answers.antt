@@ -11,7 +11,7 @@ returns-then-has_room-clause-added g c =
     let key = c.args.imsi.now in
     let value = c.args.value in
     let none = none_in_first key inline more (ap (λ m. map.get m key) c.self.view_is ∙ c.requires) in
-    inserted_first key value inline c.push.new.self more (ap map_of (c.push.ensures ∙ ap (λ k. inline ++ (k, value) ∷ []) c.of-key.ensures) ∙ added key value inline none)
+    inserted_first key value inline c.push.new.self more (ap map_of c.push.ensures ∙ added key value inline none)
     ∙ ap (λ m. map.insert m key value) c.self.view_is
 
 pub returns-clause-added : goal.returns-clause-added
@@ -20,7 +20,7 @@ returns-clause-added g c =
     let more = c.self.inside.more.items in
     let key = c.args.imsi.now in
     let value = c.args.value in
-    ap (λ es. map_of (inline ++ es)) (c.in_ok-push.ensures.items ∙ ap (λ kept. kept ++ (c.of-key.result, value) ∷ []) c.reserve_exact.ensures.items ∙ ap (λ k. more ++ (k, value) ∷ []) c.of-key.ensures)
+    ap (λ es. map_of (inline ++ es)) (c.in_ok-push.ensures.items ∙ ap (λ kept. kept ++ (key, value) ∷ []) c.reserve_exact.ensures.items)
     ∙ ap map_of (sym (append_assoc inline more ((key, value) ∷ [])))
     ∙ added key value (inline ++ more) (ap (λ m. map.get m key) c.self.view_is ∙ c.requires)
     ∙ ap (λ m. map.insert m key value) c.self.view_is

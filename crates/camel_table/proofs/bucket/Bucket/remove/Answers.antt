@@ -6,8 +6,8 @@ use Rattle.camel_table.specs.ByImsi.{is_same, map_of}
 use Rattle.camel_table.proofs.BucketLemmas.{removed}
 use Rattle.camel_table.proofs.bucket.Bucket.remove.Goals as goal
 
-pub returns : goal.returns
-returns g c =
+pub returns-clause-removed : goal.returns-clause-removed
+returns-clause-removed g c =
     let key = c.args.imsi.now in
     let inline = c.self.inside.inline in
     let more = c.self.inside.more.items in

@@ -1,6 +1,6 @@
-use Rattle.camel_table.proofs.Hashing.{imsi_hash}
-use Rattle.camel_table.proofs.TableLemmas.{no_table}
+use Rattle.std.proofs.Common.{◌∙◌, ap, sym}
+use Rattle.std.specs.FinMap.{len, len-empty}
 use Rattle.camel_table.proofs.table.Table.new.Goals as goal
 
 pub invariant_of-result : goal.invariant_of-result
-invariant_of-result g c = no_table (imsi_hash g.S.Hasher.Hasher.finish g.S.Hasher.Hasher.write (g.S.BuildHasher.build_hasher c.args.hashes)) c.new.result c.new.ensures
+invariant_of-result g c = sym (ap len c.new.ensures ∙ len-empty _ _)

@@ -1,23 +1,23 @@
-use Rattle.std.proofs.Common.{◌<◌, arith, length}
-use Rattle.camel_tbcd.proofs.FirstDigitLemmas.{grown_number}
-use Rattle.camel_tbcd.proofs.ImsiOrderLemmas.{bounded}
+use Rattle.std.proofs.Common.{◌≡◌, ◌+◌, ◌*◌, ◌∙◌, ◌++◌, ◌∷◌, [], suc, ap, ap₂, arith}
+use Rattle.camel_tbcd.specs.ImsiNumber.{last_digits}
+use Rattle.camel_tbcd.proofs.FirstDigitLemmas.{few_more, fewer, last_more}
 use Rattle.camel_tbcd.proofs.first_digits.FirstDigits.push.Goals as goal
 
-fewer : (c : goal.After-push) → length c.self.inside.digits < 15
-fewer c = rw c.self.view_is c.requires.room
-
-below : (c : goal.After-push) → c.self.inside.number < 72057594037927936
-below c = bounded (length c.self.inside.digits) c.self.inside.number (fewer c) c.self.invariant.1
-
 pub overflow_mul-self : goal.overflow_mul-self
-overflow_mul-self c = omega (arith, below c)
+overflow_mul-self c =
+    let room = fewer c.self.inside.count c.self.inside.value _ c.self.view_is c.requires.room in
+    omega (arith, few_more c.self.inside.count c.self.inside.value room c.self.invariant.1)
 
 pub overflow_add-self : goal.overflow_add-self
-overflow_add-self c = omega (arith, below c.before, c.ranges.digit.fits, c.from.ensures)
+overflow_add-self c =
+    let room = fewer c.self.inside.count c.self.inside.value _ c.self.view_is c.requires.room in
+    omega (arith, few_more c.self.inside.count c.self.inside.value room c.self.invariant.1, c.from.ensures, c.requires.decimal)
 
-pub overflow_add-self-2 : goal.overflow_add-self-2
-overflow_add-self-2 c = omega (arith, below c.before, c.ranges.digit.fits, c.from.ensures)
-
-pub invariant_of-self : goal.invariant_of-self
-invariant_of-self c =
-    rw c.from.ensures (grown_number c.self.inside.number c.args.digit c.self.inside.digits c.push.new.self (fewer c.before.before) c.requires.decimal c.push.ensures c.self.invariant)
+pub returns : goal.returns
+returns c =
+    let count = c.self.inside.count in
+    let value = c.self.inside.value in
+    let next : count + 1 ≡ suc count = omega arith in
+    ap₂ (λ n digit. last_digits n (value * 10 + digit)) next c.from.ensures
+    ∙ last_more count value c.args.digit c.requires.decimal
+    ∙ ap (λ digits. digits ++ c.args.digit ∷ []) c.self.view_is

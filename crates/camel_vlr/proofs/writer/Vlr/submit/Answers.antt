@@ -50,6 +50,7 @@ invariant_of-self-2 g c =
       within = rw (updates_in, published_in, pending_in, shown, pending g at) (prefix_trans a.history.updates (p ++ q) (p ++ (q ++ update ∷ [])) i.within (update ∷ [], append_assoc p q (update ∷ [])));
       beyond = rw (published_in, shown) i.beyond;
       profile = rw shown i.profile;
+      free = λ known. c.in_ok-accept.ensures.free (i.free known);
     }
 
 pub returns-clause-accepted : goal.returns-clause-accepted

@@ -1,5 +1,5 @@
 use Rattle.std.proofs.Common.{arith, rules, ap, subst, sym, ◌∙◌}
-use Rattle.two_copies.specs.Place.{AreEmpty, known_of}
+use Rattle.two_copies.specs.Place.{AreEmpty, is_second, known_of}
 use Rattle.two_copies.specs.Slot.{Follows, Holds}
 use Rattle.two_copies.specs.declared.place.Part.TheVariants.{Idle}
 use Rattle.two_copies.proofs.Leaving.{leaves}
@@ -13,16 +13,16 @@ fetch_sub-found-requires g c =
     let rule = g.F.CopyRule in (
       e.0 ∙ c.requires.seated.same,
       omega (arith, c.requires.seated.sized),
-      leaves (Holds rule.holds) (Follows rule.follows) (follows_itself rule.follows rule.follows_itself) _ _ _ _ c.args.slot _ _ (fills_slot _ _ _ _ _ _ _ _ c.requires.looks c.index-place.ensures e.3),
+      leaves (Holds rule.holds) (Follows rule.follows) (follows_itself rule.follows rule.follows_itself) _ _ _ _ (is_second c.args.slot) _ _ (fills_slot _ _ _ _ _ _ _ _ c.requires.looks c.requires.slot e.3),
     )
 
 pub exchange-requires : goal.exchange-requires
 exchange-requires g c =
     let e = c.exchange-emptied.ensures in
     let left = c.fetch_sub-found.ensures in
-    let filled = fills_slot _ _ _ _ _ _ _ _ c.requires.looks c.index-place.ensures e.3 in
+    let filled = fills_slot _ _ _ _ _ _ _ _ c.requires.looks c.requires.slot e.3 in
     let kept = left.2.keeps_it (search rules) in
-    (left.0 ∙ e.0 ∙ c.requires.seated.same, (_, has_slot _ _ _ _ _ _ (kept ∙ (λ i. (Idle (known_of (filled i).0), (filled i).1))) c.index-place.ensures))
+    (left.0 ∙ e.0 ∙ c.requires.seated.same, (_, has_slot _ _ _ _ _ _ (kept ∙ (λ i. (Idle (known_of (filled i).0), (filled i).1))) c.requires.slot))
 
 pub returns-else-not-is_newest-clause-empty : goal.returns-else-not-is_newest-clause-empty
 returns-else-not-is_newest-clause-empty g c =

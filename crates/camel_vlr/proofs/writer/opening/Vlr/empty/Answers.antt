@@ -1,4 +1,4 @@
-use Rattle.std.proofs.Common.{◌≡◌, ◌∙◌, ℕ, ◌≤◌, false, T, Ok, Err, List, [], ◌∷◌, ◌++◌, append-nil, ap, subst, sym}
+use Rattle.std.proofs.Common.{rules, ◌≡◌, ◌∙◌, ℕ, ◌≤◌, false, T, Ok, Err, List, [], ◌∷◌, ◌++◌, append-nil, ap, subst, sym}
 use Rattle.std.specs.Result.{is_err, MatchResult}
 use Rattle.std.proofs.lemmas.Result.{IfOk-at_ok}
 use Rattle.left_right.specs.Sides.{view}
@@ -32,6 +32,7 @@ invariant_of-result g c =
       within = ([], append-nil c.new-history.result.updates ∙ sym (all ∙ ap (λ x. x.updates) same));
       beyond = ([], append-nil copy.front.updates ∙ ap (λ x. x.updates) same);
       profile = sym (ap (λ x. x.store.profile) same ∙ c.new-history.ensures.profile);
+      free = λ known. absurd (search rules);
     }
 
 pub publish_all-writer-requires-clause-last : goal.publish_all-writer-requires-clause-last

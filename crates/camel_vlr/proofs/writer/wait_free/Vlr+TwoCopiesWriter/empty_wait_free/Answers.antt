@@ -1,5 +1,5 @@
 use base.Growing.{prefix_refl}
-use Rattle.std.proofs.Common.{◌≡◌, ◌∙◌, ℕ, ◌≤◌, [], ◌++◌, append-nil, ap, refl, subst, sym}
+use Rattle.std.proofs.Common.{rules, ◌≡◌, ◌∙◌, ℕ, ◌≤◌, [], ◌++◌, append-nil, ap, refl, subst, sym}
 use Rattle.two_copies.specs.Copies.{pending_of, shown_by}
 use Rattle.camel_rows.proofs.AdmissionLemmas.{IsAdmissionOf-empty}
 use Rattle.camel_rows.proofs.StoreLemmas.{IsFront-empty}
@@ -29,4 +29,5 @@ invariant_of-result c =
       within = ([], append-nil c.new-history.result.updates ∙ sym (all ∙ ap (λ x. x.updates) same));
       beyond = ([], append-nil copy.front.updates ∙ ap (λ x. x.updates) same);
       profile = sym (ap (λ x. x.store.profile) same ∙ c.new-history.ensures.profile);
+      free = λ known. absurd (search rules);
     }

@@ -1,6 +1,0 @@
-use Rattle.std.proofs.Common.{inl, inr, ap}
-use Rattle.std.specs.Prelude.{Some}
-use Rattle.camel_c.proofs.receipts.learn_held.Goals as goal
-
-pub returns-in-Look-clause-wrong : goal.returns-in-Look-clause-wrong
-returns-in-Look-clause-wrong c = inr (inl (c.in-Look.field-0, ap Some c.in-Look.is))

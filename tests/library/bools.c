@@ -1,0 +1,195 @@
+/* Each bool of the data that a call is passed is true if it is any octet but 0. */
+#include "check.h"
+
+static const uint8_t TRUE[] = { 1, 2, 128, 255 };
+enum { TRUES = sizeof TRUE };
+
+/* Writes an octet in the place of a bool. */
+static void put(void *data, size_t at, uint8_t octet)
+{
+    ((uint8_t *)data)[at] = octet;
+}
+
+/* Gives a subscriber an empty record. */
+static void begin(camel_store *store, unsigned number)
+{
+    camel_imsi imsi = imsi_of(number);
+    RETURNS(CAMEL_OK, camel_submit_register(store, &imsi));
+}
+
+/* Publishes, and has the session see that. */
+static void publish(camel_store *store, camel_session *session)
+{
+    camel_receipt receipt;
+    RETURNS(CAMEL_OK, camel_publish(store));
+    receipt = receipt_of(store);
+    RETURNS(CAMEL_OK, camel_learn(session, &receipt));
+}
+
+/* Each bool of an entry of the O-CSI comes back as 1. */
+static void bools_of_o_criteria(camel_store *store, camel_session *session)
+{
+    static const size_t places[] = {
+        offsetof(camel_o_criteria, has_number), offsetof(camel_o_criteria, number.is_enabling),
+        offsetof(camel_o_criteria, basic.services[0].is_bearer), offsetof(camel_o_criteria, has_call_type),
+        offsetof(camel_o_criteria, is_forwarded),
+    };
+    static const uint8_t listed[] = { 0x91, 0x34 };
+    camel_row row = row_of(2, 100);
+    camel_imsi imsi = imsi_of(1);
+    camel_o_criteria wanted = {
+        .dp = 2, .has_number = true, .has_call_type = true, .is_forwarded = true, .basic = { 1, { { true, 0x18 } } },
+        .number = { .is_enabling = true, .number_count = 1 },
+    };
+
+    wanted.number.numbers[0] = isdn_of(listed, sizeof listed);
+    for (size_t at = 0; at < sizeof places / sizeof places[0]; at++)
+        for (int octet = 0; octet < TRUES; octet++) {
+            camel_o_criteria sent = wanted, found = { 0 };
+            bool is_there = false;
+            begin(store, 1);
+            put(&sent, places[at], TRUE[octet]);
+            RETURNS(CAMEL_OK, insert(store, 1, &row, 1, &sent, 1, NULL, 0, NULL, 0));
+            publish(store, session);
+            RETURNS(CAMEL_OK, camel_o_criteria_at(session, &imsi, 2, &found, &is_there));
+            IS(is_there && memcmp(&found, &wanted, sizeof found) == 0);
+        }
+}
+
+static void bools_of_t_criteria(camel_store *store, camel_session *session)
+{
+    camel_row row = row_of(13, 100);
+    camel_imsi imsi = imsi_of(1);
+    camel_t_criteria wanted = { .dp = 13, .basic = { 2, { { false, 0x60 }, { true, 0x18 } } } };
+
+    for (int octet = 0; octet < TRUES; octet++) {
+        camel_t_criteria sent = wanted, found = { 0 };
+        bool is_there = false;
+        begin(store, 1);
+        put(&sent, offsetof(camel_t_criteria, basic.services[1].is_bearer), TRUE[octet]);
+        RETURNS(CAMEL_OK, insert(store, 1, NULL, 0, NULL, 0, &row, 1, &sent, 1));
+        publish(store, session);
+        RETURNS(CAMEL_OK, camel_t_criteria_at(session, &imsi, 13, &found, &is_there));
+        IS(is_there && memcmp(&found, &wanted, sizeof found) == 0);
+    }
+}
+
+/* Which of the four lists a subscriber has: a bit each, in the order of their bools. */
+static unsigned lists_of(camel_session *session, unsigned number)
+{
+    camel_imsi imsi = imsi_of(number);
+    camel_row row;
+    camel_o_criteria of_o;
+    camel_t_criteria of_t;
+    bool has[4] = { false };
+
+    RETURNS(CAMEL_OK, camel_row_at(session, &imsi, 2, &row, &has[0]));
+    RETURNS(CAMEL_OK, camel_o_criteria_at(session, &imsi, 2, &of_o, &has[1]));
+    RETURNS(CAMEL_OK, camel_row_at(session, &imsi, 13, &row, &has[2]));
+    RETURNS(CAMEL_OK, camel_t_criteria_at(session, &imsi, 13, &of_t, &has[3]));
+    return has[0] | has[1] << 1 | has[2] << 2 | has[3] << 3;
+}
+
+/* An Insert of all four lists, with this octet in the place of one of their bools. */
+static camel_status send_lists(camel_store *store, unsigned number, size_t at, uint8_t octet)
+{
+    camel_row o = row_of(2, 100), vt = row_of(13, 101);
+    camel_o_criteria o_criteria = { .dp = 2, .has_call_type = true };
+    camel_t_criteria t_criteria = { .dp = 13, .causes = { 1, { 17 } } };
+    camel_imsi imsi = imsi_of(number);
+    camel_insert sent = { { &o, 1, &o_criteria, 1, true, true }, { &vt, 1, &t_criteria, 1, true, true } };
+
+    put(&sent, at, octet);
+    return camel_submit_insert(store, &imsi, &sent);
+}
+
+/* A list came if the bool that says so is any octet but 0. Criteria without rows are rejected: none are stored. */
+static void bools_of_inserts(camel_store *store, camel_session *session)
+{
+    static const struct { size_t at; camel_status without; unsigned left; } lists[] = {
+        { offsetof(camel_insert, o.has_rows), CAMEL_DATA_MISSING, 0 },
+        { offsetof(camel_insert, o.has_criteria), CAMEL_OK, 13 },
+        { offsetof(camel_insert, vt.has_rows), CAMEL_DATA_MISSING, 0 },
+        { offsetof(camel_insert, vt.has_criteria), CAMEL_OK, 7 },
+    };
+
+    for (size_t at = 0; at < 4; at++) {
+        for (int octet = 0; octet < TRUES; octet++) {
+            begin(store, 1);
+            RETURNS(CAMEL_OK, send_lists(store, 1, lists[at].at, TRUE[octet]));
+            publish(store, session);
+            IS(lists_of(session, 1) == 15);
+        }
+        begin(store, 1);
+        RETURNS(lists[at].without, send_lists(store, 1, lists[at].at, 0));
+        publish(store, session);
+        IS(lists_of(session, 1) == lists[at].left);
+    }
+}
+
+/* What a Delete removes: the lists of the O-CSI, those of the VT-CSI, and all. */
+static void bools_of_deletes(camel_store *store, camel_session *session)
+{
+    static const struct { size_t at; unsigned left; } names[] = {
+        { offsetof(camel_withdrawal, o), 12 }, { offsetof(camel_withdrawal, vt), 3 },
+        { offsetof(camel_withdrawal, everything), 0 },
+    };
+    camel_imsi imsi = imsi_of(1);
+
+    for (size_t at = 0; at < 3; at++)
+        for (int octet = -1; octet < TRUES; octet++) {
+            camel_withdrawal what = { 0 };
+            begin(store, 1);
+            RETURNS(CAMEL_OK, send_lists(store, 1, offsetof(camel_insert, o.has_rows), 1));
+            put(&what, names[at].at, octet < 0 ? 0 : TRUE[octet]);
+            RETURNS(CAMEL_OK, camel_submit_delete(store, &imsi, &what));
+            publish(store, session);
+            IS(lists_of(session, 1) == (octet < 0 ? 15 : names[at].left));
+        }
+}
+
+/* The subscriber has a row at 2, for forwarded calls of the bearer service 0x18. */
+static void bools_of_events(camel_store *store, camel_session *session)
+{
+    static const size_t places[] = { offsetof(camel_event, is_forwarded), offsetof(camel_event, basic.is_bearer) };
+    camel_row row = row_of(2, 100);
+    camel_o_criteria entry = { .dp = 2, .has_call_type = true, .is_forwarded = true };
+    camel_imsi imsi = imsi_of(1);
+    camel_subscriber kept = CAMEL_EMPTY;
+    bool is_there = false;
+
+    entry.basic = (camel_basic_services){ 1, { { true, 0x18 } } };
+    begin(store, 1);
+    RETURNS(CAMEL_OK, insert(store, 1, &row, 1, &entry, 1, NULL, 0, NULL, 0));
+    publish(store, session);
+    RETURNS(CAMEL_OK, camel_keep(session, &imsi, &kept, &is_there));
+    IS(is_there);
+    for (size_t at = 0; at < 2; at++)
+        for (int octet = -1; octet < TRUES; octet++) {
+            camel_event event = event_of(1, 2);
+            camel_answer answer = { 0 }, by_kept = { 0 };
+            event.basic = (camel_basic_service){ true, 0x18 };
+            event.is_forwarded = true;
+            put(&event, places[at], octet < 0 ? 0 : TRUE[octet]);
+            RETURNS(CAMEL_OK, camel_decide(session, &event, &answer));
+            RETURNS(CAMEL_OK, camel_decide_kept(&kept, &event, &by_kept));
+            IS(answer.is_trigger == (octet >= 0) && by_kept.is_trigger == (octet >= 0));
+        }
+    camel_free(&kept);
+}
+
+int main(void)
+{
+    camel_store store = CAMEL_EMPTY;
+    camel_session session = CAMEL_EMPTY;
+
+    RETURNS(CAMEL_OK, camel_open(&store, &session, 1, CAMEL_MAX_UPDATES, 1, 1));
+    bools_of_o_criteria(&store, &session);
+    bools_of_t_criteria(&store, &session);
+    bools_of_inserts(&store, &session);
+    bools_of_deletes(&store, &session);
+    bools_of_events(&store, &session);
+    camel_free(&session);
+    RETURNS(CAMEL_OK, camel_close(&store));
+    return ended("bools");
+}

@@ -1,0 +1,91 @@
+/* What a test of random calls knows of each handle and of its store, and the statuses that a call may return. */
+#ifndef SLOTS_H
+#define SLOTS_H
+
+#include "random.h"
+
+/* Handles. */
+
+enum { STORE, SESSION, KEPT = SESSION + 4, SPARE, SLOTS, RECEIPTS = 4 };
+
+static struct slot {
+    unsigned of;              /* the store that it is of, or is */
+    uint64_t seen;            /* of a session: the longest front that it saw or learnt */
+    bool is_looking;
+    uint64_t front;           /* of the look, once something was decided over it; else 0 */
+    uint64_t decisions[CAMEL_REASONS]; /* of a session: how many of each reason */
+    uint64_t accepted;        /* of a store: how many updates */
+    uint64_t held;            /* of a store: how many publications */
+    bool is_ending;           /* of a store: a look holds its end up */
+} slots[SLOTS];
+static camel_session handles[SLOTS];
+static uint64_t published[1 << 16]; /* by store: how many updates */
+static uint64_t numbers[1 << 16];   /* by store: that of its receipts, or 0 */
+static camel_receipt receipts[RECEIPTS];
+static unsigned opened;
+
+#define AS(kind, slot) ((camel_##kind *)&handles[slot])
+
+static uint64_t *published_of(unsigned slot)
+{
+    return &published[slots[slot].of & 0xffff];
+}
+
+static uint64_t *number_of(unsigned slot)
+{
+    return &numbers[slots[slot].of & 0xffff];
+}
+
+/* The handle that is meant, or now and then another one. */
+static unsigned pick(unsigned meant)
+{
+    return below(24) ? meant : below(SLOTS);
+}
+
+static unsigned pick_session(void)
+{
+    return pick(SESSION + below(4));
+}
+
+/* Statuses. */
+
+enum {
+    OK = 1, UNIDENTIFIED = 2, MISSING = 4, UNEXPECTED = 8, FULL = 16, NO_LOOK = 32, HELD = 64, MALFORMED = 128,
+    WRONG_HANDLE = 256, FULL_HANDLE = 512, MALFORMED_OCTETS = 1024, MISSING_FIELD = 2048, FIELD_TWICE = 4096,
+    WRONG_TAG = 8192, WRONG_LENGTH = 16384, NO_IMSI = 32768, OTHER_IMSI = 65536, OTHER_STORE = 131072,
+    OTHER_VERSION = 262144, STATUSES = 19
+};
+
+/* In the order of their bits. Memory and places are never refused. */
+static const camel_status STATUS[STATUSES] = {
+    CAMEL_OK, CAMEL_UNIDENTIFIED_SUBSCRIBER, CAMEL_DATA_MISSING, CAMEL_UNEXPECTED_DATA_VALUE, CAMEL_HISTORY_FULL,
+    CAMEL_NO_LOOK, CAMEL_HELD, CAMEL_MALFORMED, CAMEL_WRONG_HANDLE, CAMEL_FULL_HANDLE, CAMEL_MALFORMED_OCTETS,
+    CAMEL_MISSING_FIELD, CAMEL_FIELD_TWICE, CAMEL_WRONG_TAG, CAMEL_WRONG_LENGTH, CAMEL_NO_IMSI, CAMEL_OTHER_IMSI,
+    CAMEL_OTHER_STORE, CAMEL_OTHER_VERSION
+};
+
+static unsigned long counts[STATUSES]; /* of the function that is called */
+
+/* Whether a call returned CAMEL_OK, which is one of its statuses. */
+static bool is_ok(unsigned allowed, camel_status status)
+{
+    for (int at = 0; at < STATUSES; at++)
+        if (STATUS[at] == status && (allowed >> at & 1)) {
+            counts[at]++;
+            return at == 0;
+        }
+    printf("%s is none of its statuses\n", camel_status_name(status));
+    failed++;
+    return false;
+}
+
+/* A call that writes to `out`, which is as before unless the call returns CAMEL_OK. */
+#define WRITES(is_written, out, allowed, call)                                                                      \
+    do {                                                                                                            \
+        uint8_t before_[sizeof *(out)];                                                                             \
+        memcpy(before_, (out), sizeof before_);                                                                     \
+        (is_written) = is_ok((allowed), (call));                                                                    \
+        IS((is_written) || memcmp(before_, (out), sizeof before_) == 0);                                            \
+    } while (0)
+
+#endif
