@@ -66,6 +66,7 @@ impl<R: Read> Listing<R> {
     pub fn read(&mut self) -> Result<bool, ListingFault>
         ensures record { result ≡ Ok true → ListsNext self.old self.new }
         ensures end { result ≡ Ok false → ListsNone self.old self.new }
+        ensures ends { result ≡ Ok false → self.new.has_ended ≡ true }
         ensures fails { IfErr result (λ fault. self.new.fault ≡ Some fault) }
 
         // A fault and the end stay.
