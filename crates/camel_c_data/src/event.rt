@@ -1,6 +1,6 @@
 ghost use Rattle.std.specs.Prelude.{◌≡◌, Ok, Err, IfErr, IfOk};
 ghost use Rattle.camel_rows.specs.Event.{event_data};
-ghost use Rattle.camel_c_data.specs.Event.{cause_in, event_in};
+ghost use Rattle.camel_c_data.specs.Event.{busy_in, cause_in, collected_info_in, event_in, no_answer_in, route_select_failure_in, terminating_attempt_in};
 
 use crate::address::CamelAddress;
 use crate::basic_service::CamelBasicService;
@@ -45,35 +45,78 @@ impl CamelEvent {
         ensures lent { IfOk result (λ event. event_in self.now ≡ Ok (event_data event)) }
         ensures malformed { IfErr result (λ fault. event_in self.now ≡ Err fault) }
     {
-        let imsi = self.imsi.read()?;
-        let basic = self.basic.read();
         match self.dp {
-            COLLECTED_INFO => Ok(TdpEvent::CollectedInfo {
-                imsi,
-                destination: self.destination.lend()?,
-                basic,
-                forwarded: self.is_forwarded != 0,
-            }),
-            ROUTE_SELECT_FAILURE => Ok(TdpEvent::RouteSelectFailure {
-                imsi,
-                destination: self.destination.lend()?,
-                basic,
-                forwarded: self.is_forwarded != 0,
-                cause: read_cause(self.cause)?,
-            }),
-            TERMINATING_ATTEMPT => Ok(TdpEvent::TerminatingAttempt { imsi, basic }),
-            BUSY => Ok(TdpEvent::Busy {
-                imsi,
-                basic,
-                cause: read_cause(self.cause)?,
-            }),
-            NO_ANSWER => Ok(TdpEvent::NoAnswer {
-                imsi,
-                basic,
-                cause: read_cause(self.cause)?,
-            }),
+            COLLECTED_INFO => self.collected_info(),
+            ROUTE_SELECT_FAILURE => self.route_select_failure(),
+            TERMINATING_ATTEMPT => self.terminating_attempt(),
+            BUSY => self.busy(),
+            NO_ANSWER => self.no_answer(),
             _ => Err(DataFault::Malformed),
         }
+    }
+
+    // Each kind of event is made by a call of its own. Put into one function, the fields of all kinds would be written in
+    // the pieces of each other, and a processor waits when it reads a field that was written in pieces.
+    #[inline(never)]
+    fn collected_info(&self) -> Result<Event<'_>, DataFault>
+        ensures lent { IfOk result (λ event. collected_info_in self.now ≡ Ok (event_data event)) }
+        ensures malformed { IfErr result (λ fault. collected_info_in self.now ≡ Err fault) }
+    {
+        Ok(TdpEvent::CollectedInfo {
+            imsi: self.imsi.read()?,
+            destination: self.destination.lend()?,
+            basic: self.basic.read(),
+            forwarded: self.is_forwarded != 0,
+        })
+    }
+
+    #[inline(never)]
+    fn route_select_failure(&self) -> Result<Event<'_>, DataFault>
+        ensures lent { IfOk result (λ event. route_select_failure_in self.now ≡ Ok (event_data event)) }
+        ensures malformed { IfErr result (λ fault. route_select_failure_in self.now ≡ Err fault) }
+    {
+        Ok(TdpEvent::RouteSelectFailure {
+            imsi: self.imsi.read()?,
+            destination: self.destination.lend()?,
+            basic: self.basic.read(),
+            forwarded: self.is_forwarded != 0,
+            cause: read_cause(self.cause)?,
+        })
+    }
+
+    #[inline(never)]
+    fn terminating_attempt(&self) -> Result<Event<'_>, DataFault>
+        ensures lent { IfOk result (λ event. terminating_attempt_in self.now ≡ Ok (event_data event)) }
+        ensures malformed { IfErr result (λ fault. terminating_attempt_in self.now ≡ Err fault) }
+    {
+        Ok(TdpEvent::TerminatingAttempt {
+            imsi: self.imsi.read()?,
+            basic: self.basic.read(),
+        })
+    }
+
+    #[inline(never)]
+    fn busy(&self) -> Result<Event<'_>, DataFault>
+        ensures lent { IfOk result (λ event. busy_in self.now ≡ Ok (event_data event)) }
+        ensures malformed { IfErr result (λ fault. busy_in self.now ≡ Err fault) }
+    {
+        Ok(TdpEvent::Busy {
+            imsi: self.imsi.read()?,
+            basic: self.basic.read(),
+            cause: read_cause(self.cause)?,
+        })
+    }
+
+    #[inline(never)]
+    fn no_answer(&self) -> Result<Event<'_>, DataFault>
+        ensures lent { IfOk result (λ event. no_answer_in self.now ≡ Ok (event_data event)) }
+        ensures malformed { IfErr result (λ fault. no_answer_in self.now ≡ Err fault) }
+    {
+        Ok(TdpEvent::NoAnswer {
+            imsi: self.imsi.read()?,
+            basic: self.basic.read(),
+            cause: read_cause(self.cause)?,
+        })
     }
 }
 
