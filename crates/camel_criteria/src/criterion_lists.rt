@@ -159,13 +159,16 @@ impl CriterionLists {
     }
 
     // Whether a destination meets the criterion of these lists, under a profile. Each way of keeping them has its own
-    // comparison, so that the most frequent one has no test of the others.
+    // comparison, so that the most frequent one has no test of the others. Few numbers are compared with what is asked of
+    // them, since neither that nor which of them agrees can be foreseen: one branch is left of both, for the answer.
     pub(crate) fn is_met_by(&self, destination: &Address, profile: Profile) -> bool
         ensures { result ≡ number_met profile (criterion_of self.now) (octets destination.now) }
     {
         match self {
-            CriterionLists::FewEnabling(numbers) => numbers.has_front_of(destination, profile),
-            CriterionLists::FewInhibiting(numbers) => !numbers.has_front_of(destination, profile),
+            CriterionLists::FewEnabling(numbers) | CriterionLists::FewInhibiting(numbers) => {
+                let is_enabling = matches!(self, CriterionLists::FewEnabling(_));
+                numbers.has_front_of(destination, profile) == is_enabling
+            }
             CriterionLists::Short(lists) => lists.is_met_by(destination, profile),
             CriterionLists::Apart(lists) => lists.is_met_by(destination, profile),
         }

@@ -1,6 +1,7 @@
 //! What the HLR sends: TDP rows, CSIs and the entries of their criteria.
 
-ghost use Rattle.std.specs.Prelude.{◌≡◌, ◌<◌, ◌≤◌, ◌++◌, ◌↔◌, [], ◌∷◌, IsTrue, length, slice_get};
+ghost use Rattle.std.specs.Prelude.{◌≡◌, ◌<◌, ◌≤◌, ◌++◌, ◌↔◌, ◌==◌, [], ◌∷◌, IsTrue, length, slice_get};
+ghost use Rattle.std.specs.List.{position_or_len};
 ghost use Rattle.std.specs.Option.{option_copied};
 ghost use Rattle.camel_rows.specs.Received.{kept_of, o_csi_of, vt_csi_of};
 ghost use Rattle.camel_rows.specs.Subscriber.{item_among};
@@ -147,8 +148,22 @@ impl<const MOST: usize> Csi<MOST> {
     pub fn row(&self, dp: u8) -> Option<&TdpRow>
         ensures { option_copied result ≡ item_among (λ row. row.dp) dp self.now }
     {
-        self.as_slice().iter().find(|row| row.dp() == dp)
+        self.get(place_of(&self.room, dp))
     }
+}
+
+/// The place of the first row of a detection point, or how many places there are. Each place is looked at, from the last
+/// one on, so that no branch depends on where the row lies, which cannot be foreseen.
+fn place_of(rows: &[TdpRow], dp: u8) -> usize
+    ensures { result ≡ position_or_len (λ row. row.dp == dp) rows.now }
+{
+    let mut place: usize = 0;
+    let mut at = rows.len();
+    while at > 0 {
+        at -= 1;
+        place = if rows[at].dp() == dp { 0 } else { place + 1 };
+    }
+    place
 }
 
 impl<const MOST: usize> fmt::Debug for Csi<MOST> {
