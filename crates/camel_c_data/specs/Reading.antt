@@ -45,6 +45,11 @@ abbrev pub ReadsList : {A G : Type 0} → Result (Vec A G) DataFault → Result 
 ReadsList (Ok values) reading = reading ≡ Ok values.items
 ReadsList (Err fault) reading = FailsAs fault reading
 
+-- a function writes the list that its fields are, or is out of memory
+abbrev pub ReadsInto : {A : Type 0} → Result (Unit {0}) DataFault → List A → Result (List A) DataFault → Type 0
+ReadsInto (Ok _) values reading = reading ≡ Ok values
+ReadsInto (Err fault) values reading = FailsAs fault reading
+
 -- each result that may come for an item is what the item is, or out of memory
 abbrev pub AnswersAs : {A S : Type 0} → (S → Result A DataFault → Type 0) → (S → Result A DataFault) → Type 0
 AnswersAs may_answer value_of = (item : _) (answer : _) → may_answer item answer → ReadsAs answer (value_of item)

@@ -2,12 +2,13 @@
 
 ghost use Rattle.std.specs.Prelude.{◌≡◌};
 ghost use Rattle.camel_c_data.specs.Criteria.{ShowsO, ShowsT, call_type_in, number_in, o_criteria_set_in, o_entry_in, t_criteria_set_in, t_entry_in};
-ghost use Rattle.camel_c_data.specs.Reading.{ReadsAs, ReadsList, each_of};
+ghost use Rattle.camel_c_data.specs.Reading.{ReadsAs, ReadsList};
+ghost use Rattle.camel_c_data.specs.SentList.{few_of};
 
 use crate::data_fault::DataFault;
 use crate::entry_lists::{CamelBasicServices, CamelCauses};
 use crate::number_criterion::CamelNumberCriterion;
-use crate::read_each::read_each;
+use crate::read_each::{check_count, read_each};
 use camel_criteria::{CallType, NumberCriterion, OCriteria, TCriteria};
 use camel_rows::{OCriteriaSet, TCriteriaSet};
 use std::alloc::Global;
@@ -137,7 +138,8 @@ impl CamelTCriteria {
 
 /// The criteria of the O-CSI of received entries, or none if they are not sent: the entries are not looked at then.
 ///
-/// Fails as the first entry that fails to read, then as [`OCriteriaSet::new`], and with `OutOfMemory` (102) if memory
+/// Fails with `UnexpectedDataValue` (36) for more than 10 entries, then as the first entry that fails to read, then as
+/// [`OCriteriaSet::new`], and with `OutOfMemory` (102) if memory
 /// is refused. Nothing was made then.
 #[tactic(auto, unfolding(crate::specs::Criteria::o_criteria_set_in))]
 pub fn read_o_criteria_set(
@@ -155,14 +157,16 @@ pub fn read_o_criteria_set(
 }
 
 fn read_o_entries(alloc: Global, entries: &[CamelOCriteria]) -> Result<Vec<OCriteria>, DataFault>
-    ensures { ReadsList result (each_of o_entry_in entries.now) }
+    ensures { ReadsList result (few_of o_entry_in entries.now) }
 {
+    check_count(entries.len())?;
     read_each(alloc, entries, |entry| entry.read(alloc))
 }
 
 /// The criteria of the VT-CSI of received entries, or none if they are not sent: the entries are not looked at then.
 ///
-/// Fails as the first entry that fails to read, then as [`TCriteriaSet::new`], and with `OutOfMemory` (102) if memory
+/// Fails with `UnexpectedDataValue` (36) for more than 10 entries, then as the first entry that fails to read, then as
+/// [`TCriteriaSet::new`], and with `OutOfMemory` (102) if memory
 /// is refused. Nothing was made then.
 #[tactic(auto, unfolding(crate::specs::Criteria::t_criteria_set_in))]
 pub fn read_t_criteria_set(
@@ -180,7 +184,8 @@ pub fn read_t_criteria_set(
 }
 
 fn read_t_entries(alloc: Global, entries: &[CamelTCriteria]) -> Result<Vec<TCriteria>, DataFault>
-    ensures { ReadsList result (each_of t_entry_in entries.now) }
+    ensures { ReadsList result (few_of t_entry_in entries.now) }
 {
+    check_count(entries.len())?;
     read_each(alloc, entries, |entry| entry.read(alloc))
 }

@@ -40,6 +40,7 @@ impl CamelEvent {
     ///
     /// Fails with `Malformed` (502) if the detection point is none of these, and if a field that is read is no IMSI, no
     /// address or no cause.
+    #[inline]
     #[tactic(auto, unfolding(crate::specs::Event::event_in))]
     pub fn lend(&self) -> Result<Event<'_>, DataFault>
         ensures lent { IfOk result (λ event. event_in self.now ≡ Ok (event_data event)) }

@@ -1,12 +1,12 @@
 ghost use Rattle.std.specs.Prelude.{◌≡◌, ◌≤◌, Ok, length, take};
 ghost use Rattle.camel_c_data.specs.NumberCriterion.{ShowsNumber, match_type_in, number_criterion_in};
 ghost use Rattle.camel_c_data.specs.Address.{isdn_address_in};
-ghost use Rattle.camel_c_data.specs.Reading.{ReadsAs, ReadsList, each_of};
+ghost use Rattle.camel_c_data.specs.Reading.{ReadsAs, each_of};
 
 use crate::address::CamelIsdnAddress;
 use crate::data_fault::DataFault;
 use crate::first_items::{first_items, room_with};
-use crate::read_each::read_each;
+use crate::read_each::read_into;
 use camel_criteria::{MAX_LENGTHS, MAX_NUMBERS, MatchType, NumberCriterion};
 use camel_tbcd::IsdnAddress;
 use std::alloc::Global;
@@ -63,10 +63,11 @@ impl CamelNumberCriterion {
         ensures { ReadsAs result (number_criterion_in self.now) }
     {
         let listed = first_items(&self.numbers, self.number_count)?;
-        let numbers = read_numbers(alloc, listed)?;
+        let mut numbers = [no_number(); MAX_NUMBERS];
+        read_into(listed, |number| number.read(), &mut numbers)?;
         let lengths = first_items(&self.lengths, self.length_count)?;
         let match_type = self.match_type();
-        Ok(NumberCriterion::new(alloc, match_type, &numbers, lengths)?)
+        Ok(NumberCriterion::new(alloc, match_type, &numbers[..listed.len()], lengths)?)
     }
 
     fn match_type(&self) -> MatchType
@@ -92,8 +93,7 @@ fn numbers_with(numbers: &[IsdnAddress]) -> [CamelIsdnAddress; MAX_NUMBERS]
     room
 }
 
-fn read_numbers(alloc: Global, numbers: &[CamelIsdnAddress]) -> Result<Vec<IsdnAddress>, DataFault>
-    ensures { ReadsList result (each_of isdn_address_in numbers.now) }
-{
-    read_each(alloc, numbers, |number| number.read())
+// What stands in a place for a number until one is read into it.
+fn no_number() -> IsdnAddress {
+    IsdnAddress::from_bytes(&[0]).unwrap()
 }

@@ -63,9 +63,9 @@ impl CamelInsert<'_> {
     {
         Ok(Update::Insert {
             imsi: imsi.read()?,
-            o: read_o_csi(alloc, self.o.has_rows != 0, self.o.rows)?,
+            o: read_o_csi(self.o.has_rows != 0, self.o.rows)?,
             o_criteria: read_o_criteria_set(alloc, self.o.has_criteria != 0, self.o.criteria)?,
-            vt: read_vt_csi(alloc, self.vt.has_rows != 0, self.vt.rows)?,
+            vt: read_vt_csi(self.vt.has_rows != 0, self.vt.rows)?,
             t_criteria: read_t_criteria_set(alloc, self.vt.has_criteria != 0, self.vt.criteria)?,
         })
     }
