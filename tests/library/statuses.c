@@ -92,6 +92,11 @@ static void lists_of_none(camel_store *store, const camel_imsi *imsi)
     RETURNS(CAMEL_OK, camel_submit_insert(store, imsi, &none));
     none.o.has_rows = true;
     RETURNS(CAMEL_UNEXPECTED_DATA_VALUE, camel_submit_insert(store, imsi, &none));
+    /* The items of a list that is too long are not looked at: one of these has no address. */
+    many[3].scf.length = 0;
+    RETURNS(CAMEL_UNEXPECTED_DATA_VALUE, camel_submit_insert(store, imsi, &none));
+    none.o.row_count = 10;
+    RETURNS(CAMEL_MALFORMED, camel_submit_insert(store, imsi, &none));
 }
 
 /* Updates that the store rejects, or of which the data are none. */
