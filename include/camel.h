@@ -5,14 +5,15 @@
  * and 14. C11 and C++17, and later. The library is libwenqolo.a, or libwenqolo.so.0 as a shared one, for Linux on
  * x86-64-v2, and needs the C library only.
  *
- * Handles. A handle is some words of the caller's memory, empty if all of its bytes are 0 (CAMEL_EMPTY). The library
- * fills it, and camel_free or camel_close empties it. Never write its fields, and never copy a full one: to move it,
- * copy its bytes and forget the old ones. All else is plain data, which may be copied.
+ * Handles. A handle is some words of the caller's memory, empty if its fields are 0 (CAMEL_EMPTY). The library fills
+ * it, and camel_free or camel_close empties it. Never write its fields, and never copy a full one: to move it, copy its
+ * bytes and forget the old ones. All else is plain data, which may be copied.
  *
- * Statuses. A call that fails has done nothing, but what is said of it. It looks at data first, as CAMEL_MALFORMED and
- * what it says of them, then at the handle that it is made of (CAMEL_WRONG_HANDLE), then at the one that it is to fill
- * (CAMEL_FULL_HANDLE), then at whether a look has begun (CAMEL_HELD), and at all else behind these. But memory may be
- * refused while the lists of an Insert or the octets of an argument are read.
+ * Statuses. A call that fails has done nothing, but what is said of it. It looks at data first, field by field and item
+ * by item in their order, and the first fault is told, as CAMEL_MALFORMED and what it says of them; then at the handle
+ * that it is made of (CAMEL_WRONG_HANDLE), then at the one that it is to fill (CAMEL_FULL_HANDLE), then at whether a
+ * look has begun (CAMEL_HELD), and at all else behind these. But camel_open compares versions before all else, and
+ * memory may be refused while the lists of an Insert or the octets of an argument are read.
  *
  * Threads. The store's handle is the writer's, and each session's handle that of one thread. A handle moves to another
  * thread by a lock, by a thread's start or join, or by a sequentially consistent atomic. It is in one call at a time,
@@ -23,10 +24,10 @@
  * changed nothing (but see camel_keep), and may be made again. Only camel_open, camel_submit_*, camel_publish and
  * camel_keep ask for any, and a publication that returns CAMEL_HELD for none.
  *
- * What nothing checks. A handle is empty or as the library left it; a pointer is not null, but where NULL is named, and
- * points to as much as is said; what is passed does not overlap; stores whose receipts are told apart have different
- * seeds; no call is made from a signal handler, or from the forked child of a process with threads; malloc, realloc and
- * free are of one allocator. */
+ * What nothing checks. A handle is empty or as the library left it; a pointer is not null, but where NULL is named,
+ * even one to no octets, and points to as much as is said; what is passed does not overlap; stores whose
+ * receipts are told apart have different seeds; no call is made from a signal handler, or from the forked child of a
+ * process with threads; malloc, realloc and free are of one allocator. */
 #ifndef CAMEL_H
 #define CAMEL_H
 
@@ -87,7 +88,7 @@ typedef struct { void *at; bool is_full; } camel_subscriber;
 #define CAMEL_EMPTY { 0, 0 }
 
 /* Which updates a store has published: its number, and how many they are. The number is made of the seed, so a receipt
- * stays in the process. */
+ * is neither sent nor logged. */
 typedef struct { uint64_t store; uint64_t front; } camel_receipt;
 
 /* An IMSI as one number: how many digits it has, 5 to 15, in the highest octet, and below it their decimal value, as in
@@ -108,7 +109,8 @@ typedef struct { uint8_t length; uint8_t octets[9]; } camel_isdn_address;
  * is the teleservice 0x11. */
 typedef struct { bool is_bearer; uint8_t code; } camel_basic_service;
 
-/* A row of a CSI. Service keys are at most 2147483647; the default call handling is given as it was received. */
+/* A row of a CSI. Service keys are at most 2147483647. The default call handling is given as it was received: 0 and 2
+ * to 31 are continue, 1 and all others release (TS 29.002). */
 typedef struct {
     uint8_t dp;
     uint32_t key;
@@ -141,8 +143,9 @@ typedef struct {
 } camel_o_criteria;
 typedef struct { uint8_t dp; camel_basic_services basic; camel_causes causes; } camel_t_criteria;
 
-/* What an Insert sends of each CSI. The items of a list that is not sent are not looked at; one that is sent has 1 to
- * 10 items. The pointer of a list with no items may be NULL, and each pointer is to be set, as by { 0 }. */
+/* What an Insert sends of each CSI. The items of a list that is not sent are not looked at. One that is sent has 1 to
+ * 10 items: CAMEL_DATA_MISSING of none, CAMEL_UNEXPECTED_DATA_VALUE of more, whatever they are, and of two of a
+ * detection point of the CSI. The pointer of a list with no items may be NULL, and each pointer is to be set. */
 typedef struct {
     const camel_row *rows;
     size_t row_count;
@@ -226,8 +229,8 @@ typedef struct { uint64_t by_reason[CAMEL_REASONS]; } camel_decisions;
 
 uint32_t camel_abi_version(void);
 
-/* The sizes with which the library was built, of the types above in their order and then of a handle: writes as many as
- * there is room for, and returns how many there are. */
+/* The sizes with which the library was built, of the structures from camel_receipt to camel_decisions in their order
+ * and then of a handle: writes as many as there is room for, and returns how many there are. */
 uint32_t camel_layouts(uint32_t *sizes, size_t size_count);
 
 /* Data, made once per call. CAMEL_MALFORMED: they are none, and what was to be written is as before. */
@@ -338,8 +341,8 @@ static inline camel_status camel_submit_insert(camel_store *store, const camel_i
  * length is definite, in up to four octets, or indefinite, at most 16 deep, and no string that is read is in pieces.
  * The IMSI is that of the dialogue, and its number is 0 if the dialogue has none. If the argument is not taken, the
  * call returns CAMEL_MALFORMED_OCTETS to CAMEL_OTHER_IMSI, CAMEL_DATA_MISSING or CAMEL_UNEXPECTED_DATA_VALUE, and place
- * is the octet, from 0, at which its first fault is. Else place is 0. CAMEL_MALFORMED is of the operation or the IMSI,
- * and a store rejects an update as above. */
+ * is the octet, from 0, at which its first fault is. Else place is 0, and it is always written. CAMEL_MALFORMED is of
+ * the operation or the IMSI, and a store rejects an update as above. */
 CAMEL_CALL
 camel_status camel_submit_map(camel_store *store, uint8_t operation, const camel_imsi *imsi, const uint8_t *argument,
                               size_t argument_octet_count, uint64_t *place);
@@ -356,10 +359,10 @@ camel_status camel_holders(camel_store *store, uint64_t *sessions);
 CAMEL_CALL
 camel_status camel_counts_of(const camel_store *store, camel_counts *counts);
 
-/* Writes a receipt of all that is published. A session that learns it looks, and leaves the look: from then on it
- * sees at least as many updates. CAMEL_HELD: a look has begun. CAMEL_OTHER_STORE: the receipt is of another store, or
- * of more updates than the session's store has published, and then the session has looked. CAMEL_NO_LOOK: its own
- * store has ended. */
+/* Writes a receipt of all that is published. A session that learns it makes a look of its own, and sees at least as
+ * many updates from then on. CAMEL_HELD: a look has begun. CAMEL_OTHER_STORE: the receipt is of another store, also
+ * after the end of the session's own. CAMEL_NO_LOOK: its own store has ended. CAMEL_OTHER_STORE also comes of a receipt
+ * of more updates than the session's store has published; only then the session has made its look. */
 CAMEL_CALL
 camel_status camel_receipt_of(const camel_store *store, camel_receipt *receipt);
 CAMEL_CALL
@@ -406,13 +409,14 @@ CAMEL_CALL
 camel_status camel_decide_kept(const camel_subscriber *subscriber, const camel_event *event, camel_answer *answer);
 
 /* Ends the store and empties its handle; what is pending is dropped. Each look that is held goes on until it is left,
- * and no session begins another: CAMEL_NO_LOOK. CAMEL_HELD: a look is held; the writer's other calls return
- * CAMEL_WRONG_HANDLE, and this is to be called again. */
+ * and no session begins another: CAMEL_NO_LOOK. CAMEL_HELD: a look is held. Then the store has ended all the same, but
+ * its handle stays full: it is to be closed again, or freed, and the writer's other calls return CAMEL_WRONG_HANDLE. */
 CAMEL_CALL
 camel_status camel_close(camel_store *store);
 
 /* Frees what a handle of any kind holds, and empties it; an empty one stays so, and so does NULL. A session leaves its
- * look. A store ends as by camel_close, and its data are freed when the last look that is held is left. */
+ * look, and no other takes its place. A store ends as by camel_close, and its data are freed when the last look that is
+ * held is left. */
 void camel_empty(void *handle);
 static inline void camel_free(void *handle)
 {
