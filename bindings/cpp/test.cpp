@@ -6,6 +6,7 @@
 #include <cstddef>
 #include <cstdio>
 #include <cstdlib>
+#include <malloc.h>
 #include <sys/wait.h>
 #include <thread>
 #include <type_traits>
@@ -331,6 +332,24 @@ static void a_store_that_goes_away_ends_for_a_look()
     CHECK(sessions[0].look().status() == CAMEL_NO_LOOK);
 }
 
+/* The data of a store that is gone are freed with the last look, and not only with its session. */
+static void the_last_look_frees_the_data()
+{
+    constexpr uint64_t SUBSCRIBERS = 1000;
+    auto [store, sessions] = *camel::Store::open(1, camel::MAX_UPDATES, 1, 1);
+    for (uint64_t subscriber = 0; subscriber < SUBSCRIBERS; subscriber++)
+        CHECK(bool(store.submit_register(camel_imsi{ 15ULL << 56 | subscriber })));
+    CHECK(bool(store.publish()));
+    camel::Look look = get(sessions[0].look());
+    CHECK(bool(store.submit_register(imsi())));
+    CHECK(bool(store.publish()));
+    store = camel::Store();
+    size_t with_data = mallinfo2().uordblks;
+    CHECK(bool(look.leave()));
+    CHECK(with_data - mallinfo2().uordblks > 100 * SUBSCRIBERS);
+    CHECK(sessions[0].decide(event_at(2)).status() == CAMEL_NO_LOOK);
+}
+
 /* Threads may decide by one kept record at the same time. */
 static void threads_share_a_record()
 {
@@ -375,6 +394,7 @@ int main()
     no_value_is_none();
     a_store_ends();
     a_store_that_goes_away_ends_for_a_look();
+    the_last_look_frees_the_data();
     threads_share_a_record();
     threads_decide();
     std::puts("camel.hpp: all is as it should be");
