@@ -1,8 +1,9 @@
 /* camel.hpp: classes of C++17 over camel.h, for its library libwenqolo.a.
  *
  * A Store is the writer's, and each Session is of one call-control thread. Store, Session, Look and Subscriber move,
- * are not copied, and free what they hold at their end. One that was made by its default constructor, or moved from,
- * holds nothing: its calls return CAMEL_WRONG_HANDLE. An object is in one call at a time, but may be in several const
+ * are not copied, and free what they hold at their end, and when another is assigned to them. One that was made by
+ * its default constructor, or moved from, holds nothing: its calls return CAMEL_WRONG_HANDLE, if their data are some,
+ * and to leave a Look that holds nothing is no fault. An object is in one call at a time, but may be in several const
  * ones; different objects may be in calls at the same time. All else is plain data, the structs of camel.h.
  *
  * A call returns a Result: its value, or the status that says why it did nothing, with what camel.h says of it. Nothing
@@ -30,37 +31,53 @@ struct Failure {
     camel_status status;
 };
 
-/* A value, or the status that says why there is none. Whoever asks for a value that is not there ends the program, in
- * each build: no call goes on with what is none. */
+/* A value that may not be there. Whoever asks for one that is not ends the program, in each build: no call goes on with
+ * what is none. */
 template <class T>
-class [[nodiscard]] Result {
+class Optional {
 public:
-    Result(T value) noexcept : value_(std::move(value)) {}
-    Result(Failure failure) noexcept : status_(failure.status) {}
+    Optional() = default;
+    Optional(T value) noexcept : value_(std::move(value)) {}
 
     explicit operator bool() const noexcept { return value_.has_value(); }
-    camel_status status() const noexcept { return status_; }
+    T &value() & noexcept { return *there(value_); }
+    T &&value() && noexcept { return *std::move(there(value_)); }
+    const T &value() const & noexcept { return *there(value_); }
     T &operator*() & noexcept { return value(); }
-    T &&operator*() && noexcept { return std::move(value()); }
+    T &&operator*() && noexcept { return std::move(*this).value(); }
     const T &operator*() const & noexcept { return value(); }
     T *operator->() noexcept { return &value(); }
     const T *operator->() const noexcept { return &value(); }
-    T &value() noexcept
-    {
-        if (!value_)
-            std::terminate();
-        return *value_;
-    }
-    const T &value() const noexcept { return const_cast<Result *>(this)->value(); }
 
 private:
-    camel_status status_ = CAMEL_OK;
+    template <class Value>
+    static Value &there(Value &value) noexcept
+    {
+        if (!value)
+            std::terminate();
+        return value;
+    }
+
     std::optional<T> value_;
 };
 
-/* What is there, or nothing, or the status that says why neither is known. */
+/* A value, or the status that says why there is none. */
 template <class T>
-using Maybe = Result<std::optional<T>>;
+class [[nodiscard]] Result : public Optional<T> {
+public:
+    Result(T value) noexcept : Optional<T>(std::move(value)) {}
+    Result(Failure failure) noexcept : status_(failure.status) {}
+
+    camel_status status() const noexcept { return status_; }
+
+private:
+    camel_status status_ = CAMEL_OK;
+};
+
+/* What is there, or nothing, or the status that says why neither is known. It is true also if nothing is there: that is
+ * asked of its value. */
+template <class T>
+using Maybe = Result<Optional<T>>;
 
 /* Whether a call without a value did what it is for. */
 template <>
@@ -76,7 +93,7 @@ private:
     camel_status status_ = CAMEL_OK;
 };
 
-/* Octets of the caller's, at a pointer that is not null. */
+/* Octets of the caller's. */
 struct Octets {
     const uint8_t *data;
     size_t count;
@@ -121,6 +138,13 @@ Result<T> read(Call call, Given... given) noexcept
     return value;
 }
 
+/* A pointer that is not null, also to no octets. */
+inline const uint8_t *somewhere(const uint8_t *octets, size_t count) noexcept
+{
+    static constexpr uint8_t none = 0;
+    return count == 0 ? &none : octets;
+}
+
 /* What a call of the library writes if it is there. */
 template <class T, class Call, class... Given>
 Maybe<T> find(Call call, Given... given) noexcept
@@ -129,7 +153,7 @@ Maybe<T> find(Call call, Given... given) noexcept
     bool is_there = false;
     if (camel_status status = call(given..., &value, &is_there))
         return Failure{ status };
-    return is_there ? std::optional<T>(value) : std::optional<T>();
+    return is_there ? Optional<T>(value) : Optional<T>();
 }
 
 /* A handle that one object has: a move copies its bytes, and empties the old ones. */
@@ -141,7 +165,8 @@ public:
     Owned(Owned &&other) noexcept : raw_(std::exchange(other.raw_, Raw{})) {}
     Owned &operator=(Owned &&other) noexcept
     {
-        std::swap(raw_, other.raw_);
+        Owned taken(std::move(other)); /* before what is here is freed, which may be the same */
+        std::swap(raw_, taken.raw_);
         return *this;
     }
     ~Owned()
@@ -180,25 +205,23 @@ Sent sent_of(const std::optional<std::vector<camel_row>> &rows,
 /* Data, made once per call: CAMEL_MALFORMED if they are none. */
 inline Result<camel_imsi> imsi_of_tbcd(const uint8_t *octets, size_t count) noexcept
 {
-    return detail::read<camel_imsi>(camel_imsi_of_tbcd, octets, count);
+    return detail::read<camel_imsi>(camel_imsi_of_tbcd, detail::somewhere(octets, count), count);
 }
 
 inline Result<camel_imsi> imsi_of_digits(std::string_view digits) noexcept
 {
-    if (digits.empty())
-        return Failure{ CAMEL_MALFORMED };
     auto characters = reinterpret_cast<const uint8_t *>(digits.data());
-    return detail::read<camel_imsi>(camel_imsi_of_digits, characters, digits.size());
+    return detail::read<camel_imsi>(camel_imsi_of_digits, detail::somewhere(characters, digits.size()), digits.size());
 }
 
 inline Result<camel_address> address_of(const uint8_t *octets, size_t count) noexcept
 {
-    return detail::read<camel_address>(camel_address_of, octets, count);
+    return detail::read<camel_address>(camel_address_of, detail::somewhere(octets, count), count);
 }
 
 inline Result<camel_isdn_address> isdn_address_of(const uint8_t *octets, size_t count) noexcept
 {
-    return detail::read<camel_isdn_address>(camel_isdn_address_of, octets, count);
+    return detail::read<camel_isdn_address>(camel_isdn_address_of, detail::somewhere(octets, count), count);
 }
 
 /* The digits of an IMSI: as characters with a 0 behind them, and as TBCD octets. CAMEL_MALFORMED if it is none. */
@@ -228,7 +251,8 @@ class Subscriber {
 public:
     Subscriber() = default;
 
-    /* Decides an event of the record's own subscriber, over the front of the look in which it was kept. */
+    /* Decides an event of the record's own subscriber, whose IMSI is not compared, over the front of the look in which
+     * it was kept. */
     Result<camel_answer> decide(const camel_event &event) const noexcept
     {
         return detail::read<camel_answer>(camel_decide_kept, handle_.at(), &event);
@@ -242,8 +266,8 @@ private:
 
 class Look;
 
-/* What one call-control thread decides its calls by. Each call has a look of its own; `look` has several over one
- * front. CAMEL_NO_LOOK: the store has ended. */
+/* What one call-control thread decides its calls by. Each call goes by the Look that lives, which has several over one
+ * front, or else has a look of its own. CAMEL_NO_LOOK: the store has ended. */
 class Session {
 public:
     Session() = default;
@@ -284,14 +308,15 @@ public:
         return detail::find<camel_t_criteria>(camel_t_criteria_at, handle_.at(), &imsi, dp);
     }
 
-    /* Keeps the record of a subscriber, if there is one. */
+    /* Keeps the record of a subscriber, if there is one. If memory is refused, the session may have seen a later
+     * front. */
     Maybe<Subscriber> keep(camel_imsi imsi) noexcept
     {
         Subscriber subscriber;
         bool is_there = false;
         if (camel_status status = camel_keep(handle_.at(), &imsi, subscriber.handle_.at(), &is_there))
             return Failure{ status };
-        return is_there ? std::optional<Subscriber>(std::move(subscriber)) : std::nullopt;
+        return is_there ? Optional<Subscriber>(std::move(subscriber)) : Optional<Subscriber>();
     }
 
 private:
@@ -341,9 +366,8 @@ private:
     template <class R, class... Asked, class... Given>
     R ask(R (Session::*call)(Asked...) noexcept, const Given &...given) noexcept
     {
-        if (!session_)
-            return Failure{ CAMEL_WRONG_HANDLE };
-        return (session_->*call)(given...);
+        Session none;
+        return ((session_ ? *session_ : none).*call)(given...);
     }
 
     Session *session_ = nullptr;
@@ -395,7 +419,8 @@ public:
             return MapResult(CAMEL_MALFORMED, 0);
         camel_imsi given = imsi.value_or(camel_imsi{ 0 });
         uint64_t place = 0;
-        camel_status status = camel_submit_map(handle_.at(), static_cast<uint8_t>(operation), &given, argument.data,
+        const uint8_t *octets = detail::somewhere(argument.data, argument.count);
+        camel_status status = camel_submit_map(handle_.at(), static_cast<uint8_t>(operation), &given, octets,
                                                argument.count, &place);
         return status == CAMEL_OK ? MapResult() : MapResult(status, place);
     }
@@ -415,7 +440,8 @@ public:
 
     Result<camel_counts> counts() const noexcept { return detail::read<camel_counts>(camel_counts_of, handle_.at()); }
 
-    /* Ends the store; what is pending is dropped. CAMEL_HELD: a look is held, and it is to be called again. */
+    /* Ends the store; what is pending is dropped. CAMEL_HELD: a look is held. Then the store has ended all the same: it
+     * is to be closed again or to go away, and all other calls of it return CAMEL_WRONG_HANDLE. */
     Result<void> close() noexcept { return detail::done(camel_close(handle_.at())); }
 
 private:

@@ -239,7 +239,7 @@ static void a_look_is_of_one_front()
 {
     auto [store, sessions] = open();
     camel::Look look = get(sessions[0].look());
-    std::optional<camel::Subscriber> kept = get(look.keep(imsi()));
+    camel::Optional<camel::Subscriber> kept = get(look.keep(imsi()));
     CHECK(sessions[0].look().status() == CAMEL_HELD);
     CHECK(sessions[0].learn(get(store.receipt())).status() == CAMEL_HELD);
     CHECK(bool(store.submit_delete(imsi(), camel_withdrawal{ true, false, false })));
@@ -286,18 +286,63 @@ static void what_holds_nothing_is_refused()
     CHECK(opened.sessions[1].look().status() == CAMEL_HELD);
 }
 
-/* A value that is not there ends the program, also where asserts are left out. */
-static void no_value_is_none()
+/* Whether a function ends the program. */
+template <class Asks>
+static bool ends_the_program(Asks asks)
 {
     pid_t child = fork();
     if (child == 0) {
         std::set_terminate([] { _exit(3); });
-        camel_imsi none = *camel::imsi_of_digits("");
-        _exit(none.number == 0);
+        asks();
+        _exit(0);
     }
     int status = 0;
     CHECK(child > 0 && waitpid(child, &status, 0) == child);
-    CHECK(WIFEXITED(status) && WEXITSTATUS(status) == 3);
+    return WIFEXITED(status) && WEXITSTATUS(status) == 3;
+}
+
+/* A value that is not there ends the program, also where asserts are left out. */
+static void no_value_is_none()
+{
+    auto [store, sessions] = open();
+    camel::Session &session = sessions[0];
+    const camel_imsi unknown = get(camel::imsi_of_digits("262010000000002"));
+    CHECK(ends_the_program([] { (void)*camel::imsi_of_digits(""); }));
+    CHECK(ends_the_program([] { (void)camel::imsi_of_digits("").value(); }));
+    CHECK(session.row_at(unknown, 2) && !*session.row_at(unknown, 2));
+    CHECK(ends_the_program([&] { (void)(*session.row_at(unknown, 2))->key; }));
+    CHECK(ends_the_program([&] { (void)**session.keep(unknown); }));
+    CHECK(!ends_the_program([&] { (void)(*session.row_at(imsi(), 2))->key; }));
+}
+
+/* An object that is moved from holds nothing, and what was held where it is moved to is freed. */
+static void an_assignment_frees_what_was_held()
+{
+    auto [store, sessions] = open();
+    auto [other, others] = open(7);
+    store = std::move(other);
+    CHECK(bool(store.counts()));
+    CHECK(other.counts().status() == CAMEL_WRONG_HANDLE);
+    CHECK(sessions[0].decide(event_at(2)).status() == CAMEL_NO_LOOK);
+    sessions[0] = std::move(others[0]);
+    CHECK(bool(sessions[0].decide(event_at(2))));
+    CHECK(others[0].decide(event_at(2)).status() == CAMEL_WRONG_HANDLE);
+    camel_event malformed = event_at(3);
+    CHECK(others[0].decide(malformed).status() == CAMEL_MALFORMED);
+    CHECK(camel::Look().decide(malformed).status() == CAMEL_MALFORMED);
+    CHECK(camel::Look().decide(event_at(2)).status() == CAMEL_WRONG_HANDLE);
+    CHECK(bool(camel::Look().leave()));
+}
+
+/* A pointer to no octets may be null. */
+static void no_octets_are_nowhere()
+{
+    auto [store, sessions] = open();
+    CHECK(camel::imsi_of_tbcd(nullptr, 0).status() == CAMEL_MALFORMED);
+    CHECK(camel::imsi_of_digits({}).status() == CAMEL_MALFORMED);
+    CHECK(camel::address_of(nullptr, 0).status() == CAMEL_MALFORMED);
+    CHECK(camel::isdn_address_of(nullptr, 0).status() == CAMEL_MALFORMED);
+    CHECK(store.submit_map(camel::Operation::InsertSubscriberData, imsi(), { nullptr, 0 }).place() == 0);
 }
 
 static void a_store_ends()
@@ -392,6 +437,8 @@ int main()
     a_look_is_of_one_front();
     what_holds_nothing_is_refused();
     no_value_is_none();
+    an_assignment_frees_what_was_held();
+    no_octets_are_nowhere();
     a_store_ends();
     a_store_that_goes_away_ends_for_a_look();
     the_last_look_frees_the_data();

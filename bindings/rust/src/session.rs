@@ -130,7 +130,7 @@ impl Session {
     /// Keeps the record of a subscriber, for the later detection points of a call; None if there is no record.
     ///
     /// # Errors
-    /// As [`decide`](Session::decide), and [`Error::OutOfMemory`]: ask again.
+    /// As [`decide`](Session::decide), and [`Error::OutOfMemory`]: ask again; the session may have seen a later front.
     pub fn keep(&mut self, imsi: Imsi) -> Result<Option<Subscriber>, Error> {
         self.leave_forgotten()?;
         self.keep_over(imsi)
@@ -234,7 +234,28 @@ impl fmt::Debug for Session {
 /// A look of a session: all that it returns is of one front. It is left when it is dropped.
 ///
 /// A look holds up the writer, so it stays in its thread: no future that may move to another thread holds one over an
-/// `await`.
+/// `await`. The compiler counts a look until the end of the block in which it has a name, also behind
+/// [`leave`](Look::leave). So it gets a block of its own before an `await`:
+///
+/// ```
+/// async fn dialogue(_answer: &camel::Answer) {}
+///
+/// async fn set_up(session: &mut camel::Session, event: &camel::Event) -> Result<(), camel::Error> {
+///     let answer = {
+///         let look = session.look()?;
+///         look.decide(event)?
+///     };
+///     dialogue(&answer).await;
+///     Ok(())
+/// }
+///
+/// fn is_sent<T: Send>(future: T) -> T {
+///     future
+/// }
+/// fn spawned(session: &mut camel::Session, event: &camel::Event) {
+///     let _future = is_sent(set_up(session, event));
+/// }
+/// ```
 ///
 /// ```compile_fail,E0277
 /// fn is_sent<T: Send>() {}

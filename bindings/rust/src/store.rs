@@ -126,9 +126,9 @@ impl Store {
     /// # Errors
     /// The store is as before. [`Error::UnidentifiedSubscriber`]: an Insert or a Delete of an IMSI without a record.
     /// [`Error::DataMissing`]: a list without items, a number criterion without numbers and lengths, or criteria
-    /// without their CSI. [`Error::UnexpectedDataValue`] and [`Error::Malformed`]: data out of their range.
-    /// [`Error::HistoryFull`]: the store has accepted as many updates as its limit; publications and looks go on.
-    /// [`Error::OutOfMemory`]: submit it again.
+    /// without their CSI. [`Error::UnexpectedDataValue`]: data out of their range, more than 10 items of a list, or
+    /// two of a detection point of the CSI. [`Error::HistoryFull`]: the store has accepted as many updates as its
+    /// limit; publications and looks go on. [`Error::OutOfMemory`]: submit it again.
     pub fn submit(&mut self, update: &Update) -> Result<(), Error> {
         update.submit(&mut self.handle)
     }
@@ -216,7 +216,8 @@ impl fmt::Debug for Store {
     }
 }
 
-/// A store that is to end, and whose data a look holds. If it is dropped, the look has the data to itself.
+/// A store that has ended, and whose data a look holds. Whoever closes it again learns when they are freed. If it is
+/// dropped, the look has the data to itself.
 #[derive(Debug)]
 pub struct Closing {
     store: Store,
@@ -224,7 +225,7 @@ pub struct Closing {
 }
 
 impl Closing {
-    /// Why the store has not ended: [`Error::Held`].
+    /// Why its data are not freed: [`Error::Held`].
     pub fn why(&self) -> Error {
         self.why
     }
@@ -235,6 +236,13 @@ impl Closing {
     /// As [`Store::close`].
     pub fn close(self) -> Result<(), Closing> {
         self.store.close()
+    }
+}
+
+/// Why its data are not freed, for `?`. The store is dropped: the look has the data to itself.
+impl From<Closing> for Error {
+    fn from(closing: Closing) -> Error {
+        closing.why()
     }
 }
 

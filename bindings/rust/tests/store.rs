@@ -321,3 +321,17 @@ fn threads_decide_by_one_record() {
         }
     });
 }
+
+#[test]
+fn a_store_that_is_held_is_an_error_for_the_question_mark() {
+    fn close(store: Store) -> Result<(), Error> {
+        store.close()?;
+        Ok(())
+    }
+    let (store, mut session, _) = open();
+    let look = session.look().unwrap();
+    assert_eq!(close(store), Err(Error::Held));
+    assert_eq!(look.decide(&event()), trigger(2, 5));
+    look.leave();
+    assert_eq!(session.decide(&event()), Err(Error::NoLook));
+}
