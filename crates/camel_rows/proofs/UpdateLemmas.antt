@@ -1,16 +1,18 @@
 -- Updates, one and in a list.
-use Rattle.std.proofs.Common.{◌≡◌, ◌∙◌, ℕ, true, false, List, [], ◌∷◌, ◌++◌, Option, Some, None, cond, is_some, refl, ap}
+use Rattle.std.proofs.Common.{◌≡◌, ◌∙◌, ℕ, true, false, List, [], ◌∷◌, ◌++◌, Option, Some, None, IsSome, cond, is_some, refl, ap}
 use Rattle.std.proofs.lemmas.Bool.{cond_both}
 use Rattle.std.proofs.lemmas.Slice.Eq.{bytes_eq-Decides}
 use Rattle.std.specs.FinMap as map
 use Rattle.camel_criteria.specs.Criteria.{OCriteriaData, TCriteriaData}
+use Rattle.camel_criteria.specs.declared.refusal.Refusal.{Refusal}
 use Rattle.camel_rows.proofs.DirectoryLemmas.{record_after-none}
-use Rattle.camel_rows.proofs.ByImsiLemmas.{get-with_value_of, get-with_value_there}
-use Rattle.camel_rows.specs.ByImsi.{value_of, with_value_of}
+use Rattle.camel_rows.proofs.ByImsiLemmas.{get-with_value_of, get-with_value_there, insert_same}
+use Rattle.camel_rows.specs.ByImsi.{value_of, with_value, with_value_of}
+use Rattle.camel_rows.specs.CsisPresent.{csis_of, csis_refusal}
 use Rattle.camel_rows.specs.TdpRow.{TdpRowData}
 use Rattle.camel_rows.specs.Standard.{HasO, HasVt, csi_with}
 use Rattle.camel_rows.specs.Records.{RecordsData}
-use Rattle.camel_rows.specs.Subscriber.{empty_record}
+use Rattle.camel_rows.specs.Subscriber.{SubscriberData, empty_record}
 use Rattle.camel_rows.specs.Update.{AcceptedFrom, is_of, records_after, record_after, record_with_insert, refusal, records_from, update_imsi}
 use Rattle.camel_rows.specs.declared.subscriber.update.Update.{Update}
 use Rattle.camel_rows.specs.declared.subscriber.update.Update.TheVariants.{Register, Insert}
@@ -33,6 +35,17 @@ other_record m update imsi other =
 pub own_record : (m : RecordsData) (update : Update) (imsi : List ℕ) → is_of imsi update ≡ true → refusal m update ≡ None
     → map.get (records_after m update) imsi ≡ record_after (value_of m (update_imsi update)) update
 own_record m update imsi own accepted = rw accepted (left_by m update imsi ∙ rw own refl)
+
+-- the data after an update that concerns one subscriber, who has a record: only that may have changed
+pub with_record_after : (m : RecordsData) (update : Update) (imsi : List ℕ) (old new : SubscriberData) → update_imsi update ≡ Some imsi → map.get m imsi ≡ Some old
+    → (IsSome (csis_refusal (Some (csis_of old)) update) → new ≡ old) → (csis_refusal (Some (csis_of old)) update ≡ None → Some new ≡ record_after (Some old) update)
+    → map.insert m imsi new ≡ records_after m update
+with_record_after m update imsi old new whom held kept changed = rw (whom, held) (either (csis_refusal (Some (csis_of old)) update) refl)
+  where
+    either : (why : Option Refusal) → csis_refusal (Some (csis_of old)) update ≡ why
+        → map.insert m imsi new ≡ cond (is_some why) m (with_value m imsi (record_after (Some old) update))
+    either None is = ap (with_value m imsi) (changed is)
+    either (Some why) is = ap (map.insert m imsi) (kept (ap is_some is)) ∙ insert_same m imsi old held
 
 inserted : (m : RecordsData) (imsi : List ℕ) (o : Option (List TdpRowData)) (o_criteria : Option (List OCriteriaData)) (vt : Option (List TdpRowData)) (t_criteria : Option (List TCriteriaData))
     → refusal (records_after m (Register imsi)) (Insert imsi o o_criteria vt t_criteria) ≡ None

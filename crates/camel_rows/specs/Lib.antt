@@ -11,6 +11,7 @@ pub mod Front
 pub mod Outcome
 pub mod Received
 pub mod Records
+pub mod RoomForCsi
 pub mod RowRoom
 pub mod Standard
 pub mod Store

@@ -10,8 +10,3 @@ stored_in NotStored = None
 stored_in (WithoutEntries rows) = Some (record { rows = rows; entries = [] })
 stored_in (WithEntry rows entry) = Some (record { rows = rows; entries = entry })
 stored_in (WithEntries rows entries) = Some (record { rows = rows; entries = entries.items })
-
--- what is stored if this takes its place, or if nothing does
-abbrev pub replaced_by : {most : ℕ} {Entry : Type 0} → Option (StoredCsi most Entry) → Option (StoredCsiData Entry) → Option (StoredCsiData Entry)
-replaced_by None stored = stored
-replaced_by (Some stored) old = stored_in stored

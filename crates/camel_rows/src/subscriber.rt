@@ -1,9 +1,10 @@
 //! What is stored: the record of a subscriber, the records of all, and the updates that change them.
 
-ghost use Rattle.std.specs.Prelude.{◌≡◌, IfErr, IfOk, IsTrue, None, OnErr, OnOk, Some};
+ghost use Rattle.std.specs.Prelude.{◌≡◌, ◌⊎◌, Err, IfErr, IfOk, IfSome, IsSome, IsTrue, None, OnErr, OnOk, Some};
 ghost use Rattle.std.specs.Option.{option_and_then, option_copied, option_map};
 ghost use Rattle.camel_rows.specs.StoredCsi.{stored_in};
-ghost use Rattle.camel_rows.specs.CsisPresent.{csis_of, csis_refusal};
+ghost use Rattle.camel_rows.specs.RoomForCsi.{IsRoomFor, IsRoomForUpdate};
+ghost use Rattle.camel_rows.specs.CsisPresent.{csis_of, csis_refusal, insert_refusal};
 ghost use Rattle.camel_rows.specs.Subscriber.{empty_record, entry_at, entry_data, row_at, rows_of};
 ghost use Rattle.camel_rows.specs.Update.{is_insert, record_after, record_with_insert, record_without, update_imsi};
 
@@ -19,7 +20,7 @@ pub(crate) mod update;
 use crate::csi::criteria_set::{OCriteriaSet, TCriteriaSet};
 use crate::csi::tdp_row::TdpRow;
 use crate::csi::{OCsi, VtCsi};
-use crate::subscriber::csis_present::CsisPresent;
+use crate::subscriber::csis_present::{CsisPresent, check_insert, check_update};
 use crate::subscriber::lent::Lent;
 use crate::subscriber::one_block::OneBlock;
 use crate::subscriber::stored_csi::StoredCsi;
@@ -166,7 +167,10 @@ impl Subscriber {
         }
     }
 
-    /// Stores what an Insert brings. Fails with `AllocError` if memory is refused; then nothing changes.
+    /// Stores what an Insert brings.
+    ///
+    /// Fails with `DataMissing` (35) for criteria without their CSI if that CSI is not stored, and with `OutOfMemory`
+    /// (102) if memory is refused. Then nothing changes.
     pub(crate) fn insert(
         &mut self,
         alloc: Global,
@@ -174,35 +178,101 @@ impl Subscriber {
         o_criteria: &Option<OCriteriaSet>,
         vt: Option<VtCsi>,
         t_criteria: &Option<TCriteriaSet>,
-    ) -> Result<(), AllocError>
+    ) -> Result<(), Refusal>
+        ensures refused { IfSome (insert_refusal (Some (csis_of self.old)) o o_criteria.now vt t_criteria.now) (λ why. result ≡ Err why) }
+        ensures only { IfErr result (λ why. (why ≡ Refusal.OutOfMemory)
+            ⊎ (insert_refusal (Some (csis_of self.old)) o o_criteria.now vt t_criteria.now ≡ Some why)) }
         ensures inserted { OnOk result (self.new ≡ record_with_insert o o_criteria.now vt t_criteria.now self.old) }
         ensures unchanged { OnErr result (self.new ≡ self.old) }
     {
-        let o = self.o.after_insert(o, o_criteria)?;
-        let vt = match self.stored_vt() {
-            Some(stored) => stored.after_insert(vt, t_criteria)?,
-            None => StoredCsi::NotStored.after_insert(vt, t_criteria)?,
-        };
-        if let Some(vt) = vt {
-            self.store_vt(alloc, vt)?;
+        check_insert(self.csis(), &o, o_criteria, &vt, t_criteria)?;
+        let room = self.room_for(alloc, &vt)?;
+        let o_criteria = o_criteria.clone()?;
+        let t_criteria = t_criteria.clone()?;
+        self.put(room, o, o_criteria, vt, t_criteria);
+        Ok(())
+    }
+
+    /// Stores what an Insert brings, as [`Subscriber::insert`] does, and moves it in. One that is refused is dropped, and
+    /// nothing changes. If memory is refused, it comes back, and nothing changes.
+    pub(crate) fn insert_owned(
+        &mut self,
+        alloc: Global,
+        update: Box<Update>,
+    ) -> Result<(), Box<Update>>
+        requires { IsTrue (is_insert update.value) }
+        ensures refused { OnOk result (IsSome (csis_refusal (Some (csis_of self.old)) update.value) → self.new ≡ self.old) }
+        ensures inserted { OnOk result (csis_refusal (Some (csis_of self.old)) update.value ≡ None
+            → Some self.new ≡ record_after (Some self.old) update.value) }
+        ensures back { IfErr result (λ back. back ≡ update) }
+        ensures unchanged { OnErr result (self.new ≡ self.old) }
+    {
+        if check_update(Some(self.csis()), &update).is_err() {
+            return Ok(());
         }
-        if let Some(o) = o {
-            self.o = o;
+        let Ok(room) = self.room_for_update(alloc, &update) else {
+            return Err(update);
+        };
+        match Box::into_inner(update) {
+            Update::Insert {
+                imsi: _,
+                o,
+                o_criteria,
+                vt,
+                t_criteria,
+            } => self.put(room, o, o_criteria, vt, t_criteria),
+            _ => unreachable!(),
         }
         Ok(())
     }
 
-    /// Stores a VT-CSI in the place of the one that is stored, or of none. Fails with `AllocError` if memory is refused;
-    /// then nothing changes.
-    fn store_vt(&mut self, alloc: Global, vt: StoredVtCsi) -> Result<(), AllocError>
-        ensures stored { OnOk result (self.new ≡ record self.old { vt = stored_in vt }) }
-        ensures unchanged { OnErr result (self.new ≡ self.old) }
+    /// A block for the VT-CSI that an update brings, if it brings one and none is stored.
+    fn room_for_update(
+        &self,
+        alloc: Global,
+        update: &Update,
+    ) -> Result<Option<OneBlock<StoredVtCsi>>, AllocError>
+        ensures { IfOk result (λ room. IsRoomForUpdate update.now self.now room) }
     {
-        match &mut self.vt {
-            Some(block) => block.replace(vt),
-            None => self.vt = Some(OneBlock::new(alloc, vt)?),
+        match update {
+            Update::Insert { vt, .. } => self.room_for(alloc, vt),
+            _ => Ok(None),
         }
-        Ok(())
+    }
+
+    /// A block for the VT-CSI that an Insert brings, if it brings one and none is stored.
+    fn room_for(
+        &self,
+        alloc: Global,
+        vt: &Option<VtCsi>,
+    ) -> Result<Option<OneBlock<StoredVtCsi>>, AllocError>
+        ensures { IfOk result (λ room. IsRoomFor vt.now self.now.vt room) }
+    {
+        if self.vt().is_some() || vt.is_none() {
+            return Ok(None);
+        }
+        Ok(Some(OneBlock::new(alloc, StoredCsi::NotStored)?))
+    }
+
+    /// Stores what an Insert brings, with a block for the VT-CSI if there is to be one. It takes no memory.
+    fn put(
+        &mut self,
+        room: Option<OneBlock<StoredVtCsi>>,
+        o: Option<OCsi>,
+        o_criteria: Option<OCriteriaSet>,
+        vt: Option<VtCsi>,
+        t_criteria: Option<TCriteriaSet>,
+    )
+        requires { IsRoomFor vt self.old.vt room }
+        ensures { self.new ≡ record_with_insert o o_criteria vt t_criteria self.old }
+    {
+        if self.vt.is_none() {
+            self.vt = room;
+        }
+        if let Some(block) = &mut self.vt {
+            block.get_mut().insert(vt, t_criteria);
+        }
+        self.o.insert(o, o_criteria);
     }
 
     /// Removes what a Delete names.

@@ -1,7 +1,7 @@
 ghost use Rattle.std.specs.Prelude.{◌≡◌, IfOk, IsSome, OnErr, OnOk, Some};
-ghost use Rattle.std.specs.Borrow.{Lends, sem};
+ghost use Rattle.std.specs.Borrow.{Lends, LendsIf, sem};
 ghost use Rattle.std.specs.FinMap as map;
-ghost use Rattle.std.specs.Option.{option_copied};
+ghost use Rattle.std.specs.Option.{option_copied, option_copied_mut};
 ghost use Rattle.camel_table.specs.ByImsi.{ListsEachOnce};
 ghost use Rattle.camel_table.specs.contracts.table.Table.{the_row};
 
@@ -93,6 +93,17 @@ impl<V: Default + Drop, S: BuildHasher + Copy> Table<V, S> {
     {
         let buckets = &mut self.buckets;
         buckets.value_mut(imsi)
+    }
+
+    /// The value that an IMSI has, if there is one, to be changed in its place. It takes no memory.
+    pub fn get_mut(&mut self, imsi: &Imsi) -> Option<&mut V>
+        ensures* writes_back { sem 𝓛 (LendsIf (the_row V.row S.row S.Hasher.row S.BuildHasher S.Hasher.Hasher) V.row self.entry result (map.insert self.entry.now imsi.now) self.entry.now) }
+        ensures value { option_copied_mut result ≡ map.get self.old imsi.now }
+    {
+        if self.buckets.get(imsi).is_none() {
+            return None;
+        }
+        Some(self.value_mut(imsi))
     }
 
     /// Takes the value of an IMSI out, if there is one. It takes no memory.

@@ -69,6 +69,26 @@ impl PublishedCopy {
     }
 }
 
+impl PublishedCopy {
+    /// Applies an operation, and moves in what it brings. If memory is refused, it comes back, and the copy is as before.
+    fn move_operation(&mut self, operation: Operation) -> Result<(), Operation>
+        ensures { MatchResult result
+            (λ _. data_of self.new ≡ copy_after (data_of self.old) operation)
+            (λ back. (back ≡ operation) × (data_of self.new ≡ data_of self.old)) }
+    {
+        match operation {
+            Operation::Update(update) => {
+                if let Err(update) = self.records.apply_owned(update) {
+                    return Err(Operation::Update(update));
+                }
+                self.count = self.count.saturating_add(1);
+            }
+            Operation::Front(front) => self.front = front,
+        }
+        Ok(())
+    }
+}
+
 impl Absorb<Operation> for PublishedCopy {
     type State = (Records, u64, Prefix);
 
@@ -83,6 +103,14 @@ impl Absorb<Operation> for PublishedCopy {
     ) -> Result<(), AllocError> {
         self.apply_operation(operation)
     }
+
+    fn absorb_second(
+        &mut self,
+        operation: Operation,
+        _other: &PublishedCopy,
+    ) -> Result<(), Operation> {
+        self.move_operation(operation)
+    }
 }
 
 impl Apply<Operation> for PublishedCopy {
@@ -94,5 +122,9 @@ impl Apply<Operation> for PublishedCopy {
 
     fn apply(&mut self, operation: &Operation) -> Result<(), AllocError> {
         self.apply_operation(operation)
+    }
+
+    fn apply_owned(&mut self, operation: Operation) -> Result<(), Operation> {
+        self.move_operation(operation)
     }
 }

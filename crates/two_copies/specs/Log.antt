@@ -9,4 +9,4 @@ module _ {O : Type 0} where
 
   -- the operations that the copy which is not shown lacks
   abbrev pub missing_in : Log O → List O
-  missing_in log = drop log.last_done log.last.items ++ drop log.pending_done log.pending.items
+  missing_in log = log.last.items ++ drop log.pending_done log.pending.items

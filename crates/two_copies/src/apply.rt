@@ -4,7 +4,7 @@ ghost use Rattle.std.specs.Prelude.{◌≡◌, MatchResult};
 use std::alloc::AllocError;
 
 /// A value that operations change. Each operation is applied to both copies, one after the other.
-pub trait Apply<O> {
+pub trait Apply<O: Drop> {
     /// What two copies have in common if the same operations were applied to both. No value of it is made.
     type State;
 
@@ -18,4 +18,17 @@ pub trait Apply<O> {
         ensures { MatchResult result
             (λ _. state self.new ≡ applied (state self.old) operation.now)
             (λ _. state self.new ≡ state self.old) };
+
+    /// Applies an operation that the other copy has already, and may move in what it brings. If memory is refused, it
+    /// comes back, and the state is as before.
+    fn apply_owned(&mut self, operation: O) -> Result<(), O>
+        ensures { MatchResult result
+            (λ _. state self.new ≡ applied (state self.old) operation)
+            (λ back. (back ≡ operation) × (state self.new ≡ state self.old)) }
+    {
+        match self.apply(&operation) {
+            Ok(()) => Ok(()),
+            Err(_) => Err(operation),
+        }
+    }
 }

@@ -3,17 +3,17 @@ ghost use Rattle.std.specs.Prelude.{◌≡◌, ◌≤◌, [], ◌∷◌, ◌++�
 
 use crate::apply::Apply;
 use std::alloc::{AllocError, Global};
+use std::collections::VecDeque;
 use std::mem;
 
-/// The operations of the last publication, which the shown copy has, and the pending ones, with how many of each the
+/// The operations of the last publication that only the shown copy has, and the pending ones, with how many of these the
 /// other copy has.
 #[derive(Drop)]
 pub(crate) struct Log<O: Drop> {
-    last: Vec<O, Global>,
-    last_done: usize,
-    pending: Vec<O, Global>,
+    last: VecDeque<O, Global>,
+    pending: VecDeque<O, Global>,
     pending_done: usize,
-    ghost bounds: { (last_done ≤ length last.items) × (pending_done ≤ length pending.items) },
+    ghost bounds: { pending_done ≤ length pending.items },
 }
 
 impl<O: Drop> Log<O> {
@@ -24,9 +24,8 @@ impl<O: Drop> Log<O> {
         ensures missing { missing_in result ≡ [] }
     {
         Log {
-            last: Vec::new(alloc),
-            last_done: 0,
-            pending: Vec::new(alloc),
+            last: VecDeque::new(alloc),
+            pending: VecDeque::new(alloc),
             pending_done: 0,
         }
     }
@@ -40,7 +39,7 @@ impl<O: Drop> Log<O> {
             (λ _. missing_in self.new ≡ missing_in self.old ++ operation ∷ [])
             (λ _. missing_in self.new ≡ missing_in self.old) }
     {
-        self.pending.push(operation)?;
+        self.pending.push_back(operation)?;
         Ok(())
     }
 
@@ -51,7 +50,7 @@ impl<O: Drop> Log<O> {
             ≡ fold T.applied (T.state copy.old) (missing_in self.old) }
         ensures all { OnOk result (missing_in self.new ≡ []) }
     {
-        apply_from(copy, &self.last, &mut self.last_done)?;
+        move_all(copy, &mut self.last)?;
         apply_from(copy, &self.pending, &mut self.pending_done)
     }
 
@@ -62,22 +61,39 @@ impl<O: Drop> Log<O> {
     {
         mem::swap(&mut self.last, &mut self.pending);
         self.pending.clear();
-        self.last_done = 0;
         self.pending_done = 0;
     }
 }
 
-/// Applies the operations behind the first `done`, and counts them.
-fn apply_from<T: Apply<O>, O>(
+/// Moves the operations into a copy, one after the other. One that is refused memory stays, with those behind it.
+fn move_all<T: Apply<O>, O: Drop>(
     copy: &mut T,
-    operations: &[O],
+    operations: &mut VecDeque<O>,
+) -> Result<(), AllocError>
+    ensures all { OnOk result (operations.new.items ≡ []) }
+    ensures alike { fold T.applied (T.state copy.new) operations.new.items
+        ≡ fold T.applied (T.state copy.old) operations.old.items }
+{
+    while let Some(operation) = operations.pop_front() {
+        if let Err(operation) = copy.apply_owned(operation) {
+            operations.push_front_reserved(operation);
+            return Err(AllocError);
+        }
+    }
+    Ok(())
+}
+
+/// Applies the operations behind the first `done`, and counts them.
+fn apply_from<T: Apply<O>, O: Drop>(
+    copy: &mut T,
+    operations: &VecDeque<O>,
     done: &mut usize,
 ) -> Result<(), AllocError>
-    requires { done.old ≤ length operations.now }
-    ensures bound { done.new ≤ length operations.now }
-    ensures all { OnOk result (done.new ≡ length operations.now) }
-    ensures alike { fold T.applied (T.state copy.new) (drop done.new operations.now)
-        ≡ fold T.applied (T.state copy.old) (drop done.old operations.now) }
+    requires { done.old ≤ length operations.now.items }
+    ensures bound { done.new ≤ length operations.now.items }
+    ensures all { OnOk result (done.new ≡ length operations.now.items) }
+    ensures alike { fold T.applied (T.state copy.new) (drop done.new operations.now.items)
+        ≡ fold T.applied (T.state copy.old) (drop done.old operations.now.items) }
 {
     while *done < operations.len() {
         copy.apply(&operations[*done])?;

@@ -1,8 +1,8 @@
 ghost use Rattle.std.specs.Prelude.{◌≡◌, Some, None, IfErr, OnOk};
-ghost use Rattle.camel_rows.specs.CsisPresent.{csis_after, csis_refusal, lacks_csi};
+ghost use Rattle.camel_rows.specs.CsisPresent.{csis_after, csis_refusal, insert_refusal, lacks_csi};
 
-use crate::csi::Csi;
-use crate::csi::criteria_set::CriteriaSet;
+use crate::csi::criteria_set::{CriteriaSet, OCriteriaSet, TCriteriaSet};
+use crate::csi::{Csi, OCsi, VtCsi};
 use crate::subscriber::update::Update;
 use camel_criteria::{CriteriaEntry, Refusal};
 
@@ -46,13 +46,26 @@ pub(crate) fn check_update(csis: Option<CsisPresent>, update: &Update) -> Result
                 ..
             },
             Some(csis),
-        ) => {
-            if lacks_csi(csis.o, o, o_criteria) || lacks_csi(csis.vt, vt, t_criteria) {
-                return Err(Refusal::DataMissing);
-            }
-            Ok(())
-        }
+        ) => check_insert(csis, o, o_criteria, vt, t_criteria),
     }
+}
+
+/// Whether an Insert may be applied to a record with these CSIs. Fails with `DataMissing` (35) for criteria without
+/// their CSI if that CSI is not stored.
+pub(crate) fn check_insert(
+    csis: CsisPresent,
+    o: &Option<OCsi>,
+    o_criteria: &Option<OCriteriaSet>,
+    vt: &Option<VtCsi>,
+    t_criteria: &Option<TCriteriaSet>,
+) -> Result<(), Refusal>
+    ensures refused { IfErr result (λ why. insert_refusal (Some csis) o.now o_criteria.now vt.now t_criteria.now ≡ Some why) }
+    ensures accepted { OnOk result (insert_refusal (Some csis) o.now o_criteria.now vt.now t_criteria.now ≡ None) }
+{
+    if lacks_csi(csis.o, o, o_criteria) || lacks_csi(csis.vt, vt, t_criteria) {
+        return Err(Refusal::DataMissing);
+    }
+    Ok(())
 }
 
 /// Whether criteria come without their CSI, and that CSI is not stored.

@@ -23,20 +23,24 @@ impl<T: Drop> OneBlock<T> {
             block: Box::new(alloc, value)?,
         })
     }
-
-    /// Puts another value in the place of the one that is there.
-    pub(crate) fn replace(&mut self, value: T)
-        ensures { self.new ≡ value }
-    {
-        *self.block = value;
-    }
 }
 
 impl<T> OneBlock<T> {
+    ghost use Rattle.std.specs.Borrow.{Lends, sem};
+    ghost use Rattle.camel_rows.specs.contracts.subscriber.one_block.OneBlock.{the_row};
+
     pub(crate) fn get(&self) -> &T
         ensures { result.now ≡ self.now }
     {
         &self.block
+    }
+
+    /// The value, to be changed in its place.
+    pub(crate) fn get_mut(&mut self) -> &mut T
+        ensures* writes_back { sem 𝓛 (Lends (the_row T.row) T.row self.entry result (λ value. value)) }
+        ensures value { result.now ≡ self.old }
+    {
+        &mut self.block
     }
 }
 

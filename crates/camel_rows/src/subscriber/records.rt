@@ -1,11 +1,11 @@
-ghost use Rattle.std.specs.Prelude.{◌≡◌, ◌⊎◌, Some, IfErr, IfNone, IfOk, IfSome, IsOk, IsSome, OnErr, OnOk};
+ghost use Rattle.std.specs.Prelude.{◌≡◌, ◌⊎◌, None, Some, Err, IfErr, IfNone, IfOk, IfSome, IsErr, IsOk, IsTrue, OnErr, OnOk};
 ghost use Rattle.std.specs.FinMap as map;
 ghost use Rattle.std.specs.Option.{option_copied, option_map};
 ghost use Rattle.camel_table.specs.ByImsi.{ListsEachOnce};
 ghost use Rattle.camel_rows.specs.ByImsi.{value_of, with_value};
-ghost use Rattle.camel_rows.specs.CsisPresent.{csis_of};
+ghost use Rattle.camel_rows.specs.CsisPresent.{csis_of, insert_refusal};
 ghost use Rattle.camel_rows.specs.Records.{no_records};
-ghost use Rattle.camel_rows.specs.Update.{records_after, record_with_insert, record_without, refusal, update_imsi};
+ghost use Rattle.camel_rows.specs.Update.{is_insert, records_after, record_with_insert, record_without, refusal, update_imsi};
 
 use crate::csi::criteria_set::{OCriteriaSet, TCriteriaSet};
 use crate::csi::{OCsi, VtCsi};
@@ -113,7 +113,6 @@ impl Records {
             (why ≡ Refusal.OutOfMemory) ⊎ (refusal self.old update.now ≡ Some why)) }
         ensures clears { update.now ≡ Update.ClearAll → IsOk result }
     {
-        self.check(update)?;
         match update {
             Update::Register { imsi } => self.put(*imsi, Subscriber::new())?,
             Update::Insert {
@@ -123,11 +122,28 @@ impl Records {
                 vt,
                 t_criteria,
             } => self.insert(imsi, *o, o_criteria, *vt, t_criteria)?,
-            Update::Delete { imsi, what } => self.withdraw(imsi, *what),
+            Update::Delete { imsi, what } => self.withdraw(imsi, *what)?,
             Update::Cancel { imsi } => self.take_out(imsi),
             Update::ClearAll => self.clear(),
         }
         Ok(())
+    }
+
+    /// Applies an update, as [`Records::apply`] does, and moves in what it brings. One that is refused is dropped, and the
+    /// records are as before. If memory is refused, it comes back, and the records are as before.
+    pub fn apply_owned(&mut self, update: Box<Update>) -> Result<(), Box<Update>>
+        ensures applied { OnOk result (self.new ≡ records_after self.old update.value) }
+        ensures back { IfErr result (λ back. back ≡ update) }
+        ensures unchanged { OnErr result (self.new ≡ self.old) }
+    {
+        if let Update::Insert { imsi, .. } = &*update {
+            let imsi = *imsi;
+            return self.insert_owned(&imsi, update);
+        }
+        match self.apply(&update) {
+            Err(Refusal::OutOfMemory) => Err(update),
+            Ok(()) | Err(_) => Ok(()),
+        }
     }
 
     /// Equal records. Fails with `OutOfMemory` (102) if memory is refused.
@@ -146,23 +162,50 @@ impl Records {
         o_criteria: &Option<OCriteriaSet>,
         vt: Option<VtCsi>,
         t_criteria: &Option<TCriteriaSet>,
-    ) -> Result<(), AllocError>
-        requires { IsSome (map.get self.old imsi.now) }
+    ) -> Result<(), Refusal>
+        ensures refused { IfSome (insert_refusal (option_map csis_of (map.get self.old imsi.now)) o o_criteria.now vt t_criteria.now) (λ why. result ≡ Err why) }
+        ensures only { IfErr result (λ why. (why ≡ Refusal.OutOfMemory)
+            ⊎ (insert_refusal (option_map csis_of (map.get self.old imsi.now)) o o_criteria.now vt t_criteria.now ≡ Some why)) }
         ensures inserted { OnOk result (self.new ≡ with_value self.old imsi.now
             (option_map (record_with_insert o o_criteria.now vt t_criteria.now) (map.get self.old imsi.now))) }
         ensures unchanged { OnErr result (self.new ≡ self.old) }
     {
         let alloc = self.alloc;
-        let subscriber = self.table.value_mut(imsi);
+        let Some(subscriber) = self.table.get_mut(imsi) else {
+            return Err(Refusal::UnidentifiedSubscriber);
+        };
         subscriber.insert(alloc, o, o_criteria, vt, t_criteria)
     }
 
-    /// Removes what a Delete names from the record of its IMSI.
-    fn withdraw(&mut self, imsi: &Imsi, what: Withdrawal)
-        requires { IsSome (map.get self.old imsi.now) }
-        ensures { self.new ≡ with_value self.old imsi.now (option_map (record_without what) (map.get self.old imsi.now)) }
+    /// Moves what an Insert brings into the record of its IMSI, in its place.
+    fn insert_owned(&mut self, imsi: &Imsi, update: Box<Update>) -> Result<(), Box<Update>>
+        requires insert { IsTrue (is_insert update.value) }
+        requires imsi { update_imsi update.value ≡ Some imsi.now }
+        ensures applied { OnOk result (self.new ≡ records_after self.old update.value) }
+        ensures back { IfErr result (λ back. back ≡ update) }
+        ensures unchanged { OnErr result (self.new ≡ self.old) }
     {
-        self.table.value_mut(imsi).withdraw(what);
+        let alloc = self.alloc;
+        let Some(subscriber) = self.table.get_mut(imsi) else {
+            return Ok(());
+        };
+        subscriber.insert_owned(alloc, update)
+    }
+
+    /// Removes what a Delete names from the record of its IMSI. Fails with `UnidentifiedSubscriber` (5) if there is none.
+    fn withdraw(&mut self, imsi: &Imsi, what: Withdrawal) -> Result<(), Refusal>
+        ensures refused { map.get self.old imsi.now ≡ None → result ≡ Err Refusal.UnidentifiedSubscriber }
+        ensures there { IsErr result → map.get self.old imsi.now ≡ None }
+        ensures withdrawn { OnOk result (self.new ≡ with_value self.old imsi.now (option_map (record_without what) (map.get self.old imsi.now))) }
+        ensures unchanged { OnErr result (self.new ≡ self.old) }
+    {
+        match self.table.get_mut(imsi) {
+            Some(subscriber) => {
+                subscriber.withdraw(what);
+                Ok(())
+            }
+            None => Err(Refusal::UnidentifiedSubscriber),
+        }
     }
 
     /// Puts a record in the place of the one that is there.

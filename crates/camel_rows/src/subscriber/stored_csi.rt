@@ -1,6 +1,6 @@
-ghost use Rattle.std.specs.Prelude.{◌≡◌, IfOk, Some, is_some};
+ghost use Rattle.std.specs.Prelude.{◌≡◌, None, Some, is_some};
 ghost use Rattle.std.specs.Option.{option_and_then, option_copied, option_map};
-ghost use Rattle.camel_rows.specs.StoredCsi.{replaced_by, stored_in};
+ghost use Rattle.camel_rows.specs.StoredCsi.{stored_in};
 ghost use Rattle.camel_rows.specs.Subscriber.{entry_of, rows_of};
 ghost use Rattle.camel_rows.specs.Update.{csi_after};
 
@@ -21,23 +21,25 @@ pub(crate) enum StoredCsi<const MOST: usize, E> {
 }
 
 impl<const MOST: usize, E: CriteriaEntry> StoredCsi<MOST, E> {
-    /// What an Insert of this CSI and these criteria, if any, stores in the place of this one; None if this one stays.
-    pub(crate) fn after_insert(
-        &self,
-        csi: Option<Csi<MOST>>,
-        criteria: &Option<CriteriaSet<E>>,
-    ) -> Result<Option<StoredCsi<MOST, E>>, AllocError>
-        ensures { IfOk result (λ after. replaced_by after (stored_in self.now) ≡ csi_after (stored_in self.now) csi.entry criteria.now) }
+    /// Stores what an Insert brings of the CSI and its criteria, if it brings any. It takes no memory.
+    pub(crate) fn insert(&mut self, csi: Option<Csi<MOST>>, criteria: Option<CriteriaSet<E>>)
+        ensures { stored_in self.new ≡ csi_after (stored_in self.old) csi.entry criteria }
     {
-        let csi = match (csi, self.csi(), criteria) {
-            (Some(csi), _, _) => csi,
-            (None, Some(csi), Some(_)) => *csi,
-            _ => return Ok(None),
-        };
-        Ok(Some(match criteria {
-            Some(criteria) => StoredCsi::of(csi, criteria.clone()?),
-            None => StoredCsi::WithoutEntries(csi),
-        }))
+        match (csi, criteria) {
+            (Some(csi), Some(criteria)) => *self = StoredCsi::of(csi, criteria),
+            (Some(csi), None) => *self = StoredCsi::WithoutEntries(csi),
+            (None, Some(criteria)) => self.replace_entries(criteria),
+            (None, None) => {}
+        }
+    }
+
+    /// Stores criteria in the place of those of the CSI, if it is stored.
+    fn replace_entries(&mut self, criteria: CriteriaSet<E>)
+        ensures { stored_in self.new ≡ csi_after (stored_in self.old) None (Some criteria) }
+    {
+        if let Some(csi) = self.csi() {
+            *self = StoredCsi::of(*csi, criteria);
+        }
     }
 
     fn of(csi: Csi<MOST>, criteria: CriteriaSet<E>) -> StoredCsi<MOST, E>

@@ -4,5 +4,5 @@ use Rattle.camel_rows.proofs.subscriber.records.Records.insert.Goals as goal
 
 pub returns-clause-unchanged : goal.returns-clause-unchanged
 returns-clause-unchanged c =
-    let same = insert_same c.self.inside.table c.args.imsi.now c.value_mut-subscriber.result.now in
+    let same = insert_same c.self.inside.table c.args.imsi.now c.in-Some.subscriber.now in
     search rules
