@@ -22,6 +22,10 @@ pub trait CriteriaEntry: AtDetectionPoint + Clone + Drop {
     fn detection_points() -> &'static [u8]
         ensures { result.now ≡ points };
 
+    /// What stands in a place for an entry that holds none. A comparison with it makes no other branch than one with most
+    /// entries does. It takes no memory.
+    fn filler() -> Self;
+
     ghost clones_equal: { (old new : Self) → Self.is_clone old new → new ≡ old };
 }
 
@@ -48,6 +52,10 @@ impl CriteriaEntry for OCriteria {
         &O_DETECTION_POINTS
     }
 
+    fn filler() -> OCriteria {
+        OCriteria::filler()
+    }
+
     ghost clones_equal = { λ old new e. e };
 }
 
@@ -56,6 +64,10 @@ impl CriteriaEntry for TCriteria {
 
     fn detection_points() -> &'static [u8] {
         &VT_DETECTION_POINTS
+    }
+
+    fn filler() -> TCriteria {
+        TCriteria::filler()
     }
 
     ghost clones_equal = { λ old new e. e };

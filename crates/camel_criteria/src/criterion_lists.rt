@@ -57,11 +57,13 @@ impl<const MOST: usize> Lists<MOST> {
         }
     }
 
-    // Whether a destination meets the criterion of these lists, under a profile.
-    fn is_met_by(&self, destination: &Address, profile: Profile) -> bool
-        ensures { result ≡ number_met profile self.now (octets destination.now) }
+    // Whether a destination meets the criterion of these lists, under a profile. Few criteria are kept so: this is a call
+    // of its own, and takes the destination by value, so that a decision by few numbers writes no destination to memory.
+    #[inline(never)]
+    fn is_met_by(&self, destination: Address, profile: Profile) -> bool
+        ensures { result ≡ number_met profile self.now (octets destination.entry) }
     {
-        let is_listed = has_front_of(self.numbers.as_slice(), destination, profile)
+        let is_listed = has_front_of(self.numbers.as_slice(), &destination, profile)
             | has_length(self.lengths.as_slice(), destination.digits().len());
         match self.match_type {
             MatchType::Enabling => is_listed,
@@ -123,6 +125,11 @@ impl CriterionLists {
         }
     }
 
+    // What stands for lists: one number is inhibited, with which hardly a destination begins.
+    pub(crate) fn filler() -> CriterionLists {
+        CriterionLists::FewInhibiting(FewNumbers::filler())
+    }
+
     pub(crate) fn match_type(&self) -> MatchType
         ensures { result ≡ (criterion_of self.now).match_type }
     {
@@ -169,8 +176,8 @@ impl CriterionLists {
                 let is_enabling = matches!(self, CriterionLists::FewEnabling(_));
                 numbers.has_front_of(destination, profile) == is_enabling
             }
-            CriterionLists::Short(lists) => lists.is_met_by(destination, profile),
-            CriterionLists::Apart(lists) => lists.is_met_by(destination, profile),
+            CriterionLists::Short(lists) => lists.is_met_by(*destination, profile),
+            CriterionLists::Apart(lists) => lists.is_met_by(*destination, profile),
         }
     }
 

@@ -58,6 +58,12 @@ impl FewNumbers {
         FewNumbers { room, len }
     }
 
+    // What stands for numbers: one of 16 digits `c`, which no numbering plan has.
+    pub(crate) fn filler() -> FewNumbers {
+        let number = IsdnAddress::from_bytes(&[0xee; 9]).unwrap();
+        FewNumbers::of([number, number, number], 1)
+    }
+
     // The numbers, in their order.
     pub(crate) fn as_slice(&self) -> &[IsdnAddress]
         ensures same { result.now ≡ self.now }

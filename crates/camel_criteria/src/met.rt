@@ -22,16 +22,18 @@ pub fn o_met(entry: &OCriteria, event: &OEvent, profile: Profile) -> bool
     ensures { result ≡ o_met profile entry.now (o_event_data event.now) }
 {
     held_number_met(entry.number(), &event.destination, profile)
-        && (entry.holds_no_other() || others_met(entry, event))
+        && (entry.holds_no_other() || others_met(entry, event.basic, event.forwarded, event.cause))
 }
 
-// Whether an event meets each criterion of an entry but that of the number.
-fn others_met(entry: &OCriteria, event: &OEvent) -> bool
-    ensures { result ≡ (basic_met entry.now.basic event.now.basic && (type_met entry.now.call_type event.now.forwarded && cause_met entry.now.causes event.now.cause)) }
+// Whether an event meets each criterion of an entry but that of the number. Few entries hold others: this is a call of
+// its own, and takes values, so that a decision by the number writes no event to memory.
+#[inline(never)]
+fn others_met(entry: &OCriteria, basic: BasicService, forwarded: bool, cause: Option<Cause>) -> bool
+    ensures { result ≡ (basic_met entry.now.basic basic && (type_met entry.now.call_type forwarded && cause_met entry.now.causes cause)) }
 {
-    basic_met(entry.basic(), event.basic)
-        && type_met(entry.call_type(), event.forwarded)
-        && cause_met(entry.causes(), event.cause)
+    basic_met(entry.basic(), basic)
+        && type_met(entry.call_type(), forwarded)
+        && cause_met(entry.causes(), cause)
 }
 
 /// Whether an event meets each criterion that an entry of the VT-CSI holds. One that holds none is met by

@@ -68,6 +68,13 @@ impl NumberCriterion {
         })
     }
 
+    // What stands for a criterion.
+    pub(crate) fn filler() -> NumberCriterion {
+        NumberCriterion {
+            lists: CriterionLists::filler(),
+        }
+    }
+
     /// Whether the destination is to be listed or not.
     pub fn match_type(&self) -> MatchType
         ensures { result ≡ self.now.match_type }

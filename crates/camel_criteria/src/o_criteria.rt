@@ -76,6 +76,16 @@ impl OCriteria {
         })
     }
 
+    // What stands for an entry: it inhibits one number, as a few entries do, so that it is kept as most entries are.
+    pub(crate) fn filler() -> OCriteria {
+        OCriteria {
+            held: HeldCriteria::Number {
+                dp: 0,
+                number: NumberCriterion::filler(),
+            },
+        }
+    }
+
     /// The detection point.
     pub fn dp(&self) -> u8
         ensures { result ≡ self.now.dp }

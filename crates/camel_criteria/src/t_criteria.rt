@@ -44,6 +44,15 @@ impl TCriteria {
         })
     }
 
+    // What stands for an entry: it holds no criterion.
+    pub(crate) fn filler() -> TCriteria {
+        TCriteria {
+            dp: 0,
+            causes: InPlace::from_slice(&[], 0),
+            basic: InPlace::from_slice(&[], BLANK),
+        }
+    }
+
     /// The detection point.
     pub fn dp(&self) -> u8
         ensures { result ≡ self.now.dp }

@@ -1,6 +1,7 @@
 pub mod AdmissionLemmas
 pub mod ByImsiLemmas
 pub mod DirectoryLemmas
+pub mod EventLemmas
 pub mod ReceivedLemmas
 pub mod RowLemmas
 pub mod StandardLemmas

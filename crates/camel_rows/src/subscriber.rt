@@ -174,19 +174,19 @@ impl Subscriber {
     pub(crate) fn insert(
         &mut self,
         alloc: Global,
-        o: Option<OCsi>,
+        o: &Option<OCsi>,
         o_criteria: &Option<OCriteriaSet>,
-        vt: Option<VtCsi>,
+        vt: &Option<VtCsi>,
         t_criteria: &Option<TCriteriaSet>,
     ) -> Result<(), Refusal>
-        ensures refused { IfSome (insert_refusal (Some (csis_of self.old)) o o_criteria.now vt t_criteria.now) (λ why. result ≡ Err why) }
+        ensures refused { IfSome (insert_refusal (Some (csis_of self.old)) o.now o_criteria.now vt.now t_criteria.now) (λ why. result ≡ Err why) }
         ensures only { IfErr result (λ why. (why ≡ Refusal.OutOfMemory)
-            ⊎ (insert_refusal (Some (csis_of self.old)) o o_criteria.now vt t_criteria.now ≡ Some why)) }
-        ensures inserted { OnOk result (self.new ≡ record_with_insert o o_criteria.now vt t_criteria.now self.old) }
+            ⊎ (insert_refusal (Some (csis_of self.old)) o.now o_criteria.now vt.now t_criteria.now ≡ Some why)) }
+        ensures inserted { OnOk result (self.new ≡ record_with_insert o.now o_criteria.now vt.now t_criteria.now self.old) }
         ensures unchanged { OnErr result (self.new ≡ self.old) }
     {
-        check_insert(self.csis(), &o, o_criteria, &vt, t_criteria)?;
-        let room = self.room_for(alloc, &vt)?;
+        check_insert(self.csis(), o, o_criteria, vt, t_criteria)?;
+        let room = self.room_for(alloc, vt)?;
         let o_criteria = o_criteria.clone()?;
         let t_criteria = t_criteria.clone()?;
         self.put(room, o, o_criteria, vt, t_criteria);
@@ -213,14 +213,15 @@ impl Subscriber {
         let Ok(room) = self.room_for_update(alloc, &update) else {
             return Err(update);
         };
-        match Box::into_inner(update) {
+        let mut update = update;
+        match &mut *update {
             Update::Insert {
                 imsi: _,
                 o,
                 o_criteria,
                 vt,
                 t_criteria,
-            } => self.put(room, o, o_criteria, vt, t_criteria),
+            } => self.put(room, o, o_criteria.take(), vt, t_criteria.take()),
             _ => unreachable!(),
         }
         Ok(())
@@ -258,13 +259,13 @@ impl Subscriber {
     fn put(
         &mut self,
         room: Option<OneBlock<StoredVtCsi>>,
-        o: Option<OCsi>,
+        o: &Option<OCsi>,
         o_criteria: Option<OCriteriaSet>,
-        vt: Option<VtCsi>,
+        vt: &Option<VtCsi>,
         t_criteria: Option<TCriteriaSet>,
     )
-        requires { IsRoomFor vt self.old.vt room }
-        ensures { self.new ≡ record_with_insert o o_criteria vt t_criteria self.old }
+        requires { IsRoomFor vt.now self.old.vt room }
+        ensures { self.new ≡ record_with_insert o.now o_criteria vt.now t_criteria self.old }
     {
         if self.vt.is_none() {
             self.vt = room;

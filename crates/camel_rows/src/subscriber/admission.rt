@@ -85,6 +85,8 @@ impl Admission {
     /// table is asked once for both.
     ///
     /// Fails as [`Admission::check`] does.
+    // As a call of its own: put into a caller that moves the update afterwards, the update would be moved field by field.
+    #[inline(never)]
     pub fn change(&self, update: &Update) -> Result<CsisChange, Refusal>
         ensures refused { IfErr result (λ why. admission_refusal self.now update.now ≡ Some why) }
         ensures taken { OnOk result (admission_refusal self.now update.now ≡ None) }

@@ -121,7 +121,7 @@ impl Records {
                 o_criteria,
                 vt,
                 t_criteria,
-            } => self.insert(imsi, *o, o_criteria, *vt, t_criteria)?,
+            } => self.insert(imsi, o, o_criteria, vt, t_criteria)?,
             Update::Delete { imsi, what } => self.withdraw(imsi, *what)?,
             Update::Cancel { imsi } => self.take_out(imsi),
             Update::ClearAll => self.clear(),
@@ -158,16 +158,16 @@ impl Records {
     fn insert(
         &mut self,
         imsi: &Imsi,
-        o: Option<OCsi>,
+        o: &Option<OCsi>,
         o_criteria: &Option<OCriteriaSet>,
-        vt: Option<VtCsi>,
+        vt: &Option<VtCsi>,
         t_criteria: &Option<TCriteriaSet>,
     ) -> Result<(), Refusal>
-        ensures refused { IfSome (insert_refusal (option_map csis_of (map.get self.old imsi.now)) o o_criteria.now vt t_criteria.now) (λ why. result ≡ Err why) }
+        ensures refused { IfSome (insert_refusal (option_map csis_of (map.get self.old imsi.now)) o.now o_criteria.now vt.now t_criteria.now) (λ why. result ≡ Err why) }
         ensures only { IfErr result (λ why. (why ≡ Refusal.OutOfMemory)
-            ⊎ (insert_refusal (option_map csis_of (map.get self.old imsi.now)) o o_criteria.now vt t_criteria.now ≡ Some why)) }
+            ⊎ (insert_refusal (option_map csis_of (map.get self.old imsi.now)) o.now o_criteria.now vt.now t_criteria.now ≡ Some why)) }
         ensures inserted { OnOk result (self.new ≡ with_value self.old imsi.now
-            (option_map (record_with_insert o o_criteria.now vt t_criteria.now) (map.get self.old imsi.now))) }
+            (option_map (record_with_insert o.now o_criteria.now vt.now t_criteria.now) (map.get self.old imsi.now))) }
         ensures unchanged { OnErr result (self.new ≡ self.old) }
     {
         let alloc = self.alloc;

@@ -1,4 +1,4 @@
-ghost use Rattle.std.specs.Prelude.{◌≡◌, None, Some, is_some};
+ghost use Rattle.std.specs.Prelude.{◌≡◌, [], None, Some, is_some};
 ghost use Rattle.std.specs.Option.{option_and_then, option_copied, option_map};
 ghost use Rattle.camel_rows.specs.StoredCsi.{stored_in};
 ghost use Rattle.camel_rows.specs.Subscriber.{entry_of, rows_of};
@@ -11,23 +11,29 @@ use camel_criteria::CriteriaEntry;
 use std::alloc::AllocError;
 
 /// What is stored of a CSI: nothing, or its rows with the entries of its criteria. One entry, as most CSIs have, lies in
-/// place, so that it is read with the rows; several lie apart.
+/// place, so that it is read with the rows, and a filler lies there for none; several lie apart.
 #[derive(Drop)]
 pub(crate) enum StoredCsi<const MOST: usize, E> {
     NotStored,
-    WithoutEntries(Csi<MOST>),
-    WithEntry(Csi<MOST>, [E; 1]),
-    WithEntries(Csi<MOST>, Vec<E>),
+    InPlace {
+        has_entry: bool,
+        csi: Csi<MOST>,
+        entry: [E; 1],
+    },
+    Apart {
+        csi: Csi<MOST>,
+        entries: Vec<E>,
+    },
 }
 
 impl<const MOST: usize, E: CriteriaEntry> StoredCsi<MOST, E> {
     /// Stores what an Insert brings of the CSI and its criteria, if it brings any. It takes no memory.
-    pub(crate) fn insert(&mut self, csi: Option<Csi<MOST>>, criteria: Option<CriteriaSet<E>>)
-        ensures { stored_in self.new ≡ csi_after (stored_in self.old) csi.entry criteria }
+    pub(crate) fn insert(&mut self, csi: &Option<Csi<MOST>>, criteria: Option<CriteriaSet<E>>)
+        ensures { stored_in self.new ≡ csi_after (stored_in self.old) csi.now criteria }
     {
         match (csi, criteria) {
-            (Some(csi), Some(criteria)) => *self = StoredCsi::of(csi, criteria),
-            (Some(csi), None) => *self = StoredCsi::WithoutEntries(csi),
+            (Some(csi), Some(criteria)) => *self = StoredCsi::of(*csi, criteria),
+            (Some(csi), None) => *self = StoredCsi::without_entries(*csi),
             (None, Some(criteria)) => self.replace_entries(criteria),
             (None, None) => {}
         }
@@ -46,9 +52,23 @@ impl<const MOST: usize, E: CriteriaEntry> StoredCsi<MOST, E> {
         ensures { stored_in result ≡ Some (record { rows = csi.entry; entries = criteria }) }
     {
         match criteria.into_entries() {
-            Entries::Empty => StoredCsi::WithoutEntries(csi),
-            Entries::One(entry) => StoredCsi::WithEntry(csi, entry),
-            Entries::Apart(entries) => StoredCsi::WithEntries(csi, entries),
+            Entries::Empty => StoredCsi::without_entries(csi),
+            Entries::One(entry) => StoredCsi::InPlace {
+                has_entry: true,
+                csi,
+                entry,
+            },
+            Entries::Apart(entries) => StoredCsi::Apart { csi, entries },
+        }
+    }
+
+    fn without_entries(csi: Csi<MOST>) -> StoredCsi<MOST, E>
+        ensures { stored_in result ≡ Some (record { rows = csi.entry; entries = [] }) }
+    {
+        StoredCsi::InPlace {
+            has_entry: false,
+            csi,
+            entry: [E::filler()],
         }
     }
 
@@ -65,9 +85,7 @@ impl<const MOST: usize, E: CriteriaEntry> StoredCsi<MOST, E> {
     {
         match self {
             StoredCsi::NotStored => None,
-            StoredCsi::WithoutEntries(csi)
-            | StoredCsi::WithEntry(csi, _)
-            | StoredCsi::WithEntries(csi, _) => Some(csi),
+            StoredCsi::InPlace { csi, .. } | StoredCsi::Apart { csi, .. } => Some(csi),
         }
     }
 
@@ -77,9 +95,12 @@ impl<const MOST: usize, E: CriteriaEntry> StoredCsi<MOST, E> {
     {
         match self {
             StoredCsi::NotStored => None,
-            StoredCsi::WithoutEntries(_) => Some(&[]),
-            StoredCsi::WithEntry(_, entry) => Some(entry),
-            StoredCsi::WithEntries(_, entries) => Some(entries),
+            StoredCsi::InPlace {
+                has_entry,
+                entry,
+                ..
+            } => Some(if *has_entry { entry } else { &[] }),
+            StoredCsi::Apart { entries, .. } => Some(entries),
         }
     }
 
@@ -88,9 +109,19 @@ impl<const MOST: usize, E: CriteriaEntry> StoredCsi<MOST, E> {
         ensures { option_copied result ≡ option_and_then (entry_of E.dp_of dp) (stored_in self.now) }
     {
         match self {
-            StoredCsi::NotStored | StoredCsi::WithoutEntries(_) => None,
-            StoredCsi::WithEntry(_, entry) => find_entry(entry, dp),
-            StoredCsi::WithEntries(_, entries) => find_entry(entries, dp),
+            StoredCsi::NotStored => None,
+            StoredCsi::InPlace {
+                has_entry,
+                entry,
+                ..
+            } => {
+                if *has_entry && entry[0].detection_point() == dp {
+                    Some(&entry[0])
+                } else {
+                    None
+                }
+            }
+            StoredCsi::Apart { entries, .. } => find_entry(entries, dp),
         }
     }
 
@@ -100,9 +131,16 @@ impl<const MOST: usize, E: CriteriaEntry> StoredCsi<MOST, E> {
     {
         let entries = match self {
             StoredCsi::NotStored => return None,
-            StoredCsi::WithoutEntries(_) => Entries::Empty,
-            StoredCsi::WithEntry(_, entry) => Entries::One(entry),
-            StoredCsi::WithEntries(_, entries) => Entries::Apart(entries),
+            StoredCsi::InPlace {
+                has_entry, entry, ..
+            } => {
+                if has_entry {
+                    Entries::One(entry)
+                } else {
+                    Entries::Empty
+                }
+            }
+            StoredCsi::Apart { entries, .. } => Entries::Apart(entries),
         };
         Some(CriteriaSet::of(entries))
     }
@@ -117,9 +155,19 @@ impl<const MOST: usize, E: CriteriaEntry> Clone for StoredCsi<MOST, E> {
     fn clone(&self) -> Result<StoredCsi<MOST, E>, AllocError> {
         Ok(match self {
             StoredCsi::NotStored => StoredCsi::NotStored,
-            StoredCsi::WithoutEntries(csi) => StoredCsi::WithoutEntries(*csi),
-            StoredCsi::WithEntry(csi, entry) => StoredCsi::WithEntry(*csi, entry.clone()?),
-            StoredCsi::WithEntries(csi, entries) => StoredCsi::WithEntries(*csi, entries.clone()?),
+            StoredCsi::InPlace {
+                has_entry,
+                csi,
+                entry,
+            } => StoredCsi::InPlace {
+                has_entry: *has_entry,
+                csi: *csi,
+                entry: entry.clone()?,
+            },
+            StoredCsi::Apart { csi, entries } => StoredCsi::Apart {
+                csi: *csi,
+                entries: entries.clone()?,
+            },
         })
     }
 }

@@ -1,13 +1,14 @@
-ghost use Rattle.std.specs.Prelude.{◌≡◌, Bool, Some};
+ghost use Rattle.std.specs.Prelude.{◌≡◌, Bool, [], ◌∷◌, Some, if◌then◌else◌};
 ghost use Rattle.std.specs.FinMap as map;
+ghost use Rattle.std.specs.Option.{option_copied};
 ghost use Rattle.camel_tbcd.specs.declared.profile.Profile.{Profile};
 ghost use Rattle.camel_criteria.specs.Event.{o_event_data};
 ghost use Rattle.camel_criteria.specs.Met.{o_met, t_met};
-ghost use Rattle.camel_rows.specs.Decision.{by_csi, by_record, decision, decision_data};
-ghost use Rattle.camel_rows.specs.Event.{event_data, event_imsi};
+ghost use Rattle.camel_rows.specs.Decision.{by_csi, by_entry, by_record, decision, decision_data};
+ghost use Rattle.camel_rows.specs.Event.{EventData, event_basic, event_data, event_dp, event_imsi};
 ghost use Rattle.camel_rows.specs.Records.{RecordsData};
 ghost use Rattle.camel_rows.specs.StoredCsi.{stored_in};
-ghost use Rattle.camel_rows.specs.Subscriber.{EntryData, O, T, entry_data};
+ghost use Rattle.camel_rows.specs.Subscriber.{EntryData, O, T, entry_data, item_among};
 
 use crate::csi::tdp_row::TdpRow;
 use crate::subscriber::Subscriber;
@@ -15,7 +16,9 @@ use crate::subscriber::lent::Lent;
 use crate::subscriber::records::Records;
 use crate::subscriber::stored_csi::StoredCsi;
 use crate::trigger::event::{Event, Shown};
-use camel_criteria::{CriteriaEntry, OCriteria, OEvent, TCriteria, TEvent, o_met, t_met};
+use camel_criteria::{
+    BasicService, CriteriaEntry, OCriteria, OEvent, TCriteria, TEvent, o_met, t_met,
+};
 use camel_tbcd::Profile;
 
 /// Why an event triggers nothing, in the order in which the reasons are looked at.
@@ -47,6 +50,9 @@ pub enum Decision<'r> {
 }
 
 /// Decides an event over the records by the trigger rules of TS 23.078, under a profile.
+// It is put into its caller, so that an event whose detection point is known there is neither written to memory nor
+// asked what it is, and of an answer only what is read is made. What few decisions need is in calls of its own.
+#[inline(always)]
 pub fn decide_in<'r>(records: &'r Records, event: &Event, profile: Profile) -> Decision<'r>
     ensures { decision_data result ≡ decision profile records.now (event_data event.now) }
 {
@@ -62,42 +68,114 @@ impl Subscriber {
     ///
     /// A call is decided at each detection point by the CSI of its set-up (TS 23.078), whatever updates come while it
     /// lasts: a switch keeps an equal record of the calling or called subscriber ([`Subscriber::copy`]) and asks that.
+    #[inline(always)]
     pub fn decide<'r>(&'r self, event: &Event, profile: Profile) -> Decision<'r>
         ensures decision { decision_data result ≡ by_record profile (event_data event.now) (Some self.now) }
         ensures held { (m : RecordsData) → map.get m (event_imsi (event_data event.now)) ≡ Some self.now
             → decision_data result ≡ decision profile m (event_data event.now) }
     {
         match event.show() {
-            Shown::O(shown) => decide_by(self.stored_o(), event, &shown, profile),
-            Shown::T(shown) => match self.stored_vt() {
-                Some(stored) => decide_by(stored, event, &shown, profile),
-                None => Decision::NoTrigger(Reason::NoCsi),
-            },
+            Shown::O(shown) => decide_by(
+                self.stored_o(),
+                event.dp(),
+                event.basic(),
+                &shown,
+                profile,
+            ),
+            Shown::T(shown) => self.decide_by_vt(event.dp(), shown, profile),
+        }
+    }
+
+    /// Decides an event of this detection point by the VT-CSI, to whose criteria it shows `shown`.
+    #[inline(never)]
+    fn decide_by_vt<'r>(&'r self, dp: u8, shown: TEvent, profile: Profile) -> Decision<'r>
+        ensures { (event : EventData) → event_dp event ≡ dp → event_basic event ≡ shown.basic
+            → decision_data result ≡ by_csi (λ entry. entry.dp) (λ entry. t_met entry shown) T event self.now.vt }
+    {
+        match self.stored_vt() {
+            Some(stored) => decide_by(stored, dp, shown.basic, &shown, profile),
+            None => Decision::NoTrigger(Reason::NoCsi),
         }
     }
 }
 
-/// Decides an event by the CSI that it is tested against, to whose criteria it shows `shown`.
+/// Decides an event of this detection point and this basic service by the CSI that it is tested against, to whose
+/// criteria it shows `shown`.
+#[inline(always)]
 fn decide_by<'r, const MOST: usize, E: CriteriaEntry, S: ShownTo<E>>(
     stored: &'r StoredCsi<MOST, E>,
-    event: &Event,
+    dp: u8,
+    basic: BasicService,
     shown: &S,
     profile: Profile,
 ) -> Decision<'r>
-    ensures { decision_data result
-        ≡ by_csi E.dp_of (S.is_met profile shown.now) S.entry_as (event_data event.now) (stored_in stored.now) }
+    ensures { (event : EventData) → event_dp event ≡ dp → event_basic event ≡ basic → decision_data result
+        ≡ by_csi E.dp_of (S.is_met profile shown.now) S.entry_as event (stored_in stored.now) }
 {
     let Some(csi) = stored.csi() else {
         return Decision::NoTrigger(Reason::NoCsi);
     };
-    let dp = event.dp();
     let Some(row) = csi.row(dp) else {
         return Decision::NoTrigger(Reason::NotArmed);
     };
-    if event.basic().is_emergency() {
+    if basic.is_emergency() {
         return Decision::NoTrigger(Reason::Emergency);
     }
-    match stored.entry(dp) {
+    match stored {
+        StoredCsi::InPlace {
+            has_entry,
+            entry: [entry],
+            ..
+        } => decide_in_place(row, *has_entry, entry, dp, shown, profile),
+        _ => decide_by_entry(row, stored.entry(dp), shown, profile),
+    }
+}
+
+/// Decides an event whose row is armed by the entry that lies in place, if there is one and it is of this detection
+/// point. What lies there is compared in each case, since it cannot be foreseen whether it is an entry: one branch is
+/// left, for the answer.
+#[inline(always)]
+fn decide_in_place<'r, E: CriteriaEntry, S: ShownTo<E>>(
+    row: &'r TdpRow,
+    has_entry: bool,
+    entry: &'r E,
+    dp: u8,
+    shown: &S,
+    profile: Profile,
+) -> Decision<'r>
+    ensures { decision_data result ≡ by_entry E.dp_of (S.is_met profile shown.now) S.entry_as row.now
+        (item_among E.dp_of dp (if has_entry then entry.now ∷ [] else [])) }
+{
+    let is_of_point = has_entry & (entry.detection_point() == dp);
+    if shown.meets(entry, profile) {
+        let criteria = if is_of_point {
+            Some(S::lend(entry))
+        } else {
+            None
+        };
+        return Decision::Trigger { row, criteria };
+    }
+    if is_of_point {
+        return Decision::NoTrigger(Reason::Criteria);
+    }
+    Decision::Trigger {
+        row,
+        criteria: None,
+    }
+}
+
+/// Decides an event whose row is armed by the entry of its detection point, if there is one. Few CSIs have several
+/// entries: this is a call of its own.
+#[inline(never)]
+fn decide_by_entry<'r, E: CriteriaEntry, S: ShownTo<E>>(
+    row: &'r TdpRow,
+    entry: Option<&'r E>,
+    shown: &S,
+    profile: Profile,
+) -> Decision<'r>
+    ensures { decision_data result ≡ by_entry E.dp_of (S.is_met profile shown.now) S.entry_as row.now (option_copied entry.entry) }
+{
+    match entry {
         None => Decision::Trigger {
             row,
             criteria: None,
