@@ -168,6 +168,7 @@ impl CriterionLists {
     // Whether a destination meets the criterion of these lists, under a profile. Each way of keeping them has its own
     // comparison, so that the most frequent one has no test of the others. Few numbers are compared with what is asked of
     // them, since neither that nor which of them agrees can be foreseen: one branch is left of both, for the answer.
+    #[inline(always)]
     pub(crate) fn is_met_by(&self, destination: &Address, profile: Profile) -> bool
         ensures { result ≡ number_met profile (criterion_of self.now) (octets destination.now) }
     {
@@ -181,6 +182,7 @@ impl CriterionLists {
         }
     }
 
+    #[inline]
     pub(crate) fn copy(&self) -> Result<CriterionLists, AllocError>
         ensures { IfOk result (λ copied. criterion_of copied ≡ criterion_of self.now) }
     {

@@ -94,6 +94,7 @@ impl HeldCriteria {
         !matches!(self, HeldCriteria::Apart { .. })
     }
 
+    #[inline]
     pub(crate) fn copy(&self) -> Result<HeldCriteria, AllocError>
         ensures { IfOk result (λ copied. entry_of copied ≡ entry_of self.now) }
     {

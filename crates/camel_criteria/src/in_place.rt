@@ -1,4 +1,4 @@
-ghost use Rattle.std.specs.Prelude.{◌≡◌, ◌<◌, ◌≤◌, length};
+ghost use Rattle.std.specs.Prelude.{◌≡◌, ◌<◌, ◌≤◌, [], length};
 
 use std::fmt;
 use std::marker::Model;
@@ -24,6 +24,17 @@ impl<T, const MOST: usize> Model for InPlace<T, MOST> {
 }
 
 impl<T: Copy, const MOST: usize> InPlace<T, MOST> {
+    // No items, with `blank` in each place.
+    #[inline]
+    pub(crate) fn empty(blank: T) -> Self
+        ensures { result ≡ [] }
+    {
+        InPlace {
+            room: [blank; MOST],
+            len: 0,
+        }
+    }
+
     // Keeps the items, with `blank` in the places that are left.
     pub(crate) fn from_slice(items: &[T], blank: T) -> Self
         requires fits { length items.now ≤ MOST }

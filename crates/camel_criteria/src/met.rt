@@ -18,6 +18,7 @@ use camel_tbcd::{Address, Profile};
 /// Whether an event meets each criterion that an entry of the O-CSI holds. One that holds none is met by every
 /// event. The detection points are not compared. The profile says what of octet 1 a listed number and the destination
 /// have to have in common.
+#[inline(always)]
 pub fn o_met(entry: &OCriteria, event: &OEvent, profile: Profile) -> bool
     ensures { result ≡ o_met profile entry.now (o_event_data event.now) }
 {
@@ -44,6 +45,7 @@ pub fn t_met(entry: &TCriteria, event: &TEvent) -> bool
     basic_met(entry.basic(), event.basic) && cause_met(entry.causes(), event.cause)
 }
 
+#[inline(always)]
 pub(crate) fn held_number_met(
     criterion: Option<&NumberCriterion>,
     destination: &Address,

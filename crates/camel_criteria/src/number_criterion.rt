@@ -101,6 +101,7 @@ impl NumberCriterion {
     }
 
     // Whether a destination meets it, under a profile.
+    #[inline(always)]
     pub(crate) fn is_met_by(&self, destination: &Address, profile: Profile) -> bool
         ensures { result ≡ number_met profile self.now (octets destination.now) }
     {
@@ -127,6 +128,7 @@ impl Clone for NumberCriterion {
 
     ghost is_clone = { λ old new. new ≡ old };
 
+    #[inline]
     fn clone(&self) -> Result<NumberCriterion, AllocError> {
         Ok(NumberCriterion {
             lists: self.lists.copy()?,

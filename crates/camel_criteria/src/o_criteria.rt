@@ -149,6 +149,7 @@ impl Clone for OCriteria {
 
     ghost is_clone = { λ old new. new ≡ old };
 
+    #[inline]
     fn clone(&self) -> Result<OCriteria, AllocError> {
         Ok(OCriteria {
             held: self.held.copy()?,

@@ -48,8 +48,8 @@ impl TCriteria {
     pub(crate) fn filler() -> TCriteria {
         TCriteria {
             dp: 0,
-            causes: InPlace::from_slice(&[], 0),
-            basic: InPlace::from_slice(&[], BLANK),
+            causes: InPlace::empty(0),
+            basic: InPlace::empty(BLANK),
         }
     }
 

@@ -132,7 +132,9 @@ impl<const MOST: usize, E: CriteriaEntry> StoredCsi<MOST, E> {
         let entries = match self {
             StoredCsi::NotStored => return None,
             StoredCsi::InPlace {
-                has_entry, entry, ..
+                has_entry,
+                entry,
+                ..
             } => {
                 if has_entry {
                     Entries::One(entry)

@@ -207,6 +207,7 @@ impl ShownTo<OCriteria> for OEvent<'_> {
 
     ghost entry_as = { O };
 
+    #[inline(always)]
     fn meets(&self, entry: &OCriteria, profile: Profile) -> bool {
         o_met(entry, self, profile)
     }

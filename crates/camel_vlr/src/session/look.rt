@@ -32,6 +32,7 @@ impl<S: Seat> Look<'_, S> {
     /// Decides an event by the trigger rules of TS 23.078, over the data of the front, under the profile of the store.
     /// The row and the entry that it lends are the stored ones. The updates of the event's subscriber would leave the
     /// same decision by themselves; an update of all subscribers is one of them.
+    #[inline(always)]
     pub fn decide(&self, event: &Event) -> Decision<'_>
         requires { self.now.session.now.looks ≡ true }
         ensures decision { decision_data result ≡ decision self.now.session.now.store.profile (records_of self.now.session.now.seen) (event_data event.now) }

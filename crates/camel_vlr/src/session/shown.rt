@@ -16,7 +16,7 @@ use camel_tbcd::Imsi;
 
 impl<S: Seat> Session<S> {
     /// Decides an event over the front of the look, as [`Look::decide`](crate::Look::decide) does.
-    #[inline]
+    #[inline(always)]
     pub fn decide(&self, event: &Event) -> Decision<'_>
         requires { self.now.looks ≡ true }
         ensures decision { decision_data result ≡ decision self.now.store.profile (records_of self.now.seen) (event_data event.now) }
