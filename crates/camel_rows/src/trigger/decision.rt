@@ -127,7 +127,7 @@ fn decide_by<'r, const MOST: usize, E: CriteriaEntry, S: ShownTo<E>>(
             entry: [entry],
             ..
         } => decide_in_place(row, *has_entry, entry, dp, shown, profile),
-        _ => decide_by_entry(row, stored.entry(dp), shown, profile),
+        _ => decide_by_entry(row, stored.entry(dp), *shown, profile),
     }
 }
 
@@ -165,15 +165,15 @@ fn decide_in_place<'r, E: CriteriaEntry, S: ShownTo<E>>(
 }
 
 /// Decides an event whose row is armed by the entry of its detection point, if there is one. Few CSIs have several
-/// entries: this is a call of its own.
+/// entries: this is a call of its own, and takes what is shown by value, so that most decisions write none to memory.
 #[inline(never)]
 fn decide_by_entry<'r, E: CriteriaEntry, S: ShownTo<E>>(
     row: &'r TdpRow,
     entry: Option<&'r E>,
-    shown: &S,
+    shown: S,
     profile: Profile,
 ) -> Decision<'r>
-    ensures { decision_data result ≡ by_entry E.dp_of (S.is_met profile shown.now) S.entry_as row.now (option_copied entry.entry) }
+    ensures { decision_data result ≡ by_entry E.dp_of (S.is_met profile shown) S.entry_as row.now (option_copied entry.entry) }
 {
     match entry {
         None => Decision::Trigger {
@@ -189,7 +189,7 @@ fn decide_by_entry<'r, E: CriteriaEntry, S: ShownTo<E>>(
 }
 
 /// What an event shows to the entries of one CSI.
-trait ShownTo<E> {
+trait ShownTo<E>: Copy {
     ghost is_met: { Profile → Self → E → Bool };
 
     ghost entry_as: { E → EntryData };
