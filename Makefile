@@ -225,7 +225,7 @@ bench-peers: begin-$$@ $(BENCH) library
 bench-map: begin-$$@ $(BENCH)
 	@bench/run-map
 
-## Counts what an update costs, by a simulator: some minutes, once its program is built.
+## Counts what a decision and an update cost, by a simulator: some minutes, once its program is built.
 count-vlr: begin-$$@ $(BENCH)
 	@bench/count-vlr
 
