@@ -1,3 +1,4 @@
 pub mod Audit
 pub mod AuditFault
 pub mod OnePass
+pub mod Part

@@ -1,9 +1,10 @@
-ghost use Rattle.std.specs.Prelude.{◌≡◌, ◌≢◌, true, false, IfErr, OnOk};
+ghost use Rattle.std.specs.Prelude.{◌≡◌, ◌≢◌, Ok, true, false, IfErr, OnOk};
 ghost use Rattle.camel_audit.specs.Audit.{AreExplained, IsBadHistory, IsFault, IsFaultOf, Passes};
 ghost use Rattle.camel_rows.specs.Update.{Accepted, records_from};
 
 use crate::audit_fault::AuditFault;
-use crate::one_pass::passes_in_one_pass;
+use crate::one_pass::passes_in_part;
+use crate::part::Part;
 use crate::transcript::Transcript;
 use camel_criteria::Refusal;
 use camel_rows::{Outcome, Records, Update};
@@ -28,7 +29,7 @@ pub fn audit(
     ensures passes { OnOk result (Passes profile updates.now transcripts.now) }
     ensures fault { IfErr result (λ fault. IsFault profile updates.now transcripts.now fault) }
 {
-    if passes_in_one_pass(alloc, updates, transcripts, profile)? {
+    if passes_whole(alloc, updates, transcripts, profile)? {
         return Ok(());
     }
     check_updates(alloc, updates)?;
@@ -36,6 +37,19 @@ pub fn audit(
         check_transcript(alloc, updates, transcript, session as u64, profile)?;
     }
     Ok(())
+}
+
+/// Whether the updates explain each transcript, by the part that has all subscribers.
+fn passes_whole(
+    alloc: Global,
+    updates: &[Update],
+    transcripts: &[Transcript],
+    profile: Profile,
+) -> Result<bool, AuditFault>
+    ensures passes { result ≡ Ok true → Passes profile updates.now transcripts.now }
+    ensures only { IfErr result (λ fault. fault ≡ AuditFault.OutOfMemory) }
+{
+    passes_in_part(alloc, updates, transcripts, profile, Part::whole())
 }
 
 /// Checks that the updates are accepted one after the other.
