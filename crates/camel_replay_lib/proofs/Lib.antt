@@ -6,5 +6,6 @@ pub mod ReadLemmas
 pub mod RoundLemmas
 pub mod RoundsLemmas
 pub mod SegmentLemmas
+pub mod SessionTaskLemmas
 pub mod StoreLemmas
 pub mod WriteLemmas

@@ -9,6 +9,7 @@ pub mod Round
 pub mod Rounds
 pub mod Segments
 pub mod SessionLines
+pub mod SessionTask
 pub mod Store
 pub mod StoreCode
 pub mod ThreadsOutput

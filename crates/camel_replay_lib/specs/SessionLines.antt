@@ -1,9 +1,12 @@
--- The lines of a session while a thread makes them.
+-- What the thread of a session owes while it runs.
 use Rattle.std.specs.Prelude.{ℕ, List}
-use Rattle.camel_replay_lib.specs.ThreadsOutput.{session_text}
-use Rattle.camel_replay_lib.specs.declared.threaded_replay.session_lines.SessionLines.{SessionLines}
-use Rattle.camel_replay_lib.specs.declared.threaded_replay.session_lines.TextOf.{TextOf}
+use Rattle.camel_replay_lib.specs.SessionTask.{PartPasses, task_text}
+use Rattle.camel_replay_lib.specs.declared.threaded_replay.session_lines.SessionThread.{SessionThread}
 
--- the text that comes of them
-abbrev pub text_of : SessionLines → List ℕ
-text_of lines = let promise : TextOf = lines.handle.promise in session_text promise.session promise.transcript.value
+-- the text that comes of it
+abbrev pub text_of : SessionThread → List ℕ
+text_of thread = task_text thread.handle.promise
+
+-- the part that it audits passes
+abbrev pub PassesOf : SessionThread → Type 0
+PassesOf thread = PartPasses thread.handle.promise

@@ -1,46 +1,59 @@
-//! The lines of the sessions: each session's are made in a thread of their own, while the audit runs.
+//! The end of a replay with threads: the audit in parts of the subscribers, and the lines of the sessions. Each session
+//! has a thread that audits a part and makes the session's lines, and the caller's thread audits one part more.
 
-ghost use Rattle.std.specs.Prelude.{◌≡◌, ◌++◌, IfErr, IfOk, OnOk};
+ghost use Rattle.std.specs.Prelude.{◌≡◌, ℕ, ◌+◌, ◌<◌, ◌++◌, true, All, IfErr, IfOk, IsOkAnd, OnOk, length};
 ghost use Rattle.std.specs.List.{flat_map};
 ghost use Rattle.camel_audit.specs.Audit.{Passes};
-ghost use Rattle.camel_replay_lib.specs.SessionLines.{text_of};
+ghost use Rattle.camel_audit.specs.Part.{PassesInPart, is_in_part, is_member};
+ghost use Rattle.camel_replay_lib.specs.SessionLines.{PassesOf, text_of};
+ghost use Rattle.camel_replay_lib.specs.SessionTask.{IsOfTask, PartPasses, task_text};
 ghost use Rattle.camel_replay_lib.specs.ThreadsOutput.{session_text, sessions_text};
 
 use crate::threaded_replay::threads_fault::ThreadsFault;
-use camel_audit::{Transcript, audit};
+use camel_audit::{AuditFault, Part, Transcript, audit, passes_in_part};
 use camel_criteria::Refusal;
 use camel_rows::Update;
 use camel_script::{Line, push_line};
 use camel_tbcd::Profile;
 use std::alloc::{AllocError, Global};
 use std::collections::VecDeque;
-use std::snapshot::Snapshot;
 use std::sync::Wait;
 use std::thread;
 use std::thread::{Promise, PromisedHandle, Scope, Threads};
 
-/// The promise of a thread that makes the lines of a session: it gives back their text, or is out of memory.
-#[derive(Drop)]
-struct TextOf {
+/// What the thread of a session has to do: to audit a part of the subscribers, and to make the lines of the session. It
+/// is the promise of the thread, too.
+#[derive(Clone, Copy)]
+struct Task<'a> {
+    updates: &'a [Update],
+    transcripts: &'a [Transcript],
+    profile: Profile,
+    part: Part,
     session: u64,
-    transcript: Snapshot<Transcript>,
+    transcript: &'a Transcript,
 }
 
-impl Promise<Result<Vec<u8>, Refusal>> for TextOf {
-    ghost use Rattle.std.specs.Prelude.{◌≡◌, IfOk};
-    ghost use Rattle.camel_replay_lib.specs.ThreadsOutput.{session_text};
-
-    ghost kept_by = { λ p made. IfOk made (λ text. text.items ≡ session_text p.session p.transcript.value) };
-}
-
-/// The lines of a session, which a thread makes.
+/// What a thread found and made: whether the audit of its part passes, and the text of its lines, if it had the memory.
 #[derive(Drop)]
-struct SessionLines {
-    handle: PromisedHandle<Result<Vec<u8>, Refusal>, TextOf>,
+struct Found {
+    passes: bool,
+    lines: Result<Vec<u8>, Refusal>,
 }
 
-/// Audits what the sessions answered, and appends their lines, which threads make meanwhile. A fault of the audit comes
-/// before one of the lines.
+impl<'a> Promise<Found> for Task<'a> {
+    ghost use Rattle.camel_replay_lib.specs.SessionTask.{IsOfTask};
+
+    ghost kept_by = { λ task found. IsOfTask task found };
+}
+
+/// The thread of a session.
+#[derive(Drop)]
+struct SessionThread<'a> {
+    handle: PromisedHandle<Found, Task<'a>>,
+}
+
+/// Audits what the sessions answered, and appends their lines, in a thread for each session and in its own. A fault of
+/// the audit comes before one of the lines.
 pub(crate) fn audit_beside_lines<R: Threads + Wait>(
     rt: &R,
     alloc: Global,
@@ -62,12 +75,13 @@ pub(crate) fn audit_beside_lines<R: Threads + Wait>(
     )
 }
 
-/// Starts the threads, audits, and joins the threads.
+/// Starts the threads, audits a part, and joins the threads. If a part doesn't pass, all is audited once more, which
+/// says where the fault is.
 fn audit_in_scope<'s, E, R: Threads>(
     rt: &R,
     scope: &Scope<'s, E>,
     alloc: Global,
-    updates: &[Update],
+    updates: &'s [Update],
     transcripts: &'s [Transcript],
     profile: Profile,
     output: Vec<u8>,
@@ -75,47 +89,108 @@ fn audit_in_scope<'s, E, R: Threads>(
     ensures passes { OnOk result (Passes profile updates.now transcripts.now) }
     ensures lines { IfOk result (λ text. text.items ≡ output.items ++ sessions_text 0 transcripts.now) }
 {
-    let mut output = output;
-    let started = start_all(scope, alloc, transcripts)?;
-    audit(alloc, updates, transcripts, profile)?;
-    join_all(rt, &mut output, started)?;
-    Ok(output)
+    let started = start_all(scope, alloc, updates, transcripts, profile)?;
+    let own = passes_in_part(
+        alloc,
+        updates,
+        transcripts,
+        profile,
+        part_of(0, transcripts),
+    )?;
+    let Found { passes, lines } = join_all(rt, output, started);
+    audit_unless(own && passes, alloc, updates, transcripts, profile)?;
+    Ok(lines?)
 }
 
-/// Starts a thread for the lines of each session, the first of which has the number 0.
+/// Audits all, unless each part passes.
+fn audit_unless(
+    passes: bool,
+    alloc: Global,
+    updates: &[Update],
+    transcripts: &[Transcript],
+    profile: Profile,
+) -> Result<(), AuditFault>
+    requires { passes ≡ true → Passes profile updates.now transcripts.now }
+    ensures { OnOk result (Passes profile updates.now transcripts.now) }
+{
+    if passes {
+        return Ok(());
+    }
+    audit(alloc, updates, transcripts, profile)
+}
+
+/// The part with this number, of one for each session and one more.
+fn part_of(number: u64, transcripts: &[Transcript]) -> Part
+    ensures number { result.number ≡ number }
+    ensures count { result.count ≡ length transcripts.now + 1 }
+{
+    Part {
+        number,
+        count: transcripts.len() as u64 + 1,
+    }
+}
+
+/// Starts the thread of each session, the first of which has the number 0, and audits the part 1.
 fn start_all<'s, E>(
     scope: &Scope<'s, E>,
     alloc: Global,
+    updates: &'s [Update],
     transcripts: &'s [Transcript],
-) -> Result<VecDeque<SessionLines>, ThreadsFault>
-    ensures { IfOk result (λ started. flat_map text_of started.items ≡ sessions_text 0 transcripts.now) }
+    profile: Profile,
+) -> Result<VecDeque<SessionThread<'s>>, ThreadsFault>
+    ensures lines { IfOk result (λ started. flat_map text_of started.items ≡ sessions_text 0 transcripts.now) }
+    ensures parts { IfOk result (λ started. All PassesOf started.items → (session : ℕ) → session < length transcripts.now
+        → PassesInPart (is_in_part (length transcripts.now + 1) (session + 1)) profile updates.now transcripts.now) }
 {
     let mut started = VecDeque::new(alloc);
     for (session, transcript) in transcripts.iter().enumerate() {
-        let lines = start(scope, alloc, session as u64, transcript)?;
-        let Ok(()) = started.push_back(lines) else {
+        let session = session as u64;
+        let task = Task {
+            updates,
+            transcripts,
+            profile,
+            part: part_of(session + 1, transcripts),
+            session,
+            transcript,
+        };
+        let Ok(()) = started.push_back(start(scope, alloc, task)?) else {
             return Err(ThreadsFault::OutOfMemory);
         };
     }
     Ok(started)
 }
 
-/// Starts a thread for the lines of a session. Fails with `NoWorker` (106) if none is started.
+/// Starts the thread of a session. Fails with `NoWorker` (106) if none is started.
 fn start<'s, E>(
     scope: &Scope<'s, E>,
     alloc: Global,
-    session: u64,
-    transcript: &'s Transcript,
-) -> Result<SessionLines, ThreadsFault>
-    ensures { IfOk result (λ lines. text_of lines ≡ session_text session transcript.now) }
+    task: Task<'s>,
+) -> Result<SessionThread<'s>, ThreadsFault>
+    ensures { IfOk result (λ thread. thread.handle.promise ≡ task.entry) }
 {
-    let promise = TextOf {
-        session,
-        transcript: Snapshot::of(transcript),
-    };
-    match scope.spawn_with(promise, move || make_lines(alloc, session, transcript)) {
-        Ok(handle) => Ok(SessionLines { handle }),
+    let run = move || -> Found
+        ensures { IsOfTask task.entry result }
+    { run(alloc, task) };
+    match scope.spawn_with(task, run) {
+        Ok(handle) => Ok(SessionThread { handle }),
         Err(_) => Err(ThreadsFault::NoWorker),
+    }
+}
+
+/// Audits the part, and then makes the lines. If memory is refused to the audit, the part doesn't pass.
+fn run(alloc: Global, task: Task) -> Found
+    ensures { IsOfTask task.entry result }
+{
+    let passes = passes_in_part(
+        alloc,
+        task.updates,
+        task.transcripts,
+        task.profile,
+        task.part,
+    );
+    Found {
+        passes: passes.unwrap_or(false),
+        lines: make_lines(alloc, task.session, task.transcript),
     }
 }
 
@@ -136,24 +211,52 @@ fn make_lines(alloc: Global, session: u64, transcript: &Transcript) -> Result<Ve
 }
 
 /// Joins the threads, and appends the lines, session by session.
-fn join_all<R: Threads>(
-    rt: &R,
-    output: &mut Vec<u8>,
-    started: VecDeque<SessionLines>,
-) -> Result<(), ThreadsFault>
-    ensures { OnOk result (output.new.items ≡ output.old.items ++ flat_map text_of started.items) }
+fn join_all<R: Threads>(rt: &R, output: Vec<u8>, started: VecDeque<SessionThread>) -> Found
+    ensures passes { result.passes ≡ true → All PassesOf started.entry.items }
+    ensures lines { IfOk result.lines (λ text. text.items ≡ output.items ++ flat_map text_of started.entry.items) }
 {
     let mut started = started;
-    'sessions: while let Some(lines) = started.pop_front() {
-        let text = join(rt, lines)?;
-        output.extend_from_slice(&text)?;
+    let mut found = Found {
+        passes: true,
+        lines: Ok(output),
+    };
+    'threads: while let Some(thread) = started.pop_front() {
+        found = found.with(join(rt, thread));
     }
-    Ok(())
+    found
 }
 
-/// The text of the lines of a session, once they are made.
-fn join<R: Threads>(rt: &R, lines: SessionLines) -> Result<Vec<u8>, Refusal>
-    ensures { IfOk result (λ text. text.items ≡ text_of lines) }
+impl Found {
+    /// Whether both pass, with the text of the second behind that of the first.
+    fn with(self, second: Found) -> Found
+        ensures first { result.passes ≡ true → self.passes ≡ true }
+        ensures second { result.passes ≡ true → second.passes ≡ true }
+        ensures lines { IfOk result.lines (λ text. IsOkAnd self.lines (λ first. IsOkAnd second.lines (λ more.
+            text.items ≡ first.items ++ more.items))) }
+    {
+        Found {
+            passes: self.passes && second.passes,
+            lines: joined(self.lines, second.lines),
+        }
+    }
+}
+
+/// The second text behind the first.
+fn joined(
+    first: Result<Vec<u8>, Refusal>,
+    second: Result<Vec<u8>, Refusal>,
+) -> Result<Vec<u8>, Refusal>
+    ensures { IfOk result (λ text. IsOkAnd first (λ start. IsOkAnd second (λ more. text.items ≡ start.items ++ more.items))) }
 {
-    lines.handle.join(rt)
+    let mut text = first?;
+    text.extend_from_slice(&second?)?;
+    Ok(text)
+}
+
+/// What the thread of a session found and made.
+fn join<R: Threads>(rt: &R, thread: SessionThread) -> Found
+    ensures passes { result.passes ≡ true → PassesOf thread.entry }
+    ensures lines { IfOk result.lines (λ text. text.items ≡ text_of thread.entry) }
+{
+    thread.handle.join(rt)
 }

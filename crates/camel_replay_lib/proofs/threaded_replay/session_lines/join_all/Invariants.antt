@@ -1,11 +1,14 @@
-use Rattle.std.proofs.Common.{◌≡◌, ◌++◌, length}
+use Rattle.std.proofs.Common.{◌≡◌, ◌++◌, true, All, IfOk, length}
 use Rattle.std.specs.List.{flat_map}
-use Rattle.camel_replay_lib.specs.SessionLines.{text_of}
+use Rattle.camel_replay_lib.specs.SessionLines.{PassesOf, text_of}
 use Rattle.camel_replay_lib.proofs.threaded_replay.session_lines.join_all.Given as goal
 
--- the lines so far, and those that are not joined yet, are all
-abbrev pub invariant-sessions : goal.invariant-sessions
-invariant-sessions g l = l.output.items ++ flat_map text_of l.started.items ≡ l.fn.output.items ++ flat_map text_of l.fn.started.items
+-- what is found so far holds of all threads if the rest passes, and its lines and those that are not joined yet are all
+abbrev pub invariant-threads : goal.invariant-threads
+invariant-threads g l = record {
+  passes : l.found.passes ≡ true → All PassesOf l.started.items → All PassesOf l.fn.started.items;
+  lines : IfOk l.found.lines (λ text. text.items ++ flat_map text_of l.started.items ≡ l.fn.output.items ++ flat_map text_of l.fn.started.items);
+}
 
-abbrev pub decreases-sessions : goal.decreases-sessions
-decreases-sessions g l = length l.started.items
+abbrev pub decreases-threads : goal.decreases-threads
+decreases-threads g l = length l.started.items
