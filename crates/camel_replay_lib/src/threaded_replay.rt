@@ -53,8 +53,10 @@ use std::thread::Threads;
 /// before each call and before each publication.
 ///
 /// Ok: the script has no fault, and its whole output was written, with nothing else: the lines of the records that are
-/// no calls, the lines of the calls, session by session, and `audit ok`, since [`camel_audit::audit`] has found that
-/// the published updates explain each answer. After a fault nothing was written, except after [`WRITE_FAULT`] (208):
+/// no calls, the lines of the calls, session by session, and `audit ok`, since the audit has found that the published
+/// updates explain each answer. It is made in parts of the subscribers, by `threads` threads, which then make the lines,
+/// and beside them ([`camel_audit::passes_in_part`]); if a part doesn't pass, [`camel_audit::audit`] is its end. After a
+/// fault nothing was written, except after [`WRITE_FAULT`] (208):
 ///
 /// | Fault | Its number | What was written |
 /// |---|---|---|

@@ -1,8 +1,8 @@
 use crate::given::row_updates;
-use camel_audit::{AuditFault, Entry, Transcript, audit};
+use camel_audit::{AuditFault, Entry, Part, Transcript, audit, passes_in_part};
 use camel_criteria::Refusal;
 use camel_fixtures::{call_of, imsi_of, row_update, triggered};
-use camel_rows::{Answer, CallEvent, Outcome, Reason};
+use camel_rows::{Answer, CallEvent, Outcome, Reason, Update};
 use camel_tbcd::Profile;
 use std::alloc::Global;
 use std::process::Abort;
@@ -99,5 +99,51 @@ fn an_audit_ends_with_the_first_update_that_is_refused(rt: HostRuntime) -> Resul
     updates.push(row_update(imsi_of(1)?)?)?;
     let audited = audit(rt.alloc(), &updates, &[], Profile::One);
     assert_eq!(rt; audited, Err(AuditFault::BadHistory { at: 0 }));
+    Ok(())
+}
+
+#[test]
+fn an_answer_is_of_the_part_of_its_subscriber(rt: HostRuntime) -> Result<(), Fail> {
+    let went_back = [(2, true), (1, false)];
+    check_parts(
+        &rt,
+        rt.alloc(),
+        &[
+            (&[(1, false), (2, true)], true, true),
+            (&[(1, true), (2, true)], true, false),
+            (&went_back, false, false),
+        ],
+    )
+}
+
+/// What a session answered, and whether it passes in the part without the subscriber, and in that with the subscriber.
+type PartCase<'a> = (&'a [PlainAnswer], bool, bool);
+
+fn check_parts(rt: &impl Abort, alloc: Global, cases: &[PartCase]) -> Result<(), Fail> {
+    let updates = row_updates(alloc, imsi_of(1)?)?;
+    for (answers, other, own) in cases {
+        let mut transcripts = Vec::new(alloc);
+        transcripts.push(transcript_of(alloc, answers)?)?;
+        for (number, wanted) in [(0, *other), (1, *own)] {
+            let part = Part { number, count: 2 };
+            let passes = passes_in_part(alloc, &updates, &transcripts, Profile::One, part);
+            assert_eq!(rt; passes, Ok(wanted), "{number}: {answers:?}");
+        }
+    }
+    Ok(())
+}
+
+#[test]
+fn an_update_is_of_the_part_of_its_subscriber_and_clear_all_of_each(
+    rt: HostRuntime,
+) -> Result<(), Fail> {
+    let mut updates = row_updates(rt.alloc(), imsi_of(1)?)?;
+    updates.push(Update::ClearAll)?;
+    updates.push(row_update(imsi_of(1)?)?)?;
+    for (number, wanted) in [(0, true), (1, false)] {
+        let part = Part { number, count: 2 };
+        let passes = passes_in_part(rt.alloc(), &updates, &[], Profile::One, part);
+        assert_eq!(&rt; passes, Ok(wanted));
+    }
     Ok(())
 }

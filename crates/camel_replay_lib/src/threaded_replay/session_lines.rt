@@ -90,13 +90,13 @@ fn audit_in_scope<'s, E, R: Threads>(
     ensures lines { IfOk result (λ text. text.items ≡ output.items ++ sessions_text 0 transcripts.now) }
 {
     let started = start_all(scope, alloc, updates, transcripts, profile)?;
-    let own = passes_in_part(
+    let own = passes_alone(
         alloc,
         updates,
         transcripts,
         profile,
         part_of(0, transcripts),
-    )?;
+    );
     let Found { passes, lines } = join_all(rt, output, started);
     audit_unless(own && passes, alloc, updates, transcripts, profile)?;
     Ok(lines?)
@@ -177,11 +177,11 @@ fn start<'s, E>(
     }
 }
 
-/// Audits the part, and then makes the lines. If memory is refused to the audit, the part doesn't pass.
+/// Audits the part, and then makes the lines.
 fn run(alloc: Global, task: Task) -> Found
     ensures { IsOfTask task.entry result }
 {
-    let passes = passes_in_part(
+    let passes = passes_alone(
         alloc,
         task.updates,
         task.transcripts,
@@ -189,9 +189,22 @@ fn run(alloc: Global, task: Task) -> Found
         task.part,
     );
     Found {
-        passes: passes.unwrap_or(false),
+        passes,
         lines: make_lines(alloc, task.session, task.transcript),
     }
+}
+
+/// Whether a part passes. If memory is refused to its audit, it doesn't.
+fn passes_alone(
+    alloc: Global,
+    updates: &[Update],
+    transcripts: &[Transcript],
+    profile: Profile,
+    part: Part,
+) -> bool
+    ensures { result ≡ true → PassesInPart (is_member part) profile updates.now transcripts.now }
+{
+    passes_in_part(alloc, updates, transcripts, profile, part).unwrap_or(false)
 }
 
 /// The text of the lines of a session.

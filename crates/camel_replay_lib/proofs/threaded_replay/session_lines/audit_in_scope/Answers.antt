@@ -1,4 +1,4 @@
-use Rattle.std.proofs.Common.{◌≡◌, ◌∙◌, ℕ, ◌+◌, Ok, true, length, ap, sym, subst}
+use Rattle.std.proofs.Common.{◌∙◌, ℕ, ◌+◌, length, sym, subst}
 use Rattle.std.proofs.lemmas.Bool.{false≢true}
 use Rattle.camel_audit.specs.Part.{PassesInPart, is_in_part}
 use Rattle.camel_replay_lib.proofs.SessionTaskLemmas.{parts_pass}
@@ -13,10 +13,9 @@ audit_unless-requires g c = λ yes.
     let sessions = length transcripts in
     elim c.if-own.branch [
       | then-own w ↦
-          let found : c.passes_in_part.result ≡ Ok true = c.in_ok-own.was ∙ ap Ok w.if-own.true in
           let own : PassesInPart (is_in_part (sessions + 1) 0) profile updates transcripts =
           subst (λ (count : ℕ). PassesInPart (is_in_part count 0) profile updates transcripts) c.part_of.ensures.count
-          (subst (λ (number : ℕ). PassesInPart (is_in_part c.part_of.result.count number) profile updates transcripts) c.part_of.ensures.number (c.passes_in_part.ensures.passes found)) in
+          (subst (λ (number : ℕ). PassesInPart (is_in_part c.part_of.result.count number) profile updates transcripts) c.part_of.ensures.number (c.passes_alone-own.ensures w.if-own.true)) in
           parts_pass sessions profile updates transcripts own (c.in_ok-started.ensures.parts (c.join_all-passes.ensures.passes (sym w.audit_unless-is ∙ yes)))
       | else-own w ↦ absurd (false≢true (sym w.if-own.false ∙ sym w.audit_unless-is ∙ yes))
     ]
