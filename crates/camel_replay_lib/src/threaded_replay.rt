@@ -146,7 +146,7 @@ fn answer_script<G: Gate, R: Threads + Wait>(
     let (writer, seats) = run_rounds(rt, alloc, writer, seats, records, gate)?;
     let transcripts = transcripts_of(alloc, seats)?;
     let (published, output) = writer.end();
-    let output = audit_beside_lines(rt, alloc, &published, &transcripts, profile, output)?;
+    let output = audit_beside_lines(rt, alloc, published, transcripts, profile, output)?;
     finish_output(alloc, output)
 }
 

@@ -1,7 +1,7 @@
 //! The end of a replay with threads: the audit in parts of the subscribers, and the lines of the sessions. Each session
 //! has a thread that audits a part and makes the session's lines, and the caller's thread audits one part more.
 
-ghost use Rattle.std.specs.Prelude.{◌≡◌, ℕ, ◌+◌, ◌<◌, ◌++◌, true, All, IfErr, IfOk, IsOkAnd, OnOk, length};
+ghost use Rattle.std.specs.Prelude.{◌≡◌, ℕ, ◌+◌, ◌<◌, ◌++◌, true, [], ◌∷◌, All, IfErr, IfOk, IsOkAnd, OnOk, length};
 ghost use Rattle.std.specs.List.{flat_map};
 ghost use Rattle.camel_audit.specs.Audit.{Passes};
 ghost use Rattle.camel_audit.specs.Part.{PassesInPart, is_in_part, is_member};
@@ -52,26 +52,50 @@ struct SessionThread<'a> {
     handle: PromisedHandle<Found, Task<'a>>,
 }
 
-/// Audits what the sessions answered, and appends their lines, in a thread for each session and in its own. A fault of
-/// the audit comes before one of the lines.
+/// Whether the parts of all threads pass, and the texts of their lines, session by session, if each had the memory.
+#[derive(Drop)]
+struct Joined {
+    passes: bool,
+    texts: Result<VecDeque<Vec<u8>>, Refusal>,
+}
+
+/// Audits what the sessions answered, and appends their lines, which threads make. A fault of the audit comes before one
+/// of the lines. The lines are put together in the memory of the updates and the transcripts.
 pub(crate) fn audit_beside_lines<R: Threads + Wait>(
+    rt: &R,
+    alloc: Global,
+    updates: Vec<Update>,
+    transcripts: Vec<Transcript>,
+    profile: Profile,
+    output: Vec<u8>,
+) -> Result<Vec<u8>, ThreadsFault>
+    ensures passes { OnOk result (Passes profile updates.items transcripts.items) }
+    ensures lines { IfOk result (λ text. text.items ≡ output.items ++ sessions_text 0 transcripts.items) }
+{
+    let texts = audit_in_threads(rt, alloc, &updates, &transcripts, profile)?;
+    drop(updates);
+    drop(transcripts);
+    Ok(append_all(output, texts)?)
+}
+
+/// Audits what the sessions answered, and makes the texts of their lines, in a thread for each session and in its own.
+fn audit_in_threads<R: Threads + Wait>(
     rt: &R,
     alloc: Global,
     updates: &[Update],
     transcripts: &[Transcript],
     profile: Profile,
-    output: Vec<u8>,
-) -> Result<Vec<u8>, ThreadsFault>
+) -> Result<VecDeque<Vec<u8>>, ThreadsFault>
     ensures passes { OnOk result (Passes profile updates.now transcripts.now) }
-    ensures lines { IfOk result (λ text. text.items ≡ output.items ++ sessions_text 0 transcripts.now) }
+    ensures lines { IfOk result (λ texts. flat_map (λ text. text.items) texts.items ≡ sessions_text 0 transcripts.now) }
 {
     thread::scope(
         thread::scope_env(),
         rt,
-        |scope| -> Result<Vec<u8>, ThreadsFault>
+        |scope| -> Result<VecDeque<Vec<u8>>, ThreadsFault>
             ensures passes { OnOk result (Passes profile updates.entry.now transcripts.entry.now) }
-            ensures lines { IfOk result (λ text. text.items ≡ output.items ++ sessions_text 0 transcripts.entry.now) }
-        { audit_in_scope(rt, scope, alloc, updates, transcripts, profile, output) },
+            ensures lines { IfOk result (λ texts. flat_map (λ text. text.items) texts.items ≡ sessions_text 0 transcripts.entry.now) }
+        { audit_in_scope(rt, scope, alloc, updates, transcripts, profile) },
     )
 }
 
@@ -84,10 +108,9 @@ fn audit_in_scope<'s, E, R: Threads>(
     updates: &'s [Update],
     transcripts: &'s [Transcript],
     profile: Profile,
-    output: Vec<u8>,
-) -> Result<Vec<u8>, ThreadsFault>
+) -> Result<VecDeque<Vec<u8>>, ThreadsFault>
     ensures passes { OnOk result (Passes profile updates.now transcripts.now) }
-    ensures lines { IfOk result (λ text. text.items ≡ output.items ++ sessions_text 0 transcripts.now) }
+    ensures lines { IfOk result (λ texts. flat_map (λ text. text.items) texts.items ≡ sessions_text 0 transcripts.now) }
 {
     let started = start_all(scope, alloc, updates, transcripts, profile)?;
     let own = passes_alone(
@@ -97,9 +120,9 @@ fn audit_in_scope<'s, E, R: Threads>(
         profile,
         part_of(0, transcripts),
     );
-    let Found { passes, lines } = join_all(rt, output, started);
+    let Joined { passes, texts } = join_all(rt, alloc, started);
     audit_unless(own && passes, alloc, updates, transcripts, profile)?;
-    Ok(lines?)
+    Ok(texts?)
 }
 
 /// Audits all, unless each part passes.
@@ -223,47 +246,49 @@ fn make_lines(alloc: Global, session: u64, transcript: &Transcript) -> Result<Ve
     Ok(text)
 }
 
-/// Joins the threads, and appends the lines, session by session.
-fn join_all<R: Threads>(rt: &R, output: Vec<u8>, started: VecDeque<SessionThread>) -> Found
+/// Joins the threads, session by session.
+fn join_all<R: Threads>(rt: &R, alloc: Global, started: VecDeque<SessionThread>) -> Joined
     ensures passes { result.passes ≡ true → All PassesOf started.entry.items }
-    ensures lines { IfOk result.lines (λ text. text.items ≡ output.items ++ flat_map text_of started.entry.items) }
+    ensures lines { IfOk result.texts (λ texts. flat_map (λ text. text.items) texts.items ≡ flat_map text_of started.entry.items) }
 {
     let mut started = started;
-    let mut found = Found {
+    let mut joined = Joined {
         passes: true,
-        lines: Ok(output),
+        texts: Ok(VecDeque::new(alloc)),
     };
     'threads: while let Some(thread) = started.pop_front() {
-        found = found.with(join(rt, thread));
+        joined = joined.with(join(rt, thread));
     }
-    found
+    joined
 }
 
-impl Found {
-    /// Whether both pass, with the text of the second behind that of the first.
-    fn with(self, second: Found) -> Found
-        ensures first { result.passes ≡ true → self.passes ≡ true }
-        ensures second { result.passes ≡ true → second.passes ≡ true }
-        ensures lines { IfOk result.lines (λ text. IsOkAnd self.lines (λ first. IsOkAnd second.lines (λ more.
-            text.items ≡ first.items ++ more.items))) }
+impl Joined {
+    /// With what one thread more found and made.
+    fn with(self, found: Found) -> Joined
+        ensures before { result.passes ≡ true → self.passes ≡ true }
+        ensures found { result.passes ≡ true → found.passes ≡ true }
+        ensures lines { IfOk result.texts (λ texts. IsOkAnd self.texts (λ before. IsOkAnd found.lines (λ text.
+            texts.items ≡ before.items ++ text ∷ []))) }
     {
-        Found {
-            passes: self.passes && second.passes,
-            lines: joined(self.lines, second.lines),
+        Joined {
+            passes: self.passes && found.passes,
+            texts: with_text(self.texts, found.lines),
         }
     }
 }
 
-/// The second text behind the first.
-fn joined(
-    first: Result<Vec<u8>, Refusal>,
-    second: Result<Vec<u8>, Refusal>,
-) -> Result<Vec<u8>, Refusal>
-    ensures { IfOk result (λ text. IsOkAnd first (λ start. IsOkAnd second (λ more. text.items ≡ start.items ++ more.items))) }
+/// The texts, and one behind them.
+fn with_text(
+    texts: Result<VecDeque<Vec<u8>>, Refusal>,
+    text: Result<Vec<u8>, Refusal>,
+) -> Result<VecDeque<Vec<u8>>, Refusal>
+    ensures { IfOk result (λ all. IsOkAnd texts (λ before. IsOkAnd text (λ last. all.items ≡ before.items ++ last ∷ []))) }
 {
-    let mut text = first?;
-    text.extend_from_slice(&second?)?;
-    Ok(text)
+    let mut texts = texts?;
+    let Ok(()) = texts.push_back(text?) else {
+        return Err(Refusal::OutOfMemory);
+    };
+    Ok(texts)
 }
 
 /// What the thread of a session found and made.
@@ -272,4 +297,16 @@ fn join<R: Threads>(rt: &R, thread: SessionThread) -> Found
     ensures lines { IfOk result.lines (λ text. text.items ≡ text_of thread.entry) }
 {
     thread.handle.join(rt)
+}
+
+/// The output with the texts behind it.
+fn append_all(output: Vec<u8>, texts: VecDeque<Vec<u8>>) -> Result<Vec<u8>, AllocError>
+    ensures { IfOk result (λ whole. whole.items ≡ output.items ++ flat_map (λ text. text.items) texts.items) }
+{
+    let mut output = output;
+    let mut texts = texts;
+    'texts: while let Some(text) = texts.pop_front() {
+        output.extend_from_slice(&text)?;
+    }
+    Ok(output)
 }

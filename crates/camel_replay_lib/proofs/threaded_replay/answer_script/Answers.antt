@@ -1,7 +1,6 @@
 use Rattle.std.proofs.Common.{rules, ◌≡◌, ◌∙◌, ◌++◌, All, List, length, sym, ap, subst}
 use Rattle.std.proofs.lemmas.List.{length-map}
 use Rattle.camel_audit.specs.Audit.{Passes}
-use Rattle.camel_audit.specs.declared.transcript.Entry.{Entry}
 use Rattle.camel_rows.specs.Store.{Updates}
 use Rattle.camel_rows.specs.declared.subscriber.update.Update.{Update}
 use Rattle.camel_script.specs.Line.{line_text}
@@ -43,11 +42,9 @@ returns g c =
     let text = output profile limit (filter is_no_call records) in
     let published : c.end-published.result.0.items ≡ published_after limit records = c.end-published.ensures.published ∙ ap (λ (u : Updates). u.published) written.updates in
     let passes : Passes profile (published_after limit records) transcripts =
-    subst (λ (ts : List (List Entry)). Passes profile (published_after limit records) ts) c.deref-2.ensures.value
-    (subst (λ (us : List Update). Passes profile us c.deref-2.result.now) (c.deref.ensures.value ∙ published) c.in_ok-output.ensures.passes) in
+    subst (λ (us : List Update). Passes profile us transcripts) published c.in_ok-output.ensures.passes in
     let lines : c.in_ok-output.output.items ≡ text ++ sessions_text 0 transcripts =
-    c.in_ok-output.ensures.lines ∙ ap (λ (ts : List (List Entry)). c.end-published.result.1.items ++ sessions_text 0 ts) c.deref-2.ensures.value
-    ∙ ap (λ out. out ++ sessions_text 0 transcripts) (c.end-published.ensures.output ∙ written.output_written) in
+    c.in_ok-output.ensures.lines ∙ ap (λ out. out ++ sessions_text 0 transcripts) (c.end-published.ensures.output ∙ written.output_written) in
     let last = line_text line.AuditOk in
     IfOk-gives _ _ c.finish_output.result
     (λ whole is. record {

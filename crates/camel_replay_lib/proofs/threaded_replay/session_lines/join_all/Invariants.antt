@@ -6,8 +6,8 @@ use Rattle.camel_replay_lib.proofs.threaded_replay.session_lines.join_all.Given 
 -- what is found so far holds of all threads if the rest passes, and its lines and those that are not joined yet are all
 abbrev pub invariant-threads : goal.invariant-threads
 invariant-threads g l = record {
-  passes : l.found.passes ≡ true → All PassesOf l.started.items → All PassesOf l.fn.started.items;
-  lines : IfOk l.found.lines (λ text. text.items ++ flat_map text_of l.started.items ≡ l.fn.output.items ++ flat_map text_of l.fn.started.items);
+  passes : l.joined.passes ≡ true → All PassesOf l.started.items → All PassesOf l.fn.started.items;
+  lines : IfOk l.joined.texts (λ texts. flat_map (λ text. text.items) texts.items ++ flat_map text_of l.started.items ≡ flat_map text_of l.fn.started.items);
 }
 
 abbrev pub decreases-threads : goal.decreases-threads
