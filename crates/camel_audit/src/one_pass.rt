@@ -62,7 +62,7 @@ pub fn passes_in_part(
     Ok(are_ends(transcripts, &places))
 }
 
-/// Whether an update is accepted, if it is one of the part. Then it is applied; one of other parts is left alone.
+/// Whether an update is accepted, if it is one of the part. Then it is applied; one of other parts is passed over.
 fn is_accepted(records: &mut Records, update: &Update, part: Part) -> Result<bool, AuditFault>
     ensures accepted { result ≡ Ok true
         → AcceptedFrom records.old (updates_of_part (is_member part) (update.now ∷ [])) }
