@@ -106,6 +106,13 @@ impl<V: Default + Drop, S: BuildHasher + Copy> Buckets<V, S> {
         Ok(is_new)
     }
 
+    /// Makes room in the list of buckets for so many values more. Fails with `AllocError` if memory is refused.
+    pub(crate) fn reserve(&mut self, additional: usize) -> Result<(), AllocError>
+        ensures { self.new ≡ self.old }
+    {
+        self.buckets.reserve(additional)
+    }
+
     /// The value that an IMSI has, to be changed in its place. It takes no memory.
     pub(crate) fn value_mut(&mut self, imsi: &Imsi) -> &mut V
         requires { IsSome (map.get self.old imsi.now) }

@@ -1,7 +1,7 @@
-ghost use Rattle.std.specs.Prelude.{◌≡◌, ◌<◌, ◌^◌, ◌++◌, [], ◌∷◌, length, slice_index_or, OnErr, OnOk};
+ghost use Rattle.std.specs.Prelude.{◌≡◌, ◌<◌, ◌^◌, ◌+◌, ◌/◌, ◌++◌, [], ◌∷◌, length, slice_index_or, vec_capacity, vec_len, OnErr, OnOk};
 ghost use Rattle.std.specs.Borrow.{sem};
 ghost use Rattle.camel_table.specs.Lending.{lends_item};
-ghost use Rattle.camel_table.specs.Segments.{AreFull, HasRoom, joined};
+ghost use Rattle.camel_table.specs.Segments.{AreFull, HasRoom, joined, segment};
 
 use std::alloc::{AllocError, Global};
 use std::marker::Model;
@@ -69,6 +69,14 @@ impl<T> Segments<T> {
 }
 
 impl<T: Drop> Segments<T> {
+    /// Makes room in the list of the segments for those of so many items more, so that it is not copied while they are
+    /// pushed. Fails with `AllocError` if memory is refused; either way the items stay.
+    pub(crate) fn reserve(&mut self, additional: usize) -> Result<(), AllocError>
+        ensures { self.new ≡ self.old }
+    {
+        reserve_list(&mut self.segments, additional)
+    }
+
     /// Puts an item after the last one. Fails with `AllocError` if memory is refused; then nothing changes.
     pub(crate) fn push(&mut self, item: T) -> Result<(), AllocError>
         requires { length self.old < 2 ^ 34 }
@@ -102,6 +110,14 @@ impl<T: Clone> Clone for Segments<T> {
             len: self.len,
         })
     }
+}
+
+// Makes room for the segments of so many items more, of which the first may begin a segment.
+fn reserve_list<T: Drop>(segments: &mut Vec<Vec<T>>, additional: usize) -> Result<(), AllocError>
+    ensures same { segments.new.items ≡ segments.old.items }
+    ensures room { OnOk result (vec_len segments.new + additional / segment < vec_capacity segments.new) }
+{
+    segments.reserve(additional / SEGMENT + 1)
 }
 
 // Adds a segment if the last one is full, with all the memory that it will need.

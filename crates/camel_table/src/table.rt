@@ -85,6 +85,13 @@ impl<V: Default + Drop, S: BuildHasher + Copy> Table<V, S> {
         Ok(())
     }
 
+    /// Makes room in the list of its buckets for so many values more. Fails with `AllocError` if memory is refused.
+    pub fn reserve(&mut self, additional: usize) -> Result<(), AllocError>
+        ensures { self.new ≡ self.old }
+    {
+        self.buckets.reserve(additional)
+    }
+
     /// The value that an IMSI has, to be changed in its place. It takes no memory.
     pub fn value_mut(&mut self, imsi: &Imsi) -> &mut V
         requires { IsSome (map.get self.old imsi.now) }

@@ -11,7 +11,11 @@ use camel_rows::Records;
 use camel_table::Seed;
 use left_right::Absorb;
 use std::alloc::{AllocError, Global};
+use std::collections::VecDeque;
 use two_copies::Apply;
+
+/// So many records lie in the caches of a processor, and a publication gains nothing by reading them beforehand.
+const FEW_RECORDS: usize = 10_000;
 
 /// One of the two copies: the data that a front leaves, how many updates it has, and the front, which takes no bytes.
 #[derive(Drop)]
@@ -124,7 +128,29 @@ impl Apply<Operation> for PublishedCopy {
         self.apply_operation(operation)
     }
 
+    fn make_ready(&mut self, operations: &VecDeque<Operation, Global>) -> Result<(), AllocError> {
+        if self.records.len() < FEW_RECORDS {
+            return Ok(());
+        }
+        match count_changes(&self.records, operations) {
+            0 => Ok(()),
+            more => self.records.reserve(more),
+        }
+    }
+
     fn apply_owned(&mut self, operation: Operation) -> Result<(), Operation> {
         self.move_operation(operation)
     }
+}
+
+/// How many operations make a record, or store other CSIs in one: the records become more by no more than that. Each
+/// record that is to be changed is read, so that the processor waits for all of them together.
+fn count_changes(records: &Records, operations: &VecDeque<Operation, Global>) -> usize {
+    let mut changes: usize = 0;
+    for operation in operations.iter() {
+        if let Operation::Update(update) = operation {
+            changes = changes.saturating_add(usize::from(records.changes_csis(update)));
+        }
+    }
+    changes
 }

@@ -1,7 +1,8 @@
 //! Operations on a copy.
 ghost use Rattle.std.specs.Prelude.{◌≡◌, MatchResult};
 
-use std::alloc::AllocError;
+use std::alloc::{AllocError, Global};
+use std::collections::VecDeque;
 
 /// A value that operations change. Each operation is applied to both copies, one after the other.
 pub trait Apply<O: Drop> {
@@ -18,6 +19,14 @@ pub trait Apply<O: Drop> {
         ensures { MatchResult result
             (λ _. state self.new ≡ applied (state self.old) operation.now)
             (λ _. state self.new ≡ state self.old) };
+
+    /// Gets ready for operations that are applied next, in their order: it may ask for memory that they will need, and read
+    /// what they will change, so that these reads go to memory together. Either way the state is as before.
+    fn make_ready(&mut self, operations: &VecDeque<O, Global>) -> Result<(), AllocError>
+        ensures { state self.new ≡ state self.old }
+    {
+        Ok(())
+    }
 
     /// Applies an operation that the other copy has already, and may move in what it brings. If memory is refused, it
     /// comes back, and the state is as before.

@@ -50,6 +50,8 @@ impl<O: Drop> Log<O> {
             ≡ fold T.applied (T.state copy.old) (missing_in self.old) }
         ensures all { OnOk result (missing_in self.new ≡ []) }
     {
+        copy.make_ready(&self.last)?;
+        copy.make_ready(&self.pending)?;
         move_all(copy, &mut self.last)?;
         apply_from(copy, &self.pending, &mut self.pending_done)
     }

@@ -1,16 +1,16 @@
-ghost use Rattle.std.specs.Prelude.{◌≡◌, ◌⊎◌, None, Some, Err, IfErr, IfNone, IfOk, IfSome, IsErr, IsOk, IsTrue, OnErr, OnOk};
+ghost use Rattle.std.specs.Prelude.{◌≡◌, ◌≢◌, ◌⊎◌, ◌↔◌, None, Some, Err, IfErr, IfNone, IfOk, IfSome, IsErr, IsOk, IsTrue, OnErr, OnOk};
 ghost use Rattle.std.specs.FinMap as map;
 ghost use Rattle.std.specs.Option.{option_copied, option_map};
 ghost use Rattle.camel_table.specs.ByImsi.{ListsEachOnce};
 ghost use Rattle.camel_rows.specs.ByImsi.{value_of, with_value};
-ghost use Rattle.camel_rows.specs.CsisPresent.{csis_of, insert_refusal};
+ghost use Rattle.camel_rows.specs.CsisPresent.{csis_after, csis_of, insert_refusal};
 ghost use Rattle.camel_rows.specs.Records.{no_records};
 ghost use Rattle.camel_rows.specs.Update.{is_insert, records_after, record_with_insert, record_without, refusal, update_imsi};
 
 use crate::csi::criteria_set::{OCriteriaSet, TCriteriaSet};
 use crate::csi::{OCsi, VtCsi};
 use crate::subscriber::Subscriber;
-use crate::subscriber::csis_present::{CsisPresent, check_update};
+use crate::subscriber::csis_present::{CsisPresent, check_update, csis_after};
 use crate::subscriber::update::{Update, Withdrawal};
 use camel_criteria::Refusal;
 use camel_table::{Seed, Table};
@@ -99,6 +99,23 @@ impl Records {
         ensures { result ≡ option_map csis_of (value_of self.now (update_imsi update.now)) }
     {
         Some(self.get(&update.imsi()?)?.csis())
+    }
+
+    /// Whether an update makes a record, or stores other CSIs in the one that its IMSI has. It reads that record.
+    pub fn changes_csis(&self, update: &Update) -> bool
+        ensures { IsTrue result ↔ (csis_after (option_map csis_of (value_of self.now (update_imsi update.now))) update.now
+            ≢ option_map csis_of (value_of self.now (update_imsi update.now))) }
+    {
+        let before = self.csis_before(update);
+        csis_after(before, update) != before
+    }
+
+    /// Makes room in the table for so many records more, as far as it is asked for at once: each record may still ask for
+    /// memory of its own. Fails with `AllocError` if memory is refused; either way the records stay.
+    pub fn reserve(&mut self, additional: usize) -> Result<(), AllocError>
+        ensures { self.new ≡ self.old }
+    {
+        self.table.reserve(additional)
     }
 
     /// Applies an update.
