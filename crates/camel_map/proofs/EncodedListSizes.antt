@@ -1,13 +1,12 @@
 -- How long the encodings of lists that are kept are at most.
-use Rattle.std.proofs.Common.{◌≡◌, ℕ, ◌*◌, ◌≤◌, ◌&&◌, Bool, true, false, cond, eqb, leb, List, [], ◌∷◌, length, map, All, Some, None, Ok, refl, inl, inr, mul-le-mul_right, arith}
-use Rattle.std.proofs.lemmas.Bool.{leb-true}
+use Rattle.std.proofs.Common.{◌≡◌, ℕ, ◌+◌, ◌*◌, ◌≤◌, List, [], ◌∷◌, length, map, All, Option, Some, None, Ok, refl, inl, inr, subst, mul-le-mul_right, arith}
 use Rattle.std.proofs.lemmas.List.Elements.{All-cons, All-nil, All-weaker}
 use Rattle.camel_ber.specs.Grammar.{ElementData}
 use Rattle.camel_criteria.specs.Criteria.{OCriteriaData, TCriteriaData}
 use Rattle.camel_criteria.specs.declared.refusal.Refusal.{Refusal}
-use Rattle.camel_criteria.specs.declared.refusal.Refusal.TheVariants.{DataMissing, UnexpectedDataValue}
 use Rattle.camel_criteria.specs.DetectionPoint.{o_detection_points, vt_detection_points}
-use Rattle.camel_rows.specs.Received.{has_no_two, items_at, kept_of, kept_unless}
+use Rattle.camel_rows.proofs.ReceivedLemmas.{few-from_taken}
+use Rattle.camel_rows.specs.Received.{items_at, kept_of, kept_unless}
 use Rattle.camel_rows.specs.TdpRow.{TdpRowData}
 use Rattle.camel_map.specs.Encoding.{csi_element, ignored_row, o_entry_element, parent, row_element, sent_rows, t_entry_element}
 use Rattle.camel_map.specs.Identifier.{constructed, sequence}
@@ -20,70 +19,78 @@ use Rattle.camel_map.proofs.EncodedCsis.{is_ignored_row}
 use Rattle.camel_map.proofs.EncodedSizes.{row_most}
 use Rattle.camel_map.proofs.EncodedEntrySizes.{o_entry_most, t_entry_most}
 
--- a list that is not refused has few items
-unrefused : {Item : Type 0} (zero few single : Bool) (items kept : List Item) (first why : Refusal)
-    → kept_unless (cond zero (Some first) (cond (few && single) None (Some why))) items ≡ Ok kept → few ≡ true
-unrefused true few single items kept first why is = absurd cc
-unrefused false true single items kept first why is = refl
-unrefused false false single items kept first why is = absurd cc
+-- a list that is kept whole is not refused
+unrefused : {Item : Type 0} (refused : Option Refusal) (kept items : List Item)
+    → kept_unless refused kept ≡ Ok items → (refused ≡ None) × (kept ≡ items)
+unrefused None kept items is = (refl, cc)
+unrefused (Some why) kept items is = absurd cc
 
 module _ {Item : Type 0} (element_of : Item → ElementData) (most : ℕ) (Is : Item → Type 0)
-    (is_most : (x : Item) → Is x → IsMost most (element_of x)) (points : List ℕ) (dp_of : Item → ℕ) where
-  ten_most : (x : Item) (xs : List Item) → All Is (x ∷ xs) → length (x ∷ xs) ≤ 10
-      → AreMost (10 * most) (map element_of (x ∷ xs))
-  ten_most x xs is few =
-      within (map element_of (x ∷ xs)) (length (x ∷ xs) * most) (10 * most)
+    (is_most : (x : Item) → Is x → IsMost most (element_of x)) (points : List ℕ) (some : 1 ≤ length points)
+    (dp_of : Item → ℕ) where
+  few_most : (x : Item) (xs : List Item) → All Is (x ∷ xs) → length (x ∷ xs) ≤ length points
+      → AreMost (length points * most) (map element_of (x ∷ xs))
+  few_most x xs is few =
+      within (map element_of (x ∷ xs)) (length (x ∷ xs) * most) (length points * most)
       (map_most element_of most (x ∷ xs) (All-weaker Is (λ x. IsMost most (element_of x)) is_most (x ∷ xs) is))
       (mul-le-mul_right most few)
 
-  one_most : (x : Item) → Is x → AreMost (10 * most) (map element_of (x ∷ []))
-  one_most x is = ten_most x [] (All-cons Is x [] is (All-nil Is)) (omega arith)
+  one_most : (x : Item) → Is x → AreMost (length points * most) (map element_of (x ∷ []))
+  one_most x is = few_most x [] (All-cons Is x [] is (All-nil Is)) (omega arith)
 
-  -- the items of a list that is kept
+  -- the items of a list that is kept: one of each detection point at most
   kept_most : (x : Item) (xs : List Item) → IsKeptList Is (λ items. kept_of points dp_of items) (x ∷ xs)
-      → AreMost (10 * most) (map element_of (x ∷ xs))
+      → AreMost (length points * most) (map element_of (x ∷ xs))
   kept_most x xs kept =
       elim kept.1 [
         | inl none ↦ absurd cc
         | inr whole ↦
             let items = x ∷ xs in
-            ten_most x xs kept.0
-            (leb-true _ _ (unrefused (eqb (length items) 0) (leb (length items) 10) (has_no_two dp_of points items)
-            (items_at dp_of points items) items DataMissing UnexpectedDataValue whole))
+            let taken = unrefused _ (items_at dp_of points items) items whole in
+            few_most x xs kept.0
+            (subst (λ (kept : List Item). length kept ≤ length points) taken.1
+            (few-from_taken dp_of points items taken.0))
       ]
 
-rows_most : (points : List ℕ) (rows : List TdpRowData)
+rows_most : (points : List ℕ) (some : 1 ≤ length points) (rows : List TdpRowData)
     → IsKeptList IsRow (λ items. kept_of points (λ row. row.dp) items) rows
-    → AreMost 480 (map row_element (sent_rows rows))
-rows_most points [] kept =
-    one_most row_element 48 IsRow row_most points (λ row. row.dp) ignored_row is_ignored_row
-rows_most points (row ∷ rows) kept = kept_most row_element 48 IsRow row_most points (λ row. row.dp) row rows kept
+    → AreMost (length points * 48) (map row_element (sent_rows rows))
+rows_most points some [] kept =
+    one_most row_element 48 IsRow row_most points some (λ row. row.dp) ignored_row is_ignored_row
+rows_most points some (row ∷ rows) kept =
+    kept_most row_element 48 IsRow row_most points some (λ row. row.dp) row rows kept
 
-pub csi_most : (octet : ℕ) (points : List ℕ) (rows : List TdpRowData)
-    → IsKeptList IsRow (λ items. kept_of points (λ row. row.dp) items) rows → IsMost 492 (csi_element octet rows)
-csi_most octet points rows kept =
+pub csi_most : (octet : ℕ) (points : List ℕ) (some : 1 ≤ length points) (rows : List TdpRowData)
+    → IsKeptList IsRow (λ items. kept_of points (λ row. row.dp) items) rows
+    → IsMost (length points * 48 + 12) (csi_element octet rows)
+csi_most octet points some rows kept =
+    let most = length points * 48 in
     let list = parent sequence (map row_element (sent_rows rows)) in
-    let all = parent_most sequence (map row_element (sent_rows rows)) 480 (rows_most points rows kept) in
-    parent_most octet (list ∷ []) 486 (more_most list [] 486 0 all none_most)
+    let all = parent_most sequence (map row_element (sent_rows rows)) most (rows_most points some rows kept) in
+    let few = parent_most octet (list ∷ []) (most + 6) (within _ (most + 6 + 0) (most + 6)
+    (more_most list [] (most + 6) 0 all none_most) (omega arith)) in
+    omega (arith, few)
 
 pub o_criteria_most : (entries : List OCriteriaData)
     → IsKeptList IsOEntry (λ items. kept_of o_detection_points (λ entry. entry.dp) items) entries
-    → IsMost 3016 (o_criteria_element entries)
+    → IsMost 608 (o_criteria_element entries)
 o_criteria_most [] kept =
-    parent_most (constructed 4) (map o_entry_element (ignored_o_entry ∷ [])) 3010
-    (one_most o_entry_element 301 IsOEntry o_entry_most o_detection_points (λ entry. entry.dp) ignored_o_entry
-    is_ignored_o_entry)
+    parent_most (constructed 4) (map o_entry_element (ignored_o_entry ∷ [])) 602
+    (one_most o_entry_element 301 IsOEntry o_entry_most o_detection_points (omega arith) (λ entry. entry.dp)
+    ignored_o_entry is_ignored_o_entry)
 o_criteria_most (entry ∷ entries) kept =
-    parent_most (constructed 4) (map o_entry_element (entry ∷ entries)) 3010
-    (kept_most o_entry_element 301 IsOEntry o_entry_most o_detection_points (λ entry. entry.dp) entry entries kept)
+    parent_most (constructed 4) (map o_entry_element (entry ∷ entries)) 602
+    (kept_most o_entry_element 301 IsOEntry o_entry_most o_detection_points (omega arith) (λ entry. entry.dp) entry
+    entries kept)
 
 pub t_criteria_most : (entries : List TCriteriaData)
     → IsKeptList IsTEntry (λ items. kept_of vt_detection_points (λ entry. entry.dp) items) entries
-    → IsMost 986 (t_criteria_element entries)
+    → IsMost 300 (t_criteria_element entries)
 t_criteria_most [] kept =
-    parent_most (constructed 8) (map t_entry_element (ignored_t_entry ∷ [])) 980
-    (one_most t_entry_element 98 IsTEntry t_entry_most vt_detection_points (λ entry. entry.dp) ignored_t_entry
-    is_ignored_t_entry)
+    parent_most (constructed 8) (map t_entry_element (ignored_t_entry ∷ [])) 294
+    (one_most t_entry_element 98 IsTEntry t_entry_most vt_detection_points (omega arith) (λ entry. entry.dp)
+    ignored_t_entry is_ignored_t_entry)
 t_criteria_most (entry ∷ entries) kept =
-    parent_most (constructed 8) (map t_entry_element (entry ∷ entries)) 980
-    (kept_most t_entry_element 98 IsTEntry t_entry_most vt_detection_points (λ entry. entry.dp) entry entries kept)
+    parent_most (constructed 8) (map t_entry_element (entry ∷ entries)) 294
+    (kept_most t_entry_element 98 IsTEntry t_entry_most vt_detection_points (omega arith) (λ entry. entry.dp) entry
+    entries kept)

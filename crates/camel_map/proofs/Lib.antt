@@ -33,3 +33,5 @@ mod EncodedUpdates
 mod EncodedValues
 mod EncodedWithdrawals
 mod FieldLemmas
+mod WrittenDigits
+mod WrittenLemmas

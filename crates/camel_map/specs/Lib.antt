@@ -12,3 +12,4 @@ pub mod Row
 pub mod Update
 pub mod Value
 pub mod Withdrawal
+pub mod Written

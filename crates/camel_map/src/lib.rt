@@ -1,14 +1,16 @@
 //! The arguments of the MAP operations by which an HLR changes subscriber data (3GPP TS 29.002), decoded from their
-//! octets: InsertSubscriberData, DeleteSubscriberData and CancelLocation.
+//! octets and encoded: InsertSubscriberData, DeleteSubscriberData and CancelLocation.
 //!
-//! [`decode`] gives the [`Update`](camel_rows::Update) that an argument is, or the first fault with its place. TCAP and
-//! the dialogue that an argument comes in are the caller's.
+//! [`decode`] gives the [`Update`](camel_rows::Update) that an argument is, or the first fault with its place, and
+//! [`encode`] appends the octets of the argument that says an update. TCAP and the dialogue that an argument comes in
+//! are the caller's.
 #![tactic(auto)]
 
 mod argument;
 mod cancel;
 mod criteria;
 mod delete;
+mod encoding;
 mod field;
 mod identifier;
 mod imsi;
@@ -21,5 +23,7 @@ mod row;
 mod value;
 
 pub use argument::decode;
+pub use encoding::encode;
+pub use encoding::writer::MAX_ARGUMENT_OCTETS;
 pub use map_fault::{MapFault, MapFaultKind};
 pub use operation::Operation;

@@ -1,0 +1,62 @@
+-- Elements that are written in front of octets.
+use Rattle.std.proofs.Common.{◌≡◌, ◌∙◌, ℕ, zero, suc, ◌-◌, ◌<◌, ◌≤◌, List, [], ◌∷◌, ◌++◌, length, map, drop, slice_get, Option, Some, None, refl, sym, ap, append_assoc, arith}
+use Rattle.std.proofs.lemmas.List.{length-append}
+use Rattle.std.specs.Option.{option_map}
+use Rattle.camel_ber.specs.Grammar.{ElementData}
+use Rattle.camel_map.specs.Encoding.{encoding, encodings, if_any, leaf, length_octets}
+use Rattle.camel_map.specs.Written.{before}
+
+pub before_append : (xs ys : List ElementData) (rest : List ℕ) → before (xs ++ ys) rest ≡ before xs (before ys rest)
+before_append [] ys rest = refl
+before_append (x ∷ xs) ys rest = ap (λ (more : List ℕ). encoding x ++ more) (before_append xs ys rest)
+
+pub before_is : (es : List ElementData) (rest : List ℕ) → before es rest ≡ encodings es ++ rest
+unfolding encodings
+before_is [] rest = refl
+before_is (e ∷ es) rest =
+    ap (λ (more : List ℕ). encoding e ++ more) (before_is es rest)
+    ∙ sym (append_assoc (encoding e) (encodings es) rest)
+
+-- how many octets stand in front of the last ones
+pub in_front : (content rest : List ℕ) (behind : ℕ) → behind ≡ length rest
+    → length (content ++ rest) - behind ≡ length content
+in_front content rest behind same = omega (arith, length-append content rest)
+
+-- an identifier and a length in front of contents make an element of them
+pub closed : (octet : ℕ) (content rest : List ℕ)
+    → octet ∷ (length_octets (length content) ++ (content ++ rest)) ≡ before (leaf octet content ∷ []) rest
+closed octet content rest =
+    ap (λ (more : List ℕ). octet ∷ more) (sym (append_assoc (length_octets (length content)) content rest))
+
+item_dropped : {A : Type 0} (items : List A) (at : ℕ) (item : A) → slice_get items at ≡ Some item
+    → drop at items ≡ item ∷ drop (suc at) items
+item_dropped [] at item is = absurd cc
+item_dropped (x ∷ xs) zero item is = let same : x ≡ item = cc in ap (λ first. first ∷ xs) same
+item_dropped (x ∷ xs) (suc at) item is = item_dropped xs at item is
+
+-- the elements of the items from a place on begin with that of the item there
+pub item_written : {A : Type 0} (element_of : A → ElementData) (items : List A) (at next : ℕ) (item : A) (rest : List ℕ)
+    → slice_get items at ≡ Some item → next ≡ suc at
+    → encoding (element_of item) ++ before (map element_of (drop next items)) rest
+    ≡ before (map element_of (drop at items)) rest
+item_written element_of items at next item rest is after =
+    rw (after, item_dropped items at item is) refl
+
+-- there is an item at each place
+pub item_there : {A : Type 0} (items : List A) (at : ℕ) → slice_get items at ≡ None → at < length items → ⊥
+item_there [] at is within = omega arith
+item_there (x ∷ xs) zero is within = cc
+item_there (x ∷ xs) (suc at) is within = item_there xs at is (omega arith)
+
+-- octets stand behind what is written in front of them
+pub behind_before : (es : List ElementData) (rest : List ℕ) → length rest ≤ length (before es rest)
+behind_before [] rest = omega arith
+behind_before (e ∷ es) rest =
+    let more = behind_before es rest in
+    omega (arith, length-append (encoding e) (before es rest))
+
+-- a field of a value is that of what stands for it
+pub any_mapped : {A B : Type 0} (element_of : B → ElementData) (items : A → B) (value : Option A)
+    → if_any (λ x. element_of (items x)) value ≡ if_any element_of (option_map items value)
+any_mapped element_of items None = refl
+any_mapped element_of items (Some x) = refl

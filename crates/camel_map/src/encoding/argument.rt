@@ -1,0 +1,144 @@
+//! The arguments of the operations.
+
+ghost use Rattle.std.specs.Prelude.{◌≡◌, ◌++◌, [], ◌∷◌, IfOk, OnOk};
+ghost use Rattle.std.specs.Option.{option_copied, option_map};
+ghost use Rattle.camel_map.specs.Encoding.{camel_parts, everything_parts, leaf, parent, specific_parts, tbcd_octets};
+ghost use Rattle.camel_map.specs.Identifier.{constructed, octet_string, primitive, sequence};
+ghost use Rattle.camel_map.specs.Written.{before, octets_of_update, operation_of_update};
+
+use crate::encoding::criteria::{OCriteriaField, TCriteriaField};
+use crate::encoding::element::{close, put_leaf};
+use crate::encoding::imsi::put_imsi;
+use crate::encoding::list::{Items, put_any};
+use crate::encoding::row::{OCsiField, VtCsiField};
+use crate::encoding::writer::{TooLong, Writer};
+use crate::identifier::{CONSTRUCTED, OCTET_STRING, PRIMITIVE, SEQUENCE};
+use crate::operation::Operation;
+use camel_criteria::{OCriteria, TCriteria};
+use camel_rows::{OCriteriaSet, OCsi, TCriteriaSet, Update, VtCsi, Withdrawal};
+use camel_tbcd::Imsi;
+
+/// The fields of VlrCamelSubscriptionInfo.
+#[tactic(auto, using(crate::proofs::WrittenLemmas::before_append, crate::proofs::WrittenLemmas::any_mapped))]
+fn put_camel_fields<O: Items<OCriteria>, T: Items<TCriteria>>(
+    writer: &mut Writer,
+    o: Option<&OCsi>,
+    o_criteria: Option<&O>,
+    vt: Option<&VtCsi>,
+    t_criteria: Option<&T>,
+) -> Result<(), TooLong>
+    ensures { OnOk result (writer.new ≡ before (camel_parts (option_copied o.entry)
+        (option_map O.items (option_copied o_criteria.entry)) (option_copied vt.entry)
+        (option_map T.items (option_copied t_criteria.entry))) writer.old) }
+{
+    put_any::<TCriteriaField, T>(writer, t_criteria)?;
+    put_any::<VtCsiField, VtCsi>(writer, vt)?;
+    put_any::<OCriteriaField, O>(writer, o_criteria)?;
+    put_any::<OCsiField, OCsi>(writer, o)
+}
+
+/// InsertSubscriberDataArg.
+#[tactic(auto, using(crate::proofs::WrittenLemmas::behind_before))]
+fn put_insert<O: Items<OCriteria>, T: Items<TCriteria>>(
+    writer: &mut Writer,
+    imsi: &Imsi,
+    o: Option<&OCsi>,
+    o_criteria: Option<&O>,
+    vt: Option<&VtCsi>,
+    t_criteria: Option<&T>,
+) -> Result<(), TooLong>
+    ensures { OnOk result (writer.new ≡ before (parent sequence (leaf (primitive 0) (tbcd_octets imsi.now)
+        ∷ parent (constructed 13) (camel_parts (option_copied o.entry)
+        (option_map O.items (option_copied o_criteria.entry)) (option_copied vt.entry)
+        (option_map T.items (option_copied t_criteria.entry)))
+        ∷ []) ∷ []) writer.old) }
+{
+    let behind = writer.len();
+    put_camel_fields(writer, o, o_criteria, vt, t_criteria)?;
+    close(writer, CONSTRUCTED + 13, behind)?;
+    put_imsi(writer, PRIMITIVE, imsi)?;
+    close(writer, SEQUENCE, behind)
+}
+
+/// The specificCSI-Withdraw of the CSIs that a Delete names, if it names any.
+fn put_specific(writer: &mut Writer, o: bool, vt: bool) -> Result<(), TooLong>
+    ensures { OnOk result (writer.new ≡ before (specific_parts o vt) writer.old) }
+{
+    match (o, vt) {
+        (false, false) => Ok(()),
+        (true, false) => put_leaf(writer, PRIMITIVE + 15, &[0, 0x80]),
+        (false, true) => put_leaf(writer, PRIMITIVE + 15, &[0, 0x08]),
+        (true, true) => put_leaf(writer, PRIMITIVE + 15, &[0, 0x88]),
+    }
+}
+
+/// The camelSubscriptionInfoWithdraw of a Delete of everything.
+fn put_everything(writer: &mut Writer, everything: bool) -> Result<(), TooLong>
+    ensures { OnOk result (writer.new ≡ before (everything_parts everything) writer.old) }
+{
+    if everything {
+        return put_leaf(writer, PRIMITIVE + 9, &[]);
+    }
+    Ok(())
+}
+
+/// DeleteSubscriberDataArg.
+#[tactic(auto, using(crate::proofs::WrittenLemmas::before_append, crate::proofs::WrittenLemmas::behind_before))]
+fn put_delete(writer: &mut Writer, imsi: &Imsi, what: Withdrawal) -> Result<(), TooLong>
+    ensures { OnOk result (writer.new ≡ before (parent sequence (leaf (primitive 0) (tbcd_octets imsi.now)
+        ∷ everything_parts what.everything ++ specific_parts what.o what.vt) ∷ []) writer.old) }
+{
+    let behind = writer.len();
+    put_specific(writer, what.o, what.vt)?;
+    put_everything(writer, what.everything)?;
+    put_imsi(writer, PRIMITIVE, imsi)?;
+    close(writer, SEQUENCE, behind)
+}
+
+/// CancelLocationArg.
+fn put_cancel(writer: &mut Writer, imsi: &Imsi) -> Result<(), TooLong>
+    ensures { OnOk result (writer.new ≡ before (parent (constructed 3)
+        (leaf octet_string (tbcd_octets imsi.now) ∷ []) ∷ []) writer.old) }
+{
+    let behind = writer.len();
+    put_imsi(writer, OCTET_STRING, imsi)?;
+    close(writer, CONSTRUCTED + 3, behind)
+}
+
+/// The argument that says an update, with its operation; nothing for a Register and a ClearAll.
+pub(crate) fn put_argument(
+    writer: &mut Writer,
+    update: &Update,
+) -> Result<Option<Operation>, TooLong>
+    ensures operation { IfOk result (λ operation. operation ≡ operation_of_update update.now) }
+    ensures octets { OnOk result (writer.new ≡ octets_of_update update.now ++ writer.old) }
+{
+    match update {
+        Update::Insert {
+            imsi,
+            o,
+            o_criteria,
+            vt,
+            t_criteria,
+        } => {
+            put_insert::<OCriteriaSet, TCriteriaSet>(
+                writer,
+                imsi,
+                o.as_ref(),
+                o_criteria.as_ref(),
+                vt.as_ref(),
+                t_criteria.as_ref(),
+            )?;
+            Ok(Some(Operation::InsertSubscriberData))
+        }
+        Update::Delete { imsi, what } => {
+            put_delete(writer, imsi, *what)?;
+            Ok(Some(Operation::DeleteSubscriberData))
+        }
+        Update::Cancel { imsi } => {
+            put_cancel(writer, imsi)?;
+            Ok(Some(Operation::CancelLocation))
+        }
+        Update::Register { .. } | Update::ClearAll => Ok(None),
+    }
+}
