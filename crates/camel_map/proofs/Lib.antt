@@ -33,5 +33,7 @@ mod EncodedUpdates
 mod EncodedValues
 mod EncodedWithdrawals
 mod FieldLemmas
+mod RecordLemmas
 mod WrittenDigits
 mod WrittenLemmas
+mod WrittenUpdates

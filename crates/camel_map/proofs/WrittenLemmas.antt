@@ -36,14 +36,14 @@ item_dropped (x ∷ xs) (suc at) item is = item_dropped xs at item is
 
 -- the elements of the items from a place on begin with that of the item there
 pub item_written : {A : Type 0} (element_of : A → ElementData) (items : List A) (at next : ℕ) (item : A) (rest : List ℕ)
-    → slice_get items at ≡ Some item → next ≡ suc at
+    → Some item ≡ slice_get items at → next ≡ suc at
     → encoding (element_of item) ++ before (map element_of (drop next items)) rest
     ≡ before (map element_of (drop at items)) rest
 item_written element_of items at next item rest is after =
-    rw (after, item_dropped items at item is) refl
+    rw (after, item_dropped items at item (sym is)) refl
 
 -- there is an item at each place
-pub item_there : {A : Type 0} (items : List A) (at : ℕ) → slice_get items at ≡ None → at < length items → ⊥
+pub item_there : {A : Type 0} (items : List A) (at : ℕ) → None ≡ slice_get items at → at < length items → ⊥
 item_there [] at is within = omega arith
 item_there (x ∷ xs) zero is within = cc
 item_there (x ∷ xs) (suc at) is within = item_there xs at is (omega arith)

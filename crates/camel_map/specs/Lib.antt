@@ -8,6 +8,7 @@ pub mod Kept
 pub mod MapFault
 pub mod Operation
 pub mod Reading
+pub mod Record
 pub mod Row
 pub mod Update
 pub mod Value

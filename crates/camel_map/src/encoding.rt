@@ -1,7 +1,10 @@
 //! The octets of the argument that says an update.
 
-ghost use Rattle.std.specs.Prelude.{◌≡◌, ◌≤◌, ◌++◌, length, IfOk, OnErr, OnOk};
+ghost use Rattle.std.specs.Prelude.{◌≡◌, ◌≤◌, ◌++◌, ℕ, List, length, Ok, Option, IfOk, IfSome, OnErr, OnOk};
+ghost use Rattle.camel_map.specs.Encoding.{IsInDialogue};
 ghost use Rattle.camel_map.specs.Kept.{IsKept};
+ghost use Rattle.camel_map.specs.Reading.{whole};
+ghost use Rattle.camel_map.specs.Update.{update_of};
 ghost use Rattle.camel_map.specs.Written.{octets_of_update, operation_of_update};
 
 pub(crate) mod argument;
@@ -10,6 +13,7 @@ pub(crate) mod element;
 pub(crate) mod imsi;
 pub(crate) mod items;
 pub(crate) mod list;
+pub(crate) mod record;
 pub(crate) mod row;
 pub(crate) mod value;
 pub(crate) mod writer;
@@ -37,6 +41,19 @@ pub fn encode(update: &Update, out: &mut Vec<u8>) -> Result<Option<Operation>, A
     ensures appended { OnOk result (out.new.items ≡ out.old.items ++ octets_of_update update.now) }
     // An update whose data are those that the constructors keep has no more octets than there is place for.
     ensures most { IsKept update.now → length (octets_of_update update.now) ≤ MAX_ARGUMENT_OCTETS }
+    // They are decoded to the update, in each dialogue that is its subscriber's.
+    ensures decoded { (dialogue : Option (List ℕ)) → IsKept update.now → IsInDialogue dialogue update.now
+        → IfSome (operation_of_update update.now) (λ operation.
+        update_of operation dialogue (whole (octets_of_update update.now)) ≡ Ok update.now) }
+    ensures unchanged { OnErr result (out.new.items ≡ out.old.items) }
+{
+    append(update, out)
+}
+
+/// Appends the octets of the argument that says an update, and gives the operation.
+fn append(update: &Update, out: &mut Vec<u8>) -> Result<Option<Operation>, AllocError>
+    ensures operation { IfOk result (λ operation. operation ≡ operation_of_update update.now) }
+    ensures appended { OnOk result (out.new.items ≡ out.old.items ++ octets_of_update update.now) }
     ensures unchanged { OnErr result (out.new.items ≡ out.old.items) }
 {
     let mut writer = Writer::new();

@@ -2,8 +2,8 @@
 //! octets and encoded: InsertSubscriberData, DeleteSubscriberData and CancelLocation.
 //!
 //! [`decode`] gives the [`Update`](camel_rows::Update) that an argument is, or the first fault with its place, and
-//! [`encode`] appends the octets of the argument that says an update. TCAP and the dialogue that an argument comes in
-//! are the caller's.
+//! [`encode`] appends the octets of the argument that says an update, [`encode_record`] those of the Insert that makes a
+//! record. TCAP and the dialogue that an argument comes in are the caller's.
 #![tactic(auto)]
 
 mod argument;
@@ -24,6 +24,7 @@ mod value;
 
 pub use argument::decode;
 pub use encoding::encode;
+pub use encoding::record::encode_record;
 pub use encoding::writer::MAX_ARGUMENT_OCTETS;
 pub use map_fault::{MapFault, MapFaultKind};
 pub use operation::Operation;

@@ -39,7 +39,7 @@ fn put_camel_fields<O: Items<OCriteria>, T: Items<TCriteria>>(
 
 /// InsertSubscriberDataArg.
 #[tactic(auto, using(crate::proofs::WrittenLemmas::behind_before))]
-fn put_insert<O: Items<OCriteria>, T: Items<TCriteria>>(
+pub(crate) fn put_insert<O: Items<OCriteria>, T: Items<TCriteria>>(
     writer: &mut Writer,
     imsi: &Imsi,
     o: Option<&OCsi>,

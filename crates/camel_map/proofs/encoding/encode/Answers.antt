@@ -1,0 +1,5 @@
+use Rattle.camel_map.proofs.WrittenUpdates.{update_decodes}
+use Rattle.camel_map.proofs.encoding.encode.Goals as goal
+
+pub returns-clause-decoded : goal.returns-clause-decoded
+returns-clause-decoded c = λ dialogue kept same. update_decodes dialogue c.args.update.now kept same
