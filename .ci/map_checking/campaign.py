@@ -18,12 +18,15 @@ from map_arguments.updates import record_of
 
 from . import dissection, scripts
 from .classes import classes_of
+from .encoded import encoded_lines
 from .kept_capture import CAPTURE, check_capture
 from .model import answer
 from .programs import CHECK, REPLAY, Difference, Programs, answers_of
 
 # A worker takes so many arguments at a time, and so many differences are printed.
 CHUNK, SHOWN = 1000, 10
+# As the tools write them, with edits, and as the encoder makes them of the written ones.
+KINDS = ("written", "edited", "encoded")
 
 
 def side_by_side(check, items):
@@ -31,13 +34,16 @@ def side_by_side(check, items):
         yield from pool.map(check, items)
 
 
-def drawn_lines(seed, numbers, edited):
+def drawn_lines(seed, programs, kind, numbers):
     """The lines of these numbers, with the records that they were written of, or with None if they have edits."""
-    styles = [*STYLES.values()]
-    for number in numbers:
-        source = random.Random(f"{seed} {number}")
-        update, line = drawn_line(source, styles[number % len(styles)])
-        yield (mutated_line(source, line), None) if edited else (line, record_of(update))
+    styles, sources = [*STYLES.values()], [random.Random(f"{seed} {number}") for number in numbers]
+    drawn = [drawn_line(source, styles[number % len(styles)]) for number, source in zip(numbers, sources)]
+    records = [record_of(update) for update, _ in drawn]
+    if kind == "edited":
+        return [(mutated_line(source, line), None) for source, (_, line) in zip(sources, drawn)]
+    if kind == "encoded":
+        return [*zip(encoded_lines(programs.check, drawn), records)]
+    return [(line, record) for (_, line), record in zip(drawn, records)]
 
 
 def kind_of(text):
@@ -59,9 +65,9 @@ def compared(line, record, read, reading):
     return classes
 
 
-def check_chunk(seed, programs, edited, numbers):
+def check_chunk(seed, programs, kind, numbers):
     """Compares the lines of these numbers. Returns counts of answers, of classes, and the differences."""
-    lines, records = zip(*drawn_lines(seed, numbers, edited))
+    lines, records = zip(*drawn_lines(seed, programs, kind, numbers))
     reads = answers_of(programs.check, lines)
     kinds, classes, differences = Counter(), Counter(), []
     for line, record, read, reading in zip(lines, records, reads, dissection.read(lines)):
@@ -75,15 +81,15 @@ def check_chunk(seed, programs, edited, numbers):
     return kinds, classes, differences
 
 
-def run_arguments(seed, count, programs, edited):
+def run_arguments(seed, count, programs, kind):
     """Compares so many arguments, and prints what they leave. Returns how many differ."""
     chunks = [range(start, min(start + CHUNK, count)) for start in range(0, count, CHUNK)]
     kinds, classes, differences = Counter(), Counter(), []
-    for some_kinds, some_classes, some in side_by_side(partial(check_chunk, seed, programs, edited), chunks):
+    for some_kinds, some_classes, some in side_by_side(partial(check_chunk, seed, programs, kind), chunks):
         kinds += some_kinds
         classes += some_classes
         differences += some
-    print(f"{count} {'edited' if edited else 'written'} arguments: {listed(kinds)}")
+    print(f"{count} {kind} arguments: {listed(kinds)}")
     for name, number in sorted(classes.items(), key=lambda item: (item[0] != "as tshark", item)):
         print(f"  {name}: {number}")
     for difference in differences[:SHOWN]:
@@ -126,7 +132,7 @@ def main():
         parser.error("SEED and COUNT are numbers, and COUNT is at least 1")
     programs = Programs(given.check, given.replay)
     try:
-        differing = sum(run_arguments(given.seed, given.count, programs, edited) for edited in (False, True))
+        differing = sum(run_arguments(given.seed, given.count, programs, kind) for kind in KINDS)
         run_scripts(given.seed, programs)
         print(f"{CAPTURE}: {check_capture(programs)} messages, with the script that is kept")
     except (Difference, TsharkFailed, OSError) as fault:

@@ -18,10 +18,13 @@ class Programs(NamedTuple):
     replay: str = REPLAY
 
 
-def output_of(program, text):
-    """What the program writes of a text. It is to end with status 0 and to say nothing else."""
+def output_of(command, text):
+    """What a program, or a tuple of one and its words, writes of a text. It is to end with status 0 and to say nothing
+    else."""
+    words = [command] if isinstance(command, str) else [*command]
+    program = words[0]
     try:
-        ended = subprocess.run([program], input=text.encode(), capture_output=True, timeout=TIMEOUT)
+        ended = subprocess.run(words, input=text.encode(), capture_output=True, timeout=TIMEOUT)
     except subprocess.TimeoutExpired:
         raise Difference(f"{program} does not end within {TIMEOUT} seconds") from None
     if ended.returncode or ended.stderr:
@@ -30,15 +33,15 @@ def output_of(program, text):
     return ended.stdout.decode()
 
 
-def answers_of(program, lines):
-    """What the program reads of each line."""
+def answers_of(command, lines):
+    """What the program answers to each line."""
     try:
-        answers = output_of(program, "".join(f"{line}\n" for line in lines)).splitlines()
+        answers = output_of(command, "".join(f"{line}\n" for line in lines)).splitlines()
     except Difference as difference:
         if len(lines) == 1:
             raise Difference(f"{lines[0]}\n  {difference}") from None
         # Each by itself, so that the line at which the program ends is named.
-        return [answer for line in lines for answer in answers_of(program, [line])]
+        return [answer for line in lines for answer in answers_of(command, [line])]
     if len(answers) != len(lines):
-        raise Difference(f"{program} answers {len(lines)} lines with {len(answers)}")
+        raise Difference(f"{command} answers {len(lines)} lines with {len(answers)}")
     return answers

@@ -1,16 +1,19 @@
-//! Prints the update that each MAP argument of standard input is, as a record of a script (docs/SCRIPT.md).
+//! Prints the update that each MAP argument of standard input is, as a record of a script (docs/SCRIPT.md), or with
+//! `--encode` the argument that the encoder makes of that update.
 //!
 //! An input line is `OPERATION,IMSI,HEX`: the operation by its name in TS 29.002, the IMSI of the dialogue or nothing,
-//! and the octets of the argument in hexadecimal. Its output line is a record, or `fault NUMBER PLACE`. An empty line is
-//! skipped, and not counted.
+//! and the octets of the argument in hexadecimal. Its output line is a record, or with `--encode` such a line without an
+//! IMSI, or `fault NUMBER PLACE`. An empty line is skipped, and not counted.
 //!
-//! Decoding is that of `camel_map`, whose contracts say which octets are which update. The texts here are tested, and
-//! not proved.
+//! Decoding and encoding are those of `camel_map`, whose contracts say which octets are which update. The texts here are
+//! tested, and not proved.
 #![tactic(auto)]
 
+mod encoded;
 mod fault;
 mod input;
 
+use crate::encoded::append_argument;
 use crate::fault::append_fault;
 use crate::input::{Argument, LineFault, argument_of};
 use camel_criteria::Refusal;
@@ -21,6 +24,7 @@ use csv::{ByteRecord, ErrorKind, Reader, ReaderBuilder};
 use std::alloc::{AllocError, Global};
 use std::io::{Read, Write};
 use std::process::ExitCode;
+use std::{env, io};
 
 /// Why the program stops before the end of its input.
 #[derive(Clone, Copy)]
@@ -41,11 +45,32 @@ const FAULT_STATUS: u8 = 1;
 /// How many octets of output are kept before they are written.
 const KEPT_OUTPUT: usize = 65536;
 
+/// What is printed of an argument.
+#[derive(Clone, Copy, PartialEq, Eq)]
+enum Answer {
+    /// The record of its update.
+    Record,
+    /// What the encoder makes of its update.
+    Argument,
+}
+
 fn main(rt: HostRuntime) -> ExitCode {
-    match answer_all(rt.alloc(), rt.stdin(), &mut rt.stdout()) {
+    let Ok(answer) = asked(&rt) else {
+        return report(&rt, Stop::Memory);
+    };
+    match answer_all(rt.alloc(), answer, rt.stdin(), &mut rt.stdout()) {
         Ok(()) => ExitCode::SUCCESS,
         Err(stop) => report(&rt, stop),
     }
+}
+
+/// What the words of the command line ask for.
+fn asked(rt: &HostRuntime) -> io::Result<Answer> {
+    let words = env::args(rt)?.collect::<Vec<String>>(rt.alloc())?;
+    Ok(match words.get(1) {
+        Some(word) if word.as_str() == "--encode" => Answer::Argument,
+        _ => Answer::Record,
+    })
 }
 
 /// Says on standard error why the program stops, and gives its status.
@@ -76,6 +101,7 @@ fn report(rt: &HostRuntime, stop: Stop) -> ExitCode {
 /// Answers each line, and writes the answers also of the lines before the one at which it stops.
 fn answer_all<R: Read + Drop, W: Write>(
     alloc: Global,
+    answer: Answer,
     input: R,
     output: &mut W,
 ) -> Result<(), Stop> {
@@ -84,7 +110,7 @@ fn answer_all<R: Read + Drop, W: Write>(
         .flexible(true)
         .from_reader(alloc, input);
     let mut answers = Vec::new(alloc);
-    let ended = answer_lines(alloc, &mut reader, &mut answers, output);
+    let ended = answer_lines(alloc, answer, &mut reader, &mut answers, output);
     write_answers(&mut answers, output)?;
     ended
 }
@@ -92,6 +118,7 @@ fn answer_all<R: Read + Drop, W: Write>(
 /// Answers each line. Some answers may not be written yet.
 fn answer_lines<R: Read, W: Write>(
     alloc: Global,
+    answer: Answer,
     reader: &mut Reader<R>,
     answers: &mut Vec<u8>,
     output: &mut W,
@@ -102,7 +129,7 @@ fn answer_lines<R: Read, W: Write>(
             break;
         }
         match argument_of(alloc, &fields) {
-            Ok(argument) => append_answer(alloc, answers, &argument)?,
+            Ok(argument) => append_answer(alloc, answer, answers, &argument)?,
             Err(LineFault::Memory) => return Err(Stop::Memory),
             Err(LineFault::Form) => return Err(Stop::Line(number)),
         }
@@ -125,9 +152,15 @@ fn read_fields<R: Read>(reader: &mut Reader<R>, fields: &mut ByteRecord) -> Resu
 }
 
 /// Appends the line that answers an argument.
-fn append_answer(alloc: Global, out: &mut Vec<u8>, argument: &Argument) -> Result<(), Stop> {
+fn append_answer(
+    alloc: Global,
+    answer: Answer,
+    out: &mut Vec<u8>,
+    argument: &Argument,
+) -> Result<(), Stop> {
     let octets = argument.octets.as_slice();
     let appended = match decode(alloc, argument.operation, argument.imsi, octets) {
+        Ok(update) if answer == Answer::Argument => append_argument(alloc, out, &update),
         Ok(update) => append_record(out, &update),
         Err(fault) if fault.kind == MapFaultKind::Refused(Refusal::OutOfMemory) => Err(AllocError),
         Err(fault) => append_fault(out, &fault),
