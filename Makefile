@@ -237,7 +237,7 @@ fuzz: begin-$$@ $(PROGRAM)
 
 # COUNT arguments that SEED makes, in five styles, and COUNT of them with edits.
 map-check: COUNT ?= 100000
-## Compares what is read of COUNT MAP arguments with tshark: 4 minutes for 100,000, once the programs are built.
+## Compares what is read and written of COUNT MAP arguments with tshark: 6 minutes for 100,000, once the programs are built.
 map-check: begin-$$@ $(PROGRAM) $(MAP_CHECK)
 	@.ci/map-check $(SEED) $(COUNT)
 
