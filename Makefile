@@ -235,9 +235,9 @@ fuzz: COUNT ?= 100000
 fuzz: begin-$$@ $(PROGRAM)
 	@.ci/fuzz $(SEED) $(COUNT)
 
-# COUNT arguments that SEED makes, in five styles, and COUNT of them with edits.
+# COUNT arguments that SEED makes, in five styles, COUNT of them with edits, and COUNT that the encoder makes of them.
 map-check: COUNT ?= 100000
-## Compares what is read and written of COUNT MAP arguments with tshark: 6 minutes for 100,000, once the programs are built.
+## Compares what is read and made of COUNT MAP arguments with tshark: 6 minutes for 100,000, once the programs are built.
 map-check: begin-$$@ $(PROGRAM) $(MAP_CHECK)
 	@.ci/map-check $(SEED) $(COUNT)
 
