@@ -237,7 +237,7 @@ fuzz: begin-$$@ $(PROGRAM)
 
 # COUNT arguments that SEED makes, in five styles, COUNT of them with edits, and COUNT that the encoder makes of them.
 map-check: COUNT ?= 100000
-## Compares what is read and made of COUNT MAP arguments with tshark: 6 minutes for 100,000, once the programs are built.
+## Compares what is read and made of COUNT MAP arguments with tshark: 6 minutes for 100,000, with the programs built.
 map-check: begin-$$@ $(PROGRAM) $(MAP_CHECK)
 	@.ci/map-check $(SEED) $(COUNT)
 

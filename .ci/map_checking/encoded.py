@@ -50,8 +50,8 @@ def line_of(text):
 
 
 def encoded_lines(program, drawn):
-    """The lines that the encoder makes of the updates that lines are read as, which are to be those that the tools write
-    of these updates in the shortest style, octet for octet."""
+    """The lines that the encoder makes of the updates that lines are read as. Octet for octet they are to be those that
+    the tools write of these updates in the shortest style."""
     lines = [line_of(text) for text in answers_of((program, "--encode"), [line for _, line in drawn])]
     for (update, given), line in zip(drawn, lines):
         written = STYLES["minimal"].octets(random, sent_element(update))
