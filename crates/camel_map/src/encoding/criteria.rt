@@ -1,8 +1,8 @@
 //! The entries of criteria, and the lists of them.
 
 ghost use Rattle.std.specs.Prelude.{◌≡◌, ◌++◌, [], ◌∷◌, map, OnOk};
-ghost use Rattle.camel_map.specs.Encoding.{encoding, number_element, o_entry_element, parent, sent_o_entries, sent_t_entries, t_entry_element};
-ghost use Rattle.camel_map.specs.Identifier.{constructed};
+ghost use Rattle.camel_map.specs.Encoding.{call_type_number, cause_element, encoding, if_any, if_some, leaf, number_element, o_entry_element, parent, sent_o_entries, sent_t_entries, service_element, t_entry_element};
+ghost use Rattle.camel_map.specs.Identifier.{constructed, primitive};
 ghost use Rattle.camel_map.specs.Written.{before};
 
 use crate::encoding::element::{close, put_leaf, put_number_leaf};
@@ -37,6 +37,19 @@ impl Part<NumberCriterion> for NumberField {
     }
 }
 
+/// The fields of an entry of the O-CSI that stand behind its number criterion.
+#[tactic(auto, using(crate::proofs::WrittenLemmas::before_append))]
+fn put_behind_number(writer: &mut Writer, entry: &OCriteria) -> Result<(), TooLong>
+    ensures { OnOk result (writer.new ≡ before (if_some (constructed 1) service_element entry.now.basic
+        ++ if_any (λ call_type. leaf (primitive 2) (call_type_number call_type ∷ [])) entry.now.call_type
+        ++ if_some (constructed 3) cause_element entry.now.causes) writer.old) }
+{
+    put_some::<Cause, u8, &[u8]>(writer, CONSTRUCTED + 3, &entry.causes())?;
+    let call_type = entry.call_type();
+    put_any::<CallTypeField, CallType>(writer, call_type.as_ref())?;
+    put_some::<Service, BasicService, &[BasicService]>(writer, CONSTRUCTED + 1, &entry.basic())
+}
+
 /// O-BcsmCamelTDP-Criteria.
 struct OEntry;
 
@@ -46,14 +59,7 @@ impl Part<OCriteria> for OEntry {
 
     fn put(writer: &mut Writer, entry: &OCriteria) -> Result<(), TooLong> {
         let behind = writer.len();
-        put_some::<Cause, u8, &[u8]>(writer, CONSTRUCTED + 3, &entry.causes())?;
-        let call_type = entry.call_type();
-        put_any::<CallTypeField, CallType>(writer, call_type.as_ref())?;
-        put_some::<Service, BasicService, &[BasicService]>(
-            writer,
-            CONSTRUCTED + 1,
-            &entry.basic(),
-        )?;
+        put_behind_number(writer, entry)?;
         put_any::<NumberField, NumberCriterion>(writer, entry.number())?;
         put_number_leaf(writer, ENUMERATED, u32::from(entry.dp()))?;
         close(writer, SEQUENCE, behind)
