@@ -131,7 +131,7 @@ fn read_argument(
     ensures { ReadsOctets result (in_argument (update_of operation dialogue (whole octets.now))) }
 {
     match decode(alloc, operation, dialogue, octets) {
-        Ok(update) => Ok(update),
+        Ok(arrival) => Ok(arrival.update),
         Err(
             MapFault {
                 kind: MapFaultKind::Refused(Refusal::OutOfMemory),

@@ -6,24 +6,34 @@ use Rattle.camel_ber.specs.Grammar.{ElementData, IsIdentifier}
 use Rattle.camel_ber.specs.Reading.{◌>>=◌, PlacedData}
 use Rattle.camel_rows.specs.declared.subscriber.update.Update.{Update}
 use Rattle.camel_rows.specs.declared.subscriber.update.Update.TheVariants as update
+use Rattle.camel_map.specs.Arrival.{bare}
 use Rattle.camel_map.specs.Encoding.{Argument, Encodes, IsInDialogue, argument_of, encoding, encodings}
 use Rattle.camel_map.specs.Identifier.{constructed}
 use Rattle.camel_map.specs.Kept.{IsKept}
 use Rattle.camel_map.specs.Reading.{elements_in, whole}
-use Rattle.camel_map.specs.Update.{one_of, update_in, update_of}
+use Rattle.camel_map.specs.Update.{arrival_in, arrival_of, cancel_in, delete_in, one_of, update_of}
+use Rattle.camel_map.specs.declared.arrival.Arrival.{Arrival}
 use Rattle.camel_map.specs.declared.map_fault.MapFault.{MapFault}
 use Rattle.camel_map.specs.declared.operation.Operation.{Operation}
 use Rattle.camel_map.proofs.EncodedDeletes.{delete_read}
-use Rattle.camel_map.proofs.EncodedInserts.{insert_read}
+use Rattle.camel_map.proofs.EncodedInserts.{came_insert, came_says, insert_read}
 use Rattle.camel_map.proofs.EncodedFirst.{first_read}
 use Rattle.camel_map.proofs.EncodedLimits.{encoding_few}
 use Rattle.camel_map.proofs.EncodedSeries.{a_sequence, AreRead, Decodes, IsShort, at, one_octet, parts_read}
 use Rattle.camel_map.proofs.EncodedCancels.{cancel_read}
 
--- an argument is read as the update that it says
+-- an argument is read as what brings the update that it says
 record IsRead (dialogue : Option (List ℕ)) (update : Update) (argument : Argument) : Type 0 where
+  arrival : Arrival
+  says : arrival.update ≡ update
   identified : IsIdentifier argument.element.identifier
-  read : Decodes (update_in argument.operation dialogue) argument.element update
+  read : Decodes (arrival_in argument.operation dialogue) argument.element arrival
+
+-- what is read as an update brings it
+brought : (value_of : PlacedData → Result Update MapFault) (e : ElementData) (update : Update)
+    → Decodes value_of e update → Decodes (λ argument. value_of argument >>= λ update. Ok (bare update)) e (bare update)
+brought value_of e update decodes short place end =
+    ap (λ (read : Result Update MapFault). read >>= λ update. Ok (bare update)) (decodes short place end)
 
 same_argument : (one other : Argument) → Some one ≡ Some other → one ≡ other
 same_argument one other same = cc
@@ -36,18 +46,26 @@ argument_read : (dialogue : Option (List ℕ)) (update : Update) (argument : Arg
     → IsRead dialogue update argument
 argument_read dialogue (update.Insert imsi o o_criteria vt t_criteria) argument said kept same =
     subst (IsRead dialogue (update.Insert imsi o o_criteria vt t_criteria)) (same_argument _ argument said) record {
+      arrival = came_insert imsi o o_criteria vt t_criteria kept;
+      says = came_says imsi o o_criteria vt t_criteria kept;
       identified = a_sequence;
       read = insert_read imsi o o_criteria vt t_criteria kept dialogue (IfSome_then dialogue same (same_imsi imsi));
     }
 argument_read dialogue (update.Delete imsi what) argument said kept same =
     subst (IsRead dialogue (update.Delete imsi what)) (same_argument _ argument said) record {
+      arrival = bare (update.Delete imsi what);
+      says = refl;
       identified = a_sequence;
-      read = delete_read imsi what dialogue kept (IfSome_then dialogue same (same_imsi imsi));
+      read = brought (delete_in dialogue) _ (update.Delete imsi what)
+          (delete_read imsi what dialogue kept (IfSome_then dialogue same (same_imsi imsi)));
     }
 argument_read dialogue (update.Cancel imsi) argument said kept same =
     subst (IsRead dialogue (update.Cancel imsi)) (same_argument _ argument said) record {
+      arrival = bare (update.Cancel imsi);
+      says = refl;
       identified = one_octet (constructed 3) (refl, refl);
-      read = cancel_read dialogue imsi kept (IfSome_then dialogue same (same_imsi imsi));
+      read = brought (cancel_in dialogue) _ (update.Cancel imsi)
+          (cancel_read dialogue imsi kept (IfSome_then dialogue same (same_imsi imsi)));
     }
 argument_read dialogue (update.Register imsi) argument said kept same = absurd cc
 argument_read dialogue update.ClearAll argument said kept same = absurd cc
@@ -67,7 +85,7 @@ whole_encoding e = append-nil (encoding e)
 pub encoding_decodes : (which : Operation) (dialogue : Option (List ℕ)) (update : Update) (octets : List ℕ)
     → IsKept update → Encodes which update octets → IsInDialogue dialogue update
     → update_of which dialogue (whole octets) ≡ Ok update
-unfolding update_of
+unfolding arrival_of
 encoding_decodes which dialogue update octets kept encodes same =
     let e = encodes.element in
     let argument : Argument = record { operation = which; element = e } in
@@ -80,6 +98,8 @@ encoding_decodes which dialogue update octets kept encodes same =
     let all : elements_in (whole octets) ≡ Ok parts.0 =
     ap (λ (bytes : List ℕ). elements_in (record { bytes = bytes; end = length octets })) spelled ∙ parts.1 in
     let only = only_read parts.0 e parts.2 in
-    ap (λ (ps : Result (List PlacedData) MapFault). ps >>= one_of 0 >>= update_in which dialogue) all
-    ∙ ap (λ (argument : Result PlacedData MapFault). argument >>= update_in which dialogue) only.2
-    ∙ is.read only.3 only.0 only.1
+    let came : arrival_of which dialogue (whole octets) ≡ Ok is.arrival =
+    ap (λ (ps : Result (List PlacedData) MapFault). ps >>= one_of 0 >>= arrival_in which dialogue) all
+    ∙ ap (λ (argument : Result PlacedData MapFault). argument >>= arrival_in which dialogue) only.2
+    ∙ is.read only.3 only.0 only.1 in
+    ap (λ (read : Result Arrival MapFault). read >>= λ arrival. Ok arrival.update) came ∙ ap Ok is.says

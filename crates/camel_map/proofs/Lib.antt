@@ -1,3 +1,4 @@
+mod ArrivalLemmas
 mod EachLemmas
 mod EncodedBounds
 mod EncodedCamelFields
@@ -33,6 +34,8 @@ mod EncodedUpdates
 mod EncodedValues
 mod EncodedWithdrawals
 mod FieldLemmas
+mod JoinLemmas
+mod ReceivedLemmas
 mod RecordLemmas
 mod WrittenDigits
 mod WrittenLemmas

@@ -5,9 +5,10 @@ use Rattle.camel_criteria.specs.Criteria.{NumberCriterionData, OCriteriaData, TC
 use Rattle.camel_rows.specs.Received.{o_criteria_set_of, t_criteria_set_of}
 use Rattle.camel_map.specs.Field.{field_of, identified, if_listed, if_present, mandatory}
 use Rattle.camel_map.specs.Identifier.{constructed, enumerated, primitive, sequence}
-use Rattle.camel_map.specs.Items.{items_as}
+use Rattle.camel_map.specs.Items.{items_as, received_as}
 use Rattle.camel_map.specs.Reading.{contents, elements_in, or_refused_at}
 use Rattle.camel_map.specs.Value.{basic_service_in, call_type_in, cause_in, detection_point_in, length_in, match_type_in, number_in}
+use Rattle.camel_map.specs.declared.items.ReceivedList.{ReceivedList}
 use Rattle.camel_map.specs.declared.map_fault.MapFault.{MapFault}
 
 -- the matchType [0], destinationNumberList [1] and destinationNumberLengthList [2] of DestinationNumberCriteria
@@ -53,9 +54,9 @@ t_entry_in item = do
   t_entry_of_fields entry fields
 
 -- the criteria of the O-CSI
-unfoldable pub o_criteria_set_in : PlacedData → Result (List OCriteriaData) MapFault
-o_criteria_set_in list = items_as o_entry_in list >>= λ entries. or_refused_at list.place (o_criteria_set_of entries)
+abbrev pub o_criteria_set_in : PlacedData → Result (ReceivedList (List OCriteriaData)) MapFault
+o_criteria_set_in list = received_as o_entry_in o_criteria_set_of list
 
 -- the criteria of the VT-CSI
-unfoldable pub t_criteria_set_in : PlacedData → Result (List TCriteriaData) MapFault
-t_criteria_set_in list = items_as t_entry_in list >>= λ entries. or_refused_at list.place (t_criteria_set_of entries)
+abbrev pub t_criteria_set_in : PlacedData → Result (ReceivedList (List TCriteriaData)) MapFault
+t_criteria_set_in list = received_as t_entry_in t_criteria_set_of list

@@ -1,9 +1,11 @@
 -- The items of a SEQUENCE OF. That a list without items is refused, as TS 29.002 gives each at least one, is this
 -- product's own.
-use Rattle.std.specs.Prelude.{List, [], ◌∷◌, Result, Ok}
+use Rattle.std.specs.Prelude.{List, [], ◌∷◌, length, Result, Ok}
 use Rattle.camel_ber.specs.Reading.{◌>>=◌, PlacedData}
+use Rattle.camel_criteria.specs.declared.refusal.Refusal.{Refusal}
 use Rattle.camel_criteria.specs.declared.refusal.Refusal.TheVariants.{DataMissing}
-use Rattle.camel_map.specs.Reading.{contents, each_of, elements_in, fails_at}
+use Rattle.camel_map.specs.Reading.{contents, each_of, elements_in, fails_at, or_refused_at}
+use Rattle.camel_map.specs.declared.items.ReceivedList.{ReceivedList}
 use Rattle.camel_map.specs.declared.map_fault.MapFault.{MapFault}
 use Rattle.camel_map.specs.declared.map_fault.MapFaultKind.TheVariants.{Refused}
 
@@ -15,3 +17,11 @@ some_of list (first ∷ more) = Ok (first ∷ more)
 -- what the items of a list are
 unfoldable pub items_as : {A : Type 0} → (PlacedData → Result A MapFault) → PlacedData → Result (List A) MapFault
 items_as value_of list = elements_in (contents list) >>= some_of list >>= each_of value_of
+
+-- a list that came: the items that are kept of those that are received, and how many those are
+unfoldable pub received_as : {A : Type 0} → (PlacedData → Result A MapFault) → (List A → Result (List A) Refusal)
+    → PlacedData → Result (ReceivedList (List A)) MapFault
+received_as value_of kept_of list = do
+  items ← items_as value_of list
+  kept ← or_refused_at list.place (kept_of items)
+  Ok (record { kept = kept; count = length items })

@@ -1,3 +1,4 @@
+pub mod Arrival
 pub mod Criteria
 pub mod Encoding
 pub mod Field
@@ -5,6 +6,7 @@ pub mod Identifier
 pub mod Imsi
 pub mod Items
 pub mod Kept
+pub mod Lists
 pub mod MapFault
 pub mod Operation
 pub mod Reading

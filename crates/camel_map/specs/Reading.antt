@@ -8,6 +8,8 @@ use Rattle.camel_ber.specs.declared.fault.ReadError.{ReadError}
 use Rattle.camel_ber.specs.declared.fault.ReadError.TheVariants as errors
 use Rattle.camel_criteria.specs.declared.refusal.Refusal.{Refusal}
 use Rattle.camel_criteria.specs.declared.refusal.Refusal.TheVariants.{OutOfMemory}
+use Rattle.camel_rows.specs.declared.subscriber.update.Update.{Update}
+use Rattle.camel_map.specs.declared.arrival.Arrival.{Arrival}
 use Rattle.camel_map.specs.declared.map_fault.MapFault.{MapFault}
 use Rattle.camel_map.specs.declared.map_fault.MapFaultKind.{MapFaultKind}
 use Rattle.camel_map.specs.declared.map_fault.MapFaultKind.TheVariants.{Malformed, Refused}
@@ -60,6 +62,11 @@ FailsAs fault reading = (fault.kind ≡ Refused OutOfMemory) ⊎ (reading ≡ Er
 abbrev pub ReadsAs : {A : Type 0} → Result A MapFault → Result A MapFault → Type 0
 ReadsAs (Ok value) reading = reading ≡ Ok value
 ReadsAs (Err fault) reading = FailsAs fault reading
+
+-- a function returns what brings the update that its octets are, or is out of memory
+abbrev pub ReadsUpdate : Result Arrival MapFault → Result Update MapFault → Type 0
+ReadsUpdate (Ok arrival) reading = reading ≡ Ok arrival.update
+ReadsUpdate (Err fault) reading = FailsAs fault reading
 
 -- a function returns the list that its octets are, or is out of memory
 abbrev pub ReadsList : {A G : Type 0} → Result (Vec A G) MapFault → Result (List A) MapFault → Type 0

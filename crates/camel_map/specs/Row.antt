@@ -1,16 +1,17 @@
 -- O-CSI and T-CSI, and their rows O-BcsmCamelTDPData and T-BcsmCamelTDPData (TS 29.002), which are alike.
-use Rattle.std.specs.Prelude.{List, [], ◌∷◌, Result, Ok}
+use Rattle.std.specs.Prelude.{ℕ, List, [], ◌∷◌, Option, Result, Ok}
 use Rattle.camel_ber.specs.Reading.{◌>>=◌, PlacedData}
 use Rattle.camel_criteria.specs.Handling.{handling_of}
 use Rattle.camel_criteria.specs.declared.refusal.Refusal.{Refusal}
 use Rattle.camel_rows.specs.TdpRow.{TdpRowData, tdp_row_of}
-use Rattle.camel_map.specs.Field.{identified, mandatory}
+use Rattle.camel_map.specs.Field.{field_of, identified, if_present, mandatory}
 use Rattle.camel_map.specs.Identifier.{enumerated, integer, primitive, sequence}
-use Rattle.camel_map.specs.Items.{items_as}
+use Rattle.camel_map.specs.Items.{received_as}
 use Rattle.camel_map.specs.Reading.{contents, elements_in, fails_at, or_refused_at}
 use Rattle.camel_map.specs.Value.{detection_point_in, isdn_address_in, unsigned_in}
 use Rattle.camel_map.specs.declared.map_fault.MapFault.{MapFault}
 use Rattle.camel_map.specs.declared.map_fault.MapFaultKind.TheVariants.{MissingField}
+use Rattle.camel_map.specs.declared.row.ReceivedCsi.{ReceivedCsi}
 
 -- the detection point, serviceKey, gsmSCF-Address [0] and defaultCallHandling [1] of a row
 unfoldable pub row_of_fields : PlacedData → List PlacedData → Result TdpRowData MapFault
@@ -33,14 +34,17 @@ abbrev pub first_of : PlacedData → List PlacedData → Result PlacedData MapFa
 first_of element [] = fails_at element.place MissingField
 first_of element (first ∷ more) = Ok first
 
--- the list of rows: the first element of a CSI, since an extension container with the tag of a list may follow
-unfoldable pub list_of_rows_in : PlacedData → Result PlacedData MapFault
-list_of_rows_in csi = elements_in (contents csi) >>= first_of csi >>= identified sequence
+-- the camelCapabilityHandling [0] among the fields of a CSI, if it is there
+abbrev pub capability_in : List PlacedData → Result (Option ℕ) MapFault
+capability_in fields = field_of (primitive 0) fields >>= if_present unsigned_in
 
--- the rows of a CSI, of which a CSI is made
+-- A CSI: its list of rows, and its camelCapabilityHandling. The list is the first element, since an extension container
+-- with the tag of a list may follow. The rows are those that are kept of the received ones.
 unfoldable pub csi_in : (List TdpRowData → Result (List TdpRowData) Refusal) → PlacedData
-    → Result (List TdpRowData) MapFault
-csi_in csi_of csi = do
-  list ← list_of_rows_in csi
-  rows ← items_as row_in list
-  or_refused_at list.place (csi_of rows)
+    → Result (ReceivedCsi (List TdpRowData)) MapFault
+csi_in kept_of csi = do
+  fields ← elements_in (contents csi)
+  list ← first_of csi fields >>= identified sequence
+  rows ← received_as row_in kept_of list
+  capability ← capability_in fields
+  Ok (record { rows = rows; capability = capability })

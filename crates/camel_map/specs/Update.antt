@@ -1,9 +1,10 @@
--- The update that an argument is: InsertSubscriberDataArg, DeleteSubscriberDataArg and CancelLocationArg of TS 29.002.
+-- What an argument brings: InsertSubscriberDataArg, DeleteSubscriberDataArg and CancelLocationArg of TS 29.002.
 use Rattle.std.specs.Prelude.{ℕ, List, [], ◌∷◌, Option, Some, None, Result, Ok, if◌then◌else◌}
 use Rattle.camel_ber.specs.Reading.{◌>>=◌, OctetsData, PlacedData}
 use Rattle.camel_rows.specs.Received.{o_csi_of, vt_csi_of}
 use Rattle.camel_rows.specs.declared.subscriber.update.Update.{Update}
 use Rattle.camel_rows.specs.declared.subscriber.update.Update.TheVariants as update
+use Rattle.camel_map.specs.Arrival.{bare, insert_of}
 use Rattle.camel_map.specs.Criteria.{o_criteria_set_in, t_criteria_set_in}
 use Rattle.camel_map.specs.Field.{field_of, identified, if_present, is_identified, mandatory}
 use Rattle.camel_map.specs.Identifier.{constructed, octet_string, primitive, sequence}
@@ -11,6 +12,7 @@ use Rattle.camel_map.specs.Imsi.{imsi_or_of_dialogue, own_imsi}
 use Rattle.camel_map.specs.Reading.{contents, elements_in, fails_at}
 use Rattle.camel_map.specs.Row.{csi_in, first_of}
 use Rattle.camel_map.specs.Withdrawal.{is_named, withdrawal_with}
+use Rattle.camel_map.specs.declared.arrival.Arrival.{Arrival}
 use Rattle.camel_map.specs.declared.map_fault.MapFault.{MapFault}
 use Rattle.camel_map.specs.declared.map_fault.MapFaultKind.TheVariants.{MissingField, WrongLength}
 use Rattle.camel_map.specs.declared.operation.Operation.{Operation}
@@ -23,16 +25,16 @@ camel_fields None = Ok []
 camel_fields (Some field) = elements_in (contents field)
 
 -- the Insert of an IMSI and of the fields of VlrCamelSubscriptionInfo
-unfoldable pub insert_of_fields : List ℕ → List PlacedData → Result Update MapFault
+unfoldable pub insert_of_fields : List ℕ → List PlacedData → Result Arrival MapFault
 insert_of_fields imsi fields = do
   o ← field_of (constructed 0) fields >>= if_present (csi_in o_csi_of)
   o_criteria ← field_of (constructed 4) fields >>= if_present o_criteria_set_in
   vt ← field_of (constructed 7) fields >>= if_present (csi_in vt_csi_of)
   t_criteria ← field_of (constructed 8) fields >>= if_present t_criteria_set_in
-  Ok (update.Insert imsi o o_criteria vt t_criteria)
+  Ok (insert_of imsi o o_criteria vt t_criteria)
 
 -- InsertSubscriberDataArg: imsi [0] and vlrCamelSubscriptionInfo [13], each if it is there
-unfoldable pub insert_in : Option (List ℕ) → PlacedData → Result Update MapFault
+unfoldable pub insert_in : Option (List ℕ) → PlacedData → Result Arrival MapFault
 insert_in dialogue element = do
   argument ← identified sequence element
   fields ← elements_in (contents argument)
@@ -87,12 +89,16 @@ one_of place [] = fails_at place MissingField
 one_of place (argument ∷ []) = Ok argument
 one_of place (argument ∷ next ∷ more) = fails_at next.place WrongLength
 
--- the update that an argument element of an operation is
-abbrev pub update_in : Operation → Option (List ℕ) → PlacedData → Result Update MapFault
-update_in operation.InsertSubscriberData dialogue argument = insert_in dialogue argument
-update_in operation.DeleteSubscriberData dialogue argument = delete_in dialogue argument
-update_in operation.CancelLocation dialogue argument = cancel_in dialogue argument
+-- what the argument element of an operation brings
+abbrev pub arrival_in : Operation → Option (List ℕ) → PlacedData → Result Arrival MapFault
+arrival_in operation.InsertSubscriberData dialogue argument = insert_in dialogue argument
+arrival_in operation.DeleteSubscriberData dialogue argument = delete_in dialogue argument >>= λ update. Ok (bare update)
+arrival_in operation.CancelLocation dialogue argument = cancel_in dialogue argument >>= λ update. Ok (bare update)
 
--- the update that octets are, as the argument of an operation in a dialogue
-unfoldable pub update_of : Operation → Option (List ℕ) → OctetsData → Result Update MapFault
-update_of which dialogue octets = elements_in octets >>= one_of 0 >>= update_in which dialogue
+-- what octets bring, as the argument of an operation in a dialogue
+unfoldable pub arrival_of : Operation → Option (List ℕ) → OctetsData → Result Arrival MapFault
+arrival_of which dialogue octets = elements_in octets >>= one_of 0 >>= arrival_in which dialogue
+
+-- the update that they are
+abbrev pub update_of : Operation → Option (List ℕ) → OctetsData → Result Update MapFault
+update_of which dialogue octets = arrival_of which dialogue octets >>= λ arrival. Ok arrival.update

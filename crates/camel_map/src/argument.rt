@@ -1,13 +1,15 @@
-//! Which update the octets of an argument are.
+//! What the octets of an argument bring.
 
-ghost use Rattle.std.specs.Prelude.{Ok};
+ghost use Rattle.std.specs.Prelude.{IfOk, Ok};
 ghost use Rattle.camel_ber.specs.Reading.{views};
 ghost use Rattle.camel_map.specs.Encoding.{Encodes, IsInDialogue};
 ghost use Rattle.camel_map.specs.Kept.{IsKept};
-ghost use Rattle.camel_map.specs.Reading.{LendsElement, ReadsAs, whole};
-ghost use Rattle.camel_map.specs.Update.{one_of, update_of};
+ghost use Rattle.camel_map.specs.Lists.{IsReceived};
+ghost use Rattle.camel_map.specs.Reading.{LendsElement, ReadsAs, ReadsUpdate, whole};
+ghost use Rattle.camel_map.specs.Update.{arrival_of, one_of, update_of};
 ghost use Rattle.camel_rows.specs.declared.subscriber.update.Update.{Update};
 
+use crate::arrival::Arrival;
 use crate::cancel::read_cancel;
 use crate::delete::read_delete;
 use crate::insert::read_insert;
@@ -15,7 +17,6 @@ use crate::map_fault::{MapFault, MapFaultKind};
 use crate::operation::Operation;
 use crate::reading::read_elements;
 use camel_ber::{Element, Octets};
-use camel_rows::Update;
 use camel_tbcd::Imsi;
 use std::alloc::Global;
 
@@ -30,7 +31,8 @@ fn one_of<'a>(elements: &[Element<'a>]) -> Result<Element<'a>, MapFault>
     }
 }
 
-/// The update that octets are, as the argument of an operation in a dialogue of this IMSI, if the dialogue has one.
+/// What octets bring, as the argument of an operation in a dialogue of this IMSI, if the dialogue has one: the update, and
+/// what came beside it.
 ///
 /// The octets are those of the parameter of a TCAP invoke, in BER (ITU-T X.690) of any form. They are borrowed, and
 /// nothing of them is kept. Fields are known by their tags (TS 29.002); those that are not needed, and extensions, are
@@ -45,31 +47,43 @@ pub fn decode(
     operation: Operation,
     dialogue_imsi: Option<Imsi>,
     octets: &[u8],
-) -> Result<Update, MapFault>
-    // It is the update that the octets are, or has their first fault, unless memory runs out.
-    ensures answer { ReadsAs result (update_of operation dialogue_imsi (whole octets.now)) }
+) -> Result<Arrival, MapFault>
+    // It is what the octets bring, or has their first fault, unless memory runs out.
+    ensures answer { ReadsAs result (arrival_of operation dialogue_imsi (whole octets.now)) }
+    // An Insert is of lists, so it can be joined with another one.
+    ensures received { IfOk result IsReceived }
+    // Its update is that which the octets are.
+    ensures update { ReadsUpdate result (update_of operation dialogue_imsi (whole octets.now)) }
     // Each update that an operation can say has an encoding that is decoded to it.
     ensures encoded { (update : Update) → IsKept update → Encodes operation update octets.now
-        → IsInDialogue dialogue_imsi update → ReadsAs result (Ok update) }
+        → IsInDialogue dialogue_imsi update → ReadsUpdate result (Ok update) }
 {
     read_argument(alloc, operation, dialogue_imsi, octets)
 }
 
-/// The update that an argument is.
-#[tactic(auto, unfolding(crate::specs::Update::update_of))]
+/// What an argument brings.
+#[tactic(auto, unfolding(crate::specs::Update::arrival_of))]
 fn read_argument(
     alloc: Global,
     operation: Operation,
     dialogue_imsi: Option<Imsi>,
     octets: &[u8],
-) -> Result<Update, MapFault>
-    ensures { ReadsAs result (update_of operation dialogue_imsi (whole octets.now)) }
+) -> Result<Arrival, MapFault>
+    ensures { ReadsAs result (arrival_of operation dialogue_imsi (whole octets.now)) }
 {
     let elements = read_elements(alloc, Octets::new(octets))?;
     let argument = one_of(&elements)?;
     match operation {
         Operation::InsertSubscriberData => read_insert(alloc, dialogue_imsi, &argument),
-        Operation::DeleteSubscriberData => read_delete(alloc, dialogue_imsi, &argument),
-        Operation::CancelLocation => read_cancel(alloc, dialogue_imsi, &argument),
+        Operation::DeleteSubscriberData => Ok(Arrival::bare(read_delete(
+            alloc,
+            dialogue_imsi,
+            &argument,
+        )?)),
+        Operation::CancelLocation => Ok(Arrival::bare(read_cancel(
+            alloc,
+            dialogue_imsi,
+            &argument,
+        )?)),
     }
 }

@@ -13,7 +13,7 @@ ghost use Rattle.camel_map.specs.Value.{basic_service_in, call_type_in, cause_in
 
 use crate::field::{find_field, identified, mandatory};
 use crate::identifier::{CONSTRUCTED, ENUMERATED, PRIMITIVE, SEQUENCE};
-use crate::items::read_items;
+use crate::items::{ReceivedList, read_items};
 use crate::map_fault::MapFault;
 use crate::reading::{or_refused_at, read_elements};
 use crate::value::{
@@ -170,25 +170,29 @@ fn read_t_entries(alloc: Global, list: &Element<'_>) -> Result<Vec<TCriteria>, M
 }
 
 /// The criteria of the O-CSI.
-#[tactic(auto, unfolding(crate::specs::Criteria::o_criteria_set_in))]
+#[tactic(auto, unfolding(crate::specs::Items::received_as))]
 pub(crate) fn read_o_criteria_set(
     alloc: Global,
     list: &Element<'_>,
-) -> Result<OCriteriaSet, MapFault>
+) -> Result<ReceivedList<OCriteriaSet>, MapFault>
     ensures { ReadsAs result (o_criteria_set_in (view list.now)) }
 {
     let entries = read_o_entries(alloc, list)?;
-    or_refused_at(list.place, OCriteriaSet::new(entries))
+    let count = entries.len();
+    let kept = or_refused_at(list.place, OCriteriaSet::new(entries))?;
+    Ok(ReceivedList { kept, count })
 }
 
 /// The criteria of the VT-CSI.
-#[tactic(auto, unfolding(crate::specs::Criteria::t_criteria_set_in))]
+#[tactic(auto, unfolding(crate::specs::Items::received_as))]
 pub(crate) fn read_t_criteria_set(
     alloc: Global,
     list: &Element<'_>,
-) -> Result<TCriteriaSet, MapFault>
+) -> Result<ReceivedList<TCriteriaSet>, MapFault>
     ensures { ReadsAs result (t_criteria_set_in (view list.now)) }
 {
     let entries = read_t_entries(alloc, list)?;
-    or_refused_at(list.place, TCriteriaSet::new(entries))
+    let count = entries.len();
+    let kept = or_refused_at(list.place, TCriteriaSet::new(entries))?;
+    Ok(ReceivedList { kept, count })
 }

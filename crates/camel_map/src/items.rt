@@ -13,6 +13,15 @@ use camel_ber::Element;
 use camel_criteria::Refusal;
 use std::alloc::Global;
 
+/// A list that came.
+#[derive(Drop)]
+pub(crate) struct ReceivedList<L> {
+    /// The items that are kept of those that are received.
+    pub kept: L,
+    /// How many items are received.
+    pub count: usize,
+}
+
 /// What `read` returns for each item of a list, in their order, or the first fault. A list without items is refused.
 #[tactic(auto, unfolding(crate::specs::Items::items_as))]
 pub(crate) fn read_items<T: Drop, F: Fn(&Element<'_>) -> Result<T, MapFault>>(

@@ -1,12 +1,13 @@
 //! The arguments of the MAP operations by which an HLR changes subscriber data (3GPP TS 29.002), decoded from their
 //! octets and encoded: InsertSubscriberData, DeleteSubscriberData and CancelLocation.
 //!
-//! [`decode`] gives the [`Update`](camel_rows::Update) that an argument is, or the first fault with its place, and
+//! [`decode`] gives the [`Arrival`] that an argument brings, with its [`Update`](camel_rows::Update), or the first fault with its place, and
 //! [`encode`] appends the octets of the argument that says an update, [`encode_record`] those of the Insert that makes a
 //! record. TCAP and the dialogue that an argument comes in are the caller's.
 #![tactic(auto)]
 
 mod argument;
+mod arrival;
 mod cancel;
 mod criteria;
 mod delete;
@@ -16,6 +17,7 @@ mod identifier;
 mod imsi;
 mod insert;
 mod items;
+mod join;
 mod map_fault;
 mod operation;
 mod reading;
@@ -23,8 +25,10 @@ mod row;
 mod value;
 
 pub use argument::decode;
+pub use arrival::{Arrival, CapabilityHandling, ItemCounts};
 pub use encoding::encode;
 pub use encoding::record::encode_record;
 pub use encoding::writer::MAX_ARGUMENT_OCTETS;
+pub use join::JoinFault;
 pub use map_fault::{MapFault, MapFaultKind};
 pub use operation::Operation;

@@ -3,13 +3,13 @@
 ghost use Rattle.std.specs.Prelude.{◌≡◌};
 ghost use Rattle.camel_ber.specs.Reading.{view, views};
 ghost use Rattle.camel_map.specs.Items.{items_as};
-ghost use Rattle.camel_map.specs.Reading.{LendsElement, LendsRead, ReadsAs, ReadsList};
-ghost use Rattle.camel_map.specs.Row.{csi_in, first_of, list_of_rows_in, row_in, row_of_fields};
+ghost use Rattle.camel_map.specs.Reading.{LendsElement, ReadsAs, ReadsList};
+ghost use Rattle.camel_map.specs.Row.{capability_in, csi_in, first_of, row_in, row_of_fields};
 ghost use Rattle.camel_rows.specs.Received.{o_csi_of, vt_csi_of};
 
-use crate::field::{identified, mandatory};
+use crate::field::{find_field, identified, mandatory};
 use crate::identifier::{ENUMERATED, INTEGER, PRIMITIVE, SEQUENCE};
-use crate::items::read_items;
+use crate::items::{ReceivedList, read_items};
 use crate::map_fault::{MapFault, MapFaultKind};
 use crate::reading::{or_refused_at, read_elements};
 use crate::value::{read_detection_point, read_isdn_address, read_unsigned};
@@ -17,6 +17,15 @@ use camel_ber::Element;
 use camel_criteria::Handling;
 use camel_rows::{OCsi, TdpRow, VtCsi};
 use std::alloc::Global;
+
+/// A CSI that came.
+#[derive(Drop)]
+pub(crate) struct ReceivedCsi<C> {
+    /// Its rows.
+    pub rows: ReceivedList<C>,
+    /// Its camelCapabilityHandling, if it is there.
+    pub capability: Option<u32>,
+}
 
 /// A row of its fields.
 #[tactic(auto, unfolding(crate::specs::Row::row_of_fields))]
@@ -59,31 +68,48 @@ pub(crate) fn first_of<'a>(
     }
 }
 
-/// The list of rows of a CSI.
-#[tactic(auto, unfolding(crate::specs::Row::list_of_rows_in))]
-fn read_list_of_rows<'a>(alloc: Global, csi: &Element<'a>) -> Result<Element<'a>, MapFault>
-    ensures { LendsRead result (list_of_rows_in (view csi.now)) }
+/// The camelCapabilityHandling among the fields of a CSI, if it is there.
+fn read_capability(fields: &[Element<'_>]) -> Result<Option<u32>, MapFault>
+    ensures { result ≡ capability_in (views fields.now) }
 {
-    let elements = read_elements(alloc, csi.content)?;
-    identified(first_of(csi, &elements)?, SEQUENCE)
+    match find_field(fields, PRIMITIVE)? {
+        Some(capability) => Ok(Some(read_unsigned(&capability)?)),
+        None => Ok(None),
+    }
 }
 
 /// The O-CSI.
-#[tactic(auto, unfolding(crate::specs::Row::csi_in))]
-pub(crate) fn read_o_csi(alloc: Global, csi: &Element<'_>) -> Result<OCsi, MapFault>
+#[tactic(auto, unfolding(crate::specs::Row::csi_in, crate::specs::Items::received_as))]
+pub(crate) fn read_o_csi(alloc: Global, csi: &Element<'_>) -> Result<ReceivedCsi<OCsi>, MapFault>
     ensures { ReadsAs result (csi_in o_csi_of (view csi.now)) }
 {
-    let list = read_list_of_rows(alloc, csi)?;
+    let fields = read_elements(alloc, csi.content)?;
+    let list = identified(first_of(csi, &fields)?, SEQUENCE)?;
     let rows = read_rows(alloc, &list)?;
-    or_refused_at(list.place, OCsi::new(&rows))
+    let rows = ReceivedList {
+        kept: or_refused_at(list.place, OCsi::new(&rows))?,
+        count: rows.len(),
+    };
+    Ok(ReceivedCsi {
+        rows,
+        capability: read_capability(&fields)?,
+    })
 }
 
 /// The VT-CSI.
-#[tactic(auto, unfolding(crate::specs::Row::csi_in))]
-pub(crate) fn read_vt_csi(alloc: Global, csi: &Element<'_>) -> Result<VtCsi, MapFault>
+#[tactic(auto, unfolding(crate::specs::Row::csi_in, crate::specs::Items::received_as))]
+pub(crate) fn read_vt_csi(alloc: Global, csi: &Element<'_>) -> Result<ReceivedCsi<VtCsi>, MapFault>
     ensures { ReadsAs result (csi_in vt_csi_of (view csi.now)) }
 {
-    let list = read_list_of_rows(alloc, csi)?;
+    let fields = read_elements(alloc, csi.content)?;
+    let list = identified(first_of(csi, &fields)?, SEQUENCE)?;
     let rows = read_rows(alloc, &list)?;
-    or_refused_at(list.place, VtCsi::new(&rows))
+    let rows = ReceivedList {
+        kept: or_refused_at(list.place, VtCsi::new(&rows))?,
+        count: rows.len(),
+    };
+    Ok(ReceivedCsi {
+        rows,
+        capability: read_capability(&fields)?,
+    })
 }

@@ -13,6 +13,8 @@ pub(crate) struct Argument {
     /// The IMSI of the dialogue, if it has one.
     pub(crate) imsi: Option<Imsi>,
     pub(crate) octets: Vec<u8>,
+    /// The octets of the arguments of further operations.
+    pub(crate) more: Vec<Vec<u8>>,
 }
 
 /// Why a line gives no argument.
@@ -25,13 +27,21 @@ pub(crate) enum LineFault {
 
 /// The argument that a line gives.
 pub(crate) fn argument_of(alloc: Global, fields: &ByteRecord) -> Result<Argument, LineFault> {
-    if fields.len() != 3 {
+    if fields.len() < 3 {
         return Err(LineFault::Form);
+    }
+    let mut more = Vec::new(alloc);
+    for at in 3..fields.len() {
+        let octets = octets_of(alloc, field_of(fields, at))?;
+        if more.push(octets).is_err() {
+            return Err(LineFault::Memory);
+        }
     }
     Ok(Argument {
         operation: operation_of(field_of(fields, 0))?,
         imsi: imsi_of(field_of(fields, 1))?,
         octets: octets_of(alloc, field_of(fields, 2))?,
+        more,
     })
 }
 

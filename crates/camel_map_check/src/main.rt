@@ -1,23 +1,27 @@
-//! Prints the update that each MAP argument of standard input is, as a record of a script (docs/SCRIPT.md), or with
-//! `--encode` the argument that the encoder makes of that update.
+//! Prints the update that each MAP argument of standard input is, as a record of a script (docs/SCRIPT.md), with
+//! `--encode` the argument that the encoder makes of that update, or with `--lists` what came beside it.
 //!
 //! An input line is `OPERATION,IMSI,HEX`: the operation by its name in TS 29.002, the IMSI of the dialogue or nothing,
-//! and the octets of the argument in hexadecimal. Its output line is a record, or with `--encode` such a line without an
-//! IMSI, or `fault NUMBER PLACE`. An empty line is skipped, and not counted.
+//! and the octets of the argument in hexadecimal. Behind them the arguments of further operations of the dialogue may
+//! stand, `,HEX` each, which are joined. Its output line is a record, or with `--encode` such a line without an IMSI, or
+//! with `--lists` the numbers of items of the O-CSI, its criteria, the VT-CSI and its criteria, and the
+//! camelCapabilityHandling of the two CSIs, `-` if it is not there. If an argument is not taken it is
+//! `fault NUMBER PLACE`, and `fault NUMBER` if two are not joined. An empty line is skipped, and not counted.
 //!
-//! Decoding and encoding are those of `camel_map`, whose contracts say which octets are which update. The texts here are
-//! tested, and not proved.
+//! Decoding, joining and encoding are those of `camel_map`, whose contracts say which octets are which update. The texts
+//! here are tested, and not proved.
 #![tactic(auto)]
 
 mod encoded;
 mod fault;
 mod input;
+mod lists;
 
 use crate::encoded::append_argument;
-use crate::fault::append_fault;
+use crate::fault::{ArgumentFault, append_fault};
 use crate::input::{Argument, LineFault, argument_of};
-use camel_criteria::Refusal;
-use camel_map::{MapFaultKind, decode};
+use crate::lists::append_lists;
+use camel_map::{Arrival, MapFault, decode};
 use camel_record_text::{append_text, append_update};
 use camel_rows::Update;
 use csv::{ByteRecord, ErrorKind, Reader, ReaderBuilder};
@@ -52,6 +56,8 @@ enum Answer {
     Record,
     /// What the encoder makes of its update.
     Argument,
+    /// How many items came in its lists, and its camelCapabilityHandling.
+    Lists,
 }
 
 fn main(rt: HostRuntime) -> ExitCode {
@@ -69,6 +75,7 @@ fn asked(rt: &HostRuntime) -> io::Result<Answer> {
     let words = env::args(rt)?.collect::<Vec<String>>(rt.alloc())?;
     Ok(match words.get(1) {
         Some(word) if word.as_str() == "--encode" => Answer::Argument,
+        Some(word) if word.as_str() == "--lists" => Answer::Lists,
         _ => Answer::Record,
     })
 }
@@ -158,17 +165,33 @@ fn append_answer(
     out: &mut Vec<u8>,
     argument: &Argument,
 ) -> Result<(), Stop> {
-    let octets = argument.octets.as_slice();
-    let appended = match decode(alloc, argument.operation, argument.imsi, octets) {
-        Ok(update) if answer == Answer::Argument => append_argument(alloc, out, &update),
-        Ok(update) => append_record(out, &update),
-        Err(fault) if fault.kind == MapFaultKind::Refused(Refusal::OutOfMemory) => Err(AllocError),
-        Err(fault) => append_fault(out, &fault),
+    let appended = match arrival_of(alloc, argument) {
+        Ok(arrival) => match answer {
+            Answer::Record => append_record(out, &arrival.update),
+            Answer::Argument => append_argument(alloc, out, &arrival.update),
+            Answer::Lists => append_lists(out, &arrival),
+        },
+        Err(fault) => append_fault(out, fault),
     };
     match appended {
         Ok(()) => Ok(()),
         Err(_) => Err(Stop::Memory),
     }
+}
+
+/// What the arguments of a line bring, each joined with those before it.
+fn arrival_of(alloc: Global, argument: &Argument) -> Result<Arrival, ArgumentFault> {
+    let mut arrival = decode_one(alloc, argument, &argument.octets)?;
+    for octets in argument.more.iter() {
+        let next = decode_one(alloc, argument, octets)?;
+        arrival = arrival.join(alloc, &next)?;
+    }
+    Ok(arrival)
+}
+
+/// What one of the arguments of a line brings.
+fn decode_one(alloc: Global, argument: &Argument, octets: &[u8]) -> Result<Arrival, MapFault> {
+    decode(alloc, argument.operation, argument.imsi, octets)
 }
 
 /// Appends the line of an update.

@@ -1,0 +1,150 @@
+//! Lists that an HLR splits over the operations of a dialogue, joined.
+
+ghost use Rattle.std.specs.Prelude.{◌≡◌, Err, IfOk, IfSome};
+ghost use Rattle.camel_map.specs.Lists.{IsJoin, IsOfLists, join_fault, later_or, latest};
+ghost use Rattle.camel_map.specs.MapFault.{join_fault_code};
+
+pub(crate) mod list;
+
+use crate::arrival::{Arrival, CapabilityHandling};
+use crate::join::list::join_lists;
+use camel_criteria::Refusal;
+use camel_rows::Update;
+use std::alloc::Global;
+use std::error::Error;
+use std::fmt;
+
+/// Why two arrivals are not joined.
+#[derive(Clone, Copy, Debug, PartialEq, Eq)]
+pub enum JoinFault {
+    /// 408: one of the two is no Insert.
+    NoInsert,
+    /// 409: the two are of different subscribers.
+    OtherSubscriber,
+    /// The lists are refused as one would be that has the items of both, with the refusal's number: `UnexpectedDataValue`
+    /// (36) for more than 10 items or two of one detection point, or `OutOfMemory` (102).
+    Refused(Refusal),
+}
+
+impl JoinFault {
+    /// Its number.
+    pub fn code(&self) -> u16
+        ensures { result ≡ join_fault_code self.now }
+    {
+        match self {
+            JoinFault::NoInsert => 408,
+            JoinFault::OtherSubscriber => 409,
+            JoinFault::Refused(refusal) => refusal.code(),
+        }
+    }
+}
+
+impl fmt::Display for JoinFault {
+    fn fmt<W: fmt::Write>(&self, f: &mut fmt::Formatter<W>) -> fmt::Result {
+        match self {
+            JoinFault::NoInsert => f.write_str("one of the two is no InsertSubscriberData"),
+            JoinFault::OtherSubscriber => f.write_str("the two are of different subscribers"),
+            JoinFault::Refused(refusal) => refusal.fmt(f),
+        }
+    }
+}
+
+impl Error for JoinFault {}
+
+impl From<Refusal> for JoinFault {
+    ghost use Rattle.std.specs.Prelude.{◌≡◌};
+    ghost use Rattle.camel_map.specs.declared.join.JoinFault.TheVariants.{Refused};
+
+    ghost from_gives = { λ refusal fault. fault ≡ Refused refusal };
+
+    fn from(refusal: Refusal) -> JoinFault {
+        JoinFault::Refused(refusal)
+    }
+}
+
+impl Arrival {
+    /// This Insert and the next one of its dialogue, as one. An HLR may split the lists of a subscriber over several
+    /// operations: a list that comes in both is the first one with the items of the next one behind it, and all rules of
+    /// received lists hold for the whole, as if one operation had brought it. Of a camelCapabilityHandling that came in
+    /// both, the one of the next stands.
+    ///
+    /// Both are as before, and the lists are copied: it takes memory for criteria.
+    ///
+    /// Fails with `NoInsert` (408) if one of the two is no Insert, with `OtherSubscriber` (409) if they are of different
+    /// subscribers, and as a list of the items of both is refused: with `UnexpectedDataValue` (36) for more than 10
+    /// items, ignored ones among them, or for two of one detection point, and with `OutOfMemory` (102).
+    pub fn join(&self, alloc: Global, next: &Arrival) -> Result<Arrival, JoinFault>
+        ensures fault { IfSome (join_fault self.now.update next.now.update) (λ why. result ≡ Err why) }
+        // It is what one operation brings that has the lists of both.
+        ensures joined { IsJoin self.now next.now result }
+        // So it can be joined with the next one of the dialogue.
+        ensures received { IsOfLists self.now → IsOfLists next.now → IfOk result IsOfLists }
+    {
+        let Update::Insert {
+            imsi,
+            o,
+            o_criteria,
+            vt,
+            t_criteria,
+        } = &self.update
+        else {
+            return Err(JoinFault::NoInsert);
+        };
+        let Update::Insert {
+            imsi: next_imsi,
+            o: next_o,
+            o_criteria: next_o_criteria,
+            vt: next_vt,
+            t_criteria: next_t_criteria,
+        } = &next.update
+        else {
+            return Err(JoinFault::NoInsert);
+        };
+        if imsi != next_imsi {
+            return Err(JoinFault::OtherSubscriber);
+        }
+        let (counts, more) = (&self.counts, &next.counts);
+        Ok(Arrival::insert(
+            *imsi,
+            join_lists(alloc, o, counts.o, next_o, more.o)?,
+            join_lists(
+                alloc,
+                o_criteria,
+                counts.o_criteria,
+                next_o_criteria,
+                more.o_criteria,
+            )?,
+            join_lists(alloc, vt, counts.vt, next_vt, more.vt)?,
+            join_lists(
+                alloc,
+                t_criteria,
+                counts.t_criteria,
+                next_t_criteria,
+                more.t_criteria,
+            )?,
+            self.capabilities.latest(&next.capabilities),
+        ))
+    }
+}
+
+impl CapabilityHandling {
+    /// What came last of these, and then of the next ones.
+    fn latest(&self, next: &CapabilityHandling) -> CapabilityHandling
+        ensures { result ≡ latest self.now next.now }
+    {
+        CapabilityHandling {
+            o: later_or(self.o, next.o),
+            vt: later_or(self.vt, next.vt),
+        }
+    }
+}
+
+/// What came later, or what came before it.
+fn later_or(earlier: Option<u32>, later: Option<u32>) -> Option<u32>
+    ensures { result ≡ later_or earlier later }
+{
+    match later {
+        Some(later) => Some(later),
+        None => earlier,
+    }
+}
