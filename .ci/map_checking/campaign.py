@@ -14,14 +14,14 @@ from multiprocessing import get_context
 from map_arguments.lines import drawn_line, mutated_line
 from map_arguments.styles import STYLES
 from map_arguments.trees import TsharkFailed
-from map_arguments.updates import record_of
 
 from . import dissection, scripts
 from .classes import classes_of
-from .encoded import encoded_lines
+from .encoded import encoded_lines, sent_update
+from .joined import check_pairs
 from .kept_capture import CAPTURE, check_capture
-from .model import answer
-from .programs import CHECK, REPLAY, Difference, Programs, answers_of
+from .model import answer, text_of
+from .programs import CHECK, REPLAY, Difference, Programs, texts_of
 
 # A worker takes so many arguments at a time, and so many differences are printed.
 CHUNK, SHOWN = 1000, 10
@@ -35,15 +35,14 @@ def side_by_side(check, items):
 
 
 def drawn_lines(seed, programs, kind, numbers):
-    """The lines of these numbers, with the records that they were written of, or with None if they have edits."""
+    """The lines of these numbers, with the texts that they were written of, or with None if they have edits."""
     styles, sources = [*STYLES.values()], [random.Random(f"{seed} {number}") for number in numbers]
     drawn = [drawn_line(source, styles[number % len(styles)]) for number, source in zip(numbers, sources)]
-    records = [record_of(update) for update, _ in drawn]
     if kind == "edited":
         return [(mutated_line(source, line), None) for source, (_, line) in zip(sources, drawn)]
     if kind == "encoded":
-        return [*zip(encoded_lines(programs.check, drawn), records)]
-    return [(line, record) for (_, line), record in zip(drawn, records)]
+        return [*zip(encoded_lines(programs.check, drawn), (text_of(sent_update(update)) for update, _ in drawn))]
+    return [(line, text_of(update)) for update, line in drawn]
 
 
 def kind_of(text):
@@ -51,29 +50,29 @@ def kind_of(text):
     return text.rpartition(" ")[0] if text.startswith("fault") else text.partition(",")[0]
 
 
-def compared(line, record, read, reading):
+def compared(line, text, read, reading):
     """The classes of what a line leaves, or a difference."""
     modelled, rule = answer(line)
-    if record is not None and read != record:
-        raise Difference(f"{line}\n  is read as {read}\n  and was written of {record}")
+    if text is not None and read != text:
+        raise Difference(f"{line}\n  is read as {read}\n  and was written of {text}")
     if read != modelled:
         raise Difference(f"{line}\n  is read as {read}\n  and by the rules as {modelled} ({rule})")
     classes = classes_of(line, read, rule, reading)
     if classes is None:
-        raise Difference(f"{line}\n  is read as {read} ({rule})\n  and by tshark as {reading.record} "
+        raise Difference(f"{line}\n  is read as {read} ({rule})\n  and by tshark as {reading.text} "
                          f"with the marks {', '.join(sorted(reading.marks)) or 'none'}, which nothing explains")
     return classes
 
 
 def check_chunk(seed, programs, kind, numbers):
     """Compares the lines of these numbers. Returns counts of answers, of classes, and the differences."""
-    lines, records = zip(*drawn_lines(seed, programs, kind, numbers))
-    reads = answers_of(programs.check, lines)
+    lines, texts = zip(*drawn_lines(seed, programs, kind, numbers))
+    reads = texts_of(programs.check, lines)
     kinds, classes, differences = Counter(), Counter(), []
-    for line, record, read, reading in zip(lines, records, reads, dissection.read(lines)):
+    for line, text, read, reading in zip(lines, texts, reads, dissection.read(lines)):
         kinds[kind_of(read)] += 1
         try:
-            found = compared(line, record, read, reading)
+            found = compared(line, text, read, reading)
         except Difference as difference:
             differences.append(str(difference))
             continue
@@ -92,6 +91,19 @@ def run_arguments(seed, count, programs, kind):
     print(f"{count} {kind} arguments: {listed(kinds)}")
     for name, number in sorted(classes.items(), key=lambda item: (item[0] != "as tshark", item)):
         print(f"  {name}: {number}")
+    for difference in differences[:SHOWN]:
+        print(difference, file=sys.stderr)
+    return len(differences)
+
+
+def run_joins(seed, count, programs):
+    """Compares inserts that are split over two arguments, and prints what they leave. Returns how many differ."""
+    chunks = [range(start, min(start + CHUNK, count)) for start in range(0, count, CHUNK)]
+    totals, differences = (0, 0, 0), []
+    for counts, some in side_by_side(partial(check_pairs, seed, programs), chunks):
+        totals = [*map(sum, zip(totals, counts))]
+        differences += some
+    print("{} joined arguments, {} of them refused, and {} as tshark".format(*totals))
     for difference in differences[:SHOWN]:
         print(difference, file=sys.stderr)
     return len(differences)
@@ -133,6 +145,7 @@ def main():
     programs = Programs(given.check, given.replay)
     try:
         differing = sum(run_arguments(given.seed, given.count, programs, kind) for kind in KINDS)
+        differing += run_joins(given.seed, given.count, programs)
         run_scripts(given.seed, programs)
         print(f"{CAPTURE}: {check_capture(programs)} messages, with the script that is kept")
     except (Difference, TsharkFailed, OSError) as fault:

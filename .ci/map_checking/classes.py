@@ -107,10 +107,10 @@ def classes_of(line, answer, rule, reading):
     marks = reading.marks - SUMMARIES
     if rule:
         return refusal_classes(rule, marks)
-    if reading.record == answer and not marks:
+    if reading.text == answer and not marks:
         return []
     traits = traits_of(line)
     found = {f"mark: {explaining_trait(mark, traits)}" for mark in marks}
-    if reading.record != answer:
+    if reading.text != answer:
         found.add(f"read otherwise: {next((trait for trait in READ_OTHERWISE if trait in traits), None)}")
     return None if any(name.endswith("None") for name in found) else sorted(found) or None

@@ -8,15 +8,19 @@ from map_arguments import packets, transactions, updates
 from map_arguments.encoding import tbcd_digits
 from map_arguments.trees import TsharkFailed, trees_of
 
+from .model import text_of
+
 VLR_ADDRESS = transactions.address(transactions.VLR, "491710000001")
 HLR_ADDRESS = transactions.address(transactions.HLR, "491710000002")
 
 
 class Reading(NamedTuple):
-    """The record that tshark's fields make, or what is missing for one, and the marks that it puts."""
+    """The text that tshark's fields make, or what is missing for one, the marks that it puts, and the update, if the
+    fields make one."""
 
-    record: str
+    text: str
     marks: frozenset
+    update: object = None
 
 
 def version_of(line):
@@ -71,7 +75,7 @@ def list_of(name, node):
 
 
 def insert_of(invoke, imsi):
-    lists = {}
+    lists, capabilities = {}, {}
     information = invoke.first(".vlrCamelSubscriptionInfo_element")
     for name, ending, inner in (
         ("o", ".o_CSI_element", ".o_BcsmCamelTDPDataList"),
@@ -82,7 +86,9 @@ def insert_of(invoke, imsi):
         node = information and information.first(ending)
         if node:
             lists[name] = list_of(name, node.first(inner) if inner else node)
-    return updates.Insert(imsi, lists)
+            if capability := node.first(".camelCapabilityHandling"):
+                capabilities[name] = capability.integer()
+    return updates.Insert(imsi, lists, capabilities=capabilities)
 
 
 def delete_of(invoke, imsi):
@@ -114,11 +120,13 @@ def marks_of(packet):
 def reading_of(line, packet):
     """What tshark reads of a line. A field that it leaves out makes the record a text of its own."""
     invoke = packet.named("gsm_old.invoke_element")
+    if not invoke:
+        return Reading("nothing", marks_of(packet))
     try:
-        record = updates.record_of(update_of(line, invoke)) if invoke else "nothing"
+        update = update_of(line, invoke)
+        return Reading(text_of(update), marks_of(packet), update)
     except (AttributeError, IndexError, ValueError):
-        record = "no record"
-    return Reading(record, marks_of(packet))
+        return Reading("no record", marks_of(packet))
 
 
 def read(lines):

@@ -31,16 +31,22 @@ def sent_items(name, items):
     return kept or [IGNORED_ENTRY if name.endswith("c") else IGNORED_ROW]
 
 
-def sent_element(update):
-    """The argument with all that counts of an update and no more, in version 3."""
+def sent_update(update):
+    """An update with all that counts of another and no more, in version 3."""
     if isinstance(update, updates.Cancel):
-        return encoding.element_of(updates.Cancel(update.imsi))
+        return updates.Cancel(update.imsi)
     if isinstance(update, updates.Delete):
         named = updates.withdrawn(update)
         bits = f"{int('o' in named)}000{int('vt' in named)}000"
-        return encoding.element_of(updates.Delete(update.imsi, "all" in named, bits if "1" in bits else None))
-    lists = [encoding.list_element(name, sent_items(name, update.lists[name]))
-             for name in encoding.TAGS if name in update.lists]
+        return updates.Delete(update.imsi, "all" in named, bits if "1" in bits else None)
+    return updates.Insert(update.imsi, {name: sent_items(name, items) for name, items in update.lists.items()})
+
+
+def sent_element(update):
+    """The argument of such an update. That of an insert has all fields, also if no list is sent."""
+    if not isinstance(update, updates.Insert):
+        return encoding.element_of(update)
+    lists = [encoding.list_element(name, update.lists[name]) for name in encoding.TAGS if name in update.lists]
     return encoding.sequence([context(0, encoding.tbcd(update.imsi)), context(13, lists)])
 
 
@@ -54,7 +60,7 @@ def encoded_lines(program, drawn):
     the tools write of these updates in the shortest style."""
     lines = [line_of(text) for text in answers_of((program, "--encode"), [line for _, line in drawn])]
     for (update, given), line in zip(drawn, lines):
-        written = STYLES["minimal"].octets(random, sent_element(update))
+        written = STYLES["minimal"].octets(random, sent_element(sent_update(update)))
         if (line.operation, line.octets) != (updates.OPERATIONS[type(update)], written):
             raise Difference(f"{given}\n  is encoded as {line}\n  and written as {written.hex()}")
     return lines

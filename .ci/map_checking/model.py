@@ -218,40 +218,52 @@ def t_entry(octets, parent):
 def received(octets, parent, read, name):
     """A list of rows or entries, of which no two have one detection point that counts."""
     found = [read(octets, item) for item in items(octets, parent)]
-    counting = [item.point for item in found if item.point in updates.points_of(name)]
-    unless(len(found) > MAX_ITEMS, parent, "long-list")
-    unless(len(counting) > len(set(counting)), parent, "point-twice")
+    if rule := refusal(found, name):
+        raise Fault(UNEXPECTED_DATA, parent.start, rule)
     return found
 
 
-def rows(octets, parent, name):
+def refusal(found, name):
+    """The rule that refuses a list, or None."""
+    counting = [item.point for item in found if item.point in updates.points_of(name)]
+    if len(found) > MAX_ITEMS:
+        return "long-list"
+    return "point-twice" if len(counting) > len(set(counting)) else None
+
+
+def csi(octets, parent, name):
+    """The rows, and the camelCapabilityHandling or None."""
     listed = first(octets, parent)
     expect(listed, SEQUENCE, CONSTRUCTED)
-    return received(octets, listed, row, name)
+    found = received(octets, listed, row, name)
+    return found, when_there(natural, octets, Fields(octets, parent).optional(context(0), PRIMITIVE))
 
 
 def entries(octets, parent, name):
-    return received(octets, parent, o_entry if name == "oc" else t_entry, name)
+    return received(octets, parent, o_entry if name == "oc" else t_entry, name), None
 
 
-LISTS = {"o": (context(0), rows), "oc": (context(4), entries), "t": (context(7), rows), "tc": (context(8), entries)}
+LISTS = {"o": (context(0), csi), "oc": (context(4), entries), "t": (context(7), csi), "tc": (context(8), entries)}
 
 
 def information(octets, parent):
-    """The lists of vlrCamelSubscriptionInfo by their names."""
-    fields, lists = Fields(octets, parent), {}
+    """The lists of vlrCamelSubscriptionInfo by their names, and the camelCapabilityHandlings that are there."""
+    fields, lists, capabilities = Fields(octets, parent), {}, {}
     for name, (tag, read) in LISTS.items():
         if field := fields.optional(tag, CONSTRUCTED):
-            lists[name] = read(octets, field, name)
-    return lists
+            lists[name], capability = read(octets, field, name)
+            if capability is not None:
+                capabilities[name] = capability
+    return lists, capabilities
 
 
 def insert(octets, whole, given):
     expect(whole, SEQUENCE, CONSTRUCTED)
     fields = Fields(octets, whole)
     subscriber = agreed(octets, fields.optional(context(0), PRIMITIVE), given)
-    lists = when_there(information, octets, fields.optional(context(13), CONSTRUCTED))
-    return updates.Insert(subscriber, lists or {})
+    found = when_there(information, octets, fields.optional(context(13), CONSTRUCTED))
+    lists, capabilities = found or ({}, {})
+    return updates.Insert(subscriber, lists, capabilities=capabilities)
 
 
 def null(octets, field):
@@ -304,9 +316,21 @@ def update_of(line):
     return READERS[line.operation](octets, found[0], line.imsi)
 
 
+def text_of(update):
+    """The record of an update, and what came beside it."""
+    return f"{updates.record_of(update)} {updates.lists_of(update)}"
+
+
 def answer(line):
     """What the rules make of a line, and the rule that refuses it, or nothing."""
     try:
-        return updates.record_of(update_of(line)), None
+        return text_of(update_of(line)), None
     except Fault as fault:
         return str(fault), fault.rule
+
+
+def joined_answer(lines):
+    """What the rules make of two inserts of one dialogue."""
+    whole = updates.joined(*map(update_of, lines))
+    is_refused = any(refusal(found, name) for name, found in whole.lists.items())
+    return f"fault {UNEXPECTED_DATA}" if is_refused else text_of(whole)

@@ -45,3 +45,9 @@ def answers_of(command, lines):
     if len(answers) != len(lines):
         raise Difference(f"{command} answers {len(lines)} lines with {len(answers)}")
     return answers
+
+
+def texts_of(program, lines):
+    """The record that each line is read as, and what came beside it; or the fault of the line."""
+    records, lists = answers_of(program, lines), answers_of((program, "--lists"), lines)
+    return [record if record == listed else f"{record} {listed}" for record, listed in zip(records, lists)]

@@ -11,7 +11,7 @@ ANY = None
 TYPES = {
     "insert": {(CONTEXT, 0): "imsi", (CONTEXT, 13): "information"},
     "information": {(CONTEXT, 0): "csi", (CONTEXT, 4): "o-entries", (CONTEXT, 7): "csi", (CONTEXT, 8): "t-entries"},
-    "csi": {SEQUENCE: "rows"},
+    "csi": {SEQUENCE: "rows", (CONTEXT, 0): "integer"},
     "rows": {ANY: "row"},
     "o-entries": {ANY: "o-entry"},
     "t-entries": {ANY: "t-entry"},
@@ -96,7 +96,7 @@ def order_traits(type_name, found):
     if places != sorted(places) or len(known) > len(set(known)):
         yield "other-order"
     for field in found:
-        if FIELDS[type_name].get(field.tag) or type_name in ("csi", "cancel") and field.tag in order:
+        if FIELDS[type_name].get(field.tag) or type_name == "cancel" and field.tag in order:
             yield "skipped-field"
         elif field.tag not in order:
             yield "unknown-field"
@@ -113,8 +113,11 @@ def traits_of_element(octets, found, type_name):
     yield from tag_traits(fields)
     if type_name in FIELDS:
         yield from order_traits(type_name, fields)
-    if type_name in ("csi", "cancel"):
+    if type_name == "cancel":
         fields = fields[:1]
+    if type_name == "csi":
+        # A container with the tag of the list may follow it.
+        fields = fields[:1] + [field for field in fields[1:] if field.tag != SEQUENCE]
     for field in fields:
         if inner_type := types.get(ANY) or types.get(field.tag):
             yield from traits_of_element(octets, field, inner_type)

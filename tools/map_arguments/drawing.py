@@ -1,12 +1,13 @@
 """Random updates, of which each is one that a decoder accepts."""
 
-from .updates import Cancel, Delete, Entry, Insert, NumberCriterion, Row, points_of
+from .updates import CSIS, Cancel, Delete, Entry, Insert, NumberCriterion, Row, points_of
 
 MAX_ITEMS, MAX_BASICS, MAX_CAUSES, MAX_NUMBERS, MAX_LENGTHS, MAX_LENGTH = 10, 5, 5, 10, 3, 15
 MAX_KEY = 2**31 - 1
 ODD_POINTS = (0, 1, 3, 5, 7, 9, 15, 17, 30, 127, 128, 255, 256, 2 + 256, 12 + 2**32, -1, -254, -(2**33))
 SHORT_ODD_POINTS = ODD_POINTS[:12]
 HANDLINGS = (0, 1, 2, 31, 32, 127, 128, 255, 256, 2**31, 2**32, 2**32 + 1, 2**40)
+CAPABILITIES = (1, 2, 3, 3, 4, 4, 5, 16)
 OTHERS = {"o": (12, 13, 14), "t": (2, 4)}
 
 
@@ -86,7 +87,8 @@ def draw_list(random, name):
 def draw_insert(random):
     chance = random.choice((0, 0.4, 0.4, 1))
     lists = {name: draw_list(random, name) for name in ("o", "oc", "t", "tc") if random.random() < chance}
-    return Insert(draw_imsi(random), lists, random.random() < 0.5)
+    capabilities = {name: random.choice(CAPABILITIES) for name in CSIS if name in lists and random.random() < 0.5}
+    return Insert(draw_imsi(random), lists, random.random() < 0.5, capabilities)
 
 
 def draw_delete(random):

@@ -72,19 +72,24 @@ def t_entry_element(entry):
     return sequence(elements, "t-entry")
 
 
-def list_element(name, items):
-    """A CSI is a sequence whose first element is the list; criteria are the list itself."""
+def list_element(name, items, capability=None):
+    """A CSI is a sequence whose first element is the list, perhaps with its camelCapabilityHandling; criteria are the
+    list itself."""
     if name == "oc":
         return context(TAGS[name], [o_entry_element(entry) for entry in items])
     if name == "tc":
         return context(TAGS[name], [t_entry_element(entry) for entry in items])
-    return context(TAGS[name], [sequence([row_element(row) for row in items])], "csi")
+    elements = [sequence([row_element(row) for row in items])]
+    if capability is not None:
+        elements.append(context(0, integer_octets(capability)))
+    return context(TAGS[name], elements, "csi")
 
 
 def insert_element(insert):
     elements = [context(0, tbcd(insert.imsi))] if insert.shows_imsi else []
     if insert.lists:
-        lists = [list_element(name, insert.lists[name]) for name in TAGS if name in insert.lists]
+        lists = [list_element(name, insert.lists[name], insert.capabilities.get(name))
+                 for name in TAGS if name in insert.lists]
         elements.append(context(13, lists, "information"))
     return sequence(elements, "insert")
 

@@ -50,7 +50,7 @@ FIELDS = {
         (CONTEXT, 8): None,
     },
     "csi": {
-        (CONTEXT, 0): fixed(context, 0, b"\x03"),
+        (CONTEXT, 0): None,
         (CONTEXT, 1): fixed(context, 1, b""),
         (CONTEXT, 2): fixed(context, 2, b""),
     },

@@ -7,6 +7,9 @@ O_POINTS, T_POINTS = (2, 4), (12, 13, 14)
 # What a list prints if it came with items of which each is ignored.
 IGNORED = {"o": "o:255:0:00:0", "oc": "oc:255::::", "t": "t:255:0:00:0", "tc": "tc:255::"}
 
+# The lists that are CSIs, and the greatest number that is told apart.
+CSIS, GREATEST = ("o", "t"), 2**32 - 1
+
 
 @dataclass
 class Row:
@@ -39,11 +42,13 @@ class Entry:
 
 @dataclass
 class Insert:
-    """The lists by the names of their items: o, oc, t, tc. A list that is not there has no name here."""
+    """The lists by the names of their items: o, oc, t, tc. A list that is not there has no name here. So have the
+    camelCapabilityHandlings of the CSIs, o and t."""
 
     imsi: str
     lists: dict = field(default_factory=dict)
     shows_imsi: bool = True
+    capabilities: dict = field(default_factory=dict)
 
 
 @dataclass
@@ -119,3 +124,16 @@ def record_of(update):
         return ",".join(["delete" if named else "insert", update.imsi, *named])
     texts = [text for name in IGNORED if name in update.lists for text in list_texts(name, update.lists[name])]
     return ",".join(["insert", update.imsi, *texts])
+
+
+def lists_of(update):
+    """How many items each list of an update came with, and the camelCapabilityHandling of each CSI."""
+    lists, capabilities = getattr(update, "lists", {}), getattr(update, "capabilities", {})
+    counts = [str(len(lists.get(name, ()))) for name in IGNORED]
+    return " ".join(counts + [str(min(capabilities[name], GREATEST)) if name in capabilities else "-" for name in CSIS])
+
+
+def joined(earlier, later):
+    """One insert with the lists of two, those of the later one behind those of the other."""
+    lists = {name: earlier.lists.get(name, []) + later.lists.get(name, []) for name in (*earlier.lists, *later.lists)}
+    return Insert(earlier.imsi, lists, earlier.shows_imsi, earlier.capabilities | later.capabilities)
