@@ -1,7 +1,7 @@
 """The dialogues of MAP in a capture: which operations each has, and of which subscriber it is."""
 
 import re
-from dataclasses import dataclass
+from dataclasses import dataclass, field
 from typing import NamedTuple
 
 from .encoding import tbcd_digits
@@ -18,10 +18,13 @@ END_OF_CONTENTS, INDEFINITE = b"\0\0", 0x80
 
 @dataclass(eq=False)
 class Dialogue:
-    """The first IMSI that an invoke of the dialogue has, and whether updates of it are not published yet."""
+    """The first IMSI that an invoke of the dialogue has, whether updates of it are not published yet, the CSIs of a
+    location update that have not come in it, and the lines of its inserts that are taken."""
 
     imsi: str = ""
     pending: bool = False
+    missing: list = field(default_factory=list)
+    inserts: list = field(default_factory=list)
 
 
 class Message(NamedTuple):
