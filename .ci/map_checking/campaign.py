@@ -14,19 +14,25 @@ from multiprocessing import get_context
 from map_arguments.lines import drawn_line, mutated_line
 from map_arguments.styles import STYLES
 from map_arguments.trees import TsharkFailed
+from map_arguments.updates import text_of
 
 from . import dissection, scripts
 from .classes import classes_of
 from .encoded import encoded_lines, sent_update
 from .joined import check_pairs
 from .kept_capture import CAPTURE, check_capture
-from .model import answer, text_of
+from .model import answer
 from .programs import CHECK, REPLAY, Difference, Programs, texts_of
 
 # A worker takes so many arguments at a time, and so many differences are printed.
 CHUNK, SHOWN = 1000, 10
 # As the tools write them, with edits, and as the encoder makes them of the written ones.
 KINDS = ("written", "edited", "encoded")
+
+
+def chunks_of(count):
+    """The numbers below a count, as workers take them."""
+    return [range(start, min(start + CHUNK, count)) for start in range(0, count, CHUNK)]
 
 
 def side_by_side(check, items):
@@ -80,33 +86,34 @@ def check_chunk(seed, programs, kind, numbers):
     return kinds, classes, differences
 
 
+def reported(differences):
+    """Prints the first of the differences. Returns how many there are."""
+    for difference in differences[:SHOWN]:
+        print(difference, file=sys.stderr)
+    return len(differences)
+
+
 def run_arguments(seed, count, programs, kind):
     """Compares so many arguments, and prints what they leave. Returns how many differ."""
-    chunks = [range(start, min(start + CHUNK, count)) for start in range(0, count, CHUNK)]
     kinds, classes, differences = Counter(), Counter(), []
-    for some_kinds, some_classes, some in side_by_side(partial(check_chunk, seed, programs, kind), chunks):
+    for some_kinds, some_classes, some in side_by_side(partial(check_chunk, seed, programs, kind), chunks_of(count)):
         kinds += some_kinds
         classes += some_classes
         differences += some
     print(f"{count} {kind} arguments: {listed(kinds)}")
     for name, number in sorted(classes.items(), key=lambda item: (item[0] != "as tshark", item)):
         print(f"  {name}: {number}")
-    for difference in differences[:SHOWN]:
-        print(difference, file=sys.stderr)
-    return len(differences)
+    return reported(differences)
 
 
 def run_joins(seed, count, programs):
     """Compares inserts that are split over two arguments, and prints what they leave. Returns how many differ."""
-    chunks = [range(start, min(start + CHUNK, count)) for start in range(0, count, CHUNK)]
     totals, differences = (0, 0, 0), []
-    for counts, some in side_by_side(partial(check_pairs, seed, programs), chunks):
+    for counts, some in side_by_side(partial(check_pairs, seed, programs), chunks_of(count)):
         totals = [*map(sum, zip(totals, counts))]
         differences += some
     print("{} joined arguments, {} of them refused, and {} as tshark".format(*totals))
-    for difference in differences[:SHOWN]:
-        print(difference, file=sys.stderr)
-    return len(differences)
+    return reported(differences)
 
 
 def listed(counts):

@@ -8,8 +8,6 @@ from map_arguments import packets, transactions, updates
 from map_arguments.encoding import tbcd_digits
 from map_arguments.trees import TsharkFailed, trees_of
 
-from .model import text_of
-
 VLR_ADDRESS = transactions.address(transactions.VLR, "491710000001")
 HLR_ADDRESS = transactions.address(transactions.HLR, "491710000002")
 
@@ -124,7 +122,7 @@ def reading_of(line, packet):
         return Reading("nothing", marks_of(packet))
     try:
         update = update_of(line, invoke)
-        return Reading(text_of(update), marks_of(packet), update)
+        return Reading(updates.text_of(update), marks_of(packet), update)
     except (AttributeError, IndexError, ValueError):
         return Reading("no record", marks_of(packet))
 

@@ -10,7 +10,7 @@ from map_arguments.styles import STYLES
 
 from . import dissection
 from .classes import classes_of
-from .model import answer, joined_answer, text_of
+from .model import answer, joined_answer
 from .programs import Difference, texts_of
 
 # Of so many inserts one is split in every place of each list, and of so many one is joined with another one.
@@ -55,9 +55,9 @@ def halves_of(source, number):
     elif number % EVERY_PLACE == 0:
         for name, items in insert.lists.items():
             for place in range(len(items) + 1):
-                yield *split(source, insert, places_of(source, insert) | {name: place}), text_of(insert)
+                yield *split(source, insert, places_of(source, insert) | {name: place}), updates.text_of(insert)
     else:
-        yield *split(source, insert, places_of(source, insert)), text_of(insert)
+        yield *split(source, insert, places_of(source, insert)), updates.text_of(insert)
 
 
 def pair_of(source, first, second, text, style):
@@ -80,7 +80,7 @@ def joined_by_tshark(pair, readings):
         text, rule = answer(line)
         if classes_of(line, text, rule, reading) != []:
             return None
-    return text_of(updates.joined(*(reading.update for reading in readings)))
+    return updates.text_of(updates.joined(*(reading.update for reading in readings)))
 
 
 def compare(pair, read, readings):

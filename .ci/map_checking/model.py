@@ -316,15 +316,10 @@ def update_of(line):
     return READERS[line.operation](octets, found[0], line.imsi)
 
 
-def text_of(update):
-    """The record of an update, and what came beside it."""
-    return f"{updates.record_of(update)} {updates.lists_of(update)}"
-
-
 def answer(line):
     """What the rules make of a line, and the rule that refuses it, or nothing."""
     try:
-        return text_of(update_of(line)), None
+        return updates.text_of(update_of(line)), None
     except Fault as fault:
         return str(fault), fault.rule
 
@@ -333,4 +328,4 @@ def joined_answer(lines):
     """What the rules make of two inserts of one dialogue."""
     whole = updates.joined(*map(update_of, lines))
     is_refused = any(refusal(found, name) for name, found in whole.lists.items())
-    return f"fault {UNEXPECTED_DATA}" if is_refused else text_of(whole)
+    return f"fault {UNEXPECTED_DATA}" if is_refused else updates.text_of(whole)

@@ -133,6 +133,11 @@ def lists_of(update):
     return " ".join(counts + [str(min(capabilities[name], GREATEST)) if name in capabilities else "-" for name in CSIS])
 
 
+def text_of(update):
+    """The record of an update, and what came beside it."""
+    return f"{record_of(update)} {lists_of(update)}"
+
+
 def joined(earlier, later):
     """One insert with the lists of two, those of the later one behind those of the other."""
     lists = {name: earlier.lists.get(name, []) + later.lists.get(name, []) for name in (*earlier.lists, *later.lists)}
