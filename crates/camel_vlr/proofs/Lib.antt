@@ -1,5 +1,7 @@
+pub mod AcceptanceLemmas
 pub mod ChainLemmas
 pub mod FrontLemmas
+pub mod GroupLemmas
 pub mod OperationLemmas
 pub mod OwnUpdatesLemmas
 pub mod PrefixLemmas

@@ -1,10 +1,10 @@
 -- Operations, and the updates among them.
-use Rattle.std.proofs.Common.{◌≡◌, ◌∙◌, ◌+◌, ◌-◌, ◌^◌, ◌≤◌, List, [], ◌∷◌, ◌++◌, length, drop, fold, min, sym, refl, ap, subst, arith, add-zero, append-nil}
+use Rattle.std.proofs.Common.{◌≡◌, ◌∙◌, ◌+◌, ◌-◌, ◌^◌, ◌≤◌, List, [], ◌∷◌, ◌++◌, length, drop, fold, min, sym, refl, ap, subst, arith, add-zero, append-nil, append_assoc}
 use Rattle.std.proofs.Math.Seq.{drop-append_seam}
 use Rattle.camel_rows.specs.Front.{Extends}
 use Rattle.camel_rows.specs.Update.{records_from}
 use Rattle.camel_rows.specs.declared.subscriber.update.Update.{Update}
-use Rattle.camel_vlr.specs.Operation.{CopyData, copy_after, updates_among}
+use Rattle.camel_vlr.specs.Operation.{CopyData, HasMore, copy_after, updates_among}
 use Rattle.camel_vlr.specs.Prefix.{PrefixData}
 use Rattle.camel_vlr.specs.declared.writer.TheConstants.{MAX_UPDATES}
 use Rattle.camel_vlr.specs.declared.writer.operation.Operation.{Operation}
@@ -33,3 +33,10 @@ fold-copy_after copy (operation.Front front ∷ operations) few = fold-copy_afte
 pub behind : (all list : List Update) → Extends all list → list ++ drop (length list) all ≡ all
 behind all list (r, p) =
     subst (λ (z : List Update). list ++ drop (length list) z ≡ z) p (ap (λ z. list ++ z) (drop-append_seam list r))
+
+-- so many updates more, behind other operations
+pub updates_among-more : (first before after : List Operation) (updates : List Update) → HasMore updates before after
+    → updates_among (first ++ after) ≡ updates_among (first ++ before) ++ updates
+updates_among-more first before after updates (more, order, all) =
+    ap (λ list. updates_among (first ++ list)) order
+    ∙ (ap updates_among (sym (append_assoc first before more)) ∙ (updates_among-append (first ++ before) more ∙ ap (λ list. updates_among (first ++ before) ++ list) all))

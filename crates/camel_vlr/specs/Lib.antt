@@ -1,4 +1,6 @@
 pub mod Chain
+pub mod Group
+pub mod GroupFields
 pub mod History
 pub mod LeftRightSeat
 pub mod Operation

@@ -1,5 +1,5 @@
 -- What an operation of the writer does to a copy.
-use Rattle.std.specs.Prelude.{ℕ, ◌+◌, ◌-◌, ◌^◌, min, List, [], ◌∷◌, drop}
+use Rattle.std.specs.Prelude.{◌≡◌, ℕ, ◌+◌, ◌-◌, ◌^◌, min, List, [], ◌∷◌, ◌++◌, drop}
 use Rattle.left_right.specs.declared.Absorb.{Ghosts}
 use Rattle.left_right.specs.declared.writer.Writer.{Writer}
 use Rattle.camel_vlr.specs.Prefix.{PrefixData}
@@ -27,6 +27,10 @@ abbrev pub updates_among : List Operation → List Update
 updates_among [] = []
 updates_among (operation.Update update ∷ operations) = update.value ∷ updates_among operations
 updates_among (operation.Front front ∷ operations) = updates_among operations
+
+-- the list has these updates more, behind what it had before
+abbrev pub HasMore : List Update → List Operation → List Operation → Type 0
+HasMore updates before after = (more : List Operation) × (after ≡ before ++ more) × (updates_among more ≡ updates)
 
 -- the operations that are pending
 abbrev pub pending_operations : {T O V P A S : Type 0} {g : Ghosts T O S} → Writer T O V P A S g → List O

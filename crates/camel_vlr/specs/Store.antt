@@ -1,7 +1,7 @@
 -- The store, as its public calls see it.
 use Rattle.std.specs.Prelude.{[], Bool, Option}
 use Rattle.camel_criteria.specs.declared.refusal.Refusal.{Refusal}
-use Rattle.camel_rows.specs.Store.{Updates, store_refusal}
+use Rattle.camel_rows.specs.Store.{Updates, store_refusal, with_update}
 use Rattle.camel_rows.specs.declared.subscriber.update.Update.{Update}
 use Rattle.camel_vlr.specs.Prefix.{StoreId}
 use Rattle.camel_vlr.specs.Session.{SessionData, session_told_nothing}
@@ -15,6 +15,10 @@ pub record StoreData : Type 0 where
 -- why an update is not accepted
 abbrev pub submission_refusal : StoreData → Update → Option Refusal
 submission_refusal store update = store_refusal store.store.limit store.updates update
+
+-- the store has accepted an update more
+abbrev pub with_accepted : StoreData → Update → StoreData
+with_accepted store update = record store { updates = with_update store.updates update }
 
 -- a session of this store that has seen and learnt nothing
 abbrev pub fresh_session : StoreId → SessionData

@@ -1,5 +1,5 @@
 -- The data of a store from its fields, and what the fields keep.
-use Rattle.std.specs.Prelude.{◌≡◌, ℕ, ◌≤◌, List, true}
+use Rattle.std.specs.Prelude.{◌≡◌, ℕ, ◌≤◌, List, ◌++◌, true}
 use Rattle.camel_rows.specs.Front.{Extends, IsFront}
 use Rattle.camel_rows.specs.Store.{IsAdmissionOfUpdates, Updates, accepted_updates}
 use Rattle.camel_rows.specs.declared.subscriber.update.Update.{Update}
@@ -9,12 +9,17 @@ use Rattle.camel_vlr.specs.Store.{StoreData}
 use Rattle.camel_vlr.specs.declared.base.publisher.Publisher.{Ghosts}
 use Rattle.camel_vlr.specs.declared.writer.TheConstants.{MAX_UPDATES}
 use Rattle.camel_vlr.specs.declared.writer.Vlr.TheInside.{Inside}
+use Rattle.camel_vlr.specs.declared.writer.operation.Operation.{Operation}
 
 abbrev pub published_in : {W S : Type 0} → Ghosts W S → Inside W S → List Update
 published_in g a = (g.shown a.writer).front.updates
 
+-- the operations that are pending: those that the base has, and behind them those that it was not handed yet
+abbrev pub operations_in : {W S : Type 0} → Ghosts W S → Inside W S → List Operation
+operations_in g a = g.pending a.writer ++ a.pending.items
+
 abbrev pub pending_in : {W S : Type 0} → Ghosts W S → Inside W S → List Update
-pending_in g a = updates_among (g.pending a.writer)
+pending_in g a = updates_among (operations_in g a)
 
 abbrev pub updates_in : {W S : Type 0} → Ghosts W S → Inside W S → Updates
 updates_in g a = record { published = published_in g a; pending = pending_in g a }

@@ -44,5 +44,6 @@ pub use session::Session;
 pub use session::look::{Look, NoLook};
 pub use two_copies::Unpublished;
 pub use writer::closing::CloseRefused;
+pub use writer::group::Rejected;
 pub use writer::wait_free::{Closing, WaitFreeLook, WaitFreeSession, WaitFreeVlr};
 pub use writer::{MAX_PLACES, MAX_UPDATES, Vlr};

@@ -1,13 +1,15 @@
 //! The writer of a store.
 
-ghost use Rattle.std.specs.Prelude.{◌≡◌, ◌+◌, ◌≤◌, ◌⊎◌, [], ◌∷◌, ◌++◌, Some, None, length, true, false, vec_len, All, IfErr, IfOk, IfSome, OnErr, OnOk};
+ghost use Rattle.std.specs.Prelude.{◌≡◌, ◌+◌, ◌≤◌, ◌⊎◌, [], ◌∷◌, ◌++◌, Some, None, fold, length, true, false, vec_len, All, IfErr, IfOk, IfSome, OnErr, OnOk};
 ghost use Rattle.camel_rows.specs.Front.{IsFront};
 ghost use Rattle.std.specs.FinMap as map;
 ghost use Rattle.camel_rows.specs.Update.{records_of};
 ghost use Rattle.camel_rows.specs.Store.{accepted_updates, all_published, no_updates, with_update};
-ghost use Rattle.camel_vlr.specs.Store.{fresh_session, submission_refusal};
+ghost use Rattle.camel_vlr.specs.Group.{AcceptsAll, RejectsAt};
+ghost use Rattle.camel_vlr.specs.Store.{fresh_session, submission_refusal, with_accepted};
 
 pub(crate) mod closing;
+pub(crate) mod group;
 pub(crate) mod opening;
 pub(crate) mod operation;
 pub(crate) mod publication;
@@ -19,13 +21,15 @@ use crate::base::publisher::{Publisher, Publishes};
 use crate::history::History;
 use crate::receipt::Receipt;
 use crate::session::Session;
+use crate::writer::group::{Rejected, accept_all};
 use crate::writer::operation::Operation;
-use crate::writer::publication::extend_history;
+use crate::writer::publication::{extend_history, hand_over};
 use crate::writer::submission::accept;
 use camel_criteria::Refusal;
 use camel_rows::{Admission, Update};
 use camel_tbcd::Profile;
 use std::alloc::Global;
+use std::collections::VecDeque;
 use std::marker::Model;
 use std::snapshot::Snapshot;
 
@@ -45,6 +49,8 @@ pub struct Vlr<W: Publisher = LeftRightWriter> {
     history: History,
     /// Which updates are accepted, by the published and the pending ones.
     admission: Admission,
+    /// The updates that were accepted since the last publication was tried. Its base has those before them.
+    pending: VecDeque<Operation, Global>,
     /// The profile of its sessions.
     profile: Profile,
     /// Where the pending updates are.
@@ -107,12 +113,35 @@ impl<W: Publisher> Vlr<W> {
     {
         let change = self.admission.change(&update)?;
         accept(
-            &mut self.writer,
+            &mut self.pending,
             &mut self.admission,
             self.alloc,
             update,
             change,
         )?;
+        Ok(self.admission.accepted())
+    }
+
+    /// Accepts several updates in their order, behind those that are pending, or none of them, and returns the number of
+    /// the last one. So a location update is one step: a Register and the Inserts behind it.
+    ///
+    /// If an update is rejected by the data that those before it leave, as [`Vlr::submit`] says, it is told which one, and
+    /// why. An update that leaves no record, a Cancel or a ClearAll, is rejected with `UnexpectedDataValue` (36), since
+    /// taking it back could be refused memory. If memory is refused, it fails with `OutOfMemory` (102). Then it is as if
+    /// none of them had been submitted.
+    pub fn submit_all(&mut self, updates: Vec<Update>) -> Result<u64, Rejected>
+        ensures all { OnOk result (AcceptsAll submission_refusal with_accepted self.old updates.items) }
+        ensures accepted { OnOk result (self.new ≡ fold with_accepted self.old updates.items) }
+        ensures pending { OnOk result (self.new.updates
+            ≡ record { published = self.old.updates.published; pending = self.old.updates.pending ++ updates.items }) }
+        ensures number { IfOk result (λ number. number ≡ length (accepted_updates self.new.updates)) }
+        ensures rejected { IfErr result (λ r. (r.why ≡ Refusal.OutOfMemory) ⊎ RejectsAt submission_refusal with_accepted self.old updates.items r.at r.why) }
+        ensures unchanged { OnErr result (self.new ≡ self.old) }
+    {
+        let taken = accept_all(&mut self.pending, &mut self.admission, self.alloc, updates);
+        if let Err(rejected) = taken {
+            return Err(rejected);
+        }
         Ok(self.admission.accepted())
     }
 
@@ -127,9 +156,9 @@ impl<W: Publisher> Vlr<W> {
         ensures held { self.old.free ≡ true → IfErr result (λ why. W.is_held why → ⊥) }
         ensures known { self.old.free ≡ true → (writer : W) × W.free writer }
     {
-        extend_history(&mut self.history, &self.writer);
+        extend_history(&mut self.history, &self.writer, &self.pending);
         let front = self.history.prefix();
-        let Ok(()) = self.writer.append(Operation::Front(front.copy())) else {
+        let Ok(()) = hand_over(&mut self.writer, &mut self.pending, front.copy()) else {
             return Err(W::out_of_memory());
         };
         if let Err(why) = self.writer.publish_all(by, front) {

@@ -1,5 +1,5 @@
 -- Two copies that are alike once what the one lacks, and what is pending, is applied.
-use Rattle.std.proofs.Common.{◌≡◌, List, [], ◌∷◌, ◌++◌, Result, Ok, Err, sym, ap, ◌∙◌}
+use Rattle.std.proofs.Common.{◌≡◌, List, [], ◌++◌, Result, Ok, Err, sym, ap, ◌∙◌}
 use mathlib.Core.Logic.{∥∥₁_elim}
 use base.Stored.{Coded, Coded-set}
 use Rattle.std.specs.Prelude.{fold, MatchResult}
@@ -13,20 +13,20 @@ module _ {S O : Type 0} (applied : S → O → S) where
   pub are_alike : Coded S → (spare shown : S) (missing pending : List O) → ∥ Alike spare shown missing pending ∥₁ → Alike spare shown missing pending
   are_alike code spare shown missing pending h = ∥∥₁_elim h (Coded-set code _ _) (λ x. x)
 
-  pub alike-push : (spare shown : S) (missing pending : List O) (operation : O) → Alike spare shown missing pending → Alike spare shown (missing ++ operation ∷ []) (pending ++ operation ∷ [])
-  alike-push spare shown missing pending operation alike =
-      fold-append applied spare missing (operation ∷ [])
-      ∙ ap (λ s. applied s operation) alike
-      ∙ sym (fold-append applied shown pending (operation ∷ []))
+  pub alike-push : (spare shown : S) (missing pending more : List O) → Alike spare shown missing pending → Alike spare shown (missing ++ more) (pending ++ more)
+  alike-push spare shown missing pending more alike =
+      fold-append applied spare missing more
+      ∙ ap (λ s. fold applied s more) alike
+      ∙ sym (fold-append applied shown pending more)
 
   -- after a push, whether it failed or not
-  pub alike-pushed : {A E : Type 0} (result : Result A E) (spare shown : S) (missing missing' pending pending' : List O) (operation : O)
-      → MatchResult result (λ _. missing' ≡ missing ++ operation ∷ []) (λ _. missing' ≡ missing)
-      → MatchResult result (λ _. pending' ≡ pending ++ operation ∷ []) (λ _. pending' ≡ pending)
+  pub alike-pushed : {A E : Type 0} (result : Result A E) (spare shown : S) (missing missing' pending pending' more : List O)
+      → MatchResult result (λ _. missing' ≡ missing ++ more) (λ _. missing' ≡ missing)
+      → MatchResult result (λ _. pending' ≡ pending ++ more) (λ _. pending' ≡ pending)
       → Alike spare shown missing pending → Alike spare shown missing' pending'
-  alike-pushed (Ok value) spare shown missing missing' pending pending' operation m p alike =
-      ap (fold applied spare) m ∙ alike-push spare shown missing pending operation alike ∙ ap (fold applied shown) (sym p)
-  alike-pushed (Err why) spare shown missing missing' pending pending' operation m p alike =
+  alike-pushed (Ok value) spare shown missing missing' pending pending' more m p alike =
+      ap (fold applied spare) m ∙ alike-push spare shown missing pending more alike ∙ ap (fold applied shown) (sym p)
+  alike-pushed (Err why) spare shown missing missing' pending pending' more m p alike =
       ap (fold applied spare) m ∙ alike ∙ ap (fold applied shown) (sym p)
 
   -- a copy that lacks nothing has all that is pending

@@ -16,6 +16,7 @@ use crate::places::{
 use crate::reader::Reader;
 use crate::rule::CopyRule;
 use std::alloc::{AllocError, Global};
+use std::collections::VecDeque;
 use std::mem;
 use std::sync::Arc;
 
@@ -145,6 +146,21 @@ impl<T: Drop + Apply<O>, O: Drop, F: CopyRule<T>> Copies<T, O, F> {
         ensures free { IsFree self.old → IsFree self.new }
     {
         self.log.push(operation)
+    }
+
+    /// Moves these operations behind those that are pending, all or none. If nothing is pending, two lists are exchanged;
+    /// else it asks for memory as a `VecDeque` does.
+    pub fn push_all(&mut self, operations: &mut VecDeque<O, Global>) -> Result<(), AllocError>
+        ensures shown { shown_by self.new ≡ shown_by self.old }
+        ensures pending { MatchResult result
+            (λ _. pending_of self.new ≡ pending_of self.old ++ operations.old.items)
+            (λ _. pending_of self.new ≡ pending_of self.old) }
+        ensures rest { MatchResult result
+            (λ _. operations.new.items ≡ [])
+            (λ _. operations.new.items ≡ operations.old.items) }
+        ensures free { IsFree self.old → IsFree self.new }
+    {
+        self.log.push_all(operations)
     }
 
     /// Whether no look keeps the copy that is to be changed: then a publication is not `Held`, whatever readers do

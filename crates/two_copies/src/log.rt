@@ -43,6 +43,28 @@ impl<O: Drop> Log<O> {
         Ok(())
     }
 
+    /// Moves these operations behind the pending ones, all or none.
+    pub(crate) fn push_all(
+        &mut self,
+        operations: &mut VecDeque<O, Global>,
+    ) -> Result<(), AllocError>
+        ensures pending { MatchResult result
+            (λ _. pending_in self.new ≡ pending_in self.old ++ operations.old.items)
+            (λ _. pending_in self.new ≡ pending_in self.old) }
+        ensures missing { MatchResult result
+            (λ _. missing_in self.new ≡ missing_in self.old ++ operations.old.items)
+            (λ _. missing_in self.new ≡ missing_in self.old) }
+        ensures rest { MatchResult result
+            (λ _. operations.new.items ≡ [])
+            (λ _. operations.new.items ≡ operations.old.items) }
+    {
+        if self.pending.is_empty() {
+            mem::swap(&mut self.pending, operations);
+            return Ok(());
+        }
+        self.pending.append(operations)
+    }
+
     /// Applies what the copy lacks, as far as memory lasts. A later call goes on from there.
     pub(crate) fn bring_up<T: Apply<O>>(&mut self, copy: &mut T) -> Result<(), AllocError>
         ensures pending { pending_in self.new ≡ pending_in self.old }

@@ -17,7 +17,8 @@ use crate::writer::operation::Operation;
 use camel_criteria::Refusal;
 use core::mem::replace_with;
 use left_right::writer::Writer;
-use std::alloc::AllocError;
+use std::alloc::{AllocError, Global};
+use std::collections::VecDeque;
 use std::sync::Wait;
 
 /// The writer's part of a store over `left_right`.
@@ -43,11 +44,14 @@ impl Publisher for LeftRightWriter {
         Writer::published(self)
     }
 
-    fn append(&mut self, operation: Operation) -> Result<(), AllocError> {
-        match Writer::append(self, operation) {
-            Ok(()) => Ok(()),
-            Err(_) => Err(AllocError),
+    fn append(&mut self, operations: &mut VecDeque<Operation, Global>) -> Result<(), AllocError> {
+        while let Some(operation) = operations.pop_front() {
+            if let Err(operation) = Writer::append(self, operation) {
+                operations.push_front_reserved(operation);
+                return Err(AllocError);
+            }
         }
+        Ok(())
     }
 
     fn place(&mut self) -> Result<LeftRightSeat, Refusal> {

@@ -1,4 +1,4 @@
-ghost use Rattle.std.specs.Prelude.{◌≡◌, ◌≤◌, ◌⊎◌, List, [], ◌∷◌, ◌++◌, None, IfErr, IfOk, MatchResult, OnErr, OnOk};
+ghost use Rattle.std.specs.Prelude.{◌≡◌, ◌≤◌, ◌⊎◌, List, [], ◌∷◌, ◌++◌, None, IfErr, IfOk, OnErr, OnOk};
 ghost use Rattle.camel_rows.specs.Front.{IsFront};
 ghost use Rattle.camel_vlr.specs.Operation.{updates_among};
 ghost use Rattle.camel_vlr.specs.Prefix.{PrefixData};
@@ -13,7 +13,8 @@ use crate::published_copy::PublishedCopy;
 use crate::writer::MAX_UPDATES;
 use crate::writer::operation::Operation;
 use camel_criteria::Refusal;
-use std::alloc::AllocError;
+use std::alloc::{AllocError, Global};
+use std::collections::VecDeque;
 
 /// The writer's part of a base. No other crate sees it.
 pub trait Publisher: Sized {
@@ -41,13 +42,12 @@ pub trait Publisher: Sized {
     fn published(&self) -> &PublishedCopy
         ensures { result.now ≡ shown self.now };
 
-    /// Puts an operation behind what is pending.
-    fn append(&mut self, operation: Operation) -> Result<(), AllocError>
+    /// Moves operations behind what is pending, as far as memory lasts.
+    fn append(&mut self, operations: &mut VecDeque<Operation, Global>) -> Result<(), AllocError>
         ensures shown { shown self.new ≡ shown self.old }
         ensures tells { KnowsNoLess tells self.old self.new }
-        ensures pending { MatchResult result
-            (λ _. pending self.new ≡ pending self.old ++ operation ∷ [])
-            (λ _. pending self.new ≡ pending self.old) }
+        ensures pending { pending self.new ++ operations.new.items ≡ pending self.old ++ operations.old.items }
+        ensures all { OnOk result (operations.new.items ≡ []) }
         ensures free { free self.old → free self.new };
 
     /// A place for a session, at which all is known that is known to the writer. It fails with `OutOfMemory` (102) if

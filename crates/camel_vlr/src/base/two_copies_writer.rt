@@ -8,7 +8,8 @@ use crate::history::prefix::Prefix;
 use crate::published_copy::PublishedCopy;
 use crate::writer::operation::Operation;
 use camel_criteria::Refusal;
-use std::alloc::AllocError;
+use std::alloc::{AllocError, Global};
+use std::collections::VecDeque;
 use two_copies::{Copies, NoReader, Unpublished};
 
 /// The writer's part of a store over `two_copies`.
@@ -32,8 +33,8 @@ impl Publisher for TwoCopiesWriter {
         self.shown()
     }
 
-    fn append(&mut self, operation: Operation) -> Result<(), AllocError> {
-        self.push(operation)
+    fn append(&mut self, operations: &mut VecDeque<Operation, Global>) -> Result<(), AllocError> {
+        self.push_all(operations)
     }
 
     fn place(&mut self) -> Result<TwoCopiesSeat, Refusal> {

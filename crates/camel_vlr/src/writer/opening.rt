@@ -6,7 +6,6 @@ ghost use Rattle.camel_rows.specs.Store.{all_published, no_updates};
 ghost use Rattle.camel_vlr.specs.Store.{fresh_session};
 
 use crate::base::left_right_writer::publish_all;
-use crate::base::publisher::Publisher;
 use crate::history::History;
 use crate::history::terms::Terms;
 use crate::published_copy::PublishedCopy;
@@ -20,6 +19,7 @@ use camel_table::Seed;
 use camel_tbcd::Profile;
 use left_right::writer::Writer;
 use std::alloc::Global;
+use std::collections::VecDeque;
 use std::random::RandomSource;
 use std::snapshot::Snapshot;
 use std::sync::Wait;
@@ -101,7 +101,7 @@ impl Vlr {
         let first = PublishedCopy::empty(alloc, seed, front.copy());
         let second = PublishedCopy::empty(alloc, seed, front.copy());
         let mut writer = Writer::new(alloc, first, second, places)?;
-        if Publisher::append(&mut writer, Operation::Front(front.copy())).is_err() {
+        if writer.append(Operation::Front(front.copy())).is_err() {
             drop(writer.take(rt));
             return Err(Refusal::OutOfMemory);
         }
@@ -111,6 +111,7 @@ impl Vlr {
                 writer,
                 history,
                 admission: Admission::seeded(alloc, terms.limit, seed),
+                pending: VecDeque::new(alloc),
                 profile: terms.profile,
                 alloc,
                 free: Snapshot::of(&false),
@@ -146,6 +147,7 @@ impl Vlr {
             writer,
             history: _history,
             admission: _admission,
+            pending: _pending,
             profile: _profile,
             alloc: _alloc,
             free: _free,

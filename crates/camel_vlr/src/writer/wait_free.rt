@@ -20,6 +20,7 @@ use camel_rows::{Admission, Records};
 use camel_table::Seed;
 use camel_tbcd::Profile;
 use std::alloc::{AllocError, Global};
+use std::collections::VecDeque;
 use std::marker::Model;
 use std::snapshot::Snapshot;
 use two_copies::{Copies, Ending, Unpublished};
@@ -85,6 +86,7 @@ impl Vlr<TwoCopiesWriter> {
             writer,
             history,
             admission: Admission::seeded(alloc, terms.limit, seed),
+            pending: VecDeque::new(alloc),
             profile: terms.profile,
             alloc,
             free: Snapshot::of(&false),
@@ -151,6 +153,7 @@ impl Vlr<TwoCopiesWriter> {
             writer,
             history: _history,
             admission: _admission,
+            pending: _pending,
             profile: _profile,
             alloc: _alloc,
             free: _free,

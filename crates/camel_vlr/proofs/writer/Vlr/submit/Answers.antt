@@ -8,9 +8,10 @@ use Rattle.camel_rows.specs.CsisPresent.{csis_after}
 use Rattle.camel_rows.specs.Store.{store_refusal, with_update}
 use Rattle.camel_rows.specs.Update.{update_imsi}
 use Rattle.camel_rows.specs.declared.subscriber.update.Update.{Update}
+use Rattle.camel_vlr.proofs.OperationLemmas.{updates_among-more}
 use Rattle.camel_vlr.specs.Operation.{updates_among}
 use Rattle.camel_vlr.specs.Store.{StoreData}
-use Rattle.camel_vlr.specs.StoreFields.{IsStore, limit_in, pending_in, published_in, store_of, updates_in}
+use Rattle.camel_vlr.specs.StoreFields.{IsStore, limit_in, operations_in, pending_in, published_in, store_of, updates_in}
 use Rattle.camel_vlr.specs.declared.base.publisher.Publisher.{Ghosts}
 use Rattle.camel_vlr.specs.declared.writer.Vlr.TheInside.{Inside}
 use Rattle.camel_vlr.proofs.writer.Vlr.submit.Given.{Over}
@@ -29,28 +30,28 @@ not_refused : (g : Over) (c : In_ok-change g) → store_refusal (limit_in g.W.Pu
 not_refused g c = refuses g.W.Publisher c.self.inside c.args.update None c.self.invariant c.in_ok-change.ensures.taken
 
 -- the update stands behind what was pending, and is admitted
-pending : (g : Over) (c : In_ok-accept g) → updates_among (g.W.Publisher.pending c.accept.new.writer) ≡ pending_in g.W.Publisher c.self.inside ++ c.args.update ∷ []
-pending g c = c.in_ok-accept.ensures.pending
+pending : (g : Over) (c : In_ok-accept g) → updates_among (g.W.Publisher.pending c.self.inside.writer ++ c.accept.new.pending.items) ≡ pending_in g.W.Publisher c.self.inside ++ c.args.update ∷ []
+pending g c = updates_among-more (g.W.Publisher.pending c.self.inside.writer) c.self.inside.pending.items c.accept.new.pending.items (c.args.update ∷ []) c.in_ok-accept.ensures.pending
 
 admitted : (g : Over) (c : In_ok-accept g) → c.accept.new.admission ≡ with_admission c.self.inside.admission (update_imsi c.args.update) (csis_after (value_of c.self.inside.admission.directory (update_imsi c.args.update)) c.args.update)
 admitted g c = c.in_ok-accept.ensures.accepted ∙ ap (with_admission c.self.inside.admission (update_imsi c.args.update)) (c.in_ok-change.ensures.after ∙ ap (λ before. csis_after before c.args.update) c.in_ok-change.ensures.before)
 
 pub invariant_of-self-2 : goal.invariant_of-self-2
 invariant_of-self-2 g c =
-    let a = c.self.inside in let i = c.self.invariant in let shown = c.in_ok-accept.ensures.shown in let update = c.args.update in
+    let a = c.self.inside in let i = c.self.invariant in let update = c.args.update in
     let p = published_in g.W.Publisher a in let q = pending_in g.W.Publisher a in
     let at = (goal.at.invariant_of-self-2 g c).In_ok-accept in
     let taken = not_refused g (goal.at.invariant_of-self-2 g c).In_ok-change in record {
-      shown = rw shown i.shown;
-      all = rw (limit_in, updates_in, published_in, pending_in, shown, pending g at) (IsFront-with_update (limit_in g.W.Publisher a) (updates_in g.W.Publisher a) update i.all taken);
-      admits = rw (limit_in, updates_in, published_in, pending_in, shown, pending g at, admitted g at) (IsAdmissionOf-with_update a.admission (limit_in g.W.Publisher a) (updates_in g.W.Publisher a) update i.admits taken);
-      greatest = rw (limit_in, shown) i.greatest;
-      tells = c.in_ok-accept.ensures.tells _ (rw shown i.tells);
-      store = rw shown i.store;
-      within = rw (updates_in, published_in, pending_in, shown, pending g at) (prefix_trans a.history.updates (p ++ q) (p ++ (q ++ update ∷ [])) i.within (update ∷ [], append_assoc p q (update ∷ [])));
-      beyond = rw (published_in, shown) i.beyond;
-      profile = rw shown i.profile;
-      free = λ known. c.in_ok-accept.ensures.free (i.free known);
+      shown = i.shown;
+      all = rw (limit_in, updates_in, published_in, pending_in, operations_in, pending g at) (IsFront-with_update (limit_in g.W.Publisher a) (updates_in g.W.Publisher a) update i.all taken);
+      admits = rw (limit_in, updates_in, published_in, pending_in, operations_in, pending g at, admitted g at) (IsAdmissionOf-with_update a.admission (limit_in g.W.Publisher a) (updates_in g.W.Publisher a) update i.admits taken);
+      greatest = i.greatest;
+      tells = i.tells;
+      store = i.store;
+      within = rw (updates_in, published_in, pending_in, operations_in, pending g at) (prefix_trans a.history.updates (p ++ q) (p ++ (q ++ update ∷ [])) i.within (update ∷ [], append_assoc p q (update ∷ [])));
+      beyond = i.beyond;
+      profile = i.profile;
+      free = i.free;
     }
 
 pub returns-clause-accepted : goal.returns-clause-accepted
@@ -58,14 +59,14 @@ returns-clause-accepted g c =
     let a = c.self.inside in let update = c.args.update in
     let same : record (store_of g.W.Publisher a) { updates = with_update (updates_in g.W.Publisher a) update } ≡ record c.args.self.now { updates = with_update c.args.self.now.updates update } =
     ap (λ (s : StoreData). record s { updates = with_update s.updates update }) c.self.view_is in
-    rw (store_of, updates_in, published_in, pending_in, c.in_ok-accept.ensures.shown, pending g (goal.at.returns-clause-accepted g c).In_ok-accept) same
+    rw (store_of, updates_in, published_in, pending_in, operations_in, pending g (goal.at.returns-clause-accepted g c).In_ok-accept) same
 
 pub returns-clause-number : goal.returns-clause-number
 returns-clause-number g c =
     let a = c.self.inside in
     let at = (goal.at.returns-clause-number g c).In_ok-accept in
     let admits = IsAdmissionOf-with_update a.admission (limit_in g.W.Publisher a) (updates_in g.W.Publisher a) c.args.update c.self.invariant.admits (not_refused g (goal.at.returns-clause-number g c).In_ok-change) in
-    rw (store_of, updates_in, published_in, pending_in, c.in_ok-accept.ensures.shown, pending g at) (c.accepted.ensures ∙ ap (λ admission. admission.accepted) (admitted g at) ∙ admits.same_count)
+    rw (store_of, updates_in, published_in, pending_in, operations_in, pending g at) (c.accepted.ensures ∙ ap (λ admission. admission.accepted) (admitted g at) ∙ admits.same_count)
 
 pub returns-in_err-change-clause-refused : goal.returns-in_err-change-clause-refused
 returns-in_err-change-clause-refused g c = rw (← c.self.view_is) (search (rules, refused g (goal.at.returns-in_err-change-clause-refused g c).In_err-change))

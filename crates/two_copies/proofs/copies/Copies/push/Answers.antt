@@ -1,3 +1,4 @@
+use Rattle.std.proofs.Common.{[], ◌∷◌}
 use Rattle.std.specs.Arc.{arc_value}
 use Rattle.two_copies.specs.Log.{missing_in, pending_in}
 use Rattle.two_copies.proofs.LogLemmas.{are_alike, alike-pushed}
@@ -10,4 +11,4 @@ invariant_of-self-clause-alike g c =
     let spare = g.T.Apply.state (arc_value old.spare) in
     let shown = g.T.Apply.state (arc_value old.shown) in
     let alike = are_alike applied g.row.T-State.coded spare shown (missing_in old.log) (pending_in old.log) old.alike in
-    ∣ alike-pushed applied c.push.result spare shown (missing_in old.log) _ (pending_in old.log) _ c.args.operation c.push.ensures.missing c.push.ensures.pending alike ∣₁
+    ∣ alike-pushed applied c.push.result spare shown (missing_in old.log) _ (pending_in old.log) _ (c.args.operation ∷ []) c.push.ensures.missing c.push.ensures.pending alike ∣₁

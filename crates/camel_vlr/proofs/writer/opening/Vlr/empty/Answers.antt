@@ -18,11 +18,12 @@ invariant_of-result g c =
     let copy = writer.desk.shown.value in
     let shown = IfOk-at_ok _ c.in-Ok.is c.publish_all-writer.ensures.shown in
     let seat = IfOk-at_ok _ c.in-Ok.is c.publish_all-writer.ensures.seat in
-    let pending : updates_among (pending_operations writer) ≡ [] = ap updates_among (IfOk-at_ok _ c.in-Ok.is c.publish_all-writer.ensures.none) in
+    let pending : updates_among (pending_operations writer ++ c.new-in-Ok.result.items) ≡ [] =
+    ap (λ operations. updates_among (operations ++ c.new-in-Ok.result.items)) (IfOk-at_ok _ c.in-Ok.is c.publish_all-writer.ensures.none) ∙ ap updates_among c.new-in-Ok.ensures.items in
     let same : copy.front ≡ c.new-history.result = shown.1 ∙ c.prefix-front.ensures in
     let published : copy.front.updates ≡ [] = ap (λ x. x.updates) same ∙ c.new-history.ensures.updates in
     let limit : c.args.terms.limit ≡ copy.front.store.limit = sym (ap (λ x. x.store.limit) same ∙ c.new-history.ensures.limit) in
-    let all : copy.front.updates ++ updates_among (pending_operations writer) ≡ copy.front.updates = ap (λ x. copy.front.updates ++ x) pending ∙ append-nil copy.front.updates in record {
+    let all : copy.front.updates ++ updates_among (pending_operations writer ++ c.new-in-Ok.result.items) ≡ copy.front.updates = ap (λ x. copy.front.updates ++ x) pending ∙ append-nil copy.front.updates in record {
       shown = shown.0;
       all = subst (IsFront copy.front.store.limit) (sym all) shown.0.front;
       admits = rw (c.seeded.ensures, ← limit, all ∙ published) (IsAdmissionOf-empty c.args.terms.limit);
@@ -40,7 +41,7 @@ publish_all-writer-requires-clause-last g c =
     let old = pending_operations c.in_ok-writer.writer in
     let new = pending_operations c.append.new.self in
     let front = c.prefix-front.result in
-    elim c.append.result as (λ r. is_err r ≡ false → MatchResult r (λ _. new ≡ old ++ Front c.copy-3.result ∷ []) (λ _. new ≡ old) → (x : List Operation) × (new ≡ x ++ Front front ∷ [])) [
+    elim c.append.result as (λ r. is_err r ≡ false → MatchResult r (λ _. new ≡ old ++ Front c.copy-3.result ∷ []) (λ back. (back ≡ Front c.copy-3.result) × (new ≡ old)) → (x : List Operation) × (new ≡ x ++ Front front ∷ [])) [
       | Ok done ↦ λ ok pending. (old, pending ∙ ap (λ f. old ++ Front f ∷ []) c.copy-3.ensures)
       | Err why ↦ λ ok pending. absurd (subst T ok tt)
     ] (sym c.if-is_err.ensures.value) c.append.ensures.pending

@@ -13,9 +13,10 @@ invariant_of-result c =
     let is : copy ≡ c.empty-first.result = c.in_ok-writer.ensures.shown in
     let same : copy.front ≡ c.new-history.result = ap (λ x. x.front) is ∙ (c.empty-first.ensures.front ∙ (c.copy.ensures ∙ c.prefix-front.ensures)) in
     let none : copy.front.updates ≡ [] = ap (λ x. x.updates) same ∙ c.new-history.ensures.updates in
-    let pending : updates_among (pending_of writer) ≡ [] = ap updates_among c.in_ok-writer.ensures.pending in
+    let pending : updates_among (pending_of writer ++ c.new-2.result.items) ≡ [] =
+    ap (λ operations. updates_among (operations ++ c.new-2.result.items)) c.in_ok-writer.ensures.pending ∙ ap updates_among c.new-2.ensures.items in
     let limit : c.args.terms.limit ≡ copy.front.store.limit = sym (ap (λ x. x.store.limit) same ∙ c.new-history.ensures.limit) in
-    let all : copy.front.updates ++ updates_among (pending_of writer) ≡ copy.front.updates = ap (λ x. copy.front.updates ++ x) pending ∙ append-nil copy.front.updates in record {
+    let all : copy.front.updates ++ updates_among (pending_of writer ++ c.new-2.result.items) ≡ copy.front.updates = ap (λ x. copy.front.updates ++ x) pending ∙ append-nil copy.front.updates in record {
       shown = record {
         front = rw none (IsFront-empty copy.front.store.limit);
         records = rw none (ap (λ x. x.records) is ∙ c.empty-first.ensures.records);

@@ -1,0 +1,34 @@
+-- Several updates that are accepted in their order, or none of them.
+use Rattle.std.specs.Prelude.{◌≡◌, ℕ, Bool, true, false, List, [], ◌∷◌, ◌++◌, length, fold, Option, Some, None, if◌then◌else◌}
+use Rattle.camel_criteria.specs.declared.refusal.Refusal.{Refusal}
+use Rattle.camel_criteria.specs.declared.refusal.Refusal.TheVariants.{UnexpectedDataValue}
+use Rattle.camel_rows.specs.declared.subscriber.update.Update.{Update}
+use Rattle.camel_rows.specs.declared.subscriber.update.Update.TheVariants.{Cancel, ClearAll}
+
+-- an update leaves a record, if it is accepted
+abbrev pub leaves_record : Update → Bool
+leaves_record (Cancel imsi) = false
+leaves_record ClearAll = false
+leaves_record update = true
+
+-- why an update is not accepted among others: for its own reason, or since it leaves no record (UnexpectedDataValue)
+abbrev pub refusal_among : Option Refusal → Update → Option Refusal
+refusal_among (Some why) update = Some why
+refusal_among None update = if leaves_record update then None else Some UnexpectedDataValue
+
+-- What refuses updates is of `S`: `refusal` says why it does not accept an update, and `after` what an accepted one leaves.
+module _ {S : Type 0} (refusal : S → Update → Option Refusal) (after : S → Update → S) where
+  -- each of the updates is accepted over those before it
+  abbrev pub AcceptsAll : S → List Update → Type 0
+  AcceptsAll s [] = Unit {0}
+  AcceptsAll s (update ∷ updates) = (refusal_among (refusal s update) update ≡ None) × AcceptsAll (after s update) updates
+
+  -- this one of the updates, the first being 0, is the first that is not accepted over those before it, and why
+  pub record RejectsAt (s : S) (updates : List Update) (at : ℕ) (why : Refusal) : Type 0 where
+    pub before : List Update
+    pub rejected : Update
+    pub behind : List Update
+    pub order : updates ≡ before ++ rejected ∷ behind
+    pub place : at ≡ length before
+    pub accepts : AcceptsAll s before
+    pub refused : refusal_among (refusal (fold after s before) rejected) rejected ≡ Some why
