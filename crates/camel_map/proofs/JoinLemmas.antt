@@ -1,5 +1,5 @@
 -- What is kept of a list that has the items of two is told by what is kept of each.
-use Rattle.std.proofs.Common.{◌≡◌, ◌∙◌, ◌≤◌, ◌<◌, ◌+◌, ◌==◌, ℕ, zero, suc, Bool, true, false, List, [], ◌∷◌, ◌++◌, filter, length, take, slice_get, count_by, min, Option, Some, None, Result, Ok, Err, refl, sym, ap, append_assoc, arith}
+use Rattle.std.proofs.Common.{◌≡◌, ◌∙◌, ◌≤◌, ◌<◌, ◌+◌, ◌==◌, ℕ, zero, suc, Bool, true, false, List, [], ◌∷◌, ◌++◌, filter, length, take, slice_get, count_by, min, Option, Some, None, Ok, Err, refl, sym, ap, append_assoc, arith}
 use Rattle.std.proofs.lemmas.Bool.Decides.{nat_tests}
 use Rattle.std.proofs.lemmas.Grind.{common_steps}
 use Rattle.std.proofs.lemmas.List.{length-append}
@@ -8,7 +8,7 @@ use Rattle.std.proofs.lemmas.List.Sums.{count_by-le-length, length-filter}
 use Rattle.camel_criteria.specs.DetectionPoint.{is_among}
 use Rattle.camel_criteria.specs.declared.refusal.Refusal.{Refusal}
 use Rattle.camel_criteria.specs.declared.refusal.Refusal.TheVariants.{UnexpectedDataValue}
-use Rattle.camel_rows.specs.Received.{has_no_two, is_single, items_at, kept_of, kept_unless, list_refusal}
+use Rattle.camel_rows.specs.Received.{has_no_two, items_at, kept_of, kept_unless, list_refusal}
 
 -- lists of 1 to 10 items are refused alike
 same_refusal : (one other : ℕ) (single : Bool) → 1 ≤ one → one ≤ 10 → 1 ≤ other → other ≤ 10

@@ -35,7 +35,11 @@ mod EncodedValues
 mod EncodedWithdrawals
 mod FieldLemmas
 mod JoinLemmas
-mod ReceivedLemmas
+mod ReceivedCsis
+mod ReceivedInserts
+mod ReceivedLists
+mod ReceivedSteps
+mod ReceivedUpdates
 mod RecordLemmas
 mod WrittenDigits
 mod WrittenLemmas

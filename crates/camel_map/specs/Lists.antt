@@ -1,6 +1,6 @@
 -- The lists of an Insert as they are received, and what comes of lists that an HLR splits over the operations of a
 -- dialogue: all rules of received lists hold for the whole.
-use Rattle.std.specs.Prelude.{◌≡◌, ◌⊎◌, ℕ, List, ◌++◌, length, Option, Some, None, Result, Ok, Err, if◌then◌else◌}
+use Rattle.std.specs.Prelude.{◌≡◌, ◌⊎◌, ℕ, false, List, ◌++◌, length, Option, Some, None, Result, Ok, Err, if◌then◌else◌}
 use Rattle.std.specs.Str.{bytes_eq}
 use Rattle.camel_ber.specs.Reading.{◌>>=◌}
 use Rattle.camel_criteria.specs.Criteria.{OCriteriaData, TCriteriaData}
@@ -8,6 +8,7 @@ use Rattle.camel_criteria.specs.declared.refusal.Refusal.{Refusal}
 use Rattle.camel_criteria.specs.declared.refusal.Refusal.TheVariants.{OutOfMemory}
 use Rattle.camel_rows.specs.Received.{o_criteria_set_of, o_csi_of, t_criteria_set_of, vt_csi_of}
 use Rattle.camel_rows.specs.TdpRow.{TdpRowData}
+use Rattle.camel_rows.specs.Update.{is_insert}
 use Rattle.camel_rows.specs.declared.subscriber.update.Update.{Update}
 use Rattle.camel_rows.specs.declared.subscriber.update.Update.TheVariants as update
 use Rattle.camel_map.specs.Arrival.{bare, insert_with}
@@ -46,9 +47,9 @@ pub record IsOfLists (arrival : Arrival) : Type 0 where
   pub lists : Lists
   pub whole : insert_of_lists imsi lists arrival.capabilities ≡ Ok arrival
 
--- what an argument brings: another update with nothing beside it, or the Insert of some lists
+-- what an argument brings: the Insert of some lists, or another update with nothing beside it
 abbrev pub IsReceived : Arrival → Type 0
-IsReceived arrival = (arrival ≡ bare arrival.update) ⊎ IsOfLists arrival
+IsReceived arrival = IsOfLists arrival ⊎ ((is_insert arrival.update ≡ false) × (arrival ≡ bare arrival.update))
 
 -- a list, and behind it the one that came later
 abbrev pub joined : {A : Type 0} → Option (List A) → Option (List A) → Option (List A)

@@ -50,7 +50,7 @@ pub fn decode(
 ) -> Result<Arrival, MapFault>
     // It is what the octets bring, or has their first fault, unless memory runs out.
     ensures answer { ReadsAs result (arrival_of operation dialogue_imsi (whole octets.now)) }
-    // An Insert is of lists, so it can be joined with another one.
+    // An Insert is of lists, so it can be joined with another one. Another update has nothing beside it.
     ensures received { IfOk result IsReceived }
     // Its update is that which the octets are.
     ensures update { ReadsUpdate result (update_of operation dialogue_imsi (whole octets.now)) }

@@ -1,7 +1,7 @@
 //! Lists that an HLR splits over the operations of a dialogue, joined.
 
 ghost use Rattle.std.specs.Prelude.{◌≡◌, Err, IfOk, IfSome};
-ghost use Rattle.camel_map.specs.Lists.{IsJoin, IsOfLists, join_fault, later_or, latest};
+ghost use Rattle.camel_map.specs.Lists.{IsJoin, IsOfLists, IsReceived, join_fault, later_or, latest};
 ghost use Rattle.camel_map.specs.MapFault.{join_fault_code};
 
 pub(crate) mod list;
@@ -77,8 +77,8 @@ impl Arrival {
         ensures fault { IfSome (join_fault self.now.update next.now.update) (λ why. result ≡ Err why) }
         // It is what one operation brings that has the lists of both.
         ensures joined { IsJoin self.now next.now result }
-        // So it can be joined with the next one of the dialogue.
-        ensures received { IsOfLists self.now → IsOfLists next.now → IfOk result IsOfLists }
+        // So it can be joined with the next one of the dialogue, if both were decoded or joined.
+        ensures received { IsReceived self.now → IsReceived next.now → IfOk result IsOfLists }
     {
         let Update::Insert {
             imsi,

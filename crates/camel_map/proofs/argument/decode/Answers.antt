@@ -1,4 +1,4 @@
-use Rattle.std.proofs.Common.{◌≡◌, ℕ, List, IfOk, Option, Result, Ok, Err, inl, inr, ap, subst}
+use Rattle.std.proofs.Common.{ℕ, List, IfOk, Option, Result, Ok, Err, inl, inr, ap, subst}
 use Rattle.camel_ber.specs.Reading.{◌>>=◌, OctetsData}
 use Rattle.camel_rows.specs.declared.subscriber.update.Update.{Update}
 use Rattle.camel_map.specs.Lists.{IsReceived}
@@ -8,7 +8,7 @@ use Rattle.camel_map.specs.declared.arrival.Arrival.{Arrival}
 use Rattle.camel_map.specs.declared.map_fault.MapFault.{MapFault}
 use Rattle.camel_map.specs.declared.operation.Operation.{Operation}
 use Rattle.camel_map.proofs.EncodedUpdates.{encoding_decodes}
-use Rattle.camel_map.proofs.ReceivedLemmas.{arrival_received}
+use Rattle.camel_map.proofs.ReceivedUpdates.{arrival_received}
 use Rattle.camel_map.proofs.argument.decode.Goals as goal
 
 -- a function that returns what octets bring returns their update

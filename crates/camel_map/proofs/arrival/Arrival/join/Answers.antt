@@ -6,7 +6,7 @@ use Rattle.camel_map.specs.Arrival.{insert_with}
 use Rattle.camel_map.specs.Lists.{as_one, insert_of_lists, joined, latest, list_of}
 use Rattle.camel_map.specs.declared.arrival.Arrival.{Arrival}
 use Rattle.camel_map.specs.declared.arrival.CapabilityHandling.{CapabilityHandling}
-use Rattle.camel_map.proofs.ArrivalLemmas.{ends, is_insert, parts, seen_back}
+use Rattle.camel_map.proofs.ArrivalLemmas.{brings_insert, ends, parts, received_lists, seen_back}
 use Rattle.camel_map.proofs.arrival.Arrival.join.Goals as goal
 
 not_other : (imsi other : List ℕ) → false ≡ not (bytes_eq imsi other) → imsi ≡ other
@@ -19,12 +19,12 @@ not_other imsi other same = by_test (bytes_eq imsi other) refl same
 pub returns-in_default-clause-joined : goal.returns-in_default-clause-joined
 returns-in_default-clause-joined c =
     λ imsi earlier later one other.
-    absurd (is_insert imsi earlier c.args.self.now.capabilities c.args.self.now c.in_default.not-Insert one)
+    absurd (brings_insert imsi earlier c.args.self.now.capabilities c.args.self.now c.in_default.not-Insert one)
 
 pub returns-in_default-update-clause-joined : goal.returns-in_default-update-clause-joined
 returns-in_default-update-clause-joined c =
     λ imsi earlier later one other.
-    absurd (is_insert imsi later c.args.next.now.capabilities c.args.next.now c.in_default-update.not-Insert other)
+    absurd (brings_insert imsi later c.args.next.now.capabilities c.args.next.now c.in_default-update.not-Insert other)
 
 pub returns-then-ne-clause-joined : goal.returns-then-ne-clause-joined
 returns-then-ne-clause-joined c =
@@ -109,7 +109,9 @@ returns-clause-joined c =
 
 pub returns-clause-received : goal.returns-clause-received
 returns-clause-received c =
-    λ one other.
+    λ received received_too.
+    let one = received_lists c.args.self.now _ _ _ _ _ c.in-Insert.is received in
+    let other = received_lists c.args.next.now _ _ _ _ _ c.in-Insert-update.is received_too in
     let first = parts one.imsi one.lists c.args.self.now _ _ _ _ _ one.whole c.in-Insert.is in
     let second = parts other.imsi other.lists c.args.next.now _ _ _ _ _ other.whole c.in-Insert-update.is in
     let same : one.imsi ≡ other.imsi =

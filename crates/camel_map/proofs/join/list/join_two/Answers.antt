@@ -1,9 +1,8 @@
-use Rattle.std.proofs.Common.{◌≡◌, ◌∙◌, [], ◌++◌, ◌≤◌, ◌+◌, List, ℕ, length, ap, sym, inr, arith}
+use Rattle.std.proofs.Common.{◌≡◌, ◌∙◌, [], ◌++◌, ◌≤◌, ◌+◌, List, length, ap, sym, inr, arith}
 use Rattle.std.proofs.lemmas.List.{length-append}
 use Rattle.std.proofs.lemmas.Result.{err_from_is_err_and}
 use Rattle.camel_rows.specs.Received.{kept_of}
-use Rattle.camel_map.proofs.JoinLemmas.{many_refused, no_items, none_kept, some_kept, some_length, sum_few}
-use Rattle.camel_map.proofs.join.list.join_two.Given.{Over}
+use Rattle.camel_map.proofs.JoinLemmas.{no_items, none_kept, some_kept, some_length, sum_few}
 use Rattle.camel_map.proofs.join.list.join_two.Goals.{else-is_empty+in_ok-kept-2, then-is_empty+in_ok-kept}
 use Rattle.camel_map.proofs.join.list.join_two.Goals as goal
 
