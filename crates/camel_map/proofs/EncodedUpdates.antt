@@ -1,74 +1,20 @@
 -- Each update that an operation can say is read where it is encoded.
-use Rattle.std.proofs.Common.{◌≡◌, ◌∙◌, ℕ, ◌<◌, List, [], ◌∷◌, length, Option, Some, Result, Ok, refl, sym, ap, subst}
+use Rattle.std.proofs.Common.{◌≡◌, ◌∙◌, ℕ, ◌<◌, List, [], ◌∷◌, length, Option, Result, Ok, sym, ap, subst}
 use Rattle.std.proofs.lemmas.List.{append-nil}
-use Rattle.std.proofs.lemmas.Option.{IfSome_then}
-use Rattle.camel_ber.specs.Grammar.{ElementData, IsIdentifier}
+use Rattle.camel_ber.specs.Grammar.{ElementData}
 use Rattle.camel_ber.specs.Reading.{◌>>=◌, PlacedData}
 use Rattle.camel_rows.specs.declared.subscriber.update.Update.{Update}
-use Rattle.camel_rows.specs.declared.subscriber.update.Update.TheVariants as update
-use Rattle.camel_map.specs.Arrival.{bare}
-use Rattle.camel_map.specs.Encoding.{Argument, Encodes, IsInDialogue, argument_of, encoding, encodings}
-use Rattle.camel_map.specs.Identifier.{constructed}
+use Rattle.camel_map.specs.Encoding.{Argument, Encodes, IsInDialogue, encoding, encodings}
 use Rattle.camel_map.specs.Kept.{IsKept}
 use Rattle.camel_map.specs.Reading.{elements_in, whole}
-use Rattle.camel_map.specs.Update.{arrival_in, arrival_of, cancel_in, delete_in, one_of, update_of}
+use Rattle.camel_map.specs.Update.{arrival_in, arrival_of, one_of, update_of}
 use Rattle.camel_map.specs.declared.arrival.Arrival.{Arrival}
 use Rattle.camel_map.specs.declared.map_fault.MapFault.{MapFault}
 use Rattle.camel_map.specs.declared.operation.Operation.{Operation}
-use Rattle.camel_map.proofs.EncodedDeletes.{delete_read}
-use Rattle.camel_map.proofs.EncodedInserts.{came_insert, came_says, insert_read}
 use Rattle.camel_map.proofs.EncodedFirst.{first_read}
 use Rattle.camel_map.proofs.EncodedLimits.{encoding_few}
-use Rattle.camel_map.proofs.EncodedSeries.{a_sequence, AreRead, Decodes, IsShort, at, one_octet, parts_read}
-use Rattle.camel_map.proofs.EncodedCancels.{cancel_read}
-
--- an argument is read as what brings the update that it says
-record IsRead (dialogue : Option (List ℕ)) (update : Update) (argument : Argument) : Type 0 where
-  arrival : Arrival
-  says : arrival.update ≡ update
-  identified : IsIdentifier argument.element.identifier
-  read : Decodes (arrival_in argument.operation dialogue) argument.element arrival
-
--- what is read as an update brings it
-brought : (value_of : PlacedData → Result Update MapFault) (e : ElementData) (update : Update)
-    → Decodes value_of e update → Decodes (λ argument. value_of argument >>= λ update. Ok (bare update)) e (bare update)
-brought value_of e update decodes short place end =
-    ap (λ (read : Result Update MapFault). read >>= λ update. Ok (bare update)) (decodes short place end)
-
-same_argument : (one other : Argument) → Some one ≡ Some other → one ≡ other
-same_argument one other same = cc
-
-same_imsi : (imsi other : List ℕ) → Some imsi ≡ Some other → imsi ≡ other
-same_imsi imsi other same = cc
-
-argument_read : (dialogue : Option (List ℕ)) (update : Update) (argument : Argument)
-    → argument_of update ≡ Some argument → IsKept update → IsInDialogue dialogue update
-    → IsRead dialogue update argument
-argument_read dialogue (update.Insert imsi o o_criteria vt t_criteria) argument said kept same =
-    subst (IsRead dialogue (update.Insert imsi o o_criteria vt t_criteria)) (same_argument _ argument said) record {
-      arrival = came_insert imsi o o_criteria vt t_criteria kept;
-      says = came_says imsi o o_criteria vt t_criteria kept;
-      identified = a_sequence;
-      read = insert_read imsi o o_criteria vt t_criteria kept dialogue (IfSome_then dialogue same (same_imsi imsi));
-    }
-argument_read dialogue (update.Delete imsi what) argument said kept same =
-    subst (IsRead dialogue (update.Delete imsi what)) (same_argument _ argument said) record {
-      arrival = bare (update.Delete imsi what);
-      says = refl;
-      identified = a_sequence;
-      read = brought (delete_in dialogue) _ (update.Delete imsi what)
-          (delete_read imsi what dialogue kept (IfSome_then dialogue same (same_imsi imsi)));
-    }
-argument_read dialogue (update.Cancel imsi) argument said kept same =
-    subst (IsRead dialogue (update.Cancel imsi)) (same_argument _ argument said) record {
-      arrival = bare (update.Cancel imsi);
-      says = refl;
-      identified = one_octet (constructed 3) (refl, refl);
-      read = brought (cancel_in dialogue) _ (update.Cancel imsi)
-          (cancel_read dialogue imsi kept (IfSome_then dialogue same (same_imsi imsi)));
-    }
-argument_read dialogue (update.Register imsi) argument said kept same = absurd cc
-argument_read dialogue update.ClearAll argument said kept same = absurd cc
+use Rattle.camel_map.proofs.EncodedSeries.{AreRead, IsShort, at, parts_read}
+use Rattle.camel_map.proofs.EncodedArguments.{argument_read}
 
 -- the only element is the argument
 only_read : (ps : List PlacedData) (e : ElementData) → AreRead ps (e ∷ [])

@@ -1,5 +1,6 @@
-mod ArrivalLemmas
+mod AppendLemmas
 mod EachLemmas
+mod EncodedArguments
 mod EncodedBounds
 mod EncodedCamelFields
 mod EncodedCancels
@@ -12,6 +13,7 @@ mod EncodedFields
 mod EncodedFirst
 mod EncodedIdentifiers
 mod EncodedImsis
+mod EncodedInsertFields
 mod EncodedInserts
 mod EncodedItems
 mod EncodedKept
@@ -34,7 +36,13 @@ mod EncodedUpdates
 mod EncodedValues
 mod EncodedWithdrawals
 mod FieldLemmas
+mod InsertParts
+mod JoinCounts
 mod JoinLemmas
+mod JoinRefusals
+mod JoinSingles
+mod JoinedArrivals
+mod MadeInserts
 mod ReceivedCsis
 mod ReceivedInserts
 mod ReceivedLists

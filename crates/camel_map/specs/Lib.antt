@@ -5,6 +5,7 @@ pub mod Field
 pub mod Identifier
 pub mod Imsi
 pub mod Items
+pub mod Join
 pub mod Kept
 pub mod Lists
 pub mod MapFault

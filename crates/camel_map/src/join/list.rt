@@ -3,7 +3,7 @@
 ghost use Rattle.std.specs.Prelude.{◌≡◌, ◌++◌, IfOk, OnOk};
 ghost use Rattle.camel_criteria.specs.DetectionPoint.{o_detection_points, vt_detection_points};
 ghost use Rattle.camel_rows.specs.Received.{kept_of};
-ghost use Rattle.camel_map.specs.Lists.{JoinsLists, JoinsTwo, Keeps};
+ghost use Rattle.camel_map.specs.Join.{JoinsLists, JoinsTwo, Keeps};
 
 use crate::items::ReceivedList;
 use camel_criteria::{CriteriaEntry, Refusal};

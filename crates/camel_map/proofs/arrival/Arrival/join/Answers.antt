@@ -6,7 +6,8 @@ use Rattle.camel_map.specs.Arrival.{insert_with}
 use Rattle.camel_map.specs.Lists.{as_one, insert_of_lists, joined, latest, list_of}
 use Rattle.camel_map.specs.declared.arrival.Arrival.{Arrival}
 use Rattle.camel_map.specs.declared.arrival.CapabilityHandling.{CapabilityHandling}
-use Rattle.camel_map.proofs.ArrivalLemmas.{brings_insert, ends, parts, received_lists, seen_back}
+use Rattle.camel_map.proofs.InsertParts.{parts}
+use Rattle.camel_map.proofs.JoinedArrivals.{brings_insert, ends, received_lists, seen_back}
 use Rattle.camel_map.proofs.arrival.Arrival.join.Goals as goal
 
 not_other : (imsi other : List ℕ) → false ≡ not (bytes_eq imsi other) → imsi ≡ other

@@ -1,5 +1,5 @@
 use Rattle.std.proofs.Common.{◌≤◌, ◌<◌, ◌+◌, length, arith}
-use Rattle.camel_map.proofs.JoinLemmas.{item_put}
+use Rattle.camel_map.proofs.AppendLemmas.{item_put}
 use Rattle.camel_map.proofs.WrittenLemmas.{item_there}
 use Rattle.camel_map.proofs.join.list.append_entries.Goals.{in-Some+in_ok-clone+in_ok-push, in_default}
 use Rattle.camel_map.proofs.join.list.append_entries.Goals as goal

@@ -2,7 +2,8 @@ use Rattle.std.proofs.Common.{◌≡◌, ◌∙◌, [], ◌++◌, ◌≤◌, ◌
 use Rattle.std.proofs.lemmas.List.{length-append}
 use Rattle.std.proofs.lemmas.Result.{err_from_is_err_and}
 use Rattle.camel_rows.specs.Received.{kept_of}
-use Rattle.camel_map.proofs.JoinLemmas.{no_items, none_kept, some_kept, some_length, sum_few}
+use Rattle.camel_map.proofs.JoinCounts.{no_items, some_length, sum_few}
+use Rattle.camel_map.proofs.JoinLemmas.{none_kept, some_kept}
 use Rattle.camel_map.proofs.join.list.join_two.Goals.{else-is_empty+in_ok-kept-2, then-is_empty+in_ok-kept}
 use Rattle.camel_map.proofs.join.list.join_two.Goals as goal
 
