@@ -1,10 +1,10 @@
 -- The fields of a tag, as a loop finds them.
-use Rattle.std.proofs.Common.{◌≡◌, ◌∙◌, ℕ, suc, ◌≤◌, true, List, [], ◌∷◌, ◌++◌, length, drop, filter, Option, Some, None, is_some, Ok, Err, refl, sym, ap}
+use Rattle.std.proofs.Common.{◌≡◌, ◌∙◌, ℕ, suc, ◌≤◌, true, List, [], ◌∷◌, ◌++◌, length, drop, filter, Option, Some, None, is_some, Result, Ok, Err, inl, inr, refl, sym, ap}
 use Rattle.std.proofs.lemmas.List.{append-nil, drop_all}
-use Rattle.camel_ber.specs.Reading.{PlacedData, view, views}
+use Rattle.camel_ber.specs.Reading.{◌>>=◌, PlacedData, view, views}
 use Rattle.camel_ber.specs.declared.element.Element.{Element}
 use Rattle.camel_map.specs.Field.{is_tagged, field_of, identified, only_field}
-use Rattle.camel_map.specs.Reading.{fails_at}
+use Rattle.camel_map.specs.Reading.{ReadsAs, fails_at}
 use Rattle.camel_map.specs.declared.map_fault.MapFault.{MapFault}
 use Rattle.camel_map.specs.declared.map_fault.MapFaultKind.TheVariants.{FieldTwice}
 
@@ -62,3 +62,10 @@ pub found_none : (octet : ℕ) (fields : List Element) (at : ℕ) (found : Optio
     → found_so_far found ++ filter (is_tagged octet) (views (drop at fields)) ≡ filter (is_tagged octet) (views fields)
     → field_of octet (views fields) ≡ Ok None
 found_none octet fields at found le is so_far = all_found octet fields at found le so_far ∙ rw is refl
+
+-- a field that is there is read as its element is
+pub present : {A : Type 0} (result reading : Result A MapFault) → ReadsAs result reading
+    → ReadsAs (result >>= λ value. Ok (Some value)) (reading >>= λ value. Ok (Some value))
+present (Ok value) reading is = rw is refl
+present (Err fault) reading (inl memory) = inl memory
+present (Err fault) reading (inr is) = inr (rw is refl)

@@ -1,17 +1,16 @@
 //! The entries of criteria, and the lists of them.
 
-ghost use Rattle.std.specs.Prelude.{◌≡◌, Result};
+ghost use Rattle.std.specs.Prelude.{Result};
 ghost use Rattle.std.specs.Fn.{FnReturnsAt};
 ghost use Rattle.std.specs.Option.{option_map};
 ghost use Rattle.camel_ber.specs.Reading.{PlacedData, view, views};
 ghost use Rattle.camel_map.specs.Criteria.{number_criterion_in, o_criteria_set_in, o_entry_in, o_entry_of_fields, t_criteria_set_in, t_entry_in, t_entry_of_fields};
-ghost use Rattle.camel_map.specs.Field.{if_listed, if_present};
+ghost use Rattle.camel_map.specs.Field.{if_listed};
 ghost use Rattle.camel_map.specs.Items.{items_as};
 ghost use Rattle.camel_map.specs.Reading.{AnswersAs, ReadsAs, ReadsList};
 ghost use Rattle.camel_map.specs.declared.map_fault.MapFault.{MapFault};
-ghost use Rattle.camel_map.specs.Value.{basic_service_in, call_type_in, cause_in, length_in, number_in};
 
-use crate::field::{find_field, identified, mandatory};
+use crate::field::{find_field, identified, mandatory, read_present};
 use crate::identifier::{CONSTRUCTED, ENUMERATED, PRIMITIVE, SEQUENCE};
 use crate::items::{ReceivedList, read_items};
 use crate::map_fault::MapFault;
@@ -21,9 +20,8 @@ use crate::value::{
     read_match_type, read_number,
 };
 use camel_ber::Element;
-use camel_criteria::{BasicService, CallType, NumberCriterion, OCriteria, TCriteria};
+use camel_criteria::{NumberCriterion, OCriteria, TCriteria};
 use camel_rows::{OCriteriaSet, TCriteriaSet};
-use camel_tbcd::IsdnAddress;
 use std::alloc::Global;
 
 /// A list that a field is, or no items if the field is absent.
@@ -43,30 +41,6 @@ fn read_listed<T: Drop, F: Fn(&Element<'_>) -> Result<T, MapFault>>(
     }
 }
 
-fn read_numbers(alloc: Global, field: Option<Element<'_>>) -> Result<Vec<IsdnAddress>, MapFault>
-    ensures { ReadsList result (if_listed (items_as number_in) (option_map view field.entry)) }
-{
-    read_listed(alloc, field, |item| read_number(item))
-}
-
-fn read_lengths(alloc: Global, field: Option<Element<'_>>) -> Result<Vec<u8>, MapFault>
-    ensures { ReadsList result (if_listed (items_as length_in) (option_map view field.entry)) }
-{
-    read_listed(alloc, field, |item| read_length(item))
-}
-
-fn read_services(alloc: Global, field: Option<Element<'_>>) -> Result<Vec<BasicService>, MapFault>
-    ensures { ReadsList result (if_listed (items_as basic_service_in) (option_map view field.entry)) }
-{
-    read_listed(alloc, field, |item| read_basic_service(item))
-}
-
-fn read_causes(alloc: Global, field: Option<Element<'_>>) -> Result<Vec<u8>, MapFault>
-    ensures { ReadsList result (if_listed (items_as cause_in) (option_map view field.entry)) }
-{
-    read_listed(alloc, field, |item| read_cause(item))
-}
-
 /// DestinationNumberCriteria.
 #[tactic(auto, unfolding(crate::specs::Criteria::number_criterion_in))]
 fn read_number_criterion(
@@ -77,31 +51,10 @@ fn read_number_criterion(
 {
     let fields = read_elements(alloc, criterion.content)?;
     let match_type = read_match_type(&mandatory(criterion, PRIMITIVE, &fields)?)?;
-    let numbers = read_numbers(alloc, find_field(&fields, CONSTRUCTED + 1)?)?;
-    let lengths = read_lengths(alloc, find_field(&fields, CONSTRUCTED + 2)?)?;
+    let numbers = read_listed(alloc, find_field(&fields, CONSTRUCTED + 1)?, read_number)?;
+    let lengths = read_listed(alloc, find_field(&fields, CONSTRUCTED + 2)?, read_length)?;
     let made = NumberCriterion::new(alloc, match_type, &numbers, &lengths);
     or_refused_at(criterion.place, made)
-}
-
-fn read_number_field(
-    alloc: Global,
-    field: Option<Element<'_>>,
-) -> Result<Option<NumberCriterion>, MapFault>
-    ensures { ReadsAs result (if_present number_criterion_in (option_map view field.entry)) }
-{
-    match field {
-        Some(criterion) => Ok(Some(read_number_criterion(alloc, &criterion)?)),
-        None => Ok(None),
-    }
-}
-
-fn read_call_type_field(field: Option<Element<'_>>) -> Result<Option<CallType>, MapFault>
-    ensures { result ≡ if_present call_type_in (option_map view field.entry) }
-{
-    match field {
-        Some(call_type) => Ok(Some(read_call_type(&call_type)?)),
-        None => Ok(None),
-    }
 }
 
 /// An entry of the criteria of the O-CSI of its fields.
@@ -114,10 +67,17 @@ fn read_o_fields(
     ensures { ReadsAs result (o_entry_of_fields (view item.now) (views fields.now)) }
 {
     let dp = read_detection_point(&mandatory(item, ENUMERATED, fields)?)?;
-    let number = read_number_field(alloc, find_field(fields, CONSTRUCTED)?)?;
-    let basic = read_services(alloc, find_field(fields, CONSTRUCTED + 1)?)?;
-    let call_type = read_call_type_field(find_field(fields, PRIMITIVE + 2)?)?;
-    let causes = read_causes(alloc, find_field(fields, CONSTRUCTED + 3)?)?;
+    let number = read_present(
+        find_field(fields, CONSTRUCTED)?,
+        |field| read_number_criterion(alloc, field),
+    )?;
+    let basic = read_listed(
+        alloc,
+        find_field(fields, CONSTRUCTED + 1)?,
+        read_basic_service,
+    )?;
+    let call_type = read_present(find_field(fields, PRIMITIVE + 2)?, read_call_type)?;
+    let causes = read_listed(alloc, find_field(fields, CONSTRUCTED + 3)?, read_cause)?;
     let made = OCriteria::new(alloc, dp, number, &basic, call_type, &causes);
     or_refused_at(item.place, made)
 }
@@ -142,8 +102,8 @@ fn read_t_fields(
     ensures { ReadsAs result (t_entry_of_fields (view item.now) (views fields.now)) }
 {
     let dp = read_detection_point(&mandatory(item, ENUMERATED, fields)?)?;
-    let basic = read_services(alloc, find_field(fields, CONSTRUCTED)?)?;
-    let causes = read_causes(alloc, find_field(fields, CONSTRUCTED + 1)?)?;
+    let basic = read_listed(alloc, find_field(fields, CONSTRUCTED)?, read_basic_service)?;
+    let causes = read_listed(alloc, find_field(fields, CONSTRUCTED + 1)?, read_cause)?;
     or_refused_at(item.place, TCriteria::new(dp, &basic, &causes))
 }
 
@@ -157,27 +117,15 @@ fn read_t_entry(alloc: Global, item: &Element<'_>) -> Result<TCriteria, MapFault
     read_t_fields(alloc, &entry, &fields)
 }
 
-fn read_o_entries(alloc: Global, list: &Element<'_>) -> Result<Vec<OCriteria>, MapFault>
-    ensures { ReadsList result (items_as o_entry_in (view list.now)) }
-{
-    read_items(alloc, list, |item| read_o_entry(alloc, item))
-}
-
-fn read_t_entries(alloc: Global, list: &Element<'_>) -> Result<Vec<TCriteria>, MapFault>
-    ensures { ReadsList result (items_as t_entry_in (view list.now)) }
-{
-    read_items(alloc, list, |item| read_t_entry(alloc, item))
-}
-
 /// The criteria of the O-CSI.
 #[tactic(auto, unfolding(crate::specs::Items::received_as))]
-pub(crate) fn read_o_criteria_set(
+pub(crate) fn read_o_criteria(
     alloc: Global,
     list: &Element<'_>,
 ) -> Result<ReceivedList<OCriteriaSet>, MapFault>
     ensures { ReadsAs result (o_criteria_set_in (view list.now)) }
 {
-    let entries = read_o_entries(alloc, list)?;
+    let entries = read_items(alloc, list, |item| read_o_entry(alloc, item))?;
     let count = entries.len();
     let kept = or_refused_at(list.place, OCriteriaSet::new(entries))?;
     Ok(ReceivedList { kept, count })
@@ -185,13 +133,13 @@ pub(crate) fn read_o_criteria_set(
 
 /// The criteria of the VT-CSI.
 #[tactic(auto, unfolding(crate::specs::Items::received_as))]
-pub(crate) fn read_t_criteria_set(
+pub(crate) fn read_t_criteria(
     alloc: Global,
     list: &Element<'_>,
 ) -> Result<ReceivedList<TCriteriaSet>, MapFault>
     ensures { ReadsAs result (t_criteria_set_in (view list.now)) }
 {
-    let entries = read_t_entries(alloc, list)?;
+    let entries = read_items(alloc, list, |item| read_t_entry(alloc, item))?;
     let count = entries.len();
     let kept = or_refused_at(list.place, TCriteriaSet::new(entries))?;
     Ok(ReceivedList { kept, count })

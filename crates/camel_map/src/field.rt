@@ -1,9 +1,12 @@
 //! The fields of a SEQUENCE, by their tags.
 
-ghost use Rattle.std.specs.Prelude.{◌≡◌};
-ghost use Rattle.camel_ber.specs.Reading.{view, views};
-ghost use Rattle.camel_map.specs.Field.{field_of, identified, is_identified, is_tagged, mandatory};
-ghost use Rattle.camel_map.specs.Reading.{LendsElement, LendsField};
+ghost use Rattle.std.specs.Prelude.{◌≡◌, Result};
+ghost use Rattle.std.specs.Fn.{FnReturnsAt};
+ghost use Rattle.std.specs.Option.{option_map};
+ghost use Rattle.camel_ber.specs.Reading.{PlacedData, view, views};
+ghost use Rattle.camel_map.specs.Field.{field_of, identified, if_present, is_identified, is_tagged, mandatory};
+ghost use Rattle.camel_map.specs.Reading.{AnswersAs, LendsElement, LendsField, ReadsAs};
+ghost use Rattle.camel_map.specs.declared.map_fault.MapFault.{MapFault};
 
 use crate::map_fault::{MapFault, MapFaultKind};
 use camel_ber::Element;
@@ -70,5 +73,21 @@ pub(crate) fn mandatory<'a>(
     match find_field(fields, octet)? {
         Some(field) => Ok(field),
         None => Err(MapFault::at(element.place, MapFaultKind::MissingField)),
+    }
+}
+
+/// What `read` returns for a field, if it is there.
+pub(crate) fn read_present<T: Drop, F: Fn(&Element<'_>) -> Result<T, MapFault>>(
+    field: Option<Element<'_>>,
+    read: F,
+) -> Result<Option<T>, MapFault>
+    requires { F.IsAlwaysCallable read }
+    ensures { (value_of : PlacedData → Result T MapFault)
+        → AnswersAs (FnReturnsAt F.Fn read) value_of
+        → ReadsAs result (if_present value_of (option_map view field.entry)) }
+{
+    match field {
+        Some(field) => Ok(Some(read(&field)?)),
+        None => Ok(None),
     }
 }

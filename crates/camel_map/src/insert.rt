@@ -1,26 +1,19 @@
 //! InsertSubscriberDataArg.
 
-ghost use Rattle.std.specs.Prelude.{◌≡◌};
 ghost use Rattle.std.specs.Option.{option_map};
 ghost use Rattle.camel_ber.specs.Reading.{view, views};
-ghost use Rattle.camel_map.specs.Criteria.{o_criteria_set_in, t_criteria_set_in};
-ghost use Rattle.camel_map.specs.Field.{if_present};
 ghost use Rattle.camel_map.specs.Reading.{ReadsAs, ReadsElements};
-ghost use Rattle.camel_map.specs.Row.{csi_in};
 ghost use Rattle.camel_map.specs.Update.{camel_fields, insert_in, insert_of_fields};
-ghost use Rattle.camel_rows.specs.Received.{o_csi_of, vt_csi_of};
 
 use crate::arrival::Arrival;
-use crate::criteria::{read_o_criteria_set, read_t_criteria_set};
-use crate::field::{find_field, identified};
+use crate::criteria::{read_o_criteria, read_t_criteria};
+use crate::field::{find_field, identified, read_present};
 use crate::identifier::{CONSTRUCTED, PRIMITIVE, SEQUENCE};
 use crate::imsi::read_imsi_or_of_dialogue;
-use crate::items::ReceivedList;
 use crate::map_fault::MapFault;
 use crate::reading::read_elements;
-use crate::row::{ReceivedCsi, read_o_csi, read_vt_csi};
+use crate::row::{read_o_csi, read_vt_csi};
 use camel_ber::Element;
-use camel_rows::{OCriteriaSet, OCsi, TCriteriaSet, VtCsi};
 use camel_tbcd::Imsi;
 use std::alloc::Global;
 
@@ -37,54 +30,6 @@ fn read_camel_fields<'a>(
     }
 }
 
-fn read_o_field(
-    alloc: Global,
-    field: Option<Element<'_>>,
-) -> Result<Option<ReceivedCsi<OCsi>>, MapFault>
-    ensures { ReadsAs result (if_present (csi_in o_csi_of) (option_map view field.entry)) }
-{
-    match field {
-        Some(csi) => Ok(Some(read_o_csi(alloc, &csi)?)),
-        None => Ok(None),
-    }
-}
-
-fn read_o_criteria_field(
-    alloc: Global,
-    field: Option<Element<'_>>,
-) -> Result<Option<ReceivedList<OCriteriaSet>>, MapFault>
-    ensures { ReadsAs result (if_present o_criteria_set_in (option_map view field.entry)) }
-{
-    match field {
-        Some(list) => Ok(Some(read_o_criteria_set(alloc, &list)?)),
-        None => Ok(None),
-    }
-}
-
-fn read_vt_field(
-    alloc: Global,
-    field: Option<Element<'_>>,
-) -> Result<Option<ReceivedCsi<VtCsi>>, MapFault>
-    ensures { ReadsAs result (if_present (csi_in vt_csi_of) (option_map view field.entry)) }
-{
-    match field {
-        Some(csi) => Ok(Some(read_vt_csi(alloc, &csi)?)),
-        None => Ok(None),
-    }
-}
-
-fn read_t_criteria_field(
-    alloc: Global,
-    field: Option<Element<'_>>,
-) -> Result<Option<ReceivedList<TCriteriaSet>>, MapFault>
-    ensures { ReadsAs result (if_present t_criteria_set_in (option_map view field.entry)) }
-{
-    match field {
-        Some(list) => Ok(Some(read_t_criteria_set(alloc, &list)?)),
-        None => Ok(None),
-    }
-}
-
 /// The Insert of an IMSI and of the fields of VlrCamelSubscriptionInfo.
 #[tactic(auto, unfolding(crate::specs::Update::insert_of_fields))]
 fn read_insert_fields(
@@ -94,10 +39,22 @@ fn read_insert_fields(
 ) -> Result<Arrival, MapFault>
     ensures { ReadsAs result (insert_of_fields imsi (views fields.now)) }
 {
-    let o = read_o_field(alloc, find_field(fields, CONSTRUCTED)?)?;
-    let o_criteria = read_o_criteria_field(alloc, find_field(fields, CONSTRUCTED + 4)?)?;
-    let vt = read_vt_field(alloc, find_field(fields, CONSTRUCTED + 7)?)?;
-    let t_criteria = read_t_criteria_field(alloc, find_field(fields, CONSTRUCTED + 8)?)?;
+    let o = read_present(
+        find_field(fields, CONSTRUCTED)?,
+        |csi| read_o_csi(alloc, csi),
+    )?;
+    let o_criteria = read_present(
+        find_field(fields, CONSTRUCTED + 4)?,
+        |list| read_o_criteria(alloc, list),
+    )?;
+    let vt = read_present(
+        find_field(fields, CONSTRUCTED + 7)?,
+        |csi| read_vt_csi(alloc, csi),
+    )?;
+    let t_criteria = read_present(
+        find_field(fields, CONSTRUCTED + 8)?,
+        |list| read_t_criteria(alloc, list),
+    )?;
     Ok(Arrival::insert_of(imsi, o, o_criteria, vt, t_criteria))
 }
 

@@ -2,12 +2,11 @@
 
 ghost use Rattle.std.specs.Prelude.{◌≡◌};
 ghost use Rattle.camel_ber.specs.Reading.{view, views};
-ghost use Rattle.camel_map.specs.Items.{items_as};
-ghost use Rattle.camel_map.specs.Reading.{LendsElement, ReadsAs, ReadsList};
-ghost use Rattle.camel_map.specs.Row.{capability_in, csi_in, first_of, row_in, row_of_fields};
+ghost use Rattle.camel_map.specs.Reading.{LendsElement, ReadsAs};
+ghost use Rattle.camel_map.specs.Row.{csi_in, first_of, row_in, row_of_fields};
 ghost use Rattle.camel_rows.specs.Received.{o_csi_of, vt_csi_of};
 
-use crate::field::{find_field, identified, mandatory};
+use crate::field::{find_field, identified, mandatory, read_present};
 use crate::identifier::{ENUMERATED, INTEGER, PRIMITIVE, SEQUENCE};
 use crate::items::{ReceivedList, read_items};
 use crate::map_fault::{MapFault, MapFaultKind};
@@ -49,12 +48,6 @@ fn read_row(alloc: Global, item: &Element<'_>) -> Result<TdpRow, MapFault>
     read_row_fields(&row, &fields)
 }
 
-fn read_rows(alloc: Global, list: &Element<'_>) -> Result<Vec<TdpRow>, MapFault>
-    ensures { ReadsList result (items_as row_in (view list.now)) }
-{
-    read_items(alloc, list, |item| read_row(alloc, item))
-}
-
 /// The first element of the contents of another.
 pub(crate) fn first_of<'a>(
     element: &Element<'_>,
@@ -68,16 +61,6 @@ pub(crate) fn first_of<'a>(
     }
 }
 
-/// The camelCapabilityHandling among the fields of a CSI, if it is there.
-fn read_capability(fields: &[Element<'_>]) -> Result<Option<u32>, MapFault>
-    ensures { result ≡ capability_in (views fields.now) }
-{
-    match find_field(fields, PRIMITIVE)? {
-        Some(capability) => Ok(Some(read_unsigned(&capability)?)),
-        None => Ok(None),
-    }
-}
-
 /// The O-CSI.
 #[tactic(auto, unfolding(crate::specs::Row::csi_in, crate::specs::Items::received_as))]
 pub(crate) fn read_o_csi(alloc: Global, csi: &Element<'_>) -> Result<ReceivedCsi<OCsi>, MapFault>
@@ -85,14 +68,14 @@ pub(crate) fn read_o_csi(alloc: Global, csi: &Element<'_>) -> Result<ReceivedCsi
 {
     let fields = read_elements(alloc, csi.content)?;
     let list = identified(first_of(csi, &fields)?, SEQUENCE)?;
-    let rows = read_rows(alloc, &list)?;
+    let rows = read_items(alloc, &list, |item| read_row(alloc, item))?;
     let rows = ReceivedList {
         kept: or_refused_at(list.place, OCsi::new(&rows))?,
         count: rows.len(),
     };
     Ok(ReceivedCsi {
         rows,
-        capability: read_capability(&fields)?,
+        capability: read_present(find_field(&fields, PRIMITIVE)?, read_unsigned)?,
     })
 }
 
@@ -103,13 +86,13 @@ pub(crate) fn read_vt_csi(alloc: Global, csi: &Element<'_>) -> Result<ReceivedCs
 {
     let fields = read_elements(alloc, csi.content)?;
     let list = identified(first_of(csi, &fields)?, SEQUENCE)?;
-    let rows = read_rows(alloc, &list)?;
+    let rows = read_items(alloc, &list, |item| read_row(alloc, item))?;
     let rows = ReceivedList {
         kept: or_refused_at(list.place, VtCsi::new(&rows))?,
         count: rows.len(),
     };
     Ok(ReceivedCsi {
         rows,
-        capability: read_capability(&fields)?,
+        capability: read_present(find_field(&fields, PRIMITIVE)?, read_unsigned)?,
     })
 }
