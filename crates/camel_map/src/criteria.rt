@@ -4,11 +4,12 @@ ghost use Rattle.std.specs.Prelude.{Result};
 ghost use Rattle.std.specs.Fn.{FnReturnsAt};
 ghost use Rattle.std.specs.Option.{option_map};
 ghost use Rattle.camel_ber.specs.Reading.{PlacedData, view, views};
-ghost use Rattle.camel_map.specs.Criteria.{number_criterion_in, o_criteria_set_in, o_entry_in, o_entry_of_fields, t_criteria_set_in, t_entry_in, t_entry_of_fields};
+ghost use Rattle.camel_map.specs.Criteria.{number_criterion_in, o_entry_in, o_entry_of_fields, t_entry_in, t_entry_of_fields};
 ghost use Rattle.camel_map.specs.Field.{if_listed};
-ghost use Rattle.camel_map.specs.Items.{items_as};
+ghost use Rattle.camel_map.specs.Items.{items_as, received_as};
 ghost use Rattle.camel_map.specs.Reading.{AnswersAs, ReadsAs, ReadsList};
 ghost use Rattle.camel_map.specs.declared.map_fault.MapFault.{MapFault};
+ghost use Rattle.camel_rows.specs.Received.{kept_of};
 
 use crate::field::{find_field, identified, mandatory, read_present};
 use crate::identifier::{CONSTRUCTED, ENUMERATED, PRIMITIVE, SEQUENCE};
@@ -20,8 +21,8 @@ use crate::value::{
     read_match_type, read_number,
 };
 use camel_ber::Element;
-use camel_criteria::{NumberCriterion, OCriteria, TCriteria};
-use camel_rows::{OCriteriaSet, TCriteriaSet};
+use camel_criteria::{CriteriaEntry, NumberCriterion, OCriteria, TCriteria};
+use camel_rows::CriteriaSet;
 use std::alloc::Global;
 
 /// A list that a field is, or no items if the field is absent.
@@ -84,7 +85,7 @@ fn read_o_fields(
 
 /// An entry of the criteria of the O-CSI.
 #[tactic(auto, unfolding(crate::specs::Criteria::o_entry_in))]
-fn read_o_entry(alloc: Global, item: &Element<'_>) -> Result<OCriteria, MapFault>
+pub(crate) fn read_o_entry(alloc: Global, item: &Element<'_>) -> Result<OCriteria, MapFault>
     ensures { ReadsAs result (o_entry_in (view item.now)) }
 {
     let entry = identified(*item, SEQUENCE)?;
@@ -109,7 +110,7 @@ fn read_t_fields(
 
 /// An entry of the criteria of the VT-CSI.
 #[tactic(auto, unfolding(crate::specs::Criteria::t_entry_in))]
-fn read_t_entry(alloc: Global, item: &Element<'_>) -> Result<TCriteria, MapFault>
+pub(crate) fn read_t_entry(alloc: Global, item: &Element<'_>) -> Result<TCriteria, MapFault>
     ensures { ReadsAs result (t_entry_in (view item.now)) }
 {
     let entry = identified(*item, SEQUENCE)?;
@@ -117,30 +118,20 @@ fn read_t_entry(alloc: Global, item: &Element<'_>) -> Result<TCriteria, MapFault
     read_t_fields(alloc, &entry, &fields)
 }
 
-/// The criteria of the O-CSI.
+/// The criteria of a CSI, of which `read` reads each entry.
 #[tactic(auto, unfolding(crate::specs::Items::received_as))]
-pub(crate) fn read_o_criteria(
+pub(crate) fn read_criteria<E: CriteriaEntry, F: Fn(&Element<'_>) -> Result<E, MapFault>>(
     alloc: Global,
     list: &Element<'_>,
-) -> Result<ReceivedList<OCriteriaSet>, MapFault>
-    ensures { ReadsAs result (o_criteria_set_in (view list.now)) }
+    read: F,
+) -> Result<ReceivedList<CriteriaSet<E>>, MapFault>
+    requires { F.IsAlwaysCallable read }
+    ensures { (value_of : PlacedData → Result E MapFault)
+        → AnswersAs (FnReturnsAt F.Fn read) value_of
+        → ReadsAs result (received_as value_of (kept_of E.points E.dp_of) (view list.now)) }
 {
-    let entries = read_items(alloc, list, |item| read_o_entry(alloc, item))?;
+    let entries = read_items(alloc, list, read)?;
     let count = entries.len();
-    let kept = or_refused_at(list.place, OCriteriaSet::new(entries))?;
-    Ok(ReceivedList { kept, count })
-}
-
-/// The criteria of the VT-CSI.
-#[tactic(auto, unfolding(crate::specs::Items::received_as))]
-pub(crate) fn read_t_criteria(
-    alloc: Global,
-    list: &Element<'_>,
-) -> Result<ReceivedList<TCriteriaSet>, MapFault>
-    ensures { ReadsAs result (t_criteria_set_in (view list.now)) }
-{
-    let entries = read_items(alloc, list, |item| read_t_entry(alloc, item))?;
-    let count = entries.len();
-    let kept = or_refused_at(list.place, TCriteriaSet::new(entries))?;
+    let kept = or_refused_at(list.place, CriteriaSet::new(entries))?;
     Ok(ReceivedList { kept, count })
 }

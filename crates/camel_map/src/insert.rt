@@ -6,7 +6,7 @@ ghost use Rattle.camel_map.specs.Reading.{ReadsAs, ReadsElements};
 ghost use Rattle.camel_map.specs.Update.{camel_fields, insert_in, insert_of_fields};
 
 use crate::arrival::Arrival;
-use crate::criteria::{read_o_criteria, read_t_criteria};
+use crate::criteria::{read_criteria, read_o_entry, read_t_entry};
 use crate::field::{find_field, identified, read_present};
 use crate::identifier::{CONSTRUCTED, PRIMITIVE, SEQUENCE};
 use crate::imsi::read_imsi_or_of_dialogue;
@@ -45,7 +45,7 @@ fn read_insert_fields(
     )?;
     let o_criteria = read_present(
         find_field(fields, CONSTRUCTED + 4)?,
-        |list| read_o_criteria(alloc, list),
+        |list| read_criteria(alloc, list, |item| read_o_entry(alloc, item)),
     )?;
     let vt = read_present(
         find_field(fields, CONSTRUCTED + 7)?,
@@ -53,7 +53,7 @@ fn read_insert_fields(
     )?;
     let t_criteria = read_present(
         find_field(fields, CONSTRUCTED + 8)?,
-        |list| read_t_criteria(alloc, list),
+        |list| read_criteria(alloc, list, |item| read_t_entry(alloc, item)),
     )?;
     Ok(Arrival::insert_of(imsi, o, o_criteria, vt, t_criteria))
 }
