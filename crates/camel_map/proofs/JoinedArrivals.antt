@@ -16,9 +16,14 @@ use Rattle.camel_map.specs.declared.join.JoinFault.{JoinFault}
 use Rattle.camel_map.specs.declared.join.JoinFault.TheVariants.{Refused}
 use Rattle.camel_map.proofs.MadeInserts.{Came, made}
 
-pub seen_back : {Item : Type 0} (list : Came Item) → seen_as (λ items. items) list ≡ list
+seen_back : {Item : Type 0} (list : Came Item) → seen_as (λ items. items) list ≡ list
 seen_back None = refl
 seen_back (Some list) = refl
+
+-- a list that was made is the one that is meant
+pub made_as : {Item : Type 0} (reading : Result (Came Item) Refusal) (list : Came Item)
+    → reading ≡ Ok (seen_as (λ items. items) list) → reading ≡ Ok list
+made_as reading list is = is ∙ ap Ok (seen_back list)
 
 -- what lists bring is an Insert
 pub brings_insert : (imsi : List ℕ) (lists : Lists) (capabilities : CapabilityHandling) (arrival : Arrival)

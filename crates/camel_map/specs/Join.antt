@@ -1,4 +1,5 @@
--- What is made of two lists by the functions that join them. These are for the proof: the contract of a join is `IsJoin`.
+-- What is made of two lists by the functions that join them. These are for the proof: the contract of a join is
+-- `IsJoin`.
 use Rattle.std.specs.Prelude.{◌≡◌, ◌⊎◌, ℕ, List, ◌++◌, length, Option, Some, None, Result, Ok, Err}
 use Rattle.camel_criteria.specs.declared.refusal.Refusal.{Refusal}
 use Rattle.camel_criteria.specs.declared.refusal.Refusal.TheVariants.{OutOfMemory}

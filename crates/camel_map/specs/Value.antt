@@ -1,5 +1,5 @@
--- What the contents of a primitive element stand for (TS 29.002, encoded as in ITU-T X.690). Which faults they have, and
--- that a value over the greatest that is told apart is taken as that one, is this product's own.
+-- What the contents of a primitive element stand for (TS 29.002, encoded as in ITU-T X.690). Which faults they have,
+-- and that a value over the greatest that is told apart is taken as that one, is this product's own.
 use Rattle.std.specs.Prelude.{ℕ, ◌==◌, ◌&&◌, ◌%◌, min, nat_le, List, length, slice_index, Result, Ok, if◌then◌else◌}
 use Rattle.camel_ber.specs.Grammar.{value_of}
 use Rattle.camel_ber.specs.Reading.{◌>>=◌, PlacedData}

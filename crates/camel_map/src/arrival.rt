@@ -32,8 +32,8 @@ pub struct ItemCounts {
     pub t_criteria: usize,
 }
 
-/// The camelCapabilityHandling of each CSI as it came, by which a switch chooses the version of CAP: the phase of CAMEL, 1
-/// to 16 by TS 29.002, or None if the field is absent. Nothing here decides by it.
+/// The camelCapabilityHandling of each CSI as it came, by which a switch chooses the version of CAP: the phase of
+/// CAMEL, 1 to 16 by TS 29.002, or None if the field is absent. Nothing here decides by it.
 #[derive(Clone, Copy, Debug, Default, PartialEq, Eq)]
 pub struct CapabilityHandling {
     /// Of the O-CSI.

@@ -21,8 +21,8 @@ pub enum JoinFault {
     NoInsert,
     /// 409: the two are of different subscribers.
     OtherSubscriber,
-    /// The lists are refused as one would be that has the items of both, with the refusal's number: `UnexpectedDataValue`
-    /// (36) for more than 10 items or two of one detection point, or `OutOfMemory` (102).
+    /// The lists are refused as one would be that has the items of both, with the refusal's number:
+    /// `UnexpectedDataValue` (36) for more than 10 items or two of one detection point, or `OutOfMemory` (102).
     Refused(Refusal),
 }
 
@@ -64,15 +64,15 @@ impl From<Refusal> for JoinFault {
 
 impl Arrival {
     /// This Insert and the next one of its dialogue, as one. An HLR may split the lists of a subscriber over several
-    /// operations: a list that comes in both is the first one with the items of the next one behind it, and all rules of
-    /// received lists hold for the whole, as if one operation had brought it. Of a camelCapabilityHandling that came in
-    /// both, the one of the next stands.
+    /// operations: a list that comes in both is the first one with the items of the next one behind it, and all rules
+    /// of received lists hold for the whole, as if one operation had brought it. Of a camelCapabilityHandling that came
+    /// in both, the one of the next stands.
     ///
     /// Both are as before, and the lists are copied: it takes memory for criteria.
     ///
-    /// Fails with `NoInsert` (408) if one of the two is no Insert, with `OtherSubscriber` (409) if they are of different
-    /// subscribers, and as a list of the items of both is refused: with `UnexpectedDataValue` (36) for more than 10
-    /// items, ignored ones among them, or for two of one detection point, and with `OutOfMemory` (102).
+    /// Fails with `NoInsert` (408) if one of the two is no Insert, with `OtherSubscriber` (409) if they are of
+    /// different subscribers, and as a list of the items of both is refused: with `UnexpectedDataValue` (36) for more
+    /// than 10 items, ignored ones among them, or for two of one detection point, and with `OutOfMemory` (102).
     pub fn join(&self, alloc: Global, next: &Arrival) -> Result<Arrival, JoinFault>
         ensures fault { IfSome (join_fault self.now.update next.now.update) (λ why. result ≡ Err why) }
         // It is what one operation brings that has the lists of both.

@@ -1,9 +1,9 @@
 //! The arguments of the MAP operations by which an HLR changes subscriber data (3GPP TS 29.002), decoded from their
 //! octets and encoded: InsertSubscriberData, DeleteSubscriberData and CancelLocation.
 //!
-//! [`decode`] gives the [`Arrival`] that an argument brings, with its [`Update`](camel_rows::Update), or the first fault
-//! with its place. [`encode`] appends the octets of the argument that says an update, and [`encode_record`] those of the
-//! Insert that makes a record. TCAP and the dialogue that an argument comes in are the caller's.
+//! [`decode`] gives the [`Arrival`] that an argument brings, with its [`Update`](camel_rows::Update), or the first
+//! fault with its place. [`encode`] appends the octets of the argument that says an update, and [`encode_record`] those
+//! of the Insert that makes a record. TCAP and the dialogue that an argument comes in are the caller's.
 #![tactic(auto)]
 
 mod argument;

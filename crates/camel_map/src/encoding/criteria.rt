@@ -101,7 +101,8 @@ fn put_ignored_t_entry(writer: &mut Writer) -> Result<(), TooLong>
 
 /// The entries of an O-CSI.
 fn put_o_entries<L: Items<OCriteria>>(writer: &mut Writer, entries: &L) -> Result<(), TooLong>
-    ensures { OnOk result (writer.new ≡ before (map o_entry_element (sent_o_entries (L.items entries.now))) writer.old) }
+    ensures { OnOk result (writer.new
+        ≡ before (map o_entry_element (sent_o_entries (L.items entries.now))) writer.old) }
 {
     if entries.count() == 0 {
         return put_ignored_o_entry(writer);
@@ -111,7 +112,8 @@ fn put_o_entries<L: Items<OCriteria>>(writer: &mut Writer, entries: &L) -> Resul
 
 /// The entries of a VT-CSI.
 fn put_t_entries<L: Items<TCriteria>>(writer: &mut Writer, entries: &L) -> Result<(), TooLong>
-    ensures { OnOk result (writer.new ≡ before (map t_entry_element (sent_t_entries (L.items entries.now))) writer.old) }
+    ensures { OnOk result (writer.new
+        ≡ before (map t_entry_element (sent_t_entries (L.items entries.now))) writer.old) }
 {
     if entries.count() == 0 {
         return put_ignored_t_entry(writer);

@@ -84,9 +84,9 @@ fn append_record(imsi: &Imsi, subscriber: &Subscriber, out: &mut Vec<u8>) -> Res
     out.extend_from_slice(writer.as_slice())
 }
 
-/// Appends the octets of the InsertSubscriberData argument (TS 29.002) that makes a record, where its subscriber has just
-/// registered: each CSI that is stored, with its criteria. Criteria are absent if the CSI has no entries. The octets are
-/// as those of [`encode`](crate::encode).
+/// Appends the octets of the InsertSubscriberData argument (TS 29.002) that makes a record, where its subscriber has
+/// just registered: each CSI that is stored, with its criteria. Criteria are absent if the CSI has no entries. The
+/// octets are as those of [`encode`](crate::encode).
 ///
 /// It takes memory for a copy of the criteria, which it gives back, and at most once for the octets that `out` has no
 /// room for. Its steps are at most a constant times the octets.

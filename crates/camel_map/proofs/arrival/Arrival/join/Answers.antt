@@ -1,13 +1,12 @@
 use Rattle.std.proofs.Common.{◌≡◌, ◌∙◌, ℕ, List, Bool, true, false, not, Ok, bytes_eq, ap, subst, sym, refl}
 use Rattle.std.proofs.lemmas.Result.{err_from_is_err_and}
 use Rattle.std.proofs.lemmas.Slice.Eq.{bytes_eq-Decides}
-use Rattle.camel_rows.specs.Received.{o_criteria_set_of, o_csi_of, t_criteria_set_of, vt_csi_of}
 use Rattle.camel_map.specs.Arrival.{insert_with}
-use Rattle.camel_map.specs.Lists.{as_one, insert_of_lists, joined, latest, list_of}
+use Rattle.camel_map.specs.Lists.{as_one, insert_of_lists, latest}
 use Rattle.camel_map.specs.declared.arrival.Arrival.{Arrival}
 use Rattle.camel_map.specs.declared.arrival.CapabilityHandling.{CapabilityHandling}
 use Rattle.camel_map.proofs.InsertParts.{parts}
-use Rattle.camel_map.proofs.JoinedArrivals.{brings_insert, ends, received_lists, seen_back}
+use Rattle.camel_map.proofs.JoinedArrivals.{brings_insert, ends, made_as, received_lists}
 use Rattle.camel_map.proofs.arrival.Arrival.join.Goals as goal
 
 not_other : (imsi other : List ℕ) → false ≡ not (bytes_eq imsi other) → imsi ≡ other
@@ -46,7 +45,7 @@ returns-in_err-join_lists-clause-joined c =
     let second = parts imsi later c.args.next.now _ _ _ _ _ other c.in-Insert-update.is in
     let ended = c.in_err-join_lists.ensures earlier.o later.o first.o_is second.o_is in
     let returned = err_from_is_err_and c.from_residual.result c.from_residual.ensures.1 in
-    rw returned.1 (ends (list_of o_csi_of (joined earlier.o later.o)) _ _ _ returned.2 ended (λ refused. rw (refused) refl))
+    rw returned.1 (ends _ _ _ _ returned.2 ended (λ refused. rw (refused) refl))
 
 pub returns-in_err-join_lists-2-clause-joined : goal.returns-in_err-join_lists-2-clause-joined
 unfolding insert_of_lists
@@ -54,11 +53,11 @@ returns-in_err-join_lists-2-clause-joined c =
     λ imsi earlier later one other.
     let first = parts imsi earlier c.args.self.now _ _ _ _ _ one c.in-Insert.is in
     let second = parts imsi later c.args.next.now _ _ _ _ _ other c.in-Insert-update.is in
-    let o : list_of o_csi_of (joined earlier.o later.o) ≡ Ok c.in_ok-join_lists.field-0 =
-    c.in_ok-join_lists.ensures earlier.o later.o first.o_is second.o_is ∙ ap Ok (seen_back c.in_ok-join_lists.field-0) in
+    let o = made_as _ _ (c.in_ok-join_lists.ensures earlier.o later.o first.o_is second.o_is) in
     let ended = c.in_err-join_lists-2.ensures earlier.o_criteria later.o_criteria first.o_criteria_is second.o_criteria_is in
-    let returned = err_from_is_err_and c.from_residual-in_err-join_lists-2.result c.from_residual-in_err-join_lists-2.ensures.1 in
-    rw returned.1 (ends (list_of o_criteria_set_of (joined earlier.o_criteria later.o_criteria)) _ _ _ returned.2 ended (λ refused. rw (o, refused) refl))
+    let given = c.from_residual-in_err-join_lists-2 in
+    let returned = err_from_is_err_and given.result given.ensures.1 in
+    rw returned.1 (ends _ _ _ _ returned.2 ended (λ refused. rw (o, refused) refl))
 
 pub returns-in_err-join_lists-3-clause-joined : goal.returns-in_err-join_lists-3-clause-joined
 unfolding insert_of_lists
@@ -66,13 +65,12 @@ returns-in_err-join_lists-3-clause-joined c =
     λ imsi earlier later one other.
     let first = parts imsi earlier c.args.self.now _ _ _ _ _ one c.in-Insert.is in
     let second = parts imsi later c.args.next.now _ _ _ _ _ other c.in-Insert-update.is in
-    let o : list_of o_csi_of (joined earlier.o later.o) ≡ Ok c.in_ok-join_lists.field-0 =
-    c.in_ok-join_lists.ensures earlier.o later.o first.o_is second.o_is ∙ ap Ok (seen_back c.in_ok-join_lists.field-0) in
-    let o_criteria : list_of o_criteria_set_of (joined earlier.o_criteria later.o_criteria) ≡ Ok c.in_ok-join_lists-2.field-0 =
-    c.in_ok-join_lists-2.ensures earlier.o_criteria later.o_criteria first.o_criteria_is second.o_criteria_is ∙ ap Ok (seen_back c.in_ok-join_lists-2.field-0) in
+    let o = made_as _ _ (c.in_ok-join_lists.ensures earlier.o later.o first.o_is second.o_is) in
+    let o_criteria = made_as _ _ (c.in_ok-join_lists-2.ensures earlier.o_criteria later.o_criteria first.o_criteria_is second.o_criteria_is) in
     let ended = c.in_err-join_lists-3.ensures earlier.vt later.vt first.vt_is second.vt_is in
-    let returned = err_from_is_err_and c.from_residual-in_err-join_lists-3.result c.from_residual-in_err-join_lists-3.ensures.1 in
-    rw returned.1 (ends (list_of vt_csi_of (joined earlier.vt later.vt)) _ _ _ returned.2 ended (λ refused. rw (o, o_criteria, refused) refl))
+    let given = c.from_residual-in_err-join_lists-3 in
+    let returned = err_from_is_err_and given.result given.ensures.1 in
+    rw returned.1 (ends _ _ _ _ returned.2 ended (λ refused. rw (o, o_criteria, refused) refl))
 
 pub returns-in_err-join_lists-4-clause-joined : goal.returns-in_err-join_lists-4-clause-joined
 unfolding insert_of_lists
@@ -80,15 +78,13 @@ returns-in_err-join_lists-4-clause-joined c =
     λ imsi earlier later one other.
     let first = parts imsi earlier c.args.self.now _ _ _ _ _ one c.in-Insert.is in
     let second = parts imsi later c.args.next.now _ _ _ _ _ other c.in-Insert-update.is in
-    let o : list_of o_csi_of (joined earlier.o later.o) ≡ Ok c.in_ok-join_lists.field-0 =
-    c.in_ok-join_lists.ensures earlier.o later.o first.o_is second.o_is ∙ ap Ok (seen_back c.in_ok-join_lists.field-0) in
-    let o_criteria : list_of o_criteria_set_of (joined earlier.o_criteria later.o_criteria) ≡ Ok c.in_ok-join_lists-2.field-0 =
-    c.in_ok-join_lists-2.ensures earlier.o_criteria later.o_criteria first.o_criteria_is second.o_criteria_is ∙ ap Ok (seen_back c.in_ok-join_lists-2.field-0) in
-    let vt : list_of vt_csi_of (joined earlier.vt later.vt) ≡ Ok c.in_ok-join_lists-3.field-0 =
-    c.in_ok-join_lists-3.ensures earlier.vt later.vt first.vt_is second.vt_is ∙ ap Ok (seen_back c.in_ok-join_lists-3.field-0) in
+    let o = made_as _ _ (c.in_ok-join_lists.ensures earlier.o later.o first.o_is second.o_is) in
+    let o_criteria = made_as _ _ (c.in_ok-join_lists-2.ensures earlier.o_criteria later.o_criteria first.o_criteria_is second.o_criteria_is) in
+    let vt = made_as _ _ (c.in_ok-join_lists-3.ensures earlier.vt later.vt first.vt_is second.vt_is) in
     let ended = c.in_err-join_lists-4.ensures earlier.t_criteria later.t_criteria first.t_criteria_is second.t_criteria_is in
-    let returned = err_from_is_err_and c.from_residual-in_err-join_lists-4.result c.from_residual-in_err-join_lists-4.ensures.1 in
-    rw returned.1 (ends (list_of t_criteria_set_of (joined earlier.t_criteria later.t_criteria)) _ _ _ returned.2 ended (λ refused. rw (o, o_criteria, vt, refused) refl))
+    let given = c.from_residual-in_err-join_lists-4 in
+    let returned = err_from_is_err_and given.result given.ensures.1 in
+    rw returned.1 (ends _ _ _ _ returned.2 ended (λ refused. rw (o, o_criteria, vt, refused) refl))
 
 pub returns-clause-joined : goal.returns-clause-joined
 unfolding insert_of_lists
@@ -96,14 +92,10 @@ returns-clause-joined c =
     λ imsi earlier later one other.
     let first = parts imsi earlier c.args.self.now _ _ _ _ _ one c.in-Insert.is in
     let second = parts imsi later c.args.next.now _ _ _ _ _ other c.in-Insert-update.is in
-    let o : list_of o_csi_of (joined earlier.o later.o) ≡ Ok c.in_ok-join_lists.field-0 =
-    c.in_ok-join_lists.ensures earlier.o later.o first.o_is second.o_is ∙ ap Ok (seen_back c.in_ok-join_lists.field-0) in
-    let o_criteria : list_of o_criteria_set_of (joined earlier.o_criteria later.o_criteria) ≡ Ok c.in_ok-join_lists-2.field-0 =
-    c.in_ok-join_lists-2.ensures earlier.o_criteria later.o_criteria first.o_criteria_is second.o_criteria_is ∙ ap Ok (seen_back c.in_ok-join_lists-2.field-0) in
-    let vt : list_of vt_csi_of (joined earlier.vt later.vt) ≡ Ok c.in_ok-join_lists-3.field-0 =
-    c.in_ok-join_lists-3.ensures earlier.vt later.vt first.vt_is second.vt_is ∙ ap Ok (seen_back c.in_ok-join_lists-3.field-0) in
-    let t_criteria : list_of t_criteria_set_of (joined earlier.t_criteria later.t_criteria) ≡ Ok c.in_ok-join_lists-4.field-0 =
-    c.in_ok-join_lists-4.ensures earlier.t_criteria later.t_criteria first.t_criteria_is second.t_criteria_is ∙ ap Ok (seen_back c.in_ok-join_lists-4.field-0) in
+    let o = made_as _ _ (c.in_ok-join_lists.ensures earlier.o later.o first.o_is second.o_is) in
+    let o_criteria = made_as _ _ (c.in_ok-join_lists-2.ensures earlier.o_criteria later.o_criteria first.o_criteria_is second.o_criteria_is) in
+    let vt = made_as _ _ (c.in_ok-join_lists-3.ensures earlier.vt later.vt first.vt_is second.vt_is) in
+    let t_criteria = made_as _ _ (c.in_ok-join_lists-4.ensures earlier.t_criteria later.t_criteria first.t_criteria_is second.t_criteria_is) in
     let whole : c.insert.result ≡ insert_with c.in-Insert.imsi c.in_ok-join_lists.field-0 c.in_ok-join_lists-2.field-0
     c.in_ok-join_lists-3.field-0 c.in_ok-join_lists-4.field-0 c.latest.result = c.insert.ensures in
     rw (o, o_criteria, vt, t_criteria, first.imsi_is, whole, c.latest.ensures) refl
