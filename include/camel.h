@@ -21,8 +21,9 @@
  * time. No call takes a lock, waits or yields.
  *
  * Memory. The library calls malloc, realloc and free. A call that is refused memory returns CAMEL_OUT_OF_MEMORY, has
- * changed nothing (but see camel_keep), and may be made again. Only camel_open, camel_submit_*, camel_publish and
- * camel_keep ask for any, and a publication that returns CAMEL_HELD for none.
+ * changed nothing, but that a session which looks may have seen a later front, and may be made again. Only camel_open,
+ * camel_update_of_* and camel_update_join, camel_submit and camel_submit_*, camel_publish, camel_keep, camel_imsis_of
+ * and camel_encode_record ask for any, and a publication that returns CAMEL_HELD for none.
  *
  * What nothing checks. A handle is empty or as the library left it; a pointer is not null, but where NULL is named,
  * even one to no octets, and points to as much as is said; what is passed does not overlap; stores whose
@@ -41,12 +42,14 @@ extern "C" {
 
 /* The version of this header, and that of the layouts and of the functions below. camel_open compares the latter with
  * that of the library, which camel_abi_version returns. */
-#define CAMEL_VERSION "0.5.0"
-#define CAMEL_ABI_VERSION 2
+#define CAMEL_VERSION "0.6.0"
+#define CAMEL_ABI_VERSION 3
 
-/* The most sessions that a store has, and the most updates that it takes in its life. */
+/* The most sessions that a store has, the most updates that it takes in its life, and the most octets of an argument
+ * that camel_encode_record writes. */
 #define CAMEL_MAX_SESSIONS 64
 #define CAMEL_MAX_UPDATES UINT64_C(0x7fffffffffffffff)
+#define CAMEL_MAX_ARGUMENT 1198
 
 /* What a call returns is to be looked at, and no pointer that is passed to it is null. */
 #if defined(__GNUC__)
@@ -66,13 +69,15 @@ enum {
     CAMEL_OUT_OF_MEMORY = 102,
     CAMEL_NO_PLACE = 103,              /* a session got no place: no run meets it */
     CAMEL_NO_LOOK = 104,               /* the store has ended */
-    CAMEL_MALFORMED_OCTETS = 401,      /* from here on of camel_submit_map: the octets are no elements (ITU-T X.690) */
+    CAMEL_MALFORMED_OCTETS = 401,      /* from here to 407 of an argument: the octets are no elements (ITU-T X.690) */
     CAMEL_MISSING_FIELD = 402,         /* a field that must be there is missing */
     CAMEL_FIELD_TWICE = 403,           /* a field comes twice */
     CAMEL_WRONG_TAG = 404,             /* an element is none of the type that must be there */
     CAMEL_WRONG_LENGTH = 405,          /* contents have a wrong length for their type, or octets follow the argument */
     CAMEL_NO_IMSI = 406,               /* neither the argument nor the dialogue has an IMSI */
     CAMEL_OTHER_IMSI = 407,            /* the argument has another IMSI than the dialogue */
+    CAMEL_NO_INSERT = 408,             /* an update that is to be joined is no Insert */
+    CAMEL_OTHER_SUBSCRIBER = 409,      /* the updates that are to be joined are of different subscribers */
     CAMEL_HELD = 501,                  /* a look is held: try again once it is left */
     CAMEL_MALFORMED = 502,             /* no IMSI, address, event or operation, too long a list, or out of range */
     CAMEL_WRONG_HANDLE = 503,          /* the handle is empty, or of another kind, or the store has ended */
@@ -85,6 +90,8 @@ enum {
 typedef struct { void *at; bool is_full; } camel_store;
 typedef struct { void *at; bool is_full; } camel_session;
 typedef struct { void *at; bool is_full; } camel_subscriber;
+typedef struct { void *at; bool is_full; } camel_update;
+typedef struct { void *at; bool is_full; } camel_imsis;
 #define CAMEL_EMPTY { 0, 0 }
 
 /* Which updates a store has published: its number, and how many they are. The number is made of the seed, so a receipt
@@ -227,10 +234,40 @@ typedef struct {
  * counted modulo 2^64. */
 typedef struct { uint64_t by_reason[CAMEL_REASONS]; } camel_decisions;
 
+/* What an update is. */
+enum {
+    CAMEL_UPDATE_REGISTER = 1,
+    CAMEL_UPDATE_INSERT = 2,
+    CAMEL_UPDATE_DELETE = 3,
+    CAMEL_UPDATE_CANCEL = 4,
+    CAMEL_UPDATE_CLEAR_ALL = 5
+};
+
+/* What came with an update. Of an Insert: how many items came in each list, ignored ones among them, 1 to 10, or 0 if
+ * the list did not come; and the camelCapabilityHandling of each CSI, by which a switch chooses the version of CAP: the
+ * phase of CAMEL, 1 to 16 by TS 29.002. The withdrawal is what a Delete names. What the update does not have is 0. */
+typedef struct {
+    camel_imsi imsi; /* its number is 0 of a ClearAll */
+    uint8_t kind;    /* CAMEL_UPDATE_REGISTER to CAMEL_UPDATE_CLEAR_ALL */
+    uint8_t o_rows;
+    uint8_t o_criteria;
+    uint8_t vt_rows;
+    uint8_t t_criteria;
+    bool has_o_capability; /* whether camelCapabilityHandling came */
+    bool has_vt_capability;
+    uint32_t o_capability;
+    uint32_t vt_capability;
+    camel_withdrawal withdrawal;
+} camel_update_parts;
+
+/* An argument of MAP: the first `count` octets, and 0 behind them. */
+typedef struct { uint16_t count; uint8_t octets[CAMEL_MAX_ARGUMENT]; } camel_argument;
+
 uint32_t camel_abi_version(void);
 
-/* The sizes with which the library was built, of the structures from camel_receipt to camel_decisions in their order
- * and then of a handle: writes as many as there is room for, and returns how many there are. */
+/* The sizes with which the library was built, of the structures from camel_receipt to camel_argument in their order,
+ * in which camel_update_parts and camel_argument are behind camel_decisions, and then of a handle: writes as many as
+ * there is room for, and returns how many there are. */
 uint32_t camel_layouts(uint32_t *sizes, size_t size_count);
 
 /* Data, made once per call. CAMEL_MALFORMED: they are none, and what was to be written is as before. */
@@ -308,13 +345,11 @@ camel_status camel_submit_cancel(camel_store *store, const camel_imsi *imsi);
 CAMEL_CALL
 camel_status camel_submit_clear_all(camel_store *store);
 
-/* Submits what an Insert sends. For camel_submit_lists no pointer is NULL, also that of a list with no items. */
+/* The same lists without NULL: a list whose pointer is NULL has no items, and nothing is read of what stands for it. */
 CAMEL_CALL
-camel_status camel_submit_lists(camel_store *store, const camel_imsi *imsi, const camel_insert *sent);
-CAMEL_CALL
-static inline camel_status camel_submit_insert(camel_store *store, const camel_imsi *imsi, const camel_insert *sent)
+static inline camel_insert camel_without_null(const camel_insert *sent)
 {
-    static camel_row row; /* nothing is read of what stands for NULL, which has no items */
+    static camel_row row;
     static camel_o_criteria o;
     static camel_t_criteria t;
     camel_insert lists = *sent;
@@ -334,6 +369,16 @@ static inline camel_status camel_submit_insert(camel_store *store, const camel_i
         lists.vt.criteria = &t;
         lists.vt.criteria_count = 0;
     }
+    return lists;
+}
+
+/* Submits what an Insert sends. For camel_submit_lists no pointer is NULL, also that of a list with no items. */
+CAMEL_CALL
+camel_status camel_submit_lists(camel_store *store, const camel_imsi *imsi, const camel_insert *sent);
+CAMEL_CALL
+static inline camel_status camel_submit_insert(camel_store *store, const camel_imsi *imsi, const camel_insert *sent)
+{
+    camel_insert lists = camel_without_null(sent);
     return camel_submit_lists(store, imsi, &lists);
 }
 
@@ -346,6 +391,55 @@ static inline camel_status camel_submit_insert(camel_store *store, const camel_i
 CAMEL_CALL
 camel_status camel_submit_map(camel_store *store, uint8_t operation, const camel_imsi *imsi, const uint8_t *argument,
                               size_t argument_octet_count, uint64_t *place);
+
+/* Updates in handles, which are of no store. Each of these calls fills an empty handle with the update that the call
+ * camel_submit_* of its name submits, and returns the same statuses for its data, then CAMEL_FULL_HANDLE or
+ * CAMEL_OUT_OF_MEMORY. After a status other than CAMEL_OK the handle is as before. For camel_update_of_lists no pointer
+ * is NULL, and place is that of camel_submit_map. */
+CAMEL_CALL
+camel_status camel_update_of_register(const camel_imsi *imsi, camel_update *update);
+CAMEL_CALL
+camel_status camel_update_of_delete(const camel_imsi *imsi, const camel_withdrawal *what, camel_update *update);
+CAMEL_CALL
+camel_status camel_update_of_cancel(const camel_imsi *imsi, camel_update *update);
+CAMEL_CALL
+camel_status camel_update_of_clear_all(camel_update *update);
+CAMEL_CALL
+camel_status camel_update_of_lists(const camel_imsi *imsi, const camel_insert *sent, camel_update *update);
+CAMEL_CALL
+static inline camel_status camel_update_of_insert(const camel_imsi *imsi, const camel_insert *sent,
+                                                  camel_update *update)
+{
+    camel_insert lists = camel_without_null(sent);
+    return camel_update_of_lists(imsi, &lists, update);
+}
+CAMEL_CALL
+camel_status camel_update_of_map(uint8_t operation, const camel_imsi *imsi, const uint8_t *argument,
+                                 size_t argument_octet_count, camel_update *update, uint64_t *place);
+
+/* Joins two Inserts of one dialogue, over which an HLR has split the lists of a subscriber: `update` becomes what one
+ * operation brings that has the lists of both, with the items of `next` behind its own. Of a camelCapabilityHandling in
+ * both, that of `next` stands. `next` stays. CAMEL_NO_INSERT, CAMEL_OTHER_SUBSCRIBER; CAMEL_UNEXPECTED_DATA_VALUE: a
+ * list has more than 10 items then, or two of a detection point of the CSI. CAMEL_OUT_OF_MEMORY. After these, and if
+ * one of the handles holds no update, both are as before. */
+CAMEL_CALL
+camel_status camel_update_join(camel_update *update, const camel_update *next);
+
+/* Writes what came with an update. CAMEL_WRONG_HANDLE: the handle holds none, and the parts are as before. */
+CAMEL_CALL
+camel_status camel_update_parts_of(const camel_update *update, camel_update_parts *parts);
+
+/* Submits a copy of an update, which the handle keeps: it may be submitted again. The statuses are those by which the
+ * store rejects an update; memory may be refused for the copy too. */
+CAMEL_CALL
+camel_status camel_submit(camel_store *store, const camel_update *update);
+
+/* Submits copies of several updates in their order, as those of a location update: all are accepted, or none is. The
+ * store looks at each of them as if those before it were accepted, and `rejected` is the index of the first one that it
+ * rejects. Else, also if memory is refused or a handle is wrong, it is update_count. It is always written. A Cancel or
+ * a ClearAll, which leaves no record, is rejected with CAMEL_UNEXPECTED_DATA_VALUE. */
+CAMEL_CALL
+camel_status camel_submit_all(camel_store *store, const camel_update *updates, size_t update_count, size_t *rejected);
 
 /* Publishes all that is pending, also if nothing is. CAMEL_HELD: a look that began before the last publication is held.
  * CAMEL_OUT_OF_MEMORY. After both all is pending as before. */
@@ -408,6 +502,25 @@ camel_status camel_keep(camel_session *session, const camel_imsi *imsi, camel_su
 CAMEL_CALL
 camel_status camel_decide_kept(const camel_subscriber *subscriber, const camel_event *event, camel_answer *answer);
 
+/* Fills a handle with the IMSIs that have a record, over the look that has begun, or else by a look of its own: they
+ * are those of one front, whatever is published later, and also once the store has ended. They take memory of their
+ * own, and hold nobody up. */
+CAMEL_CALL
+camel_status camel_imsis_of(camel_session *session, camel_imsis *imsis);
+
+/* The next of these IMSIs, each once, in no order that is promised. Behind the last one is_there is false, and the IMSI
+ * is as before. */
+CAMEL_CALL
+camel_status camel_next_imsi(camel_imsis *imsis, camel_imsi *imsi, bool *is_there);
+
+/* Writes the argument of the InsertSubscriberData that makes the record of a subscriber where the subscriber has just
+ * registered, over the look that has begun, or else by a look of its own: what camel_submit_map or camel_update_of_map
+ * makes the record of again, as after a restart. is_there tells whether there is a record; if not, the argument is as
+ * before. It has the IMSI in itself. */
+CAMEL_CALL
+camel_status camel_encode_record(camel_session *session, const camel_imsi *imsi, camel_argument *argument,
+                                 bool *is_there);
+
 /* Ends the store and empties its handle; what is pending is dropped. Each look that is held goes on until it is left,
  * and no session begins another: CAMEL_NO_LOOK. CAMEL_HELD: a look is held. Then the store has ended all the same, but
  * its handle stays full: it is to be closed again, or freed, and the writer's other calls return CAMEL_WRONG_HANDLE. */
@@ -443,6 +556,8 @@ static inline const char *camel_status_name(camel_status status)
     case CAMEL_WRONG_LENGTH: return "CAMEL_WRONG_LENGTH";
     case CAMEL_NO_IMSI: return "CAMEL_NO_IMSI";
     case CAMEL_OTHER_IMSI: return "CAMEL_OTHER_IMSI";
+    case CAMEL_NO_INSERT: return "CAMEL_NO_INSERT";
+    case CAMEL_OTHER_SUBSCRIBER: return "CAMEL_OTHER_SUBSCRIBER";
     case CAMEL_HELD: return "CAMEL_HELD";
     case CAMEL_MALFORMED: return "CAMEL_MALFORMED";
     case CAMEL_WRONG_HANDLE: return "CAMEL_WRONG_HANDLE";
