@@ -1,10 +1,10 @@
 /* camel.hpp: classes of C++17 over camel.h, for its library libwenqolo.a.
  *
- * A Store is the writer's, and each Session is of one call-control thread. Store, Session, Look and Subscriber move,
- * are not copied, and free what they hold at their end, and when another is assigned to them. One that was made by
- * its default constructor, or moved from, holds nothing: its calls return CAMEL_WRONG_HANDLE, if their data are some,
- * and to leave a Look that holds nothing is no fault. An object is in one call at a time, but may be in several const
- * ones; different objects may be in calls at the same time. All else is plain data, the structs of camel.h.
+ * A Store is the writer's, and each Session is of one call-control thread. Store, Session, Look, Subscriber, Update and
+ * Imsis move, are not copied, and free what they hold at their end, and when another is assigned to them. One that was
+ * made by its default constructor, or moved from, holds nothing: its calls return CAMEL_WRONG_HANDLE, if their data are
+ * some, and to leave a Look that holds nothing is no fault. An object is in one call at a time, but may be in several
+ * const ones; different objects may be in calls at the same time. All else is plain data, the structs of camel.h.
  *
  * A call returns a Result: its value, or the status that says why it did nothing, with what camel.h says of it. Nothing
  * throws but the vector of open. Beside what camel.h leaves unchecked, one thing is left to the caller: a session is
@@ -18,6 +18,7 @@
 #include <exception>
 #include <optional>
 #include <string_view>
+#include <type_traits>
 #include <utility>
 #include <vector>
 
@@ -25,6 +26,7 @@ namespace camel {
 
 inline constexpr size_t MAX_SESSIONS = CAMEL_MAX_SESSIONS;
 inline constexpr uint64_t MAX_UPDATES = CAMEL_MAX_UPDATES;
+inline constexpr size_t MAX_ARGUMENT = CAMEL_MAX_ARGUMENT;
 
 /* A status that is not CAMEL_OK, on its way into a Result. */
 struct Failure {
@@ -106,17 +108,34 @@ enum class Operation : uint8_t {
     DeleteSubscriberData = CAMEL_DELETE_SUBSCRIBER_DATA
 };
 
-/* Whether octets were submitted. If not, `place` is the octet of the argument, from 0, at which its first fault is, and
- * 0 if the fault is none of the argument. */
-class [[nodiscard]] MapResult : public Result<void> {
+/* What is made of the octets of an argument. If nothing is, `place` is the octet of the argument, from 0, at which its
+ * first fault is, and 0 if the fault is none of the argument. */
+template <class T>
+class [[nodiscard]] Decoded : public Result<T> {
 public:
-    MapResult() = default;
-    MapResult(camel_status status, uint64_t place) noexcept : Result(Failure{ status }), place_(place) {}
+    using Result<T>::Result;
+    Decoded() = default;
+    Decoded(camel_status status, uint64_t place) noexcept : Result<T>(Failure{ status }), place_(place) {}
 
     uint64_t place() const noexcept { return place_; }
 
 private:
     uint64_t place_ = 0;
+};
+
+/* Whether octets were submitted. */
+using MapResult = Decoded<void>;
+
+/* Whether updates were submitted. `rejected` is the index of the one that the store rejects, or how many they are if it
+ * rejects none, as when memory is refused. */
+class [[nodiscard]] AllResult : public Result<void> {
+public:
+    AllResult(camel_status status, size_t rejected) noexcept : Result(Failure{ status }), rejected_(rejected) {}
+
+    size_t rejected() const noexcept { return rejected_; }
+
+private:
+    size_t rejected_;
 };
 
 namespace detail {
@@ -143,6 +162,19 @@ inline const uint8_t *somewhere(const uint8_t *octets, size_t count) noexcept
 {
     static constexpr uint8_t none = 0;
     return count == 0 ? &none : octets;
+}
+
+/* Makes a call of the library by the octets of an argument, the operation and the IMSI of the dialogue. */
+template <class Call>
+MapResult by_argument(Operation operation, std::optional<camel_imsi> imsi, Octets argument, Call call) noexcept
+{
+    if (imsi && imsi->number == 0) /* to the library, this number says that the dialogue has no IMSI */
+        return MapResult(CAMEL_MALFORMED, 0);
+    camel_imsi given = imsi.value_or(camel_imsi{ 0 });
+    uint64_t place = 0;
+    const uint8_t *octets = somewhere(argument.data, argument.count);
+    camel_status status = call(static_cast<uint8_t>(operation), &given, octets, argument.count, &place);
+    return status == CAMEL_OK ? MapResult() : MapResult(status, place);
 }
 
 /* What a call of the library writes if it is there. */
@@ -243,6 +275,84 @@ struct Csis {
     std::optional<std::vector<camel_t_criteria>> t_criteria;
 };
 
+namespace detail {
+
+/* What an Insert sends, where its lists lie. */
+inline camel_insert insert_of(const Csis &csis) noexcept
+{
+    return { sent_of<camel_sent_o_csi>(csis.o, csis.o_criteria), sent_of<camel_sent_vt_csi>(csis.vt, csis.t_criteria) };
+}
+
+} // namespace detail
+
+/* An update as a value, which is of no store: it is submitted by itself or with others, and Inserts are joined. The
+ * calls that make one return the statuses that a submission has of the same data, and CAMEL_OUT_OF_MEMORY. */
+class Update {
+public:
+    Update() = default;
+
+    static Result<Update> of_register(camel_imsi imsi) noexcept { return made(camel_update_of_register, &imsi); }
+    static Result<Update> of_insert(camel_imsi imsi, const Csis &csis) noexcept
+    {
+        camel_insert sent = detail::insert_of(csis);
+        return made(camel_update_of_insert, &imsi, &sent);
+    }
+    static Result<Update> of_delete(camel_imsi imsi, camel_withdrawal what) noexcept
+    {
+        return made(camel_update_of_delete, &imsi, &what);
+    }
+    static Result<Update> of_cancel(camel_imsi imsi) noexcept { return made(camel_update_of_cancel, &imsi); }
+    static Result<Update> of_clear_all() noexcept { return made(camel_update_of_clear_all); }
+
+    /* The update that an operation of MAP brings, by the octets of its argument, as Store::submit_map. */
+    static Decoded<Update> of_map(Operation operation, std::optional<camel_imsi> imsi, Octets argument) noexcept
+    {
+        Update update;
+        MapResult result = detail::by_argument(
+            operation, imsi, argument,
+            [&update](uint8_t code, const camel_imsi *dialogue, const uint8_t *octets, size_t count, uint64_t *place) {
+                return camel_update_of_map(code, dialogue, octets, count, update.handle_.at(), place);
+            });
+        if (!result)
+            return Decoded<Update>(result.status(), result.place());
+        return Decoded<Update>(std::move(update));
+    }
+
+    /* Becomes the join of itself and the next Insert of its dialogue: what one operation brings that has the lists of
+     * both. CAMEL_NO_INSERT, CAMEL_OTHER_SUBSCRIBER, CAMEL_UNEXPECTED_DATA_VALUE, CAMEL_OUT_OF_MEMORY: both are as
+     * before. The next one is another object. */
+    Result<void> join(const Update &next) noexcept
+    {
+        return detail::done(camel_update_join(handle_.at(), next.handle_.at()));
+    }
+
+    /* What came with it: which lists, and the camelCapabilityHandling of each CSI. */
+    Result<camel_update_parts> parts() const noexcept
+    {
+        return detail::read<camel_update_parts>(camel_update_parts_of, handle_.at());
+    }
+
+private:
+    friend class Store;
+
+    template <class Call, class... Given>
+    static Result<Update> made(Call call, Given... given) noexcept
+    {
+        Update update;
+        if (camel_status status = call(given..., update.handle_.at()))
+            return Failure{ status };
+        return Result<Update>(std::move(update));
+    }
+
+    detail::Owned<camel_update> handle_;
+};
+
+/* Updates of the caller's, in the order in which they are submitted. */
+struct Updates {
+    const Update *data;
+    size_t count;
+};
+
 /* Which updates a store has published, as plain data. */
 using Receipt = camel_receipt;
 
@@ -262,6 +372,20 @@ private:
     friend class Session;
 
     detail::Owned<camel_subscriber> handle_;
+};
+
+/* The IMSIs that have a record, of one front: a list of its own, which holds nobody up, and outlives the store. */
+class Imsis {
+public:
+    Imsis() = default;
+
+    /* The next one, and nothing behind the last one: each once, in no order that is promised. */
+    Maybe<camel_imsi> next() noexcept { return detail::find<camel_imsi>(camel_next_imsi, handle_.at()); }
+
+private:
+    friend class Session;
+
+    detail::Owned<camel_imsis> handle_;
 };
 
 class Look;
@@ -319,6 +443,23 @@ public:
         return is_there ? Optional<Subscriber>(std::move(subscriber)) : Optional<Subscriber>();
     }
 
+    /* The IMSIs that have a record. If memory is refused, here and of the next call, the session may have seen a later
+     * front. */
+    Result<Imsis> imsis() noexcept
+    {
+        Imsis imsis;
+        if (camel_status status = camel_imsis_of(handle_.at(), imsis.handle_.at()))
+            return Failure{ status };
+        return Result<Imsis>(std::move(imsis));
+    }
+
+    /* The argument of the InsertSubscriberData that makes the record of a subscriber where the subscriber has just
+     * registered, if there is a record. */
+    Maybe<camel_argument> encode_record(camel_imsi imsi) noexcept
+    {
+        return detail::find<camel_argument>(camel_encode_record, handle_.at(), &imsi);
+    }
+
 private:
     friend class Store;
     friend class Look;
@@ -358,6 +499,8 @@ public:
         return ask(&Session::t_criteria_at, imsi, dp);
     }
     Maybe<Subscriber> keep(camel_imsi imsi) noexcept { return ask(&Session::keep, imsi); }
+    Result<Imsis> imsis() noexcept { return ask(&Session::imsis); }
+    Maybe<camel_argument> encode_record(camel_imsi imsi) noexcept { return ask(&Session::encode_record, imsi); }
 
 private:
     friend class Session;
@@ -406,8 +549,7 @@ public:
     Result<void> submit_clear_all() noexcept { return detail::done(camel_submit_clear_all(handle_.at())); }
     Result<void> submit_insert(camel_imsi imsi, const Csis &csis) noexcept
     {
-        camel_insert sent{ detail::sent_of<camel_sent_o_csi>(csis.o, csis.o_criteria),
-                           detail::sent_of<camel_sent_vt_csi>(csis.vt, csis.t_criteria) };
+        camel_insert sent = detail::insert_of(csis);
         return detail::done(camel_submit_insert(handle_.at(), &imsi, &sent));
     }
 
@@ -415,14 +557,27 @@ public:
      * IMSI is that of the dialogue, if the dialogue has one. */
     MapResult submit_map(Operation operation, std::optional<camel_imsi> imsi, Octets argument) noexcept
     {
-        if (imsi && imsi->number == 0) /* to the library, this number says that the dialogue has no IMSI */
-            return MapResult(CAMEL_MALFORMED, 0);
-        camel_imsi given = imsi.value_or(camel_imsi{ 0 });
-        uint64_t place = 0;
-        const uint8_t *octets = detail::somewhere(argument.data, argument.count);
-        camel_status status = camel_submit_map(handle_.at(), static_cast<uint8_t>(operation), &given, octets,
-                                               argument.count, &place);
-        return status == CAMEL_OK ? MapResult() : MapResult(status, place);
+        return detail::by_argument(operation, imsi, argument,
+                                   [this](auto... given) { return camel_submit_map(handle_.at(), given...); });
+    }
+
+    /* Submits a copy of an update, which may be submitted again. */
+    Result<void> submit(const Update &update) noexcept
+    {
+        return detail::done(camel_submit(handle_.at(), update.handle_.at()));
+    }
+
+    /* Submits copies of updates in their order, as those of a location update: all are accepted, or none is. */
+    AllResult submit_all(Updates updates) noexcept
+    {
+        /* An Update is its handle and nothing else, so they lie as the handles do. */
+        static_assert(std::is_standard_layout_v<Update> && sizeof(Update) == sizeof(camel_update));
+        const Update none;
+        const Update *first = updates.count == 0 ? &none : updates.data;
+        size_t rejected = updates.count;
+        camel_status status =
+            camel_submit_all(handle_.at(), reinterpret_cast<const camel_update *>(first), updates.count, &rejected);
+        return AllResult(status, rejected);
     }
 
     /* Publishes all that is pending, also if nothing is, and gives a receipt of all that is published. */
