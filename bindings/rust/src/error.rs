@@ -36,6 +36,10 @@ pub enum Error {
     NoImsi,
     /// The argument has another IMSI than the dialogue (407).
     OtherImsi,
+    /// An update that is to be joined is no Insert (408).
+    NoInsert,
+    /// The updates that are to be joined are of different subscribers (409).
+    OtherSubscriber,
     /// A look is held (501): try again once it is left.
     Held,
     /// What was handed in is not an IMSI, an address, a detection point or a number in range (502).
@@ -70,6 +74,8 @@ impl Error {
             Error::WrongLength => 405,
             Error::NoImsi => 406,
             Error::OtherImsi => 407,
+            Error::NoInsert => 408,
+            Error::OtherSubscriber => 409,
             Error::Held => 501,
             Error::Malformed => 502,
             Error::WrongHandle => 503,
@@ -97,6 +103,8 @@ impl Error {
             405 => Error::WrongLength,
             406 => Error::NoImsi,
             407 => Error::OtherImsi,
+            408 => Error::NoInsert,
+            409 => Error::OtherSubscriber,
             501 => Error::Held,
             502 => Error::Malformed,
             503 => Error::WrongHandle,
@@ -125,6 +133,8 @@ impl fmt::Display for Error {
             Error::WrongLength => "the contents have a wrong length",
             Error::NoImsi => "there is no IMSI",
             Error::OtherImsi => "the IMSI is not that of the dialogue",
+            Error::NoInsert => "an update that is to be joined is no Insert",
+            Error::OtherSubscriber => "the updates are of different subscribers",
             Error::Held => "a look is held",
             Error::Malformed => "what was handed in is malformed",
             Error::WrongHandle => "the handle is not of this call",

@@ -2,7 +2,7 @@
 use std::ffi::c_void;
 use std::mem::{offset_of, size_of};
 
-pub const ABI_VERSION: u32 = 2;
+pub const ABI_VERSION: u32 = 3;
 
 pub type Status = u32;
 pub const OK: Status = 0;
@@ -31,7 +31,7 @@ macro_rules! handles {
     )* };
 }
 
-handles! { Store Session Subscriber }
+handles! { Store Session Subscriber Update Imsis }
 
 #[repr(C)]
 #[derive(Clone, Copy, PartialEq, Eq, Hash)]
@@ -281,6 +281,64 @@ impl Decisions {
     };
 }
 
+pub const UPDATE_REGISTER: u8 = 1;
+pub const UPDATE_INSERT: u8 = 2;
+pub const UPDATE_DELETE: u8 = 3;
+pub const UPDATE_CANCEL: u8 = 4;
+pub const UPDATE_CLEAR_ALL: u8 = 5;
+
+#[repr(C)]
+#[derive(Clone, Copy)]
+pub struct UpdateParts {
+    pub imsi: Imsi,
+    pub kind: u8,
+    pub o_rows: u8,
+    pub o_criteria: u8,
+    pub vt_rows: u8,
+    pub t_criteria: u8,
+    pub has_o_capability: bool,
+    pub has_vt_capability: bool,
+    pub o_capability: u32,
+    pub vt_capability: u32,
+    pub withdrawal: Withdrawal,
+}
+
+impl UpdateParts {
+    pub const NONE: UpdateParts = UpdateParts {
+        imsi: Imsi { number: 0 },
+        kind: 0,
+        o_rows: 0,
+        o_criteria: 0,
+        vt_rows: 0,
+        t_criteria: 0,
+        has_o_capability: false,
+        has_vt_capability: false,
+        o_capability: 0,
+        vt_capability: 0,
+        withdrawal: Withdrawal {
+            o: false,
+            vt: false,
+            everything: false,
+        },
+    };
+}
+
+pub const MAX_ARGUMENT: usize = 1198;
+
+#[repr(C)]
+#[derive(Clone, Copy)]
+pub struct Argument {
+    pub count: u16,
+    pub octets: [u8; MAX_ARGUMENT],
+}
+
+impl Argument {
+    pub const NONE: Argument = Argument {
+        count: 0,
+        octets: [0; MAX_ARGUMENT],
+    };
+}
+
 /// A call that writes what a subscriber has at a detection point, and whether there is anything.
 pub type FindAt<T> =
     unsafe extern "C" fn(*mut Session, *const Imsi, u8, *mut T, *mut bool) -> Status;
@@ -327,6 +385,37 @@ unsafe extern "C" {
         argument: *const u8,
         argument_octet_count: usize,
         place: *mut u64,
+    ) -> Status;
+
+    pub fn camel_update_of_register(imsi: *const Imsi, update: *mut Update) -> Status;
+    pub fn camel_update_of_delete(
+        imsi: *const Imsi,
+        what: *const Withdrawal,
+        update: *mut Update,
+    ) -> Status;
+    pub fn camel_update_of_cancel(imsi: *const Imsi, update: *mut Update) -> Status;
+    pub fn camel_update_of_clear_all(update: *mut Update) -> Status;
+    pub fn camel_update_of_lists(
+        imsi: *const Imsi,
+        sent: *const Insert,
+        update: *mut Update,
+    ) -> Status;
+    pub fn camel_update_of_map(
+        operation: u8,
+        imsi: *const Imsi,
+        argument: *const u8,
+        argument_octet_count: usize,
+        update: *mut Update,
+        place: *mut u64,
+    ) -> Status;
+    pub fn camel_update_join(update: *mut Update, next: *const Update) -> Status;
+    pub fn camel_update_parts_of(update: *const Update, parts: *mut UpdateParts) -> Status;
+    pub fn camel_submit(store: *mut Store, update: *const Update) -> Status;
+    pub fn camel_submit_all(
+        store: *mut Store,
+        updates: *const Update,
+        update_count: usize,
+        rejected: *mut usize,
     ) -> Status;
 
     pub fn camel_publish(store: *mut Store) -> Status;
@@ -376,6 +465,15 @@ unsafe extern "C" {
         answer: *mut Answer,
     ) -> Status;
 
+    pub fn camel_imsis_of(session: *mut Session, imsis: *mut Imsis) -> Status;
+    pub fn camel_next_imsi(imsis: *mut Imsis, imsi: *mut Imsi, is_there: *mut bool) -> Status;
+    pub fn camel_encode_record(
+        session: *mut Session,
+        imsi: *const Imsi,
+        argument: *mut Argument,
+        is_there: *mut bool,
+    ) -> Status;
+
     pub fn camel_close(store: *mut Store) -> Status;
     pub fn camel_empty(handle: *mut c_void);
 }
@@ -385,6 +483,7 @@ const _: () = {
     assert!(size_of::<Store>() == 2 * size_of::<*mut c_void>());
     assert!(size_of::<Session>() == size_of::<Store>());
     assert!(size_of::<Subscriber>() == size_of::<Store>());
+    assert!(size_of::<Update>() == size_of::<Store>() && size_of::<Imsis>() == size_of::<Store>());
     assert!(size_of::<Receipt>() == 16 && offset_of!(Receipt, front) == 8);
     assert!(size_of::<Imsi>() == 8);
     assert!(size_of::<Address>() == 21);
@@ -406,4 +505,7 @@ const _: () = {
     assert!(size_of::<Answer>() == 32 && offset_of!(Answer, reason) == 25);
     assert!(size_of::<Counts>() == 32 && offset_of!(Counts, held) == 24);
     assert!(size_of::<Decisions>() == 8 * REASONS);
+    assert!(size_of::<UpdateParts>() == 32 && offset_of!(UpdateParts, o_capability) == 16);
+    assert!(offset_of!(UpdateParts, kind) == 8 && offset_of!(UpdateParts, withdrawal) == 24);
+    assert!(size_of::<Argument>() == 2 + MAX_ARGUMENT && offset_of!(Argument, octets) == 2);
 };

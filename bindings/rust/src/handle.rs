@@ -5,7 +5,8 @@ use std::cell::UnsafeCell;
 /// A handle that only this value has. It is never copied: a move copies its bytes and forgets the old ones.
 ///
 /// The cell lets the calls of a look take `&self`. It makes the type one that is not `Sync`, so that no two threads are
-/// in calls with one handle at a time.
+/// in calls with one handle at a time. It is transparent over the handle, so handles of a slice lie as those of C do.
+#[repr(transparent)]
 pub(crate) struct Owned<T: Handle>(UnsafeCell<T>);
 
 impl<T: Handle> Owned<T> {
@@ -20,8 +21,8 @@ impl<T: Handle> Owned<T> {
     }
 
     /// The handle for one call of the library. It is empty or as the library left it, and in no other call, except that
-    /// a [`Subscriber`](crate::Subscriber) may be in several that only read it: no other thread has a reference to it
-    /// else, and the library calls nothing back.
+    /// a [`Subscriber`](crate::Subscriber) or a [`PreparedUpdate`](crate::PreparedUpdate) may be in several that only
+    /// read it: no other thread has a reference to it else, and the library calls nothing back.
     pub fn at(&self) -> *mut T {
         self.0.get()
     }

@@ -3,7 +3,8 @@
 //! A [`Store`] has the O-CSI and VT-CSI of each subscriber, with their criteria, as the HLR sends them. Its one writer
 //! submits an [`Update`] of each operation, or the octets of its argument, and publishes them; each call-control thread
 //! has a [`Session`], and asks at trigger detection points 2, 4, 12, 13 and 14 whether a service is invoked. No call
-//! takes a lock, waits or yields.
+//! takes a lock, waits or yields. A [`PreparedUpdate`] is made before it is submitted: so lists that an HLR splits over
+//! operations are joined, and the updates of a location update are accepted together, or none of them is.
 //!
 //! ```
 //! use camel::{Address, BasicService, Csis, Event, Imsi, IsdnAddress, MAX_UPDATES, Profile, Row, Store, Update};
@@ -50,7 +51,9 @@ mod ffi;
 mod handle;
 mod map;
 mod numbers;
+mod prepared;
 mod receipt;
+mod records;
 mod session;
 mod store;
 mod update;
@@ -61,7 +64,9 @@ pub use error::Error;
 pub use event::{BasicService, Cause, DetectionPoint, Event};
 pub use map::{MapFault, Operation};
 pub use numbers::{Address, Imsi, ImsiDigits, ImsiTbcd, IsdnAddress};
+pub use prepared::{CapabilityHandling, ItemCounts, PreparedUpdate, Rejected, UpdateParts};
 pub use receipt::{Receipt, Subscriber};
+pub use records::{Argument, Imsis, MAX_ARGUMENT};
 pub use session::{Look, Session};
 pub use store::{Closing, Counts, Holders, MAX_SESSIONS, MAX_UPDATES, Profile, Store};
 pub use update::{Csis, Update, Withdrawal};

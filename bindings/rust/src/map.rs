@@ -33,7 +33,7 @@ impl Operation {
     }
 }
 
-/// Why octets were not submitted, and where. It becomes its [`Error`] by `?`.
+/// Why octets were not submitted, or are no update, and where. It becomes its [`Error`] by `?`.
 #[derive(Clone, Copy, Debug, PartialEq, Eq, Hash)]
 pub struct MapFault {
     /// Why.
@@ -73,8 +73,6 @@ pub(crate) fn submit(
     imsi: Option<Imsi>,
     argument: &[u8],
 ) -> Result<(), MapFault> {
-    // To the library, the number 0 says that the dialogue has no IMSI.
-    let imsi = imsi.map_or(ffi::Imsi { number: 0 }, Imsi::raw);
     let mut place = 0;
     // SAFETY: the handle is as the library left it, and in no other call, since this has it by `&mut`; the pointer and
     // the length are of one slice, and the pointer of a slice of none is not null; the IMSI and the place are apart
@@ -83,12 +81,43 @@ pub(crate) fn submit(
         ffi::camel_submit_map(
             store.at(),
             operation.code(),
-            &imsi,
+            &dialogue_of(imsi),
             argument.as_ptr(),
             argument.len(),
             &mut place,
         )
     };
+    done_at(status, place)
+}
+
+/// Fills the empty handle of an update with what the octets of an argument are.
+pub(crate) fn prepare(
+    update: &mut Owned<ffi::Update>,
+    operation: Operation,
+    imsi: Option<Imsi>,
+    argument: &[u8],
+) -> Result<(), MapFault> {
+    let mut place = 0;
+    // SAFETY: as of `submit`.
+    let status = unsafe {
+        ffi::camel_update_of_map(
+            operation.code(),
+            &dialogue_of(imsi),
+            argument.as_ptr(),
+            argument.len(),
+            update.at(),
+            &mut place,
+        )
+    };
+    done_at(status, place)
+}
+
+/// The IMSI of a dialogue. To the library, the number 0 says that the dialogue has none.
+fn dialogue_of(imsi: Option<Imsi>) -> ffi::Imsi {
+    imsi.map_or(ffi::Imsi { number: 0 }, Imsi::raw)
+}
+
+fn done_at(status: ffi::Status, place: u64) -> Result<(), MapFault> {
     done(status).map_err(|error| MapFault {
         error,
         place: place as usize,

@@ -2,14 +2,14 @@
 use crate::error::done;
 use crate::handle::Owned;
 use crate::{
-    Answer, Decisions, DetectionPoint, Error, Event, Imsi, OCriteria, Receipt, Row, Subscriber,
-    TCriteria, ffi,
+    Answer, Argument, Decisions, DetectionPoint, Error, Event, Imsi, Imsis, OCriteria, Receipt,
+    Row, Subscriber, TCriteria, ffi,
 };
 use std::fmt;
 use std::marker::PhantomData;
 
 /// What one call-control thread decides its calls by. No call takes a lock, waits or yields, and none but
-/// [`keep`](Session::keep) takes memory.
+/// [`keep`](Session::keep), [`imsis`](Session::imsis) and [`encode_record`](Session::encode_record) takes memory.
 ///
 /// Each call has a look of its own; [`look`](Session::look) has several over one front. The front of a session never
 /// goes back.
@@ -136,6 +136,26 @@ impl Session {
         self.keep_over(imsi)
     }
 
+    /// Lists the IMSIs that have a record, of one front. The list has memory of its own, and holds nobody up.
+    ///
+    /// # Errors
+    /// As [`keep`](Session::keep).
+    pub fn imsis(&mut self) -> Result<Imsis, Error> {
+        self.leave_forgotten()?;
+        self.imsis_over()
+    }
+
+    /// Encodes the record of a subscriber, as the argument of the InsertSubscriberData that makes it where the
+    /// subscriber has just registered; None if there is no record. After a restart
+    /// [`PreparedUpdate::from_map`](crate::PreparedUpdate::from_map) decodes it.
+    ///
+    /// # Errors
+    /// As [`keep`](Session::keep).
+    pub fn encode_record(&mut self, imsi: Imsi) -> Result<Option<Argument>, Error> {
+        self.leave_forgotten()?;
+        self.encode_record_over(imsi)
+    }
+
     /// Leaves the look of a [`Look`] that was forgotten, so that each look is of its own call again.
     #[inline]
     fn leave_forgotten(&mut self) -> Result<(), Error> {
@@ -215,6 +235,25 @@ impl Session {
             )
         })?;
         Ok(is_there.then_some(subscriber))
+    }
+
+    fn imsis_over(&self) -> Result<Imsis, Error> {
+        let imsis = Imsis {
+            handle: Owned::empty(),
+        };
+        // SAFETY: both handles are fit for a call, as `Owned` says, and that of the list is empty.
+        done(unsafe { ffi::camel_imsis_of(self.handle.at(), imsis.handle.at()) })?;
+        Ok(imsis)
+    }
+
+    fn encode_record_over(&self, imsi: Imsi) -> Result<Option<Argument>, Error> {
+        let mut argument = ffi::Argument::NONE;
+        let mut is_there = false;
+        // SAFETY: the handle is fit for a call, as `Owned` says; what is read and written is apart from it.
+        done(unsafe {
+            ffi::camel_encode_record(self.handle.at(), &imsi.raw(), &mut argument, &mut is_there)
+        })?;
+        Ok(is_there.then(|| Argument::of_raw(argument)))
     }
 }
 
@@ -308,6 +347,22 @@ impl Look<'_> {
     /// As [`decide`](Look::decide), and [`Error::OutOfMemory`]: ask again, the look is as before.
     pub fn keep(&self, imsi: Imsi) -> Result<Option<Subscriber>, Error> {
         self.session.keep_over(imsi)
+    }
+
+    /// Lists the IMSIs that have a record, of the front of the look. The list does not hold the look.
+    ///
+    /// # Errors
+    /// As [`keep`](Look::keep).
+    pub fn imsis(&self) -> Result<Imsis, Error> {
+        self.session.imsis_over()
+    }
+
+    /// Encodes the record of a subscriber, of the front of the look; None if there is no record.
+    ///
+    /// # Errors
+    /// As [`keep`](Look::keep).
+    pub fn encode_record(&self, imsi: Imsi) -> Result<Option<Argument>, Error> {
+        self.session.encode_record_over(imsi)
     }
 
     /// Leaves the look, as a drop does.

@@ -2,7 +2,10 @@
 use crate::error::done;
 use crate::ffi::Handle;
 use crate::handle::Owned;
-use crate::{Error, Imsi, MapFault, Operation, Receipt, Session, Update, ffi, map};
+use crate::{
+    Error, Imsi, MapFault, Operation, PreparedUpdate, Receipt, Rejected, Session, Update, ffi, map,
+    prepared,
+};
 use std::fmt;
 
 /// The most sessions of a store.
@@ -149,6 +152,26 @@ impl Store {
         argument: &[u8],
     ) -> Result<(), MapFault> {
         map::submit(&mut self.handle, operation, imsi, argument)
+    }
+
+    /// Submits a copy of an update that is made already. It may be submitted again. No call sees it before it is
+    /// published.
+    ///
+    /// # Errors
+    /// The store is as before. The errors of [`submit`](Store::submit), but those of its data.
+    pub fn submit_prepared(&mut self, update: &PreparedUpdate) -> Result<(), Error> {
+        update.submit(&mut self.handle)
+    }
+
+    /// Submits copies of several updates in their order: all of them are accepted, or none is. So the Register and the
+    /// Insert of a location update are taken or rejected as one. No call sees them before they are published.
+    ///
+    /// # Errors
+    /// The store is as before. The first update that the store rejects over those before it is named, with an error of
+    /// [`submit_prepared`](Store::submit_prepared). A Cancel or a ClearAll, which leaves no record, is rejected with
+    /// [`Error::UnexpectedDataValue`]. [`Error::OutOfMemory`]: submit them again.
+    pub fn submit_all(&mut self, updates: &[PreparedUpdate]) -> Result<(), Rejected> {
+        prepared::submit_all(&mut self.handle, updates)
     }
 
     /// Publishes all that is pending, also if nothing is, and gives a receipt of all that is published. For a receipt

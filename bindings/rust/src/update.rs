@@ -66,11 +66,13 @@ impl Update {
     pub(crate) fn submit(&self, store: &mut Owned<ffi::Store>) -> Result<(), Error> {
         let store = store.at();
         // SAFETY: the handle is as the library left it, and in no other call, since this has it by `&mut`; each IMSI
-        // and withdrawal lives as long as the call.
+        // and withdrawal lives as long as the call, and so do the lists, which are as `Csis::raw` says.
         done(unsafe {
             match self {
                 Update::Register { imsi } => ffi::camel_submit_register(store, &imsi.raw()),
-                Update::Insert { imsi, csis } => submit_insert(store, *imsi, csis),
+                Update::Insert { imsi, csis } => {
+                    ffi::camel_submit_lists(store, &imsi.raw(), &csis.raw())
+                }
                 Update::Delete { imsi, what } => {
                     ffi::camel_submit_delete(store, &imsi.raw(), &what.raw())
                 }
@@ -81,18 +83,15 @@ impl Update {
     }
 }
 
-/// Submits an Insert.
-///
-/// # Safety
-/// The handle is of a store, as the library left it, and in no other call.
-unsafe fn submit_insert(store: *mut ffi::Store, imsi: Imsi, csis: &Csis) -> ffi::Status {
-    let sent = ffi::Insert {
-        o: sent_of(&csis.o, &csis.o_criteria),
-        vt: sent_of(&csis.vt, &csis.t_criteria),
-    };
-    // SAFETY: the handle is so; each pointer and count are of one slice, whose items are transparent over those of the
-    // library, and the pointer of a slice of none is not null.
-    unsafe { ffi::camel_submit_lists(store, &imsi.raw(), &sent) }
+impl Csis {
+    /// The lists, where they lie. Each pointer and count are of one slice, whose items are transparent over those of
+    /// the library, and the pointer of a slice of none is not null.
+    pub(crate) fn raw(&self) -> ffi::Insert {
+        ffi::Insert {
+            o: sent_of(&self.o, &self.o_criteria),
+            vt: sent_of(&self.vt, &self.t_criteria),
+        }
+    }
 }
 
 /// The lists of a CSI, where they lie. `C` is transparent over the criteria `R` of the library.
@@ -111,7 +110,15 @@ fn sent_of<C, R>(rows: &Option<Vec<Row>>, criteria: &Option<Vec<C>>) -> ffi::Sen
 }
 
 impl Withdrawal {
-    fn raw(self) -> ffi::Withdrawal {
+    pub(crate) fn of_raw(what: ffi::Withdrawal) -> Withdrawal {
+        Withdrawal {
+            o: what.o,
+            vt: what.vt,
+            everything: what.everything,
+        }
+    }
+
+    pub(crate) fn raw(self) -> ffi::Withdrawal {
         ffi::Withdrawal {
             o: self.o,
             vt: self.vt,

@@ -2,7 +2,7 @@
 use camel::Error;
 use std::path::{Path, PathBuf};
 
-const ERRORS: [(Error, &str); 20] = [
+const ERRORS: [(Error, &str); 22] = [
     (
         Error::UnidentifiedSubscriber,
         "CAMEL_UNIDENTIFIED_SUBSCRIBER",
@@ -20,6 +20,8 @@ const ERRORS: [(Error, &str); 20] = [
     (Error::WrongLength, "CAMEL_WRONG_LENGTH"),
     (Error::NoImsi, "CAMEL_NO_IMSI"),
     (Error::OtherImsi, "CAMEL_OTHER_IMSI"),
+    (Error::NoInsert, "CAMEL_NO_INSERT"),
+    (Error::OtherSubscriber, "CAMEL_OTHER_SUBSCRIBER"),
     (Error::Held, "CAMEL_HELD"),
     (Error::Malformed, "CAMEL_MALFORMED"),
     (Error::WrongHandle, "CAMEL_WRONG_HANDLE"),

@@ -29,6 +29,8 @@ fn types_have_the_sizes_of_the_library() {
         size_of::<ffi::Answer>(),
         size_of::<ffi::Counts>(),
         size_of::<ffi::Decisions>(),
+        size_of::<ffi::UpdateParts>(),
+        size_of::<ffi::Argument>(),
         size_of::<ffi::Store>(),
     ]
     .map(|size| size as u32);

@@ -1,8 +1,8 @@
 //! What the crate makes of the library: receipts are plain data, a store that is held comes back, a look is left.
 use camel::{
     Address, Answer, BasicService, Cause, Closing, Counts, Csis, Decisions, DetectionPoint, Error,
-    Event, Imsi, IsdnAddress, MAX_UPDATES, OnFailure, Outcome, Profile, Reason, Receipt, Row,
-    Session, Store, Subscriber, Update, Withdrawal,
+    Event, Imsi, Imsis, IsdnAddress, MAX_UPDATES, OnFailure, Outcome, PreparedUpdate, Profile,
+    Reason, Receipt, Row, Session, Store, Subscriber, Update, Withdrawal,
 };
 
 fn imsi() -> Imsi {
@@ -293,9 +293,9 @@ fn handles_move_between_threads() {
     fn is_send<T: Send>() {}
     fn is_shared<T: Copy + Send + Sync>() {}
     fn is_read<T: Send + Sync>() {}
-    is_send::<(Store, Closing, Session, Update, Event)>();
+    is_send::<(Store, Closing, Session, Update, Event, Imsis)>();
     is_shared::<(Receipt, Counts, Decisions, Imsi, Answer)>();
-    is_read::<Subscriber>();
+    is_read::<(Subscriber, PreparedUpdate)>();
     let (store, mut session, mut other) = open();
     let receipt = store.receipt().unwrap();
     let ended = std::thread::spawn(move || {

@@ -1,0 +1,302 @@
+//! Updates that are made before they are submitted: decoded, joined, and submitted together.
+use crate::error::done;
+use crate::handle::Owned;
+use crate::{Error, Imsi, MapFault, Operation, Update, Withdrawal, ffi, map};
+use std::fmt;
+
+/// An update that the library has read or decoded, and that is of no store. It may be submitted to any, and more than
+/// once: by itself ([`Store::submit_prepared`](crate::Store::submit_prepared)) or with others, all or none
+/// ([`Store::submit_all`](crate::Store::submit_all)). Threads may share it.
+///
+/// ```
+/// use camel::{Operation, PreparedUpdate, Store, Update};
+///
+/// /// What the HLR sends of a subscriber at a location update, in one operation or in two.
+/// fn location_update(
+///     store: &mut Store,
+///     imsi: camel::Imsi,
+///     first: &[u8],
+///     second: Option<&[u8]>,
+/// ) -> Result<(), camel::Error> {
+///     let register = PreparedUpdate::new(&Update::Register { imsi })?;
+///     let mut insert = PreparedUpdate::from_map(Operation::InsertSubscriberData, Some(imsi), first)?;
+///     if let Some(second) = second {
+///         insert.join(&PreparedUpdate::from_map(Operation::InsertSubscriberData, Some(imsi), second)?)?;
+///     }
+///     Ok(store.submit_all(&[register, insert])?)
+/// }
+/// ```
+#[repr(transparent)]
+pub struct PreparedUpdate {
+    handle: Owned<ffi::Update>,
+}
+
+// SAFETY: the calls that are made by a shared reference take the handle as const, and several such calls may be made
+// with it at the same time.
+unsafe impl Sync for PreparedUpdate {}
+
+impl PreparedUpdate {
+    /// Reads an update.
+    ///
+    /// # Errors
+    /// [`Error::DataMissing`] and [`Error::UnexpectedDataValue`] of its data, as those of
+    /// [`Store::submit`](crate::Store::submit). [`Error::OutOfMemory`]: try again.
+    pub fn new(update: &Update) -> Result<PreparedUpdate, Error> {
+        let made = PreparedUpdate {
+            handle: Owned::empty(),
+        };
+        let handle = made.handle.at();
+        // SAFETY: the handle is empty, and in no other call; each IMSI and withdrawal lives as long as the call, and so
+        // do the lists, which are as `Csis::raw` says.
+        done(unsafe {
+            match update {
+                Update::Register { imsi } => ffi::camel_update_of_register(&imsi.raw(), handle),
+                Update::Insert { imsi, csis } => {
+                    ffi::camel_update_of_lists(&imsi.raw(), &csis.raw(), handle)
+                }
+                Update::Delete { imsi, what } => {
+                    ffi::camel_update_of_delete(&imsi.raw(), &what.raw(), handle)
+                }
+                Update::Cancel { imsi } => ffi::camel_update_of_cancel(&imsi.raw(), handle),
+                Update::ClearAll => ffi::camel_update_of_clear_all(handle),
+            }
+        })?;
+        Ok(made)
+    }
+
+    /// Decodes what an operation of MAP brings, from the octets of its argument, as
+    /// [`Store::submit_map`](crate::Store::submit_map) takes them. The IMSI is that of the dialogue, if it has one.
+    ///
+    /// # Errors
+    /// [`Error::MalformedOctets`] to [`Error::OtherImsi`], [`Error::DataMissing`] and [`Error::UnexpectedDataValue`]:
+    /// the argument has a fault, at the place that is said. [`Error::OutOfMemory`]: try again.
+    pub fn from_map(
+        operation: Operation,
+        imsi: Option<Imsi>,
+        argument: &[u8],
+    ) -> Result<PreparedUpdate, MapFault> {
+        let mut made = PreparedUpdate {
+            handle: Owned::empty(),
+        };
+        map::prepare(&mut made.handle, operation, imsi, argument)?;
+        Ok(made)
+    }
+
+    /// Joins the next Insert of the same dialogue to this one. An HLR may split the lists of a subscriber over several
+    /// operations: this becomes what one operation brings that has the lists of both, with the items of the next one
+    /// behind its own. Of a camelCapabilityHandling that came in both, that of the next one stands.
+    ///
+    /// # Errors
+    /// Both are as before. [`Error::NoInsert`]: one of the two is no Insert. [`Error::OtherSubscriber`]: they are of
+    /// different subscribers. [`Error::UnexpectedDataValue`]: a list has more than 10 items then, or two of a detection
+    /// point of the CSI. [`Error::OutOfMemory`]: try again.
+    pub fn join(&mut self, next: &PreparedUpdate) -> Result<(), Error> {
+        // SAFETY: both handles are fit for a call, as `Owned` says, and apart from each other, since this one is
+        // borrowed by `&mut`.
+        done(unsafe { ffi::camel_update_join(self.handle.at(), next.handle.at()) })
+    }
+
+    /// What came with it: of an Insert, which lists and how many items, and the camelCapabilityHandling of each CSI.
+    ///
+    /// # Errors
+    /// [`Error::Unknown`] only, which safe code does not meet.
+    pub fn parts(&self) -> Result<UpdateParts, Error> {
+        let mut parts = ffi::UpdateParts::NONE;
+        // SAFETY: the handle is fit for a call, as `Owned` says, and the parts are apart from it.
+        done(unsafe { ffi::camel_update_parts_of(self.handle.at(), &mut parts) })?;
+        UpdateParts::of_raw(&parts)
+    }
+
+    pub(crate) fn submit(&self, store: &mut Owned<ffi::Store>) -> Result<(), Error> {
+        // SAFETY: both handles are fit for a call, as `Owned` says.
+        done(unsafe { ffi::camel_submit(store.at(), self.handle.at()) })
+    }
+}
+
+impl TryFrom<&Update> for PreparedUpdate {
+    type Error = Error;
+
+    fn try_from(update: &Update) -> Result<PreparedUpdate, Error> {
+        PreparedUpdate::new(update)
+    }
+}
+
+impl fmt::Debug for PreparedUpdate {
+    fn fmt(&self, out: &mut fmt::Formatter<'_>) -> fmt::Result {
+        let mut fields = out.debug_struct("PreparedUpdate");
+        if let Ok(parts) = self.parts() {
+            fields.field("parts", &parts);
+        }
+        fields.finish_non_exhaustive()
+    }
+}
+
+/// What came with an update.
+#[derive(Clone, Copy, Debug, PartialEq, Eq)]
+pub enum UpdateParts {
+    /// A Register.
+    Register {
+        /// The subscriber.
+        imsi: Imsi,
+    },
+    /// An Insert.
+    Insert {
+        /// The subscriber.
+        imsi: Imsi,
+        /// How many items came in each list.
+        counts: ItemCounts,
+        /// The camelCapabilityHandling of each CSI.
+        capabilities: CapabilityHandling,
+    },
+    /// A Delete.
+    Delete {
+        /// The subscriber.
+        imsi: Imsi,
+        /// The CSIs that are named.
+        what: Withdrawal,
+    },
+    /// A Cancel.
+    Cancel {
+        /// The subscriber.
+        imsi: Imsi,
+    },
+    /// A ClearAll.
+    ClearAll,
+}
+
+/// How many items came in each list of an Insert, ignored ones among them: 1 to 10, or 0 if the list did not come.
+#[derive(Clone, Copy, Debug, Default, PartialEq, Eq)]
+pub struct ItemCounts {
+    /// The rows of the O-CSI.
+    pub o: u8,
+    /// The criteria of the O-CSI.
+    pub o_criteria: u8,
+    /// The rows of the VT-CSI.
+    pub vt: u8,
+    /// The criteria of the VT-CSI.
+    pub t_criteria: u8,
+}
+
+/// The camelCapabilityHandling of each CSI of an Insert, by which a switch chooses the version of CAP: the phase of
+/// CAMEL, 1 to 16 by TS 29.002. None if it did not come.
+#[derive(Clone, Copy, Debug, Default, PartialEq, Eq)]
+pub struct CapabilityHandling {
+    /// Of the O-CSI.
+    pub o: Option<u32>,
+    /// Of the VT-CSI.
+    pub vt: Option<u32>,
+}
+
+impl UpdateParts {
+    fn of_raw(parts: &ffi::UpdateParts) -> Result<UpdateParts, Error> {
+        if parts.kind == ffi::UPDATE_CLEAR_ALL {
+            return Ok(UpdateParts::ClearAll);
+        }
+        let imsi = Imsi::of_raw(parts.imsi)?;
+        match parts.kind {
+            ffi::UPDATE_REGISTER => Ok(UpdateParts::Register { imsi }),
+            ffi::UPDATE_INSERT => Ok(UpdateParts::Insert {
+                imsi,
+                counts: ItemCounts {
+                    o: parts.o_rows,
+                    o_criteria: parts.o_criteria,
+                    vt: parts.vt_rows,
+                    t_criteria: parts.t_criteria,
+                },
+                capabilities: CapabilityHandling {
+                    o: parts.has_o_capability.then_some(parts.o_capability),
+                    vt: parts.has_vt_capability.then_some(parts.vt_capability),
+                },
+            }),
+            ffi::UPDATE_DELETE => Ok(UpdateParts::Delete {
+                imsi,
+                what: Withdrawal::of_raw(parts.withdrawal),
+            }),
+            ffi::UPDATE_CANCEL => Ok(UpdateParts::Cancel { imsi }),
+            other => Err(Error::Unknown(u32::from(other))),
+        }
+    }
+}
+
+/// Why updates were not submitted, and which one the store rejects. It becomes its [`Error`] by `?`.
+#[derive(Clone, Copy, Debug, PartialEq, Eq, Hash)]
+pub struct Rejected {
+    /// Why.
+    pub error: Error,
+    /// The index of the update that the store rejects; None if it rejects none of them, as when memory is refused.
+    pub at: Option<usize>,
+}
+
+impl Rejected {
+    /// The number of the error, as [`Error::code`].
+    pub const fn code(self) -> u32 {
+        self.error.code()
+    }
+}
+
+impl fmt::Display for Rejected {
+    fn fmt(&self, out: &mut fmt::Formatter<'_>) -> fmt::Result {
+        match self.at {
+            None => self.error.fmt(out),
+            Some(at) => write!(out, "{} at update {at}", self.error),
+        }
+    }
+}
+
+impl std::error::Error for Rejected {}
+
+impl From<Rejected> for Error {
+    fn from(rejected: Rejected) -> Error {
+        rejected.error
+    }
+}
+
+/// Submits copies of the updates: all are accepted, or none is.
+pub(crate) fn submit_all(
+    store: &mut Owned<ffi::Store>,
+    updates: &[PreparedUpdate],
+) -> Result<(), Rejected> {
+    let mut rejected = updates.len();
+    // SAFETY: each handle is fit for a call, as `Owned` says; the pointer and the length are of one slice, whose items
+    // are transparent over the handles, and the pointer of a slice of none is not null; the index is apart from them.
+    let status = unsafe {
+        ffi::camel_submit_all(
+            store.at(),
+            updates.as_ptr().cast(),
+            updates.len(),
+            &mut rejected,
+        )
+    };
+    done(status).map_err(|error| Rejected {
+        error,
+        at: (rejected < updates.len()).then_some(rejected),
+    })
+}
+
+#[cfg(test)]
+mod tests {
+    use super::*;
+
+    #[test]
+    fn parts_of_unknown_kinds_are_errors() {
+        let imsi = ffi::Imsi {
+            number: 5 << 56 | 26201,
+        };
+        for kind in [0, 6, 255] {
+            let parts = ffi::UpdateParts {
+                imsi,
+                kind,
+                ..ffi::UpdateParts::NONE
+            };
+            assert_eq!(
+                UpdateParts::of_raw(&parts),
+                Err(Error::Unknown(u32::from(kind)))
+            );
+        }
+        let parts = ffi::UpdateParts {
+            kind: ffi::UPDATE_REGISTER,
+            ..ffi::UpdateParts::NONE
+        };
+        assert_eq!(UpdateParts::of_raw(&parts), Err(Error::Malformed));
+    }
+}
