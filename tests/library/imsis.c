@@ -55,6 +55,8 @@ static void is_none(camel_store *store, camel_session *session, uint64_t number)
     camel_row row = { .key = 7 };
     camel_event event = event_of(1, 2);
     camel_answer answer = { .front = 7 };
+    camel_update update = CAMEL_EMPTY;
+    camel_argument argument = { .count = 7 };
     bool is_there = true;
 
     memset(&characters, 0xa5, sizeof characters);
@@ -65,11 +67,13 @@ static void is_none(camel_store *store, camel_session *session, uint64_t number)
     RETURNS(CAMEL_MALFORMED, camel_digits_of_imsi(&imsi, &characters));
     RETURNS(CAMEL_MALFORMED, camel_tbcd_of_imsi(&imsi, &tbcd));
     RETURNS(CAMEL_MALFORMED, camel_submit_register(store, &imsi));
+    RETURNS(CAMEL_MALFORMED, camel_update_of_register(&imsi, &update));
     RETURNS(CAMEL_MALFORMED, camel_row_at(session, &imsi, 2, &row, &is_there));
+    RETURNS(CAMEL_MALFORMED, camel_encode_record(session, &imsi, &argument, &is_there));
     RETURNS(CAMEL_MALFORMED, camel_decide(session, &event, &answer));
     IS(memcmp(&characters, &characters_before, sizeof characters) == 0);
     IS(memcmp(&tbcd, &tbcd_before, sizeof tbcd) == 0);
-    IS(row.key == 7 && is_there && answer.front == 7);
+    IS(row.key == 7 && is_there && answer.front == 7 && !update.is_full && argument.count == 7);
 }
 
 int main(void)

@@ -21,6 +21,8 @@ _Static_assert(sizeof(camel_event) == 40, "camel_event");
 _Static_assert(sizeof(camel_answer) == 32, "camel_answer");
 _Static_assert(sizeof(camel_counts) == 32, "camel_counts");
 _Static_assert(sizeof(camel_decisions) == 8 * CAMEL_REASONS, "camel_decisions");
+_Static_assert(sizeof(camel_update_parts) == 32, "camel_update_parts");
+_Static_assert(sizeof(camel_argument) == 2 + CAMEL_MAX_ARGUMENT, "camel_argument");
 _Static_assert(offsetof(camel_receipt, front) == 8, "camel_receipt");
 _Static_assert(offsetof(camel_row, key) == 4 && offsetof(camel_row, scf) == 8, "camel_row");
 _Static_assert(offsetof(camel_row, handling) == 20, "camel_row");
@@ -34,6 +36,11 @@ _Static_assert(offsetof(camel_insert, vt) == 40, "camel_insert");
 _Static_assert(offsetof(camel_event, basic) == 29 && offsetof(camel_event, cause) == 33, "camel_event");
 _Static_assert(offsetof(camel_answer, scf) == 12 && offsetof(camel_answer, reason) == 25, "camel_answer");
 _Static_assert(offsetof(camel_counts, held) == 24, "camel_counts");
+_Static_assert(offsetof(camel_update_parts, kind) == 8, "camel_update_parts");
+_Static_assert(offsetof(camel_update_parts, has_o_capability) == 13, "camel_update_parts");
+_Static_assert(offsetof(camel_update_parts, o_capability) == 16, "camel_update_parts");
+_Static_assert(offsetof(camel_update_parts, withdrawal) == 24, "camel_update_parts");
+_Static_assert(offsetof(camel_argument, octets) == 2, "camel_argument");
 
 static const uint8_t NUMBERS[2][3] = { { 0x91, 0x34, 0x61 }, { 0xa1, 0x21, 0xf3 } };
 
@@ -212,6 +219,37 @@ static void received_handlings(camel_store *store, camel_session *session)
     }
 }
 
+/* Each field of what came with an Insert has a number of its own. */
+static void fields_of_parts(void)
+{
+    static const uint8_t argument[] = {
+        0x30, 0x6a, 0xad, 0x68,
+        0xa0, 0x13, 0x30, 0x0e, 0x30, 0x0c, 0x0a, 0x01, 0x02, 0x02, 0x01, 0x64, 0x80, 0x01, 0x91, 0x81, 0x01, 0x00,
+        0x80, 0x01, 0x02, /* o-CSI: a row, and the camelCapabilityHandling 2 */
+        0xa4, 0x0a, 0x30, 0x03, 0x0a, 0x01, 0x02, 0x30, 0x03, 0x0a, 0x01, 0x04, /* its criteria: two entries */
+        0xa7, 0x2f, 0x30, 0x2a, 0x30, 0x0c, 0x0a, 0x01, 0x0c, 0x02, 0x01, 0x64, 0x80, 0x01, 0x91, 0x81, 0x01, 0x00,
+        0x30, 0x0c, 0x0a, 0x01, 0x0d, 0x02, 0x01, 0x64, 0x80, 0x01, 0x91, 0x81, 0x01, 0x00,
+        0x30, 0x0c, 0x0a, 0x01, 0x0e, 0x02, 0x01, 0x64, 0x80, 0x01, 0x91, 0x81, 0x01, 0x00,
+        0x80, 0x01, 0x10, /* vt-CSI: three rows, and 16 */
+        0xa8, 0x14, 0x30, 0x03, 0x0a, 0x01, 0x0c, 0x30, 0x03, 0x0a, 0x01, 0x0d, 0x30, 0x03, 0x0a, 0x01, 0x0e,
+        0x30, 0x03, 0x0a, 0x01, 0x03 /* its criteria: four entries, one of them ignored */
+    };
+    camel_update update = CAMEL_EMPTY;
+    camel_update_parts parts;
+    camel_imsi imsi = imsi_of(1);
+    uint64_t place = 99;
+
+    memset(&parts, 1, sizeof parts);
+    RETURNS(CAMEL_OK, camel_update_of_map(CAMEL_INSERT_SUBSCRIBER_DATA, &imsi, argument, sizeof argument, &update,
+                                          &place));
+    RETURNS(CAMEL_OK, camel_update_parts_of(&update, &parts));
+    IS(place == 0 && parts.imsi.number == imsi.number && parts.kind == CAMEL_UPDATE_INSERT);
+    IS(parts.o_rows == 1 && parts.o_criteria == 2 && parts.vt_rows == 3 && parts.t_criteria == 4);
+    IS(parts.has_o_capability && parts.o_capability == 2 && parts.has_vt_capability && parts.vt_capability == 16);
+    IS(!parts.withdrawal.o && !parts.withdrawal.vt && !parts.withdrawal.everything);
+    camel_free(&update);
+}
+
 int main(void)
 {
     camel_store store = CAMEL_EMPTY;
@@ -221,18 +259,20 @@ int main(void)
         sizeof(camel_basic_service), sizeof(camel_row), sizeof(camel_basic_services), sizeof(camel_causes),
         sizeof(camel_number_criterion), sizeof(camel_o_criteria), sizeof(camel_t_criteria), sizeof(camel_sent_o_csi),
         sizeof(camel_sent_vt_csi), sizeof(camel_insert), sizeof(camel_withdrawal), sizeof(camel_event),
-        sizeof(camel_answer), sizeof(camel_counts), sizeof(camel_decisions), sizeof(camel_store),
+        sizeof(camel_answer), sizeof(camel_counts), sizeof(camel_decisions), sizeof(camel_update_parts),
+        sizeof(camel_argument), sizeof(camel_store),
     };
     uint32_t of_library[32] = { 0 };
 
-    _Static_assert(sizeof sizes / sizeof sizes[0] == 20, "19 types and a handle");
-    IS(camel_layouts(of_library, 32) == 20);
+    _Static_assert(sizeof sizes / sizeof sizes[0] == 22, "21 types and a handle");
+    IS(camel_layouts(of_library, 32) == 22);
     IS(memcmp(of_library, sizes, sizeof sizes) == 0);
     RETURNS(CAMEL_OK, camel_open(&store, &session, 1, 100, 1, 1));
     fields_come_back(&store, &session);
     fields_of_events(&session);
     bare_criteria_come_back(&store, &session);
     received_handlings(&store, &session);
+    fields_of_parts();
     camel_free(&session);
     RETURNS(CAMEL_OK, camel_close(&store));
     return ended("layouts");

@@ -8,7 +8,7 @@
 
 static uint64_t state;
 
-static uint64_t next(void)
+static inline uint64_t next(void)
 {
     state ^= state << 13;
     state ^= state >> 7;
@@ -16,42 +16,42 @@ static uint64_t next(void)
     return state;
 }
 
-static unsigned below(unsigned limit)
+static inline unsigned below(unsigned limit)
 {
     return (unsigned)(next() >> 33) % limit;
 }
 
-static bool toss(void)
+static inline bool toss(void)
 {
     return below(2) == 1;
 }
 
-static uint8_t octet(void)
+static inline uint8_t octet(void)
 {
     return (uint8_t)(next() >> 40);
 }
 
 /* Has a bool be 0, 1 or any octet. C reads no such bool, so it is copied only. */
-static void toss_in(bool *place)
+static inline void toss_in(bool *place)
 {
     uint8_t any = below(4) ? toss() : octet();
     memcpy(place, &any, 1);
 }
 
 /* This octet, or now and then any other. */
-static uint8_t mostly(unsigned usual)
+static inline uint8_t mostly(unsigned usual)
 {
     return below(48) ? (uint8_t)usual : octet();
 }
 
-static void fill(void *at, size_t size)
+static inline void fill(void *at, size_t size)
 {
     for (size_t i = 0; i < size; i++)
         ((uint8_t *)at)[i] = octet();
 }
 
 /* So many octets: digits in TBCD, characters, or any. */
-static size_t any_octets(uint8_t *octets)
+static inline size_t any_octets(uint8_t *octets)
 {
     size_t count = below(16) ? below(24) : below(300);
     unsigned kind = below(3);
@@ -67,7 +67,7 @@ static size_t any_octets(uint8_t *octets)
 enum { EDGES = 6, ROOM = 1 << 16 };
 
 /* A copy of what is passed, whose end no call may go beyond. Each of what a call is passed has an edge of its own. */
-static void *at_edge(int edge, const void *from, size_t size)
+static inline void *at_edge(int edge, const void *from, size_t size)
 {
     static uint8_t *edges[EDGES];
     if (!edges[edge]) {
@@ -81,7 +81,7 @@ static void *at_edge(int edge, const void *from, size_t size)
 static const uint8_t DPS[] = { 2, 4, 12, 13, 14 };
 
 /* One of a few, or now and then any number, or one with a count of digits. */
-static camel_imsi any_imsi(void)
+static inline camel_imsi any_imsi(void)
 {
     camel_imsi any = { next() >> below(64) };
     if (toss())
@@ -89,7 +89,7 @@ static camel_imsi any_imsi(void)
     return below(16) ? imsi_of(below(40)) : any;
 }
 
-static camel_isdn_address any_isdn(void)
+static inline camel_isdn_address any_isdn(void)
 {
     camel_isdn_address address;
     fill(&address, sizeof address);
@@ -97,7 +97,7 @@ static camel_isdn_address any_isdn(void)
     return address;
 }
 
-static camel_row any_row(unsigned dp)
+static inline camel_row any_row(unsigned dp)
 {
     camel_row row = { mostly(dp), (uint32_t)next(), any_isdn(), (uint32_t)next() >> below(32) };
     if (below(32))
@@ -105,7 +105,7 @@ static camel_row any_row(unsigned dp)
     return row;
 }
 
-static camel_causes any_causes(bool is_criterion)
+static inline camel_causes any_causes(bool is_criterion)
 {
     camel_causes causes = { mostly(is_criterion ? below(6) : 0), { 0 } };
     for (int at = 0; at < 5; at++)
@@ -113,7 +113,7 @@ static camel_causes any_causes(bool is_criterion)
     return causes;
 }
 
-static camel_basic_services any_services(void)
+static inline camel_basic_services any_services(void)
 {
     camel_basic_services services = { mostly(below(6)), { { 0 } } };
     for (int at = 0; at < 5; at++) {
@@ -123,7 +123,7 @@ static camel_basic_services any_services(void)
     return services;
 }
 
-static camel_o_criteria any_o_criteria(unsigned dp)
+static inline camel_o_criteria any_o_criteria(unsigned dp)
 {
     camel_o_criteria entry = { .dp = mostly(dp) };
     toss_in(&entry.has_number);
@@ -141,18 +141,18 @@ static camel_o_criteria any_o_criteria(unsigned dp)
     return entry;
 }
 
-static camel_t_criteria any_t_criteria(unsigned dp)
+static inline camel_t_criteria any_t_criteria(unsigned dp)
 {
     return (camel_t_criteria){ (uint8_t)dp, any_services(), any_causes(dp != 12) };
 }
 
-static size_t any_count(void)
+static inline size_t any_count(void)
 {
     return below(32) ? 1 + below(2) : below(13);
 }
 
 /* Lists of any items, each at the edge of memory that may not be touched. */
-static camel_insert any_insert(void)
+static inline camel_insert any_insert(void)
 {
     camel_insert sent = {
         .o = { .row_count = any_count(), .criteria_count = any_count() },
@@ -180,7 +180,7 @@ static camel_insert any_insert(void)
 
 /* Has the pointer of a list be NULL, and tells whether the list is sent. C reads no bool that is neither 0 nor 1, so
  * its octet is read. */
-static bool take_pointer(camel_insert *sent)
+static inline bool take_pointer(camel_insert *sent)
 {
     const bool *has;
     uint8_t octet;
@@ -195,7 +195,7 @@ static bool take_pointer(camel_insert *sent)
 }
 
 /* The octets of an argument as they come, or with some that are changed, left out or added. */
-static size_t any_argument(struct argument *argument, uint8_t *octets)
+static inline size_t any_argument(struct argument *argument, uint8_t *octets)
 {
     size_t count = argument->count;
     fill(octets, LONGEST + 8);
@@ -207,7 +207,7 @@ static size_t any_argument(struct argument *argument, uint8_t *octets)
     return below(8) ? count : below(4) ? below(count) : count + below(8);
 }
 
-static camel_event any_event(void)
+static inline camel_event any_event(void)
 {
     camel_event event;
     fill(&event, sizeof event);
