@@ -89,6 +89,17 @@ static inline camel_receipt receipt_of(const camel_store *store)
     return receipt;
 }
 
+/* Whether what came with two updates is the same. */
+static inline bool is_same_parts(const camel_update_parts *one, const camel_update_parts *other)
+{
+    return one->imsi.number == other->imsi.number && one->kind == other->kind && one->o_rows == other->o_rows
+        && one->o_criteria == other->o_criteria && one->vt_rows == other->vt_rows
+        && one->t_criteria == other->t_criteria && one->has_o_capability == other->has_o_capability
+        && one->has_vt_capability == other->has_vt_capability && one->o_capability == other->o_capability
+        && one->vt_capability == other->vt_capability && one->withdrawal.o == other->withdrawal.o
+        && one->withdrawal.vt == other->withdrawal.vt && one->withdrawal.everything == other->withdrawal.everything;
+}
+
 /* Ends a test: the status of the program. */
 static inline int ended(const char *name)
 {

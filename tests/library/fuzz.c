@@ -62,7 +62,7 @@ WRITES_IMSI(tbcd_of_imsi, camel_imsi_tbcd, octets, camel_imsi_of_tbcd)
 
 static void f_empty(void)
 {
-    unsigned slot = below(64) ? KEPT + below(2) : below(SLOTS);
+    unsigned slot = below(64) ? KEPT + below(SLOTS - KEPT) : below(SLOTS);
     camel_free(below(8) ? &handles[slot] : NULL);
     camel_free(&handles[slot]);
     IS(!handles[slot].is_full);
@@ -93,7 +93,7 @@ static void open_by(camel_status (*call)(camel_store *, camel_session *, size_t,
         camel_free(&handles[session]);
     if (!is_ok(allowed, call(AS(store, slot), AS(session, SESSION), count, limit, mostly(1 + below(2)), next())))
         return;
-    slots[slot] = (struct slot){ .of = ++opened };
+    slots[slot] = (struct slot){ .of = ++opened, .limit = limit };
     for (unsigned session = SESSION; session < SESSION + count; session++)
         slots[session] = (struct slot){ .of = opened };
     *published_of(slot) = *number_of(slot) = 0;
@@ -114,6 +114,7 @@ enum { REFUSES = OK | FULL | MALFORMED | WRONG_HANDLE };
 /* Counts an update if it is accepted. */
 static void note_update(unsigned slot, unsigned allowed, camel_status status)
 {
+    IS(status != CAMEL_HISTORY_FULL || slots[slot].accepted == slots[slot].limit);
     if (is_ok(allowed, status))
         slots[slot].accepted++;
 }
@@ -209,6 +210,8 @@ static void f_submit_map(void)
                 WRONG_TAG | WRONG_LENGTH | NO_IMSI | OTHER_IMSI, status);
     IS(is_placed(status, count, *place));
 }
+
+#include "fuzz_updates.h"
 
 /* The sessions of a store whose looks have begun: a bit each. */
 static uint64_t looking_of(unsigned slot)
@@ -436,17 +439,22 @@ static void f_close(void)
     slots[slot].is_ending = status == CAMEL_HELD;
 }
 
-/* The functions of camel.h, and how often each is called among 1,000 calls. */
+/* The functions of camel.h, and how often each is called among CALLS calls. */
+enum { CALLS = 1300 };
 static struct { const char *name; void (*make)(void); unsigned often; unsigned long counts[STATUSES]; } exports[] = {
 #define EXPORT(name, often) { "camel_" #name, f_##name, often, { 0 } }
     EXPORT(abi_version, 1), EXPORT(layouts, 1), EXPORT(imsi_of_tbcd, 15), EXPORT(imsi_of_digits, 15),
     EXPORT(address_of, 20), EXPORT(isdn_address_of, 20), EXPORT(digits_of_imsi, 5), EXPORT(tbcd_of_imsi, 5),
     EXPORT(open_version, 20), EXPORT(open, 10), EXPORT(submit_register, 80), EXPORT(submit_lists, 100),
     EXPORT(submit_insert, 30), EXPORT(submit_delete, 20), EXPORT(submit_cancel, 20), EXPORT(submit_clear_all, 1),
-    EXPORT(submit_map, 60), EXPORT(publish, 60), EXPORT(holders, 10), EXPORT(counts_of, 20), EXPORT(receipt_of, 30),
+    EXPORT(submit_map, 60), EXPORT(update_of_register, 25), EXPORT(update_of_lists, 30), EXPORT(update_of_insert, 15),
+    EXPORT(update_of_delete, 15), EXPORT(update_of_cancel, 10), EXPORT(update_of_clear_all, 2),
+    EXPORT(update_of_map, 20), EXPORT(update_join, 30), EXPORT(update_parts_of, 15), EXPORT(submit, 20),
+    EXPORT(submit_all, 30), EXPORT(imsis_of, 5), EXPORT(next_imsi, 23), EXPORT(encode_record, 10),
+    EXPORT(publish, 60), EXPORT(holders, 10), EXPORT(counts_of, 20), EXPORT(receipt_of, 30),
     EXPORT(learn, 40), EXPORT(decide, 150), EXPORT(decisions_of, 10), EXPORT(look, 25), EXPORT(leave, 40),
     EXPORT(row_at, 30), EXPORT(o_criteria_at, 15), EXPORT(t_criteria_at, 15), EXPORT(keep, 40), EXPORT(decide_kept, 40),
-    EXPORT(close, 2), EXPORT(empty, 50),
+    EXPORT(close, 2), EXPORT(empty, 100),
 };
 
 enum { EXPORTS = sizeof exports / sizeof *exports };
@@ -455,7 +463,7 @@ enum { EXPORTS = sizeof exports / sizeof *exports };
 static void any_call(void)
 {
     void (*soon)(void) = !handles[STORE].is_full ? f_open_version : slots[STORE].is_ending ? f_close : NULL;
-    unsigned at = 0, chosen = below(1000);
+    unsigned at = 0, chosen = below(CALLS);
     if (soon && below(8) == 0)
         while (exports[at].make != soon)
             at++;

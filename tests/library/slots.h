@@ -6,7 +6,7 @@
 
 /* Handles. */
 
-enum { STORE, SESSION, KEPT = SESSION + 4, SPARE, SLOTS, RECEIPTS = 4 };
+enum { STORE, SESSION, KEPT = SESSION + 4, SPARE, UPDATE, IMSIS = UPDATE + 4, SLOTS, RECEIPTS = 4 };
 
 static struct slot {
     unsigned of;              /* the store that it is of, or is */
@@ -16,7 +16,11 @@ static struct slot {
     uint64_t decisions[CAMEL_REASONS]; /* of a session: how many of each reason */
     uint64_t accepted;        /* of a store: how many updates */
     uint64_t held;            /* of a store: how many publications */
+    uint64_t limit;           /* of a store */
     bool is_ending;           /* of a store: a look holds its end up */
+    camel_update_parts parts; /* of an update: what came with it; else its kind is 0 */
+    uint64_t listed;          /* of IMSIs: how many were given */
+    bool is_through;          /* of IMSIs: whether all were */
 } slots[SLOTS];
 static camel_session handles[SLOTS];
 static uint64_t published[1 << 16]; /* by store: how many updates */
@@ -53,7 +57,7 @@ enum {
     OK = 1, UNIDENTIFIED = 2, MISSING = 4, UNEXPECTED = 8, FULL = 16, NO_LOOK = 32, HELD = 64, MALFORMED = 128,
     WRONG_HANDLE = 256, FULL_HANDLE = 512, MALFORMED_OCTETS = 1024, MISSING_FIELD = 2048, FIELD_TWICE = 4096,
     WRONG_TAG = 8192, WRONG_LENGTH = 16384, NO_IMSI = 32768, OTHER_IMSI = 65536, OTHER_STORE = 131072,
-    OTHER_VERSION = 262144, STATUSES = 19
+    OTHER_VERSION = 262144, NO_INSERT = 524288, OTHER_SUBSCRIBER = 1048576, STATUSES = 21
 };
 
 /* In the order of their bits. Memory and places are never refused. */
@@ -61,7 +65,7 @@ static const camel_status STATUS[STATUSES] = {
     CAMEL_OK, CAMEL_UNIDENTIFIED_SUBSCRIBER, CAMEL_DATA_MISSING, CAMEL_UNEXPECTED_DATA_VALUE, CAMEL_HISTORY_FULL,
     CAMEL_NO_LOOK, CAMEL_HELD, CAMEL_MALFORMED, CAMEL_WRONG_HANDLE, CAMEL_FULL_HANDLE, CAMEL_MALFORMED_OCTETS,
     CAMEL_MISSING_FIELD, CAMEL_FIELD_TWICE, CAMEL_WRONG_TAG, CAMEL_WRONG_LENGTH, CAMEL_NO_IMSI, CAMEL_OTHER_IMSI,
-    CAMEL_OTHER_STORE, CAMEL_OTHER_VERSION
+    CAMEL_OTHER_STORE, CAMEL_OTHER_VERSION, CAMEL_NO_INSERT, CAMEL_OTHER_SUBSCRIBER
 };
 
 static unsigned long counts[STATUSES]; /* of the function that is called */

@@ -11,16 +11,6 @@ static camel_update_parts parts_of(const camel_update *update)
     return parts;
 }
 
-static bool is_same(const camel_update_parts *one, const camel_update_parts *other)
-{
-    return one->imsi.number == other->imsi.number && one->kind == other->kind && one->o_rows == other->o_rows
-        && one->o_criteria == other->o_criteria && one->vt_rows == other->vt_rows
-        && one->t_criteria == other->t_criteria && one->has_o_capability == other->has_o_capability
-        && one->has_vt_capability == other->has_vt_capability && one->o_capability == other->o_capability
-        && one->vt_capability == other->vt_capability && one->withdrawal.o == other->withdrawal.o
-        && one->withdrawal.vt == other->withdrawal.vt && one->withdrawal.everything == other->withdrawal.everything;
-}
-
 /* The update of octets, in the dialogue of a subscriber. */
 static camel_update update_in(unsigned dialogue, uint8_t operation, const uint8_t *octets, size_t count)
 {
@@ -141,7 +131,7 @@ static void parts_of_updates(void)
 
     RETURNS(CAMEL_OK, camel_update_of_register(&imsi, &update));
     parts = parts_of(&update);
-    IS(is_same(&parts, &wanted));
+    IS(is_same_parts(&parts, &wanted));
     camel_free(&update);
     RETURNS(CAMEL_OK, camel_update_of_delete(&imsi, &what, &update));
     parts = parts_of(&update);
@@ -204,7 +194,7 @@ static void refused_joins(void)
     RETURNS(CAMEL_WRONG_HANDLE, camel_update_join(&update, &empty));
     RETURNS(CAMEL_WRONG_HANDLE, camel_update_join(&empty, &update));
     after = parts_of(&update);
-    IS(is_same(&before, &after) && !empty.is_full);
+    IS(is_same_parts(&before, &after) && !empty.is_full);
     IS(parts_of(&cancel).kind == CAMEL_UPDATE_CANCEL && parts_of(&eleven).o_rows == 10);
     camel_free(&update), camel_free(&twice), camel_free(&eleven), camel_free(&other), camel_free(&cancel);
 }
