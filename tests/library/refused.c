@@ -6,7 +6,8 @@
 
 enum kind {
     OPEN, REGISTER, INSERT_ROWS, INSERT_FEW, INSERT_MANY, INSERT_OCTETS, DELETE, CANCEL, CLEAR_ALL,
-    PUBLISH_INSERTS, PUBLISH_NOTHING, PUBLISH_DELETE, PUBLISH_CANCEL, PUBLISH_CLEAR_ALL, KEEP, KINDS
+    UPDATE_PLAIN, UPDATE_LISTS, UPDATE_OCTETS, JOIN, SUBMIT, SUBMIT_ALL, PUBLISH_INSERTS, PUBLISH_NOTHING,
+    PUBLISH_DELETE, PUBLISH_CANCEL, PUBLISH_CLEAR_ALL, KEEP, LIST, ENCODE, KINDS
 };
 
 static const char *const NAMES[KINDS] = {
@@ -19,12 +20,20 @@ static const char *const NAMES[KINDS] = {
     [DELETE] = "`camel_submit_delete`",
     [CANCEL] = "`camel_submit_cancel`",
     [CLEAR_ALL] = "`camel_submit_clear_all`",
+    [UPDATE_PLAIN] = "`camel_update_of_register`, `_delete`, `_cancel` and `_clear_all`",
+    [UPDATE_LISTS] = "`camel_update_of_insert`, criteria of ten numbers and all else, and a VT-CSI",
+    [UPDATE_OCTETS] = "`camel_update_of_map`, an O-CSI in octets",
+    [JOIN] = "`camel_update_join`, of these two",
+    [SUBMIT] = "`camel_submit`, of what they are together",
+    [SUBMIT_ALL] = "`camel_submit_all`, of a register and the same",
     [PUBLISH_INSERTS] = "`camel_publish`, of registers and inserts, and the next one",
     [PUBLISH_NOTHING] = "`camel_publish`, of nothing behind nothing",
     [PUBLISH_DELETE] = "`camel_publish`, of a delete, and the next one",
     [PUBLISH_CANCEL] = "`camel_publish`, of a cancel, and the next one",
     [PUBLISH_CLEAR_ALL] = "`camel_publish`, of a clear of all, and the next one",
     [KEEP] = "`camel_keep`",
+    [LIST] = "`camel_imsis_of`",
+    [ENCODE] = "`camel_encode_record`, all lists",
 };
 
 #include "refusing.h"
@@ -35,81 +44,19 @@ static camel_status freed(void *handle)
     return CAMEL_OK;
 }
 
-enum { LIMIT = 100, SUBSCRIBERS = 40, SHOWN = 6, FURTHER = 90, STRANGER = 91 };
+enum { LIMIT = 100, SUBSCRIBERS = 40, SHOWN = 7, FURTHER = 90, STRANGER = 91 };
 
 static camel_store store;
 static camel_session sessions[2];
 static uint64_t accepted;  /* how many updates */
 static bool submits_between; /* a further update, between a publication that is refused memory and the next */
-static const uint8_t DPS[] = { 2, 4, 12, 13, 14 };
 
-static uint64_t digest;
-
-static void add(uint64_t value)
-{
-    digest = (digest ^ value) * 0x100000001b3u;
-}
-
-static void add_address(const camel_isdn_address *address)
-{
-    add(address->length);
-    for (int at = 0; at < 9; at++)
-        add(at < address->length ? address->octets[at] : 0);
-}
-
-static void add_octets(const void *at, size_t size)
-{
-    for (size_t i = 0; i < size; i++)
-        add(((const uint8_t *)at)[i]);
-}
-
-/* The criteria of a subscriber at a detection point. What they have none of is 0. */
-static void add_criteria(camel_session *session, const camel_imsi *imsi, uint8_t dp)
-{
-    camel_o_criteria of_o = { 0 };
-    camel_t_criteria of_t = { 0 };
-    bool is_there = false;
-    NONE(CAMEL_OK, camel_o_criteria_at(session, imsi, dp, &of_o, &is_there));
-    add(is_there), add_octets(&of_o, sizeof of_o);
-    NONE(CAMEL_OK, camel_t_criteria_at(session, imsi, dp, &of_t, &is_there));
-    add(is_there), add_octets(&of_t, sizeof of_t);
-}
-
-/* All that a session shows of a subscriber at a detection point. */
-static void add_shown(camel_session *session, unsigned number, uint8_t dp)
-{
-    camel_imsi imsi = imsi_of(number);
-    camel_event event = event_of(number, dp);
-    camel_answer answer = { 0 };
-    camel_row row = { 0 };
-    bool is_there = false;
-    NONE(CAMEL_OK, camel_decide(session, &event, &answer));
-    NONE(CAMEL_OK, camel_row_at(session, &imsi, dp, &row, &is_there));
-    add(answer.front), add(answer.key), add(answer.dp), add(answer.is_release), add(answer.is_trigger);
-    add(answer.reason);
-    add_address(&answer.scf);
-    add(is_there), add(row.key), add(row.handling), add(row.dp);
-    add_address(&row.scf);
-    add_criteria(session, &imsi, dp);
-}
-
-/* The counts of the store, but that of publications that were held. */
-static void add_counts(void)
-{
-    camel_counts counts = { 0 };
-    NONE(CAMEL_OK, camel_counts_of(&store, &counts));
-    add(counts.subscribers), add(counts.published), add(counts.pending);
-}
+#include "shown.h"
 
 /* All that the store and a session show, in one number. */
 static uint64_t shown(void)
 {
-    digest = 0xcbf29ce484222325u;
-    add_counts();
-    for (unsigned number = 1; number <= SHOWN; number++)
-        for (int dp = 0; dp < 5; dp++)
-            add_shown(&sessions[1], number, DPS[dp]);
-    return digest;
+    return shown_by(&store, &sessions[1], SHOWN);
 }
 
 /* Criteria of so many numbers, and if they are many, of all other kinds too. */
@@ -207,6 +154,98 @@ static void come(unsigned first, unsigned last)
         submit_register(number);
         submit_insert(number);
     }
+}
+
+/* Whether an update has so many rows and entries of the O-CSI. */
+static bool has_items(const camel_update *update, unsigned rows, unsigned criteria)
+{
+    camel_update_parts parts = { .kind = 0 };
+    NONE(CAMEL_OK, camel_update_parts_of(update, &parts));
+    return parts.kind == CAMEL_UPDATE_INSERT && parts.o_rows == rows && parts.o_criteria == criteria;
+}
+
+/* What comes of a subscriber in two operations: a row of the O-CSI, and behind it criteria and a VT-CSI. */
+static void make_parts(unsigned number, camel_update *update, camel_update *next)
+{
+    struct argument argument = ARGUMENT[O_CSI];
+    camel_row vt[] = { row_of(12, 102), row_of(13, 103) };
+    camel_o_criteria many[] = { o_criteria_of(2, 10), o_criteria_of(4, 4) };
+    camel_t_criteria causes = CAUSES;
+    camel_insert sent = {
+        .o = { .criteria = many, .criteria_count = 2, .has_criteria = true },
+        .vt = { vt, 2, &causes, 1, true, true },
+    };
+    camel_imsi imsi = imsi_of(number);
+    uint64_t place = 99;
+
+    write_tbcd(number, argument.octets + IMSI_AT);
+    AGAIN(UPDATE_OCTETS,
+          camel_update_of_map(argument.operation, &imsi, argument.octets, argument.count, update, &place),
+          !update->is_full && place == 0);
+    AGAIN(UPDATE_LISTS, camel_update_of_insert(&imsi, &sent, next), !next->is_full);
+    AGAIN(JOIN, camel_update_join(update, next), has_items(update, 1, 0) && has_items(next, 0, 2));
+    IS(has_items(update, 1, 2) && has_items(next, 0, 2));
+}
+
+/* A location update of a subscriber who is unknown: both updates are accepted or none is. The Insert comes twice. */
+static void update_location(unsigned number)
+{
+    camel_update updates[2] = { CAMEL_EMPTY, CAMEL_EMPTY }, next = CAMEL_EMPTY, empty = CAMEL_EMPTY;
+    camel_imsi imsi = imsi_of(number), none = { 0 };
+    uint64_t before = shown();
+    size_t rejected = 99;
+
+    AGAIN(UPDATE_PLAIN, camel_update_of_register(&imsi, &updates[0]), !updates[0].is_full);
+    make_parts(number, &updates[1], &next);
+    AGAIN(SUBMIT_ALL, camel_submit_all(&store, updates, 2, &rejected),
+          shown() == before && rejected == 2 && is_unknown(number));
+    before = shown();
+    AGAIN(SUBMIT, camel_submit(&store, &updates[1]), shown() == before && has_items(&updates[1], 1, 2));
+    accepted += 3;
+    NONE(CAMEL_MALFORMED, camel_update_of_register(&none, &empty));
+    NONE(CAMEL_FULL_HANDLE, camel_update_of_register(&imsi, &next));
+    NONE(CAMEL_WRONG_HANDLE, camel_submit(&store, &empty));
+    NONE(CAMEL_NO_INSERT, camel_update_join(&updates[1], &updates[0]));
+    NONE(CAMEL_OK, freed(&updates[0]));
+    NONE(CAMEL_OK, freed(&updates[1]));
+    NONE(CAMEL_OK, freed(&next));
+}
+
+/* Updates that are made, and not submitted. */
+static void make_updates(unsigned number)
+{
+    camel_update update = CAMEL_EMPTY;
+    camel_imsi imsi = imsi_of(number);
+    camel_withdrawal what = { .o = true };
+    AGAIN(UPDATE_PLAIN, camel_update_of_delete(&imsi, &what, &update), !update.is_full);
+    NONE(CAMEL_OK, freed(&update));
+    AGAIN(UPDATE_PLAIN, camel_update_of_cancel(&imsi, &update), !update.is_full);
+    NONE(CAMEL_OK, freed(&update));
+    AGAIN(UPDATE_PLAIN, camel_update_of_clear_all(&update), !update.is_full);
+    NONE(CAMEL_OK, freed(&update));
+}
+
+/* Lists all records, and encodes the longest one. Returns a number of its octets. */
+static uint64_t list_records(void)
+{
+    camel_imsis imsis = CAMEL_EMPTY, none = CAMEL_EMPTY;
+    camel_argument argument = { .count = 0 };
+    camel_imsi imsi = imsi_of(SHOWN);
+    uint64_t count = 0;
+    bool is_there = false;
+
+    AGAIN(ENCODE, camel_encode_record(&sessions[0], &imsi, &argument, &is_there), !is_there && argument.count == 0);
+    IS(is_there && argument.count > 0);
+    AGAIN(LIST, camel_imsis_of(&sessions[0], &imsis), !imsis.is_full);
+    NONE(CAMEL_FULL_HANDLE, camel_imsis_of(&sessions[0], &imsis));
+    NONE(CAMEL_WRONG_HANDLE, camel_imsis_of((camel_session *)&store, &none));
+    for (; is_there; count += is_there)
+        NONE(CAMEL_OK, camel_next_imsi(&imsis, &imsi, &is_there));
+    IS(count == counts_of(&store).subscribers);
+    NONE(CAMEL_OK, freed(&imsis));
+    digest = START;
+    add_octets(&argument, sizeof argument);
+    return digest;
 }
 
 /* Publishes all that is pending. */
@@ -342,6 +381,7 @@ static void end_store(void)
 {
     camel_imsi imsi = imsi_of(5);
     camel_subscriber kept = CAMEL_EMPTY;
+    camel_imsis imsis = CAMEL_EMPTY;
     camel_decisions decisions = { { 0 } };
     bool is_there = false;
     NONE(CAMEL_OK, camel_look(&sessions[0]));
@@ -349,6 +389,7 @@ static void end_store(void)
     NONE(CAMEL_OK, camel_leave(&sessions[0]));
     NONE(CAMEL_OK, camel_close(&store));
     NONE(CAMEL_NO_LOOK, camel_keep(&sessions[0], &imsi, &kept, &is_there));
+    NONE(CAMEL_NO_LOOK, camel_imsis_of(&sessions[0], &imsis));
     NONE(CAMEL_OK, camel_decisions_of(&sessions[1], &decisions));
     IS(decisions.by_reason[CAMEL_REASON_NONE] > 0);
     NONE(CAMEL_OK, freed(NULL));
@@ -382,11 +423,15 @@ static uint64_t live(void)
     take_back();
     NONE(CAMEL_OK, camel_decide_kept(&kept, &failure, &answer));
     IS(is_there && answer.key == 101);
-    come(1, SHOWN);
+    come(1, SHOWN - 1);
     publish_to_both(PUBLISH_INSERTS);
+    make_updates(SHOWN);
+    update_location(SHOWN);
+    publish_to_both(PUBLISH_INSERTS);
+    uint64_t end = list_records();
     fill();
     publish(PUBLISH_NOTHING);
-    uint64_t end = shown();
+    end += shown();
     NONE(CAMEL_OK, freed(&kept));
     end_store();
     return end;
