@@ -1,6 +1,7 @@
 /* A switch to begin with, over libwenqolo.a: a writer, two call-control threads, receipts over a queue of the switch's
- * own, a publication that is held and tried again, the data of a call kept from detection point 2 to 4, and the end.
- * It prints what it does, and exits with 1 at the first call that does not do what is expected of it. */
+ * own, a location update of which the HLR splits the data, a publication that is held and tried again, a restart, the
+ * data of a call kept from detection point 2 to 4, and the end. It prints what it does, and exits with 1 at the first
+ * call that does not do what is expected of it. */
 #include "camel.h"
 
 #include <pthread.h>
@@ -9,7 +10,7 @@
 #include <string.h>
 #include <sys/random.h>
 
-enum { THREADS = 2, CALLS = 10000 };
+enum { THREADS = 2, CALLS = 10000, ROOM = 8 };
 
 /* Exits if a call does not return this status. */
 static void expect(const char *what, camel_status status, camel_status wanted)
@@ -21,6 +22,17 @@ static void expect(const char *what, camel_status status, camel_status wanted)
 }
 
 #define OK(call) expect(#call, call, CAMEL_OK)
+
+/* A seed for a store. It is secret: whoever knows it could choose IMSIs that make look-ups slow. */
+static uint64_t random_seed(void)
+{
+    uint64_t seed;
+    if (getrandom(&seed, sizeof seed, 0) != sizeof seed) {
+        perror("getrandom");
+        exit(1);
+    }
+    return seed;
+}
 
 /* One receipt on its way to a thread: the writer puts it there, and the thread takes it. A later one says more. */
 struct queue {
@@ -100,31 +112,60 @@ static void say(const char *what, const camel_answer *answer)
 static const uint8_t IMSI[] = { 0x62, 0x02, 0x01, 0x00, 0x00, 0x00, 0x00, 0xf1 };
 static const uint8_t OTHER[] = { 0x62, 0x02, 0x01, 0x00, 0x00, 0x00, 0x00, 0xf2 };
 
-/* What the HLR sends of a subscriber, as it comes in a TCAP invoke: rows at 2 and 4, and at 4 only for a destination
- * that begins with 4316. */
-static const uint8_t ARGUMENT[] = {
-    0x30, 0x3f, 0xad, 0x3d,                         /* InsertSubscriberDataArg, vlrCamelSubscriptionInfo [13] */
-    0xa0, 0x28, 0x30, 0x26,                         /* o-CSI [0], its o-BcsmCamelTDPDataList */
+/* What the HLR sends of a subscriber, in two operations of one dialogue, each as it comes in a TCAP invoke: rows at 2
+ * and 4, and at 4 only for a destination that begins with 4316. */
+static const uint8_t ROWS[] = {
+    0x30, 0x2f, 0xad, 0x2d,                         /* InsertSubscriberDataArg, vlrCamelSubscriptionInfo [13] */
+    0xa0, 0x2b, 0x30, 0x26,                         /* o-CSI [0], its o-BcsmCamelTDPDataList */
     0x30, 0x11, 0x0a, 0x01, 0x02, 0x02, 0x01, 0x64, /* a row: detection point 2, serviceKey 100, */
     0x80, 0x06, 0x91, 0x94, 0x71, 0x16, 0x00, 0x00, /* gsmSCF-Address [0], */
     0x81, 0x01, 0x00,                               /* defaultCallHandling [1] continueCall */
     0x30, 0x11, 0x0a, 0x01, 0x04, 0x02, 0x01, 0x65, /* a row: detection point 4, serviceKey 101, */
     0x80, 0x06, 0x91, 0x94, 0x71, 0x16, 0x00, 0x00, /* gsmSCF-Address [0], */
     0x81, 0x01, 0x01,                               /* defaultCallHandling [1] releaseCall */
+    0x80, 0x01, 0x03                                /* camelCapabilityHandling [0]: phase 3 */
+};
+static const uint8_t CRITERIA[] = {
+    0x30, 0x15, 0xad, 0x13,                         /* InsertSubscriberDataArg, vlrCamelSubscriptionInfo [13] */
     0xa4, 0x11, 0x30, 0x0f, 0x0a, 0x01, 0x04,       /* o-BcsmCamelTDP-CriteriaList [4]: detection point 4, */
     0xa0, 0x0a, 0x80, 0x01, 0x01,                   /* destinationNumberCriteria [0], matchType [0] enabling, */
     0xa1, 0x05, 0x04, 0x03, 0x91, 0x34, 0x61        /* destinationNumberList [1] */
 };
 
-/* Submits the argument in the dialogue of an IMSI. */
-static camel_status submit_data(camel_store *store, const camel_imsi *imsi)
+/* Decodes an argument in the dialogue of an IMSI. */
+static void decode(const camel_imsi *imsi, const uint8_t *octets, size_t count, camel_update *update)
 {
     uint64_t place = 0;
-    camel_status status = camel_submit_map(store, CAMEL_INSERT_SUBSCRIBER_DATA, imsi, ARGUMENT, sizeof ARGUMENT,
-                                           &place);
+    camel_status status = camel_update_of_map(CAMEL_INSERT_SUBSCRIBER_DATA, imsi, octets, count, update, &place);
     if (place > 0)
         fprintf(stderr, "the argument has a fault at octet %lu\n", (unsigned long)place);
-    return status;
+    OK(status);
+}
+
+/* Submits a Register, which empties the record, and the Insert behind it: both are accepted, or neither is. */
+static void submit_data(camel_store *store, const camel_imsi *imsi, camel_update updates[2])
+{
+    size_t rejected;
+    OK(camel_update_of_register(imsi, &updates[0]));
+    OK(camel_submit_all(store, updates, 2, &rejected));
+    camel_free(&updates[0]);
+    camel_free(&updates[1]);
+}
+
+/* A location update: what the HLR sends in one dialogue is one Insert. Once it is published, the HLR is answered. */
+static void update_location(camel_store *store, const camel_imsi *imsi)
+{
+    camel_update updates[2] = { CAMEL_EMPTY, CAMEL_EMPTY }, next = CAMEL_EMPTY;
+    camel_update_parts parts;
+
+    decode(imsi, ROWS, sizeof ROWS, &updates[1]);
+    decode(imsi, CRITERIA, sizeof CRITERIA, &next);
+    OK(camel_update_join(&updates[1], &next));
+    OK(camel_update_parts_of(&updates[1], &parts));
+    printf("a location update: rows %u, criteria %u, CAMEL phase %u\n", parts.o_rows, parts.o_criteria,
+           parts.o_capability);
+    submit_data(store, imsi, updates);
+    camel_free(&next);
 }
 
 /* Publishes, and hands each thread the receipt. */
@@ -154,6 +195,57 @@ static void hold_publications(camel_store *store, camel_session *session, const 
     OK(camel_leave(session));
     OK(camel_publish(store));
     printf("a publication was held, and made again\n");
+}
+
+/* What goes through a restart: of each record the IMSI, and the argument that makes it. A switch has them in a file. */
+struct record {
+    camel_imsi imsi;
+    camel_argument argument;
+};
+
+/* Writes the records of one front, and tells how many they are. */
+static size_t dump(camel_session *session, struct record *records)
+{
+    camel_imsis imsis = CAMEL_EMPTY;
+    bool is_there = true;
+    size_t count = 0;
+
+    OK(camel_look(session));
+    OK(camel_imsis_of(session, &imsis));
+    while (count < ROOM) {
+        OK(camel_next_imsi(&imsis, &records[count].imsi, &is_there));
+        if (!is_there)
+            break;
+        OK(camel_encode_record(session, &records[count].imsi, &records[count].argument, &is_there));
+        count++;
+    }
+    OK(camel_leave(session));
+    camel_free(&imsis);
+    return count;
+}
+
+/* A store opens empty. Restored from the records of the one before, it knows each subscriber. */
+static void restart(camel_session *session, const camel_imsi *imsi)
+{
+    static struct record records[ROOM];
+    camel_store restored = CAMEL_EMPTY;
+    camel_session own = CAMEL_EMPTY;
+    camel_event set_up = event_of(imsi, 2);
+    camel_answer answer;
+    size_t count = dump(session, records);
+
+    OK(camel_open(&restored, &own, 1, CAMEL_MAX_UPDATES, CAMEL_PROFILE_1, random_seed()));
+    for (size_t at = 0; at < count; at++) {
+        camel_update updates[2] = { CAMEL_EMPTY, CAMEL_EMPTY };
+        decode(&records[at].imsi, records[at].argument.octets, records[at].argument.count, &updates[1]);
+        submit_data(&restored, &records[at].imsi, updates);
+    }
+    OK(camel_publish(&restored));
+    OK(camel_decide(&own, &set_up, &answer));
+    printf("records that go through a restart: %lu\n", (unsigned long)count);
+    say("set-up after the restart", &answer);
+    camel_free(&own);
+    OK(camel_close(&restored));
 }
 
 /* A call keeps the record of its set-up, whatever the HLR sends meanwhile. */
@@ -186,18 +278,15 @@ int main(void)
     static struct caller callers[THREADS];
     pthread_t threads[THREADS];
     camel_imsi imsi, other;
-    uint64_t seed; /* secret: whoever knows it could choose IMSIs that make look-ups slow */
+    uint64_t place;
 
-    if (getrandom(&seed, sizeof seed, 0) != sizeof seed) {
-        perror("getrandom");
-        return 1;
-    }
-    OK(camel_open(&store, sessions, THREADS + 1, CAMEL_MAX_UPDATES, CAMEL_PROFILE_1, seed));
+    OK(camel_open(&store, sessions, THREADS + 1, CAMEL_MAX_UPDATES, CAMEL_PROFILE_1, random_seed()));
     OK(camel_imsi_of_tbcd(IMSI, sizeof IMSI, &imsi));
     OK(camel_imsi_of_tbcd(OTHER, sizeof OTHER, &other));
-    OK(camel_submit_register(&store, &imsi));
-    OK(submit_data(&store, &imsi));
-    expect("data of a subscriber who is not registered", submit_data(&store, &other), CAMEL_UNIDENTIFIED_SUBSCRIBER);
+    update_location(&store, &imsi);
+    expect("data of a subscriber who is not registered",
+           camel_submit_map(&store, CAMEL_INSERT_SUBSCRIBER_DATA, &other, ROWS, sizeof ROWS, &place),
+           CAMEL_UNIDENTIFIED_SUBSCRIBER);
     for (int thread = 0; thread < THREADS; thread++) {
         memcpy(&callers[thread].session, &sessions[thread], sizeof sessions[thread]);
         memset(&sessions[thread], 0, sizeof sessions[thread]);
@@ -213,6 +302,7 @@ int main(void)
         printf("thread %d: %d calls, %lu triggered\n", thread, CALLS, callers[thread].triggered);
     }
     hold_publications(&store, &sessions[THREADS], &other);
+    restart(&sessions[THREADS], &imsi);
     keep_data(&store, &sessions[THREADS], &imsi);
 
     OK(camel_look(&sessions[THREADS]));

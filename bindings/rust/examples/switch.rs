@@ -1,12 +1,13 @@
 //! A switch to begin with, over the crate `camel`: a writer, two call-control threads, receipts over a queue of the
-//! switch's own, a publication that is held and tried again, the data of a call kept from detection point 2 to 4, and
-//! the end. It does what switch.c does, and prints the same. It ends with status 1 at the first call that does not do
-//! what is expected.
+//! switch's own, a location update of which the HLR splits the data, a publication that is held and tried again, a
+//! restart, the data of a call kept from detection point 2 to 4, and the end. It does what switch.c does, and prints
+//! the same. It ends with status 1 at the first call that does not do what is expected.
 //!
 //! In bindings/rust: `CAMEL_LIB_DIR=FOLDER cargo run --example switch`, with the whole path of libwenqolo.a's folder.
 use camel::{
-    Address, Answer, BasicService, Cause, Error, Event, Imsi, MAX_UPDATES, MapFault, OnFailure,
-    Operation, Outcome, Profile, Receipt, Session, Store, Update, Withdrawal,
+    Address, Answer, Argument, BasicService, Cause, Error, Event, Imsi, MAX_UPDATES, MapFault,
+    OnFailure, Operation, Outcome, PreparedUpdate, Profile, Receipt, Session, Store, Update,
+    UpdateParts, Withdrawal,
 };
 use std::sync::{Arc, Mutex};
 use std::thread;
@@ -107,26 +108,57 @@ fn say(what: &str, answer: &Answer) {
 const IMSI: &[u8] = &[0x62, 0x02, 0x01, 0x00, 0x00, 0x00, 0x00, 0xf1];
 const OTHER: &[u8] = &[0x62, 0x02, 0x01, 0x00, 0x00, 0x00, 0x00, 0xf2];
 
-/// What the HLR sends of a subscriber, as it comes in a TCAP invoke: rows at 2 and 4, and at 4 only for a destination
-/// that begins with 4316.
+/// What the HLR sends of a subscriber, in two operations of one dialogue, each as it comes in a TCAP invoke: rows at 2
+/// and 4, and at 4 only for a destination that begins with 4316.
 #[rustfmt::skip]
-const ARGUMENT: &[u8] = &[
-    0x30, 0x3f, 0xad, 0x3d,                         // InsertSubscriberDataArg, vlrCamelSubscriptionInfo [13]
-    0xa0, 0x28, 0x30, 0x26,                         // o-CSI [0], its o-BcsmCamelTDPDataList
+const ROWS: &[u8] = &[
+    0x30, 0x2f, 0xad, 0x2d,                         // InsertSubscriberDataArg, vlrCamelSubscriptionInfo [13]
+    0xa0, 0x2b, 0x30, 0x26,                         // o-CSI [0], its o-BcsmCamelTDPDataList
     0x30, 0x11, 0x0a, 0x01, 0x02, 0x02, 0x01, 0x64, // a row: detection point 2, serviceKey 100,
     0x80, 0x06, 0x91, 0x94, 0x71, 0x16, 0x00, 0x00, // gsmSCF-Address [0],
     0x81, 0x01, 0x00,                               // defaultCallHandling [1] continueCall
     0x30, 0x11, 0x0a, 0x01, 0x04, 0x02, 0x01, 0x65, // a row: detection point 4, serviceKey 101,
     0x80, 0x06, 0x91, 0x94, 0x71, 0x16, 0x00, 0x00, // gsmSCF-Address [0],
     0x81, 0x01, 0x01,                               // defaultCallHandling [1] releaseCall
+    0x80, 0x01, 0x03,                               // camelCapabilityHandling [0]: phase 3
+];
+#[rustfmt::skip]
+const CRITERIA: &[u8] = &[
+    0x30, 0x15, 0xad, 0x13,                         // InsertSubscriberDataArg, vlrCamelSubscriptionInfo [13]
     0xa4, 0x11, 0x30, 0x0f, 0x0a, 0x01, 0x04,       // o-BcsmCamelTDP-CriteriaList [4]: detection point 4,
     0xa0, 0x0a, 0x80, 0x01, 0x01,                   // destinationNumberCriteria [0], matchType [0] enabling,
     0xa1, 0x05, 0x04, 0x03, 0x91, 0x34, 0x61,       // destinationNumberList [1]
 ];
 
-/// Submits the argument in the dialogue of an IMSI.
-fn submit_data(store: &mut Store, imsi: Imsi) -> Result<(), MapFault> {
-    store.submit_map(Operation::InsertSubscriberData, Some(imsi), ARGUMENT)
+/// Decodes an argument in the dialogue of an IMSI.
+fn decode(imsi: Imsi, argument: &[u8]) -> Result<PreparedUpdate, MapFault> {
+    PreparedUpdate::from_map(Operation::InsertSubscriberData, Some(imsi), argument)
+}
+
+/// Submits a Register, which empties the record, and the Insert behind it: both are accepted, or neither is.
+fn submit_data(store: &mut Store, imsi: Imsi, insert: PreparedUpdate) -> Outcomes<()> {
+    let register = PreparedUpdate::new(&Update::Register { imsi })?;
+    Ok(store.submit_all(&[register, insert])?)
+}
+
+/// A location update: what the HLR sends in one dialogue is one Insert. Once it is published, the HLR is answered.
+fn update_location(store: &mut Store, imsi: Imsi) -> Outcomes<()> {
+    let mut insert = decode(imsi, ROWS)?;
+    insert.join(&decode(imsi, CRITERIA)?)?;
+    if let UpdateParts::Insert {
+        counts,
+        capabilities,
+        ..
+    } = insert.parts()?
+    {
+        println!(
+            "a location update: rows {}, criteria {}, CAMEL phase {}",
+            counts.o,
+            counts.o_criteria,
+            capabilities.o.unwrap_or(1)
+        );
+    }
+    submit_data(store, imsi, insert)
 }
 
 /// Publishes, and hands each thread the receipt.
@@ -172,6 +204,33 @@ fn hold_publications(store: &mut Store, session: &mut Session, other: Imsi) -> O
     Ok(())
 }
 
+/// What goes through a restart: of each record the IMSI, and the argument that makes it, all of one front. A switch has
+/// them in a file.
+fn dump(session: &mut Session) -> Outcomes<Vec<(Imsi, Argument)>> {
+    let look = session.look()?;
+    let mut records = Vec::new();
+    for imsi in look.imsis()? {
+        let argument = look.encode_record(imsi)?;
+        records.push((imsi, argument.ok_or("there is no record to encode")?));
+    }
+    Ok(records)
+}
+
+/// A store opens empty. Restored from the records of the one before, it knows each subscriber.
+fn restart(session: &mut Session, imsi: Imsi) -> Outcomes<()> {
+    let records = dump(session)?;
+    let (mut restored, mut sessions) =
+        Store::open(1, MAX_UPDATES, Profile::One, camel::random_seed())?;
+    for (imsi, argument) in &records {
+        submit_data(&mut restored, *imsi, decode(*imsi, argument)?)?;
+    }
+    restored.publish()?;
+    println!("records that go through a restart: {}", records.len());
+    let answer = sessions[0].decide(&set_up_of(imsi)?)?;
+    say("set-up after the restart", &answer);
+    Ok(())
+}
+
 /// A call keeps the record of its set-up, whatever the HLR sends meanwhile.
 fn keep_data(store: &mut Store, session: &mut Session, imsi: Imsi) -> Outcomes<()> {
     let (set_up, failure) = (set_up_of(imsi)?, failure_of(imsi)?);
@@ -199,15 +258,16 @@ fn main() -> Outcomes<()> {
         Store::open(THREADS + 1, MAX_UPDATES, Profile::One, camel::random_seed())?;
     let mut own = sessions.pop().ok_or("there is no session")?;
     let (imsi, other) = (Imsi::from_tbcd(IMSI)?, Imsi::from_tbcd(OTHER)?);
-    store.submit(&Update::Register { imsi })?;
-    submit_data(&mut store, imsi)?;
+    update_location(&mut store, imsi)?;
+    let refused = store.submit_map(Operation::InsertSubscriberData, Some(other), ROWS);
     expect(
         "data of a subscriber who is not registered",
-        submit_data(&mut store, other).map_err(Error::from),
+        refused.map_err(Error::from),
         Error::UnidentifiedSubscriber,
     )?;
     let sessions = run_calls(&mut store, sessions, imsi)?;
     hold_publications(&mut store, &mut own, other)?;
+    restart(&mut own, imsi)?;
     keep_data(&mut store, &mut own, imsi)?;
 
     let look = own.look()?;
