@@ -132,39 +132,27 @@ static const uint8_t CRITERIA[] = {
     0xa1, 0x05, 0x04, 0x03, 0x91, 0x34, 0x61        /* destinationNumberList [1] */
 };
 
-/* Decodes an argument in the dialogue of an IMSI. */
-static void decode(const camel_imsi *imsi, const uint8_t *octets, size_t count, camel_update *update)
-{
-    uint64_t place = 0;
-    camel_status status = camel_update_of_map(CAMEL_INSERT_SUBSCRIBER_DATA, imsi, octets, count, update, &place);
-    if (place > 0)
-        fprintf(stderr, "the argument has a fault at octet %lu\n", (unsigned long)place);
-    OK(status);
-}
-
-/* Submits a Register, which empties the record, and the Insert behind it: both are accepted, or neither is. */
-static void submit_data(camel_store *store, const camel_imsi *imsi, camel_update updates[2])
-{
-    size_t rejected;
-    OK(camel_update_of_register(imsi, &updates[0]));
-    OK(camel_submit_all(store, updates, 2, &rejected));
-    camel_free(&updates[0]);
-    camel_free(&updates[1]);
-}
-
-/* A location update: what the HLR sends in one dialogue is one Insert. Once it is published, the HLR is answered. */
+/* A location update: a Register, which empties the record, and behind it what the HLR sends in the dialogue, as one
+ * Insert. Both are accepted, or neither is. The HLR is answered by the first status that is not 0, or once both are
+ * published. */
 static void update_location(camel_store *store, const camel_imsi *imsi)
 {
     camel_update updates[2] = { CAMEL_EMPTY, CAMEL_EMPTY }, next = CAMEL_EMPTY;
     camel_update_parts parts;
+    uint64_t place;
+    size_t rejected;
 
-    decode(imsi, ROWS, sizeof ROWS, &updates[1]);
-    decode(imsi, CRITERIA, sizeof CRITERIA, &next);
+    OK(camel_update_of_register(imsi, &updates[0]));
+    OK(camel_update_of_map(CAMEL_INSERT_SUBSCRIBER_DATA, imsi, ROWS, sizeof ROWS, &updates[1], &place));
+    OK(camel_update_of_map(CAMEL_INSERT_SUBSCRIBER_DATA, imsi, CRITERIA, sizeof CRITERIA, &next, &place));
     OK(camel_update_join(&updates[1], &next));
+    OK(camel_submit_all(store, updates, 2, &rejected));
+    OK(camel_publish(store));
     OK(camel_update_parts_of(&updates[1], &parts));
     printf("a location update: rows %u, criteria %u, CAMEL phase %u\n", parts.o_rows, parts.o_criteria,
            parts.o_capability);
-    submit_data(store, imsi, updates);
+    camel_free(&updates[0]);
+    camel_free(&updates[1]);
     camel_free(&next);
 }
 
@@ -224,6 +212,21 @@ static size_t dump(camel_session *session, struct record *records)
     return count;
 }
 
+/* Submits a Register and the Insert of a record. */
+static void restore(camel_store *store, const struct record *record)
+{
+    camel_update updates[2] = { CAMEL_EMPTY, CAMEL_EMPTY };
+    uint64_t place;
+    size_t rejected;
+
+    OK(camel_update_of_register(&record->imsi, &updates[0]));
+    OK(camel_update_of_map(CAMEL_INSERT_SUBSCRIBER_DATA, &record->imsi, record->argument.octets,
+                           record->argument.count, &updates[1], &place));
+    OK(camel_submit_all(store, updates, 2, &rejected));
+    camel_free(&updates[0]);
+    camel_free(&updates[1]);
+}
+
 /* A store opens empty. Restored from the records of the one before, it knows each subscriber. */
 static void restart(camel_session *session, const camel_imsi *imsi)
 {
@@ -235,11 +238,8 @@ static void restart(camel_session *session, const camel_imsi *imsi)
     size_t count = dump(session, records);
 
     OK(camel_open(&restored, &own, 1, CAMEL_MAX_UPDATES, CAMEL_PROFILE_1, random_seed()));
-    for (size_t at = 0; at < count; at++) {
-        camel_update updates[2] = { CAMEL_EMPTY, CAMEL_EMPTY };
-        decode(&records[at].imsi, records[at].argument.octets, records[at].argument.count, &updates[1]);
-        submit_data(&restored, &records[at].imsi, updates);
-    }
+    for (size_t at = 0; at < count; at++)
+        restore(&restored, &records[at]);
     OK(camel_publish(&restored));
     OK(camel_decide(&own, &set_up, &answer));
     printf("records that go through a restart: %lu\n", (unsigned long)count);

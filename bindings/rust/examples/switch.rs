@@ -130,26 +130,25 @@ const CRITERIA: &[u8] = &[
     0xa1, 0x05, 0x04, 0x03, 0x91, 0x34, 0x61,       // destinationNumberList [1]
 ];
 
-/// Decodes an argument in the dialogue of an IMSI.
+/// What an argument of the HLR brings, in the dialogue of an IMSI.
 fn decode(imsi: Imsi, argument: &[u8]) -> Result<PreparedUpdate, MapFault> {
     PreparedUpdate::from_map(Operation::InsertSubscriberData, Some(imsi), argument)
 }
 
-/// Submits a Register, which empties the record, and the Insert behind it: both are accepted, or neither is.
-fn submit_data(store: &mut Store, imsi: Imsi, insert: PreparedUpdate) -> Outcomes<()> {
-    let register = PreparedUpdate::new(&Update::Register { imsi })?;
-    Ok(store.submit_all(&[register, insert])?)
-}
-
-/// A location update: what the HLR sends in one dialogue is one Insert. Once it is published, the HLR is answered.
+/// A location update: a Register, which empties the record, and behind it what the HLR sends in the dialogue, as one
+/// Insert. Both are accepted, or neither is. The HLR is answered by the first error, or once both are published.
 fn update_location(store: &mut Store, imsi: Imsi) -> Outcomes<()> {
+    let register = PreparedUpdate::new(&Update::Register { imsi })?;
     let mut insert = decode(imsi, ROWS)?;
     insert.join(&decode(imsi, CRITERIA)?)?;
+    let updates = [register, insert];
+    store.submit_all(&updates)?;
+    store.publish()?;
     if let UpdateParts::Insert {
         counts,
         capabilities,
         ..
-    } = insert.parts()?
+    } = updates[1].parts()?
     {
         println!(
             "a location update: rows {}, criteria {}, CAMEL phase {}",
@@ -158,7 +157,7 @@ fn update_location(store: &mut Store, imsi: Imsi) -> Outcomes<()> {
             capabilities.o.unwrap_or(1)
         );
     }
-    submit_data(store, imsi, insert)
+    Ok(())
 }
 
 /// Publishes, and hands each thread the receipt.
@@ -222,7 +221,8 @@ fn restart(session: &mut Session, imsi: Imsi) -> Outcomes<()> {
     let (mut restored, mut sessions) =
         Store::open(1, MAX_UPDATES, Profile::One, camel::random_seed())?;
     for (imsi, argument) in &records {
-        submit_data(&mut restored, *imsi, decode(*imsi, argument)?)?;
+        let register = PreparedUpdate::new(&Update::Register { imsi: *imsi })?;
+        restored.submit_all(&[register, decode(*imsi, argument)?])?;
     }
     restored.publish()?;
     println!("records that go through a restart: {}", records.len());
