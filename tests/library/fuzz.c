@@ -62,7 +62,7 @@ WRITES_IMSI(tbcd_of_imsi, camel_imsi_tbcd, octets, camel_imsi_of_tbcd)
 
 static void f_empty(void)
 {
-    unsigned slot = below(64) ? KEPT + below(SLOTS - KEPT) : below(SLOTS);
+    unsigned slot = below(64) == 0 ? below(SLOTS) : toss() ? KEPT + below(2) : UPDATE + below(SLOTS - UPDATE);
     camel_free(below(8) ? &handles[slot] : NULL);
     camel_free(&handles[slot]);
     IS(!handles[slot].is_full);
@@ -440,17 +440,17 @@ static void f_close(void)
 }
 
 /* The functions of camel.h, and how often each is called among CALLS calls. */
-enum { CALLS = 1300 };
+enum { CALLS = 1340 };
 static struct { const char *name; void (*make)(void); unsigned often; unsigned long counts[STATUSES]; } exports[] = {
 #define EXPORT(name, often) { "camel_" #name, f_##name, often, { 0 } }
     EXPORT(abi_version, 1), EXPORT(layouts, 1), EXPORT(imsi_of_tbcd, 15), EXPORT(imsi_of_digits, 15),
     EXPORT(address_of, 20), EXPORT(isdn_address_of, 20), EXPORT(digits_of_imsi, 5), EXPORT(tbcd_of_imsi, 5),
     EXPORT(open_version, 20), EXPORT(open, 10), EXPORT(submit_register, 80), EXPORT(submit_lists, 100),
     EXPORT(submit_insert, 30), EXPORT(submit_delete, 20), EXPORT(submit_cancel, 20), EXPORT(submit_clear_all, 1),
-    EXPORT(submit_map, 60), EXPORT(update_of_register, 25), EXPORT(update_of_lists, 30), EXPORT(update_of_insert, 15),
-    EXPORT(update_of_delete, 15), EXPORT(update_of_cancel, 10), EXPORT(update_of_clear_all, 2),
-    EXPORT(update_of_map, 20), EXPORT(update_join, 30), EXPORT(update_parts_of, 15), EXPORT(submit, 20),
-    EXPORT(submit_all, 30), EXPORT(imsis_of, 5), EXPORT(next_imsi, 23), EXPORT(encode_record, 10),
+    EXPORT(submit_map, 60), EXPORT(update_of_register, 20), EXPORT(update_of_lists, 40), EXPORT(update_of_insert, 15),
+    EXPORT(update_of_delete, 10), EXPORT(update_of_cancel, 5), EXPORT(update_of_clear_all, 2),
+    EXPORT(update_of_map, 45), EXPORT(update_join, 40), EXPORT(update_parts_of, 15), EXPORT(submit, 20),
+    EXPORT(submit_all, 30), EXPORT(imsis_of, 15), EXPORT(next_imsi, 23), EXPORT(encode_record, 10),
     EXPORT(publish, 60), EXPORT(holders, 10), EXPORT(counts_of, 20), EXPORT(receipt_of, 30),
     EXPORT(learn, 40), EXPORT(decide, 150), EXPORT(decisions_of, 10), EXPORT(look, 25), EXPORT(leave, 40),
     EXPORT(row_at, 30), EXPORT(o_criteria_at, 15), EXPORT(t_criteria_at, 15), EXPORT(keep, 40), EXPORT(decide_kept, 40),

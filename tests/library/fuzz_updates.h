@@ -22,7 +22,7 @@ static bool holds_update(unsigned slot)
 /* One of a few, so that updates are of one subscriber. */
 static camel_imsi any_of_few(void)
 {
-    return below(4) ? imsi_of(below(3)) : any_imsi();
+    return below(12) ? imsi_of(below(2)) : any_imsi();
 }
 
 /* Notes the update that a handle has got, if it has. */
@@ -100,12 +100,24 @@ static camel_update_parts parts_of_lists(camel_imsi imsi, const camel_insert *se
     return parts;
 }
 
+/* Has one list be sent at most, so that Inserts may be joined. */
+static void leave_one(camel_insert *sent)
+{
+    bool *has[] = { &sent->o.has_rows, &sent->o.has_criteria, &sent->vt.has_rows, &sent->vt.has_criteria };
+    unsigned left = below(4);
+    for (unsigned at = 0; at < 4; at++)
+        if (at != left)
+            *has[at] = false;
+}
+
 static void f_update_of_lists(void)
 {
     unsigned to = pick_to_fill(UPDATE + below(4));
     bool was_full = handles[to].is_full;
     camel_imsi imsi = any_of_few();
     camel_insert sent = any_insert();
+    if (toss())
+        leave_one(&sent);
     camel_status status = camel_update_of_lists(at_edge(0, &imsi, sizeof imsi), at_edge(5, &sent, sizeof sent),
                                                 AS(update, to));
     note_made(to, was_full, parts_of_lists(imsi, &sent), MAKES_LISTS, status);
@@ -135,7 +147,7 @@ static uint8_t kind_of(uint8_t operation)
 /* What came is what the library says of it, of the kind of the operation. */
 static void f_update_of_map(void)
 {
-    unsigned to = pick_to_fill(UPDATE + below(4)), own = below(3);
+    unsigned to = pick_to_fill(UPDATE + below(4)), own = below(2);
     bool was_full = handles[to].is_full;
     struct argument argument = ARGUMENT[below(ARGUMENTS)];
     uint8_t octets[300], operation = mostly(argument.operation);
