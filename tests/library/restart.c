@@ -321,7 +321,8 @@ int main(int argc, char **argv)
     printf("%lu events: decided in both stores in %.2f s\n", events, seconds() - start);
     RETURNS(CAMEL_OK, dump(&other, again, &same));
     IS(same == count);
-    have_same_lines(file, again, count);
+    if (!failed)
+        have_same_lines(file, again, count);
     fclose(file);
     fclose(again);
     camel_free(&session);

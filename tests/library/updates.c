@@ -22,12 +22,12 @@ static camel_update update_in(unsigned dialogue, uint8_t operation, const uint8_
     return update;
 }
 
-/* An Insert without its IMSI: an O-CSI with rows at these detection points, each with a service key of its own, and the
- * camelCapabilityHandling 3. */
-static camel_update rows_in(unsigned dialogue, const uint8_t *dps, size_t dp_count)
+/* An Insert without its IMSI: an O-CSI with rows at these detection points, each with a key of its own, and with this
+ * camelCapabilityHandling. */
+static camel_update rows_in(unsigned dialogue, const uint8_t *dps, size_t dp_count, uint8_t phase)
 {
     uint8_t octets[256];
-    static const uint8_t capability[] = { 0x80, 0x01, 0x03 };
+    const uint8_t capability[] = { 0x80, 0x01, phase };
     size_t rows = 14 * dp_count, at = 12;
     const uint8_t head[] = {
         0x30, 0x81, (uint8_t)(rows + 12), 0xad, 0x81, (uint8_t)(rows + 9), 0xa0, 0x81, (uint8_t)(rows + 6),
@@ -160,7 +160,7 @@ static void parts_of_updates(void)
 static void parts_of_lists(void)
 {
     static const uint8_t dps[] = { 2, 3, 3, 4 };
-    camel_update update = rows_in(1, dps, sizeof dps);
+    camel_update update = rows_in(1, dps, sizeof dps, 3);
     camel_update_parts parts = parts_of(&update);
     camel_imsi imsi = imsi_of(1);
     camel_row rows[] = { row_of(13, 100), row_of(3, 100) };
@@ -180,8 +180,8 @@ static void refused_joins(void)
 {
     static const uint8_t one[] = { 2 }, same[] = { 2 }, many[] = { 3, 3, 3, 3, 3, 3, 3, 3, 3, 3 };
     camel_imsi imsi = imsi_of(1);
-    camel_update update = rows_in(1, one, 1), twice = rows_in(1, same, 1), eleven = rows_in(1, many, 10);
-    camel_update other = rows_in(2, many, 1), cancel = CAMEL_EMPTY, empty = CAMEL_EMPTY;
+    camel_update update = rows_in(1, one, 1, 3), twice = rows_in(1, same, 1, 3), eleven = rows_in(1, many, 10, 3);
+    camel_update other = rows_in(2, many, 1, 3), cancel = CAMEL_EMPTY, empty = CAMEL_EMPTY;
     camel_update_parts before = parts_of(&update), after;
 
     RETURNS(CAMEL_OK, camel_update_of_cancel(&imsi, &cancel));
@@ -216,12 +216,21 @@ static camel_answer decided(camel_store *store, camel_session *session, uint8_t 
 static void joined_updates(camel_store *store, camel_session *session)
 {
     static const uint8_t first[] = { 2, 3 }, second[] = { 4 };
-    camel_update update = rows_in(1, first, 2), next = rows_in(1, second, 1);
+    camel_update update = rows_in(1, first, 2, 2), next = rows_in(1, second, 1, 3), criteria = CAMEL_EMPTY;
+    camel_imsi imsi = imsi_of(1);
+    camel_o_criteria entry = { .dp = 4 };
+    camel_insert sent = { .o = { .criteria = &entry, .criteria_count = 1, .has_criteria = true } };
     camel_update_parts parts;
 
     RETURNS(CAMEL_OK, camel_update_join(&update, &next));
     parts = parts_of(&update);
     IS(parts.o_rows == 3 && parts.has_o_capability && parts.o_capability == 3 && parts_of(&next).o_rows == 1);
+    RETURNS(CAMEL_OK, camel_update_of_insert(&imsi, &sent, &criteria));
+    RETURNS(CAMEL_OK, camel_update_join(&update, &criteria));
+    parts = parts_of(&update);
+    IS(parts.o_rows == 3 && parts.o_criteria == 1 && parts.has_o_capability && parts.o_capability == 3);
+    IS(!parts_of(&criteria).has_o_capability);
+    camel_free(&criteria);
     RETURNS(CAMEL_OK, camel_submit(store, &update));
     IS(decided(store, session, 2).is_trigger && decided(store, session, 4).is_trigger);
     RETURNS(CAMEL_OK, camel_submit(store, &next));
@@ -242,7 +251,7 @@ static void submitted_updates(void)
 
     RETURNS(CAMEL_OK, camel_open(&store, &session, 1, 9, 1, 1));
     RETURNS(CAMEL_OK, camel_update_of_register(&imsi, &updates[0]));
-    updates[1] = rows_in(1, dps, 1);
+    updates[1] = rows_in(1, dps, 1, 3);
     criteria = update_in(1, CAMEL_INSERT_SUBSCRIBER_DATA, of_13, sizeof of_13);
     RETURNS(CAMEL_UNIDENTIFIED_SUBSCRIBER, camel_submit(&store, &updates[1]));
     RETURNS(CAMEL_OK, camel_submit(&store, &updates[0]));
@@ -280,7 +289,7 @@ static void submitted_together(void)
 
     RETURNS(CAMEL_OK, camel_open(&store, &session, 1, 7, 1, 1));
     RETURNS(CAMEL_OK, camel_update_of_register(&imsi, &updates[0]));
-    updates[1] = rows_in(1, dps, 1);
+    updates[1] = rows_in(1, dps, 1, 3);
     RETURNS(CAMEL_OK, camel_update_of_delete(&imsi, &what, &updates[2]));
     updates[3] = update_in(1, CAMEL_INSERT_SUBSCRIBER_DATA, of_13, sizeof of_13);
     SUBMITS_ALL(CAMEL_OK, 0, &store, updates, 0);
