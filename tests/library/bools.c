@@ -148,6 +148,59 @@ static void bools_of_deletes(camel_store *store, camel_session *session)
         }
 }
 
+/* What came with an Insert in a handle: a list came if the bool that says so is any octet but 0. */
+static void bools_of_held_inserts(const camel_imsi *imsi, size_t place, unsigned list)
+{
+    camel_row o = row_of(2, 100), vt = row_of(13, 101);
+    camel_o_criteria o_criteria = { .dp = 2 };
+    camel_t_criteria t_criteria = { .dp = 13 };
+
+    for (int octet = -1; octet < TRUES; octet++) {
+        camel_insert sent = { { &o, 1, &o_criteria, 1, false, false }, { &vt, 1, &t_criteria, 1, false, false } };
+        camel_update update = CAMEL_EMPTY;
+        camel_update_parts parts = { .kind = 7 };
+        put(&sent, place, octet < 0 ? 0 : TRUE[octet]);
+        RETURNS(CAMEL_OK, camel_update_of_insert(imsi, &sent, &update));
+        RETURNS(CAMEL_OK, camel_update_parts_of(&update, &parts));
+        IS(parts.o_rows == (list == 0 && octet >= 0) && parts.o_criteria == (list == 1 && octet >= 0));
+        IS(parts.vt_rows == (list == 2 && octet >= 0) && parts.t_criteria == (list == 3 && octet >= 0));
+        camel_free(&update);
+    }
+}
+
+/* What a Delete in a handle names, comes back as 1. */
+static void bools_of_held_deletes(const camel_imsi *imsi, size_t place)
+{
+    for (int octet = -1; octet < TRUES; octet++) {
+        camel_withdrawal what = { 0 };
+        camel_update update = CAMEL_EMPTY;
+        camel_update_parts parts = { .kind = 7 };
+        uint8_t named[sizeof what] = { 0 }, wanted[sizeof what] = { 0 };
+        put(&what, place, octet < 0 ? 0 : TRUE[octet]);
+        wanted[place] = octet >= 0;
+        RETURNS(CAMEL_OK, camel_update_of_delete(imsi, &what, &update));
+        RETURNS(CAMEL_OK, camel_update_parts_of(&update, &parts));
+        memcpy(named, &parts.withdrawal, sizeof named);
+        IS(memcmp(named, wanted, sizeof named) == 0);
+        camel_free(&update);
+    }
+}
+
+static void bools_of_updates(void)
+{
+    static const size_t lists[] = {
+        offsetof(camel_insert, o.has_rows), offsetof(camel_insert, o.has_criteria),
+        offsetof(camel_insert, vt.has_rows), offsetof(camel_insert, vt.has_criteria),
+    };
+    camel_imsi imsi = imsi_of(1);
+
+    for (unsigned list = 0; list < 4; list++)
+        bools_of_held_inserts(&imsi, lists[list], list);
+    bools_of_held_deletes(&imsi, offsetof(camel_withdrawal, o));
+    bools_of_held_deletes(&imsi, offsetof(camel_withdrawal, vt));
+    bools_of_held_deletes(&imsi, offsetof(camel_withdrawal, everything));
+}
+
 /* The subscriber has a row at 2, for forwarded calls of the bearer service 0x18. */
 static void bools_of_events(camel_store *store, camel_session *session)
 {
@@ -189,6 +242,7 @@ int main(void)
     bools_of_inserts(&store, &session);
     bools_of_deletes(&store, &session);
     bools_of_events(&store, &session);
+    bools_of_updates();
     camel_free(&session);
     RETURNS(CAMEL_OK, camel_close(&store));
     return ended("bools");
