@@ -419,9 +419,9 @@ camel_status camel_update_of_map(uint8_t operation, const camel_imsi *imsi, cons
 
 /* Joins two Inserts of one dialogue, over which an HLR has split the lists of a subscriber: `update` becomes what one
  * operation brings that has the lists of both, with the items of `next` behind its own. Of a camelCapabilityHandling in
- * both, that of `next` stands. `next` stays. CAMEL_NO_INSERT, CAMEL_OTHER_SUBSCRIBER; CAMEL_UNEXPECTED_DATA_VALUE: a
- * list has more than 10 items then, or two of a detection point of the CSI. CAMEL_OUT_OF_MEMORY. After these, and if
- * one of the handles holds no update, both are as before. */
+ * both, that of `next` stands. `next` is another handle, and stays as it is. CAMEL_WRONG_HANDLE: one of them holds no
+ * update. CAMEL_NO_INSERT, CAMEL_OTHER_SUBSCRIBER. CAMEL_UNEXPECTED_DATA_VALUE: a list has more than 10 items then, or
+ * two of a detection point of the CSI. CAMEL_OUT_OF_MEMORY. After these `update` is as before too. */
 CAMEL_CALL
 camel_status camel_update_join(camel_update *update, const camel_update *next);
 
@@ -429,15 +429,15 @@ camel_status camel_update_join(camel_update *update, const camel_update *next);
 CAMEL_CALL
 camel_status camel_update_parts_of(const camel_update *update, camel_update_parts *parts);
 
-/* Submits a copy of an update, which the handle keeps: it may be submitted again. The statuses are those by which the
- * store rejects an update; memory may be refused for the copy too. */
+/* Submits a copy of an update, which the handle keeps: it may be submitted again. CAMEL_UNIDENTIFIED_SUBSCRIBER,
+ * CAMEL_DATA_MISSING or CAMEL_HISTORY_FULL if the store rejects it, and CAMEL_OUT_OF_MEMORY, also for the copy. */
 CAMEL_CALL
 camel_status camel_submit(camel_store *store, const camel_update *update);
 
-/* Submits copies of several updates in their order, as those of a location update: all are accepted, or none is. The
- * store looks at each of them as if those before it were accepted, and `rejected` is the index of the first one that it
- * rejects. Else, also if memory is refused or a handle is wrong, it is update_count. It is always written. A Cancel or
- * a ClearAll, which leaves no record, is rejected with CAMEL_UNEXPECTED_DATA_VALUE. */
+/* Submits copies of several updates in their order, as those of a location update: all are accepted, or none is. It
+ * returns what camel_submit does, of each as if those before it were accepted, and CAMEL_UNEXPECTED_DATA_VALUE of a
+ * Cancel or a ClearAll, which leaves no record. `rejected` is the index of the first update that the store rejects, and
+ * update_count if it rejects none, as when memory is refused or a handle is wrong. It is always written. */
 CAMEL_CALL
 camel_status camel_submit_all(camel_store *store, const camel_update *updates, size_t update_count, size_t *rejected);
 
