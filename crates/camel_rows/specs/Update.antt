@@ -28,6 +28,12 @@ abbrev pub is_insert : Update → Bool
 is_insert (Insert imsi o o_criteria vt t_criteria) = true
 is_insert other = false
 
+-- an update leaves a record, if it is accepted
+abbrev pub leaves_record : Update → Bool
+leaves_record (Cancel imsi) = false
+leaves_record ClearAll = false
+leaves_record update = true
+
 -- an update is one of this subscriber: it concerns this one, or all
 abbrev pub is_of : List ℕ → Update → Bool
 is_of imsi update = concerns (update_imsi update) imsi

@@ -1,11 +1,13 @@
 ghost use Rattle.std.specs.Prelude.{◌≡◌, ◌<◌, ◌≤◌, ◌-◌, Some, None, IfErr, IfOk, IsSome, OnErr, OnOk};
 ghost use Rattle.std.specs.FinMap as map;
-ghost use Rattle.camel_rows.specs.Admission.{admission_refusal, no_admissions, with_admission};
+ghost use Rattle.camel_rows.specs.Admission.{IsAdmissionOf, admission_refusal, no_admissions, with_admission};
 ghost use Rattle.camel_rows.specs.ByImsi.{value_of, with_value};
 ghost use Rattle.camel_rows.specs.CsisPresent.{csis_after};
+ghost use Rattle.camel_rows.specs.Directory.{IsDirectoryOf};
 ghost use Rattle.camel_rows.specs.Update.{update_imsi};
 
 use crate::subscriber::csis_present::{CsisChange, CsisPresent, check_update, csis_after};
+use crate::subscriber::records::Records;
 use crate::subscriber::update::Update;
 use camel_criteria::Refusal;
 use camel_table::{Seed, Table};
@@ -22,6 +24,8 @@ pub struct Admission {
     // Which subscribers have a record, and which CSIs are stored in each: all that decides whether an update is refused,
     // in far less memory than the records take.
     directory: Table<CsisPresent, Seed>,
+    // The seed of the directory, so that one that is made anew has the same.
+    seed: Seed,
     accepted: u64,
     limit: u64,
 }
@@ -55,6 +59,7 @@ impl Admission {
     {
         Admission {
             directory: Table::new(alloc, seed),
+            seed,
             accepted: 0,
             limit,
         }
@@ -185,6 +190,68 @@ impl Admission {
         }
         self.accepted -= 1;
     }
+
+    /// Puts back the CSIs that are stored in the record of an IMSI without the updates that are dropped, or that it has
+    /// no record without them. It takes no memory, and so the IMSI has to have a record already if it keeps one. The
+    /// count stays: [`Admission::restore_accepted`] sets it once all are put back.
+    pub fn restore(&mut self, imsi: &Imsi, csis: Option<CsisPresent>)
+        requires { IsSome csis → IsSome (map.get self.old.directory imsi.now) }
+        ensures { self.new ≡ record self.old { directory = with_value self.old.directory imsi.now csis } }
+    {
+        match csis {
+            Some(csis) => *self.directory.value_mut(imsi) = csis,
+            None => self.directory.remove(imsi),
+        }
+    }
+
+    /// Counts only so many updates as accepted, which are no more than before: the later ones are dropped.
+    pub fn restore_accepted(&mut self, accepted: u64)
+        requires { accepted ≤ self.old.accepted }
+        ensures { self.new ≡ record self.old { accepted = accepted } }
+    {
+        self.accepted = accepted;
+    }
+
+    /// The admission of a store with the same limit that has accepted so many updates, which leave these records. Its
+    /// table has the same seed. It goes through all records.
+    ///
+    /// Fails with `OutOfMemory` (102) if memory is refused; this admission stays as it is.
+    pub fn made_anew(
+        &self,
+        alloc: Global,
+        records: &Records,
+        accepted: u64,
+    ) -> Result<Admission, Refusal>
+        requires { accepted ≤ self.now.limit }
+        ensures admission { IfOk result (λ admission. IsAdmissionOf admission self.now.limit accepted records.now) }
+        ensures only { IfErr result (λ why. why ≡ Refusal.OutOfMemory) }
+    {
+        Ok(Admission {
+            directory: directory_of(alloc, self.seed, records)?,
+            seed: self.seed,
+            accepted,
+            limit: self.limit,
+        })
+    }
+}
+
+/// The CSIs that are stored in each record, in a table with this seed. Fails with `OutOfMemory` (102) if memory is
+/// refused.
+fn directory_of(
+    alloc: Global,
+    seed: Seed,
+    records: &Records,
+) -> Result<Table<CsisPresent, Seed>, Refusal>
+    ensures directory { IfOk result (λ directory. IsDirectoryOf directory records.now) }
+    ensures only { IfErr result (λ why. why ≡ Refusal.OutOfMemory) }
+{
+    let mut directory = Table::new(alloc, seed);
+    for imsi in records.imsis()? {
+        if let Some(csis) = records.csis(&imsi) {
+            directory.insert(&imsi, csis)?;
+        }
+    }
+    Ok(directory)
 }
 
 /// Puts the CSIs after an update in the place of those before it, unless they are the same.

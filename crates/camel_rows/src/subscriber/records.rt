@@ -93,6 +93,13 @@ impl Records {
         check_update(self.csis_before(update), update)
     }
 
+    /// The CSIs that are stored in the record of an IMSI; None if there is no record.
+    pub fn csis(&self, imsi: &Imsi) -> Option<CsisPresent>
+        ensures { result ≡ option_map csis_of (map.get self.now imsi.now) }
+    {
+        Some(self.get(imsi)?.csis())
+    }
+
     /// The CSIs in the record of the subscriber whom an update concerns; None if there is no record, or if it concerns
     /// all of them.
     fn csis_before(&self, update: &Update) -> Option<CsisPresent>
@@ -161,6 +168,22 @@ impl Records {
             Err(Refusal::OutOfMemory) => Err(update),
             Ok(()) | Err(_) => Ok(()),
         }
+    }
+
+    /// Makes the record of an IMSI equal to the one that other records have, or leaves no record of it if they have none.
+    /// The other subscribers keep theirs.
+    ///
+    /// Fails with `AllocError` if memory is refused; then the records are as before. It takes no memory, and does not
+    /// fail, if the others have no record of the IMSI.
+    pub fn restore(&mut self, imsi: &Imsi, from: &Records) -> Result<(), AllocError>
+        ensures restored { OnOk result (self.new ≡ with_value self.old imsi.now (map.get from.now imsi.now)) }
+        ensures unchanged { OnErr result (self.new ≡ self.old) }
+    {
+        match from.get(imsi) {
+            Some(subscriber) => self.put(*imsi, subscriber.clone()?)?,
+            None => self.take_out(imsi),
+        }
+        Ok(())
     }
 
     /// Equal records. Fails with `OutOfMemory` (102) if memory is refused.

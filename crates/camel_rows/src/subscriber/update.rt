@@ -1,6 +1,6 @@
 ghost use Rattle.std.specs.Prelude.{◌≡◌, IfErr, IfOk};
 ghost use Rattle.camel_rows.specs.CsisPresent.{removes_o, removes_vt};
-ghost use Rattle.camel_rows.specs.Update.{update_imsi};
+ghost use Rattle.camel_rows.specs.Update.{leaves_record, update_imsi};
 
 use crate::csi::criteria_set::{OCriteriaSet, TCriteriaSet};
 use crate::csi::{OCsi, VtCsi};
@@ -83,6 +83,13 @@ impl Update {
             | Update::Cancel { imsi } => Some(*imsi),
             Update::ClearAll => None,
         }
+    }
+
+    /// Whether it leaves a record, if it is accepted.
+    pub fn leaves_record(&self) -> bool
+        ensures { result ≡ leaves_record self.now }
+    {
+        !matches!(self, Update::Cancel { .. } | Update::ClearAll)
     }
 
     /// An equal update. Fails with `OutOfMemory` (102) if memory is refused.
