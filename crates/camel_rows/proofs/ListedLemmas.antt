@@ -5,12 +5,11 @@ use Rattle.std.proofs.lemmas.Map.Lookups.{exact_bytes}
 use Rattle.std.proofs.lemmas.Map.Views.{tells_apart}
 use Rattle.std.specs.Cmp.Lexicographic.{nat_list_cmp_total}
 use Rattle.std.specs.FinMap as map
-use Rattle.std.specs.Option.{is_some, option_map}
-use Rattle.camel_table.specs.ByImsi.{ListsEachOnce, is_same, times_listed}
+use Rattle.std.specs.Option.{option_map}
+use Rattle.camel_table.specs.ByImsi.{is_same, times_listed}
 use Rattle.camel_rows.specs.CsisPresent.{csis_of}
-use Rattle.camel_rows.specs.Directory.{DirectoryData, IsDirectoryOf}
+use Rattle.camel_rows.specs.Directory.{DirectoryData}
 use Rattle.camel_rows.specs.Records.{RecordsData}
-use Rattle.camel_rows.specs.Subscriber.{SubscriberData}
 use Rattle.camel_rows.specs.declared.subscriber.csis_present.CsisPresent.{CsisPresent}
 
 -- the value of an IMSI that is listed so many times; none, if it is not listed
@@ -64,13 +63,3 @@ next_left_out imsis imsi directory m none so_far q =
         let no_csis = none ∙ ap (λ at. option_map csis_of (map.get m at)) (sym (tells_apart exact_bytes q imsi same)) in
         ap (if_listed (times_listed q imsis)) (sym no_csis) ∙ if_none (times_listed q imsis) ∙ no_csis ∙ sym (if_once_more (times_listed q imsis) (option_map csis_of (map.get m q)))
     either false other = sym (not_once_more (times_listed q imsis) (option_map csis_of (map.get m q)))
-
--- once all that have a record are gone through, the directory is that of the records
-pub all_listed : (imsis : List (List ℕ)) (directory : DirectoryData) (m : RecordsData) → ListsEachOnce imsis m → IsDirectoryOfListed imsis directory m
-    → IsDirectoryOf directory m
-all_listed imsis directory m each listed q =
-    listed q ∙ ap (λ n. if_listed n (option_map csis_of (map.get m q))) (each q) ∙ stored (map.get m q)
-  where
-    stored : (held : Option SubscriberData) → if_listed (cond (is_some held) 1 0) (option_map csis_of held) ≡ option_map csis_of held
-    stored None = refl
-    stored (Some subscriber) = refl
