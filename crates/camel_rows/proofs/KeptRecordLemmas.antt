@@ -21,21 +21,22 @@ unconcerned m (update ∷ updates) imsi others =
     ∙ other_record m update imsi (All-head (λ one. is_of imsi one ≡ false) update updates others)
 
 -- what an update that leaves a record leaves, if it is not refused
-left : (old : Option SubscriberData) (update : Update) → leaves_record update ≡ true → csis_refusal (option_map csis_of old) update ≡ None
+some_left : (old : Option SubscriberData) (update : Update) → leaves_record update ≡ true → csis_refusal (option_map csis_of old) update ≡ None
     → IsSome (record_after old update)
-left old (Register imsi) leaves accepted = cc
-left None (Insert imsi o o_criteria vt t_criteria) leaves accepted = absurd (cc)
-left (Some subscriber) (Insert imsi o o_criteria vt t_criteria) leaves accepted = cc
-left None (Delete imsi what) leaves accepted = absurd (cc)
-left (Some subscriber) (Delete imsi what) leaves accepted = cc
-left old (Cancel imsi) leaves accepted = absurd (cc)
-left old ClearAll leaves accepted = absurd (cc)
+some_left old (Register imsi) leaves accepted = cc
+some_left None (Insert imsi o o_criteria vt t_criteria) leaves accepted = absurd (cc)
+some_left (Some subscriber) (Insert imsi o o_criteria vt t_criteria) leaves accepted = cc
+some_left None (Delete imsi what) leaves accepted = absurd (cc)
+some_left (Some subscriber) (Delete imsi what) leaves accepted = cc
+some_left old (Cancel imsi) leaves accepted = absurd (cc)
+some_left old ClearAll leaves accepted = absurd (cc)
 
 -- an accepted update that leaves a record leaves one of each subscriber whom it concerns
 own_left : (m : RecordsData) (update : Update) (imsi : List ℕ) → refusal m update ≡ None → leaves_record update ≡ true → is_of imsi update ≡ true
     → IsSome (map.get (records_after m update) imsi)
 own_left m update imsi accepted leaves own =
-    subst (λ (held : Option SubscriberData). IsSome held) (sym (own_record m update imsi own accepted)) (left (value_of m (update_imsi update)) update leaves accepted)
+    subst (λ (held : Option SubscriberData). IsSome held) (sym (own_record m update imsi own accepted))
+    (some_left (value_of m (update_imsi update)) update leaves accepted)
 
 -- a record is still there after accepted updates that each leave a record
 kept : (m : RecordsData) (updates : List Update) (imsi : List ℕ) → AcceptedFrom m updates → All (λ update. leaves_record update ≡ true) updates
@@ -47,7 +48,7 @@ kept m (update ∷ updates) imsi accepted leave held =
   where
     either : (own : Bool) → is_of imsi update ≡ own → IsSome (map.get (records_after m update) imsi)
     either true own = own_left m update imsi accepted.0 (All-head (λ one. leaves_record one ≡ true) update updates leave) own
-    either false other = subst (λ (record_held : Option SubscriberData). IsSome record_held) (sym (other_record m update imsi other)) held
+    either false other = subst (λ (old : Option SubscriberData). IsSome old) (sym (other_record m update imsi other)) held
 
 -- after accepted updates that each leave a record, each subscriber whom one of them concerns has a record
 pub has_record : (m : RecordsData) (before behind : List Update) (update : Update) (imsi : List ℕ)
@@ -57,4 +58,5 @@ has_record m [] behind update imsi accepted leave own =
     kept (records_after m update) behind imsi accepted.1 (All-tail (λ one. leaves_record one ≡ true) update behind leave)
     (own_left m update imsi accepted.0 (All-head (λ one. leaves_record one ≡ true) update behind leave) own)
 has_record m (first ∷ before) behind update imsi accepted leave own =
-    has_record (records_after m first) before behind update imsi accepted.1 (All-tail (λ one. leaves_record one ≡ true) first (before ++ update ∷ behind) leave) own
+    has_record (records_after m first) before behind update imsi accepted.1
+    (All-tail (λ one. leaves_record one ≡ true) first (before ++ update ∷ behind) leave) own

@@ -48,7 +48,9 @@ next_put imsis imsi directory m csis has so_far q =
   where
     either : (b : Bool) → is_same q imsi ≡ b
         → cond b (Some csis) (map.get directory q) ≡ if_listed (times_listed q imsis + cond b 1 0) (option_map csis_of (map.get m q))
-    either true same = has ∙ ap (λ at. option_map csis_of (map.get m at)) (sym (tells_apart exact_bytes q imsi same)) ∙ sym (if_once_more (times_listed q imsis) (option_map csis_of (map.get m q)))
+    either true same =
+        has ∙ ap (λ at. option_map csis_of (map.get m at)) (sym (tells_apart exact_bytes q imsi same))
+        ∙ sym (if_once_more (times_listed q imsis) (option_map csis_of (map.get m q)))
     either false other = so_far q ∙ sym (not_once_more (times_listed q imsis) (option_map csis_of (map.get m q)))
 
 -- the next IMSI has no record, and is left out
@@ -61,5 +63,6 @@ next_left_out imsis imsi directory m none so_far q =
         → if_listed (times_listed q imsis) (option_map csis_of (map.get m q)) ≡ if_listed (times_listed q imsis + cond b 1 0) (option_map csis_of (map.get m q))
     either true same =
         let no_csis = none ∙ ap (λ at. option_map csis_of (map.get m at)) (sym (tells_apart exact_bytes q imsi same)) in
-        ap (if_listed (times_listed q imsis)) (sym no_csis) ∙ if_none (times_listed q imsis) ∙ no_csis ∙ sym (if_once_more (times_listed q imsis) (option_map csis_of (map.get m q)))
+        ap (if_listed (times_listed q imsis)) (sym no_csis) ∙ if_none (times_listed q imsis) ∙ no_csis
+        ∙ sym (if_once_more (times_listed q imsis) (option_map csis_of (map.get m q)))
     either false other = sym (not_once_more (times_listed q imsis) (option_map csis_of (map.get m q)))
