@@ -14,4 +14,6 @@ mod marked;
 #[cfg(test)]
 mod refill;
 #[cfg(test)]
+mod restored;
+#[cfg(test)]
 mod updates;
