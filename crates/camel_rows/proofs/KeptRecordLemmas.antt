@@ -1,5 +1,5 @@
 -- Which records a list of updates keeps.
-use Rattle.std.proofs.Common.{◌≡◌, ◌∙◌, ℕ, Bool, true, false, List, [], ◌∷◌, ◌++◌, Option, Some, None, All, IsSome, refl, sym, subst}
+use Rattle.std.proofs.Common.{◌≡◌, ◌∙◌, ℕ, Bool, true, false, List, [], ◌∷◌, Option, Some, None, All, IsSome, refl, sym, subst}
 use Rattle.std.proofs.lemmas.List.Elements.{All-head, All-tail}
 use Rattle.std.specs.FinMap as map
 use Rattle.std.specs.Option.{option_map}
@@ -39,7 +39,7 @@ own_left m update imsi accepted leaves own =
     (some_left (value_of m (update_imsi update)) update leaves accepted)
 
 -- a record is still there after accepted updates that each leave a record
-kept : (m : RecordsData) (updates : List Update) (imsi : List ℕ) → AcceptedFrom m updates → All (λ update. leaves_record update ≡ true) updates
+pub kept : (m : RecordsData) (updates : List Update) (imsi : List ℕ) → AcceptedFrom m updates → All (λ update. leaves_record update ≡ true) updates
     → IsSome (map.get m imsi) → IsSome (map.get (records_from m updates) imsi)
 kept m [] imsi accepted leave held = held
 kept m (update ∷ updates) imsi accepted leave held =
@@ -49,14 +49,3 @@ kept m (update ∷ updates) imsi accepted leave held =
     either : (own : Bool) → is_of imsi update ≡ own → IsSome (map.get (records_after m update) imsi)
     either true own = own_left m update imsi accepted.0 (All-head (λ one. leaves_record one ≡ true) update updates leave) own
     either false other = subst (λ (old : Option SubscriberData). IsSome old) (sym (other_record m update imsi other)) held
-
--- after accepted updates that each leave a record, each subscriber whom one of them concerns has a record
-pub has_record : (m : RecordsData) (before behind : List Update) (update : Update) (imsi : List ℕ)
-    → AcceptedFrom m (before ++ update ∷ behind) → All (λ one. leaves_record one ≡ true) (before ++ update ∷ behind) → is_of imsi update ≡ true
-    → IsSome (map.get (records_from m (before ++ update ∷ behind)) imsi)
-has_record m [] behind update imsi accepted leave own =
-    kept (records_after m update) behind imsi accepted.1 (All-tail (λ one. leaves_record one ≡ true) update behind leave)
-    (own_left m update imsi accepted.0 (All-head (λ one. leaves_record one ≡ true) update behind leave) own)
-has_record m (first ∷ before) behind update imsi accepted leave own =
-    has_record (records_after m first) before behind update imsi accepted.1
-    (All-tail (λ one. leaves_record one ≡ true) first (before ++ update ∷ behind) leave) own

@@ -1,5 +1,6 @@
 pub mod AcceptanceLemmas
 pub mod ChainLemmas
+pub mod DroppingLemmas
 pub mod FrontLemmas
 pub mod GroupLemmas
 pub mod OperationLemmas

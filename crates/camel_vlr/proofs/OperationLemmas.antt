@@ -1,6 +1,10 @@
 -- Operations, and the updates among them.
-use Rattle.std.proofs.Common.{◌≡◌, ◌∙◌, ◌+◌, ◌-◌, ◌^◌, ◌≤◌, List, [], ◌∷◌, ◌++◌, length, drop, fold, min, sym, refl, ap, subst, arith, add-zero, append-nil, append_assoc}
+use Rattle.std.proofs.Common.{◌≡◌, ◌∙◌, ◌+◌, ◌-◌, ◌^◌, ◌<◌, ◌≤◌, ℕ, List, All, take, [], ◌∷◌, ◌++◌, length, drop, fold, min, sym, refl, ap, subst, arith, add-zero, append-nil, append_assoc}
+use Prim.Native.Nat.{zero, suc}
+use Rattle.std.proofs.Math.ListN.{get_or}
 use Rattle.std.proofs.Math.Seq.{drop-append_seam}
+use Rattle.std.proofs.lemmas.List.{take_more}
+use Rattle.std.proofs.lemmas.List.Elements.{All-cons, All-head, All-nil, All-tail}
 use Rattle.camel_rows.specs.Front.{Extends}
 use Rattle.camel_rows.specs.Update.{records_from}
 use Rattle.camel_rows.specs.declared.subscriber.update.Update.{Update}
@@ -40,3 +44,20 @@ pub updates_among-more : (first before after : List Operation) (updates : List U
 updates_among-more first before after updates (more, order, all) =
     ap (λ list. updates_among (first ++ list)) order
     ∙ (ap updates_among (sym (append_assoc first before more)) ∙ (updates_among-append (first ++ before) more ∙ ap (λ list. updates_among (first ++ before) ++ list) all))
+
+-- one operation more, in its order
+pub updates_among-next : (items : List Operation) (at : ℕ) (item : Operation) → at < length items → item ≡ get_or items at item
+    → updates_among (take (at + 1) items) ≡ updates_among (take at items) ++ updates_among (item ∷ [])
+updates_among-next items at item few is =
+    ap updates_among (take_more items at item few ∙ ap (λ one. take at items ++ one ∷ []) (sym is)) ∙ updates_among-append (take at items) (item ∷ [])
+
+-- what is true of all updates is true of that of each operation
+pub each_of : (P : Update → Type 0) (items : List Operation) (at : ℕ) (item : Operation) → at < length items → item ≡ get_or items at item
+    → All P (updates_among items) → All P (updates_among (item ∷ []))
+each_of P [] at item few is all = absurd (omega (arith, few))
+each_of P (operation.Update update ∷ items) zero item few is all =
+    subst (λ (o : Operation). All P (updates_among (o ∷ []))) (sym is) (All-cons P update.value [] (All-head P update.value (updates_among items) all) (All-nil P))
+each_of P (operation.Front front ∷ items) zero item few is all = subst (λ (o : Operation). All P (updates_among (o ∷ []))) (sym is) (All-nil P)
+each_of P (operation.Update update ∷ items) (suc at) item few is all =
+    each_of P items at item (omega (arith, few)) is (All-tail P update.value (updates_among items) all)
+each_of P (operation.Front front ∷ items) (suc at) item few is all = each_of P items at item (omega (arith, few)) is all

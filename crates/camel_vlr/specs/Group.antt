@@ -1,15 +1,9 @@
 -- Several updates that are accepted in their order, or none of them.
-use Rattle.std.specs.Prelude.{◌≡◌, ℕ, Bool, true, false, List, [], ◌∷◌, ◌++◌, length, fold, Option, Some, None, if◌then◌else◌}
+use Rattle.std.specs.Prelude.{◌≡◌, ℕ, List, [], ◌∷◌, ◌++◌, length, fold, Option, Some, None, if◌then◌else◌}
 use Rattle.camel_criteria.specs.declared.refusal.Refusal.{Refusal}
 use Rattle.camel_criteria.specs.declared.refusal.Refusal.TheVariants.{UnexpectedDataValue}
+use Rattle.camel_rows.specs.Update.{leaves_record}
 use Rattle.camel_rows.specs.declared.subscriber.update.Update.{Update}
-use Rattle.camel_rows.specs.declared.subscriber.update.Update.TheVariants.{Cancel, ClearAll}
-
--- an update leaves a record, if it is accepted
-abbrev pub leaves_record : Update → Bool
-leaves_record (Cancel imsi) = false
-leaves_record ClearAll = false
-leaves_record update = true
 
 -- why an update is not accepted among others: for its own reason, or since it leaves no record (UnexpectedDataValue)
 abbrev pub refusal_among : Option Refusal → Update → Option Refusal

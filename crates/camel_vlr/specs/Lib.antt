@@ -1,12 +1,15 @@
 pub mod Chain
+pub mod Dropping
 pub mod Group
 pub mod GroupFields
+pub mod HandedOver
 pub mod History
 pub mod LeftRightSeat
 pub mod Operation
 pub mod OwnUpdates
 pub mod Prefix
 pub mod PublishedCopy
+pub mod Restoring
 pub mod Rule
 pub mod Run
 pub mod Seat

@@ -20,6 +20,10 @@ submission_refusal store update = store_refusal store.store.limit store.updates 
 abbrev pub with_accepted : StoreData → Update → StoreData
 with_accepted store update = record store { updates = with_update store.updates update }
 
+-- the published updates are all that the store has accepted
+abbrev pub with_none_pending : StoreData → StoreData
+with_none_pending store = record store { updates = record { published = store.updates.published; pending = [] } }
+
 -- a session of this store that has seen and learnt nothing
 abbrev pub fresh_session : StoreId → SessionData
 fresh_session store = session_told_nothing store []

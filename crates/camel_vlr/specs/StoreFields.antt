@@ -1,5 +1,5 @@
 -- The data of a store from its fields, and what the fields keep.
-use Rattle.std.specs.Prelude.{◌≡◌, ℕ, ◌≤◌, List, ◌++◌, true}
+use Rattle.std.specs.Prelude.{◌≡◌, ℕ, ◌≤◌, List, ◌++◌, true, false}
 use Rattle.camel_rows.specs.Front.{Extends, IsFront}
 use Rattle.camel_rows.specs.Store.{IsAdmissionOfUpdates, Updates, accepted_updates}
 use Rattle.camel_rows.specs.declared.subscriber.update.Update.{Update}
@@ -41,4 +41,5 @@ pub record IsStore {W S : Type 0} (g : Ghosts W S) (a : Inside W S) : Type 0 whe
   -- the history goes beyond what is published, and not beyond what is pending
   pub within : Extends (accepted_updates (updates_in g a)) a.history.updates
   pub beyond : Extends a.history.updates (published_in g a)
+  pub ahead : a.is_ahead ≡ false → a.history.updates ≡ published_in g a
   pub free : a.free.value ≡ true → g.free a.writer

@@ -1,6 +1,6 @@
 ghost use Rattle.std.specs.Prelude.{◌≡◌, ◌+◌, ◌-◌, ◌^◌, min, MatchResult};
 ghost use Rattle.camel_rows.specs.Records.{no_records};
-ghost use Rattle.camel_vlr.specs.Operation.{copy_after, data_of};
+ghost use Rattle.camel_vlr.specs.Operation.{copy_after, copy_restored, data_of};
 ghost use Rattle.camel_vlr.specs.PublishedCopy.{IsOfItsFront};
 
 use crate::history::prefix::Prefix;
@@ -93,6 +93,29 @@ impl PublishedCopy {
     }
 }
 
+impl PublishedCopy {
+    /// Restores what an operation has changed, as another copy has it. If memory is refused, it is as before.
+    fn restore_operation(
+        &mut self,
+        operation: &Operation,
+        other: &PublishedCopy,
+    ) -> Result<(), AllocError>
+        ensures { MatchResult result
+            (λ _. data_of self.new ≡ copy_restored (data_of self.old) operation.now (data_of other.now))
+            (λ _. data_of self.new ≡ data_of self.old) }
+    {
+        if let Operation::Update(update) = operation {
+            match update.imsi() {
+                Some(imsi) => self.records.restore(&imsi, &other.records)?,
+                None => self.records = other.records.clone()?,
+            }
+        }
+        self.count = other.count;
+        self.front = other.front.copy();
+        Ok(())
+    }
+}
+
 impl Absorb<Operation> for PublishedCopy {
     type State = (Records, u64, Prefix);
 
@@ -118,14 +141,24 @@ impl Absorb<Operation> for PublishedCopy {
 }
 
 impl Apply<Operation> for PublishedCopy {
+    ghost use Rattle.camel_vlr.specs.Restoring.{copy_restores};
+
     type State = (Records, u64, Prefix);
 
     ghost state = { data_of };
 
     ghost applied = { copy_after };
 
+    ghost restored = { copy_restored };
+
+    ghost restores = { copy_restores };
+
     fn apply(&mut self, operation: &Operation) -> Result<(), AllocError> {
         self.apply_operation(operation)
+    }
+
+    fn restore(&mut self, operation: &Operation, other: &PublishedCopy) -> Result<(), AllocError> {
+        self.restore_operation(operation, other)
     }
 
     fn make_ready(&mut self, operations: &VecDeque<Operation, Global>) -> Result<(), AllocError> {

@@ -9,6 +9,7 @@ ghost use Rattle.camel_vlr.specs.Group.{AcceptsAll, RejectsAt};
 ghost use Rattle.camel_vlr.specs.Store.{fresh_session, submission_refusal, with_accepted};
 
 pub(crate) mod closing;
+pub(crate) mod dropping;
 pub(crate) mod group;
 pub(crate) mod opening;
 pub(crate) mod operation;
@@ -23,7 +24,7 @@ use crate::receipt::Receipt;
 use crate::session::Session;
 use crate::writer::group::{Rejected, accept_all};
 use crate::writer::operation::Operation;
-use crate::writer::publication::{extend_history, hand_over};
+use crate::writer::publication::{extend_history, hand_over, make_room};
 use crate::writer::submission::accept;
 use camel_criteria::Refusal;
 use camel_rows::{Admission, Update};
@@ -55,6 +56,8 @@ pub struct Vlr<W: Publisher = LeftRightWriter> {
     profile: Profile,
     /// Where the pending updates are.
     alloc: Global,
+    /// Whether the history has updates that are not published.
+    is_ahead: bool,
     /// Whether it is known that no look holds up the next publication.
     free: Snapshot<bool>,
 }
@@ -156,7 +159,12 @@ impl<W: Publisher> Vlr<W> {
         ensures held { self.old.free ≡ true → IfErr result (λ why. W.is_held why → ⊥) }
         ensures known { self.old.free ≡ true → (writer : W) × W.free writer }
     {
+        // What the updates need is asked for before the history has them, so that they can be dropped if it is refused.
+        let Ok(()) = make_room(&mut self.writer, &mut self.pending) else {
+            return Err(W::out_of_memory());
+        };
         extend_history(&mut self.history, &self.writer, &self.pending);
+        self.is_ahead = true;
         let front = self.history.prefix();
         let Ok(()) = hand_over(&mut self.writer, &mut self.pending, front.copy()) else {
             return Err(W::out_of_memory());
@@ -164,6 +172,7 @@ impl<W: Publisher> Vlr<W> {
         if let Err(why) = self.writer.publish_all(by, front) {
             return Err(why);
         }
+        self.is_ahead = false;
         self.free = Snapshot::of(&false);
         Ok(())
     }

@@ -1,34 +1,33 @@
--- Two copies that are alike once what the one lacks, and what is pending, is applied.
-use Rattle.std.proofs.Common.{◌≡◌, List, [], ◌++◌, Result, Ok, Err, sym, ap, ◌∙◌}
+-- Two copies that are alike once what was dropped is restored, what the one lacks is applied, and what is pending, is.
+use Rattle.std.proofs.Common.{◌≡◌, ℕ, [], take, sym, ap, ◌∙◌}
 use mathlib.Core.Logic.{∥∥₁_elim}
 use base.Stored.{Coded, Coded-set}
-use Rattle.std.specs.Prelude.{fold, MatchResult}
-use Rattle.std.proofs.lemmas.List.Sums.{fold-append}
+use Rattle.std.proofs.Math.Seq.{take-length}
+use Rattle.std.specs.Prelude.{fold}
+use Rattle.two_copies.specs.Log.{IsAlike, IsBroughtUp, done_in}
+use Rattle.two_copies.specs.Restoring.{restored_from}
+use Rattle.two_copies.specs.declared.log.Log.{Log}
 
-module _ {S O : Type 0} (applied : S → O → S) where
-  abbrev pub Alike : S → S → List O → List O → Type 0
-  Alike spare shown missing pending = fold applied spare missing ≡ fold applied shown pending
-
+module _ {S O : Type 0} (applied : S → O → S) (restored : S → O → S → S) where
   -- the fact in the writer's ghost field, out of its truncation
-  pub are_alike : Coded S → (spare shown : S) (missing pending : List O) → ∥ Alike spare shown missing pending ∥₁ → Alike spare shown missing pending
-  are_alike code spare shown missing pending h = ∥∥₁_elim h (Coded-set code _ _) (λ x. x)
+  pub are_alike : Coded S → (spare shown : S) (log : Log O) → ∥ IsAlike applied restored spare shown log ∥₁ → IsAlike applied restored spare shown log
+  are_alike code spare shown log h = ∥∥₁_elim h (Coded-set code _ _) (λ x. x)
 
-  pub alike-push : (spare shown : S) (missing pending more : List O) → Alike spare shown missing pending → Alike spare shown (missing ++ more) (pending ++ more)
-  alike-push spare shown missing pending more alike =
-      fold-append applied spare missing more
-      ∙ ap (λ s. fold applied s more) alike
-      ∙ sym (fold-append applied shown pending more)
+  -- a copy that is brought up has all that is pending
+  pub spare_is_next : Coded S → (spare shown : S) (log : Log O) → IsBroughtUp log → ∥ IsAlike applied restored spare shown log ∥₁ → spare ≡ fold applied shown log.pending.items
+  spare_is_next code spare shown log up alike =
+      ap (λ last. fold applied (restored_from restored shown spare []) last) (sym up.last)
+      ∙ ap (λ dropped. fold applied (restored_from restored shown spare dropped) log.last.items) (sym up.dropped)
+      ∙ are_alike code spare shown log alike
+      ∙ ap (λ (done : ℕ). fold applied shown (take done log.pending.items)) up.done
+      ∙ ap (fold applied shown) (take-length log.pending.items)
 
-  -- after a push, whether it failed or not
-  pub alike-pushed : {A E : Type 0} (result : Result A E) (spare shown : S) (missing missing' pending pending' more : List O)
-      → MatchResult result (λ _. missing' ≡ missing ++ more) (λ _. missing' ≡ missing)
-      → MatchResult result (λ _. pending' ≡ pending ++ more) (λ _. pending' ≡ pending)
-      → Alike spare shown missing pending → Alike spare shown missing' pending'
-  alike-pushed (Ok value) spare shown missing missing' pending pending' more m p alike =
-      ap (fold applied spare) m ∙ alike-push spare shown missing pending more alike ∙ ap (fold applied shown) (sym p)
-  alike-pushed (Err why) spare shown missing missing' pending pending' more m p alike =
-      ap (fold applied spare) m ∙ alike ∙ ap (fold applied shown) (sym p)
+  -- what is pushed changes nothing of what the copies have
+  pub alike-pushed : (spare shown : S) (log next : Log O) → next.dropped ≡ log.dropped → next.last ≡ log.last → done_in next ≡ done_in log
+      → IsAlike applied restored spare shown log → IsAlike applied restored spare shown next
+  alike-pushed spare shown log next dropped last done alike = rw (dropped, last, done) alike
 
-  -- a copy that lacks nothing has all that is pending
-  pub spare_is_next : Coded S → (spare shown : S) (missing pending : List O) → missing ≡ [] → ∥ Alike spare shown missing pending ∥₁ → spare ≡ fold applied shown pending
-  spare_is_next code spare shown missing pending none alike = ap (fold applied spare) (sym none) ∙ are_alike code spare shown missing pending alike
+  -- the copies change their parts
+  pub alike-turned : (spare shown : S) (log next : Log O) → next.dropped.items ≡ [] → next.last.items ≡ log.pending.items → done_in next ≡ []
+      → spare ≡ fold applied shown log.pending.items → IsAlike applied restored shown spare next
+  alike-turned spare shown log next dropped last done is = rw (dropped, last, done) (sym is)

@@ -1,7 +1,7 @@
 -- What clauses see of the writer.
 use Rattle.std.specs.Prelude.{ℕ, List, All, length}
 use Rattle.std.specs.Arc.{arc_value}
-use Rattle.two_copies.specs.Log.{pending_in}
+use Rattle.two_copies.specs.Log.{IsBroughtUp, pending_in}
 use Rattle.two_copies.specs.WriterEnd.{IsFreeAt, held_in}
 use Rattle.two_copies.specs.declared.apply.Apply.{Ghosts}
 use Rattle.two_copies.specs.declared.copies.Copies.{Copies}
@@ -14,6 +14,10 @@ module _ {T O F S : Type 0} {g : Ghosts T O S} where
   -- the operations that are not published yet
   abbrev pub pending_of : Copies T O F S g → List O
   pending_of copies = pending_in copies.log
+
+  -- the copy that is not shown has all that is pending
+  abbrev pub IsReady : Copies T O F S g → Type 0
+  IsReady copies = IsBroughtUp copies.log
 
   -- how many places there are
   abbrev pub reader_count : Copies T O F S g → ℕ

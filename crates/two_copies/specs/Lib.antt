@@ -3,6 +3,7 @@ pub mod Ending
 pub mod Log
 pub mod Place
 pub mod Reader
+pub mod Restoring
 pub mod Seated
 pub mod Slot
 pub mod WriterEnd

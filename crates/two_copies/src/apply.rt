@@ -6,6 +6,8 @@ use std::collections::VecDeque;
 
 /// A value that operations change. Each operation is applied to both copies, one after the other.
 pub trait Apply<O: Drop> {
+    ghost use Rattle.std.specs.Prelude.{◌≡◌, List, fold};
+
     /// What two copies have in common if the same operations were applied to both. No value of it is made.
     type State;
 
@@ -14,10 +16,23 @@ pub trait Apply<O: Drop> {
     /// The state that an operation leaves.
     ghost applied: { Self.State → O → Self.State };
 
+    /// The state in which what an operation changes is as in another one, the second.
+    ghost restored: { Self.State → O → Self.State → Self.State };
+
+    /// Restoring what operations have changed leads back to the state before them.
+    ghost restores: { (before : Self.State) (operations : List O)
+        → fold (λ now operation. restored now operation before) (fold applied before operations) operations ≡ before };
+
     /// Applies an operation. If memory is refused, the state is as before.
     fn apply(&mut self, operation: &O) -> Result<(), AllocError>
         ensures { MatchResult result
             (λ _. state self.new ≡ applied (state self.old) operation.now)
+            (λ _. state self.new ≡ state self.old) };
+
+    /// Restores what an operation has changed, as the other copy has it. If memory is refused, the state is as before.
+    fn restore(&mut self, operation: &O, other: &Self) -> Result<(), AllocError>
+        ensures { MatchResult result
+            (λ _. state self.new ≡ restored (state self.old) operation.now (state other.now))
             (λ _. state self.new ≡ state self.old) };
 
     /// Gets ready for operations that are applied next, in their order: it may ask for memory that they will need, and read

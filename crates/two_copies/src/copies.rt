@@ -1,7 +1,7 @@
 //! The writer.
 ghost use Rattle.std.specs.Prelude.{◌≡◌, ◌≢◌, ◌<◌, ◌≤◌, ◌↔◌, [], ◌∷◌, ◌++◌, fold, length, true, All, IsTrue, MatchResult, OnErr, OnOk, IfErr, IfOk, Err, Some};
 ghost use Rattle.std.specs.Arc.{arc_value};
-ghost use Rattle.two_copies.specs.Log.{missing_in, pending_in};
+ghost use Rattle.two_copies.specs.Log.{IsAlike, pending_in};
 ghost use Rattle.two_copies.specs.Reader.{seen_by};
 ghost use Rattle.two_copies.specs.WriterEnd.{IsFreeAt, IsNextAt, ShowsAt};
 ghost use Rattle.two_copies.specs.declared.copies.TheConstants.{MAX_READERS};
@@ -72,12 +72,11 @@ pub struct Copies<T: Drop + Apply<O>, O: Drop, F: CopyRule<T>> {
     log: Log<O>,
     ghost bounded: { length places.items ≤ MAX_READERS },
     ghost shows: { ∥ All (ShowsAt (arc_value shown)) places.items ∥₁ },
-    ghost alike: { ∥ fold T.applied (T.state (arc_value spare)) (missing_in log)
-        ≡ fold T.applied (T.state (arc_value shown)) (pending_in log) ∥₁ },
+    ghost alike: { ∥ IsAlike T.applied T.restored (T.state (arc_value spare)) (T.state (arc_value shown)) log ∥₁ },
 }
 
 impl<T: Drop + Apply<O>, O: Drop, F: CopyRule<T>> Copies<T, O, F> {
-    ghost use Rattle.two_copies.specs.Copies.{IsFree, held_by, pending_of, reader_count, shown_by};
+    ghost use Rattle.two_copies.specs.Copies.{IsFree, IsReady, held_by, pending_of, reader_count, shown_by};
     ghost use Rattle.two_copies.specs.declared.copies.NoReader.TheVariants.{NoPlace};
     ghost use Rattle.two_copies.specs.declared.copies.Unpublished.TheVariants.{Held};
     ghost use Rattle.two_copies.specs.Ending.{closed_count, value_of};
@@ -163,6 +162,47 @@ impl<T: Drop + Apply<O>, O: Drop, F: CopyRule<T>> Copies<T, O, F> {
         self.log.push_all(operations)
     }
 
+    /// The operations that are pending, the first one first.
+    pub fn pending(&self) -> &VecDeque<O, Global>
+        ensures { result.now.items ≡ pending_of self.now }
+    {
+        self.log.pending()
+    }
+
+    /// Makes room for so many operations more behind those that are pending.
+    pub fn reserve(&mut self, additional: usize) -> Result<(), AllocError>
+        ensures same { (shown_by self.new ≡ shown_by self.old) × (pending_of self.new ≡ pending_of self.old) }
+        ensures free { IsFree self.old → IsFree self.new }
+    {
+        self.log.reserve(additional)
+    }
+
+    /// Drops all that is pending, also after a publication that failed. It takes no memory: what the copy that is not
+    /// shown has of it is restored at the next publication.
+    pub fn drop_pending(&mut self)
+        ensures shown { shown_by self.new ≡ shown_by self.old }
+        ensures none { pending_of self.new ≡ [] }
+        ensures free { IsFree self.old → IsFree self.new }
+    {
+        self.log.drop_pending::<T>();
+    }
+
+    /// Applies all that is pending to the copy that is not shown, so that a publication has little left to do and to ask
+    /// memory for. Nothing is published, and all is pending as before.
+    ///
+    /// It fails if memory was refused, or if a look keeps that copy.
+    pub fn bring_up(&mut self) -> Result<(), AllocError>
+        ensures same { (shown_by self.new ≡ shown_by self.old) × (pending_of self.new ≡ pending_of self.old) }
+        ensures ready { OnOk result (IsReady self.new) }
+        ensures free { IsFree self.old → IsFree self.new }
+    {
+        // The writer has each share of the spare copy that was at a place, and has dropped it, unless a look keeps it.
+        let Some(copy) = Arc::get_mut(&mut self.spare) else {
+            return Err(AllocError);
+        };
+        self.log.bring_up(copy, &self.shown)
+    }
+
     /// Whether no look keeps the copy that is to be changed: then a publication is not `Held`, whatever readers do
     /// meanwhile. It takes a step at each place, up to the first that is held, and no memory.
     pub fn is_free(&mut self) -> bool
@@ -217,21 +257,17 @@ impl<T: Drop + Apply<O>, O: Drop, F: CopyRule<T>> Copies<T, O, F> {
     fn prepare(&mut self) -> Result<(), AllocError>
         requires { IsFree self.old }
         ensures same { (shown_by self.new ≡ shown_by self.old) × (pending_of self.new ≡ pending_of self.old) }
-        ensures all { OnOk result (missing_in self.new.log ≡ []) }
+        ensures ready { OnOk result (IsReady self.new) }
         ensures free { IsFree self.new }
         ensures next { OnOk result (All (IsNextAt (arc_value self.new.spare)) self.new.places.items) }
     {
-        // No run fails here: the writer has each share of the spare copy that was at a place, and has dropped it.
-        let Some(copy) = Arc::get_mut(&mut self.spare) else {
-            return Err(AllocError);
-        };
-        self.log.bring_up(copy)?;
+        self.bring_up()?;
         prepare_all(&mut self.places, &self.spare)
     }
 
     /// Shows the spare copy, which has all that is pending.
     fn show_next(&mut self)
-        requires all { missing_in self.old.log ≡ [] }
+        requires ready { IsReady self.old }
         requires free { IsFree self.old }
         requires next { All (IsNextAt (arc_value self.old.spare)) self.old.places.items }
         requires holds { F.holds (arc_value self.old.spare) }

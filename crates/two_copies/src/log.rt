@@ -1,29 +1,33 @@
 //! The operations that are pending, and those that the copy which is not shown lacks.
-ghost use Rattle.std.specs.Prelude.{◌≡◌, ◌≤◌, [], ◌∷◌, ◌++◌, drop, fold, length, MatchResult, OnOk};
+ghost use Rattle.std.specs.Prelude.{◌≡◌, ◌+◌, ◌<◌, ◌≤◌, [], ◌∷◌, ◌++◌, take, fold, length, MatchResult, OnOk};
+ghost use Rattle.two_copies.specs.Restoring.{restored_from};
 
 use crate::apply::Apply;
 use std::alloc::{AllocError, Global};
 use std::collections::VecDeque;
 use std::mem;
 
-/// The operations of the last publication that only the shown copy has, and the pending ones, with how many of these the
-/// other copy has.
+/// The operations that the other copy has and that were dropped, those of the last publication that only the shown copy
+/// has, and the pending ones, with how many of these the other copy has.
 #[derive(Drop)]
 pub(crate) struct Log<O: Drop> {
+    dropped: VecDeque<O, Global>,
     last: VecDeque<O, Global>,
     pending: VecDeque<O, Global>,
     pending_done: usize,
     ghost bounds: { pending_done ≤ length pending.items },
+    ghost order: { 0 < pending_done → length dropped.items + length last.items ≡ 0 },
 }
 
 impl<O: Drop> Log<O> {
-    ghost use Rattle.two_copies.specs.Log.{missing_in, pending_in};
+    ghost use Rattle.two_copies.specs.Log.{IsAlike, IsBroughtUp, done_in, pending_in};
 
     pub(crate) fn new(alloc: Global) -> Log<O>
         ensures pending { pending_in result ≡ [] }
-        ensures missing { missing_in result ≡ [] }
+        ensures up { IsBroughtUp result }
     {
         Log {
+            dropped: VecDeque::new(alloc),
             last: VecDeque::new(alloc),
             pending: VecDeque::new(alloc),
             pending_done: 0,
@@ -35,9 +39,9 @@ impl<O: Drop> Log<O> {
         ensures pending { MatchResult result
             (λ _. pending_in self.new ≡ pending_in self.old ++ operation ∷ [])
             (λ _. pending_in self.new ≡ pending_in self.old) }
-        ensures missing { MatchResult result
-            (λ _. missing_in self.new ≡ missing_in self.old ++ operation ∷ [])
-            (λ _. missing_in self.new ≡ missing_in self.old) }
+        ensures dropped { self.new.dropped ≡ self.old.dropped }
+        ensures last { self.new.last ≡ self.old.last }
+        ensures done { done_in self.new ≡ done_in self.old }
     {
         self.pending.push_back(operation)?;
         Ok(())
@@ -51,12 +55,12 @@ impl<O: Drop> Log<O> {
         ensures pending { MatchResult result
             (λ _. pending_in self.new ≡ pending_in self.old ++ operations.old.items)
             (λ _. pending_in self.new ≡ pending_in self.old) }
-        ensures missing { MatchResult result
-            (λ _. missing_in self.new ≡ missing_in self.old ++ operations.old.items)
-            (λ _. missing_in self.new ≡ missing_in self.old) }
         ensures rest { MatchResult result
             (λ _. operations.new.items ≡ [])
             (λ _. operations.new.items ≡ operations.old.items) }
+        ensures dropped { self.new.dropped ≡ self.old.dropped }
+        ensures last { self.new.last ≡ self.old.last }
+        ensures done { done_in self.new ≡ done_in self.old }
     {
         if self.pending.is_empty() {
             mem::swap(&mut self.pending, operations);
@@ -65,28 +69,88 @@ impl<O: Drop> Log<O> {
         self.pending.append(operations)
     }
 
-    /// Applies what the copy lacks, as far as memory lasts. A later call goes on from there.
-    pub(crate) fn bring_up<T: Apply<O>>(&mut self, copy: &mut T) -> Result<(), AllocError>
-        ensures pending { pending_in self.new ≡ pending_in self.old }
-        ensures alike { fold T.applied (T.state copy.new) (missing_in self.new)
-            ≡ fold T.applied (T.state copy.old) (missing_in self.old) }
-        ensures all { OnOk result (missing_in self.new ≡ []) }
+    /// The pending operations.
+    pub(crate) fn pending(&self) -> &VecDeque<O, Global>
+        ensures { result.now.items ≡ pending_in self.now }
     {
+        &self.pending
+    }
+
+    /// Makes room for so many pending operations more.
+    pub(crate) fn reserve(&mut self, additional: usize) -> Result<(), AllocError>
+        ensures pending { pending_in self.new ≡ pending_in self.old }
+        ensures dropped { self.new.dropped ≡ self.old.dropped }
+        ensures last { self.new.last ≡ self.old.last }
+        ensures done { done_in self.new ≡ done_in self.old }
+    {
+        self.pending.reserve(additional)
+    }
+
+    /// Restores what the copy has of dropped operations as the shown copy has it, and applies what the copy lacks, as far
+    /// as memory lasts. A later call goes on from there.
+    pub(crate) fn bring_up<T: Apply<O>>(
+        &mut self,
+        copy: &mut T,
+        shown: &T,
+    ) -> Result<(), AllocError>
+        ensures pending { pending_in self.new ≡ pending_in self.old }
+        ensures alike { IsAlike T.applied T.restored (T.state copy.old) (T.state shown.now) self.old
+            → IsAlike T.applied T.restored (T.state copy.new) (T.state shown.now) self.new }
+        ensures up { OnOk result (IsBroughtUp self.new) }
+    {
+        restore_all(copy, shown, &mut self.dropped)?;
         copy.make_ready(&self.last)?;
         copy.make_ready(&self.pending)?;
         move_all(copy, &mut self.last)?;
         apply_from(copy, &self.pending, &mut self.pending_done)
     }
 
+    /// Drops the pending operations. What the copy has of them is restored before it is changed again. It takes no memory.
+    pub(crate) fn drop_pending<T: Apply<O>>(&mut self)
+        ensures none { pending_in self.new ≡ [] }
+        ensures alike { (spare shown : T.State) → IsAlike T.applied T.restored spare shown self.old
+            → IsAlike T.applied T.restored spare shown self.new }
+    {
+        if self.pending_done > 0 {
+            self.pending.truncate(self.pending_done);
+            mem::swap(&mut self.dropped, &mut self.pending);
+            self.pending_done = 0;
+        }
+        self.pending.clear();
+    }
+
     /// The copies change their parts, and the one that is no longer shown lacks what was pending.
     pub(crate) fn turn(&mut self)
+        requires { IsBroughtUp self.old }
         ensures pending { pending_in self.new ≡ [] }
-        ensures missing { missing_in self.new ≡ pending_in self.old }
+        ensures done { done_in self.new ≡ [] }
+        ensures dropped { self.new.dropped.items ≡ [] }
+        ensures last { self.new.last.items ≡ pending_in self.old }
     {
         mem::swap(&mut self.last, &mut self.pending);
         self.pending.clear();
         self.pending_done = 0;
     }
+}
+
+/// Restores what the operations have changed, one after the other. One that is refused memory stays, with those behind it.
+fn restore_all<T: Apply<O>, O: Drop>(
+    copy: &mut T,
+    shown: &T,
+    operations: &mut VecDeque<O>,
+) -> Result<(), AllocError>
+    ensures all { OnOk result (operations.new.items ≡ []) }
+    ensures fewer { length operations.new.items ≤ length operations.old.items }
+    ensures alike { restored_from T.restored (T.state shown.now) (T.state copy.new) operations.new.items
+        ≡ restored_from T.restored (T.state shown.now) (T.state copy.old) operations.old.items }
+{
+    while let Some(operation) = operations.pop_front() {
+        if let Err(error) = copy.restore(&operation, shown) {
+            operations.push_front_reserved(operation);
+            return Err(error);
+        }
+    }
+    Ok(())
 }
 
 /// Moves the operations into a copy, one after the other. One that is refused memory stays, with those behind it.
@@ -95,6 +159,7 @@ fn move_all<T: Apply<O>, O: Drop>(
     operations: &mut VecDeque<O>,
 ) -> Result<(), AllocError>
     ensures all { OnOk result (operations.new.items ≡ []) }
+    ensures fewer { length operations.new.items ≤ length operations.old.items }
     ensures alike { fold T.applied (T.state copy.new) operations.new.items
         ≡ fold T.applied (T.state copy.old) operations.old.items }
 {
@@ -116,8 +181,8 @@ fn apply_from<T: Apply<O>, O: Drop>(
     requires { done.old ≤ length operations.now.items }
     ensures bound { done.new ≤ length operations.now.items }
     ensures all { OnOk result (done.new ≡ length operations.now.items) }
-    ensures alike { fold T.applied (T.state copy.new) (drop done.new operations.now.items)
-        ≡ fold T.applied (T.state copy.old) (drop done.old operations.now.items) }
+    ensures alike { (first : T.State) → T.state copy.old ≡ fold T.applied first (take done.old operations.now.items)
+        → T.state copy.new ≡ fold T.applied first (take done.new operations.now.items) }
 {
     while *done < operations.len() {
         copy.apply(&operations[*done])?;

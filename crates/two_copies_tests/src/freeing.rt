@@ -13,13 +13,23 @@ struct Holder {
 }
 
 impl Apply<u64> for Holder {
+    ghost use Rattle.two_copies_tests.specs.Sum.{all_put_back};
+
     type State = u64;
 
     ghost state = { λ _. 0 };
 
     ghost applied = { λ state _. state };
 
+    ghost restored = { λ now operation before. before };
+
+    ghost restores = { all_put_back (λ state operation. state) };
+
     fn apply(&mut self, _operation: &u64) -> Result<(), AllocError> {
+        Ok(())
+    }
+
+    fn restore(&mut self, _operation: &u64, _other: &Holder) -> Result<(), AllocError> {
         Ok(())
     }
 }

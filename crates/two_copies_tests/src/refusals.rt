@@ -28,3 +28,27 @@ fn refused_memory_leaves_all_as_it_was(rt: HostRuntime) -> Result<(), Fail> {
     assert!(rt; shown == Some([10, 10, 16, 16]));
     Ok(())
 }
+
+// Publications of 5, of 7 and of nothing, after 1 and 2 were pending, applied to one copy, and dropped: what each shows.
+fn drops_what_one_copy_has(copies: &mut Sums) -> Option<[u64; 3]> {
+    copies.push(1).ok()?;
+    copies.push(2).ok()?;
+    copies.bring_up().ok()?;
+    copies.drop_pending();
+    let mut shown = [0; 3];
+    for (at, operation) in [5u64, 7, 0].iter().enumerate() {
+        copies.push(*operation).ok()?;
+        publish(copies).ok()?;
+        shown[at] = copies.shown().total();
+    }
+    Some(shown)
+}
+
+#[test]
+fn dropped_operations_are_in_neither_copy(rt: HostRuntime) -> Result<(), Fail> {
+    let mut copies = sums(rt.alloc(), 10, 0)?;
+    let shown = drops_what_one_copy_has(&mut copies);
+    assert_eq!(rt; end(&rt, copies), 22);
+    assert!(rt; shown == Some([15, 22, 22]));
+    Ok(())
+}

@@ -39,13 +39,17 @@ impl Sum {
 }
 
 impl Apply<u64> for Sum {
-    ghost use Rattle.two_copies_tests.specs.Sum.{added};
+    ghost use Rattle.two_copies_tests.specs.Sum.{added, all_put_back};
 
     type State = u64;
 
     ghost state = { λ sum. sum.total };
 
     ghost applied = { added };
+
+    ghost restored = { λ now operation before. before };
+
+    ghost restores = { all_put_back added };
 
     fn apply(&mut self, operation: &u64) -> Result<(), AllocError> {
         if self.refusals > 0 {
@@ -54,6 +58,12 @@ impl Apply<u64> for Sum {
         }
         self.total = self.total.saturating_add(*operation);
         self.again = self.again.saturating_add(*operation);
+        Ok(())
+    }
+
+    fn restore(&mut self, _operation: &u64, other: &Sum) -> Result<(), AllocError> {
+        self.total = other.total;
+        self.again = other.again;
         Ok(())
     }
 }

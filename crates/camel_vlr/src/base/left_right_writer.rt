@@ -8,7 +8,7 @@ ghost use Rattle.camel_vlr.specs.declared.writer.operation.Operation.{Operation}
 ghost use Rattle.camel_vlr.specs.declared.writer.operation.Operation.TheVariants as operation;
 
 use crate::base::left_right_seat::LeftRightSeat;
-use crate::base::publisher::{Publisher, Publishes};
+use crate::base::publisher::{HandedOver, Publisher, Publishes};
 use crate::history::prefix::Prefix;
 use crate::history::rule::{Introducing, Known, PublicationRule, Publishing};
 use crate::published_copy::PublishedCopy;
@@ -25,6 +25,7 @@ use std::sync::Wait;
 pub type LeftRightWriter = Writer<PublishedCopy, Operation, Known, PublicationRule>;
 
 impl Publisher for LeftRightWriter {
+    ghost use Rattle.std.specs.Prelude.{◌≡◌, []};
     ghost use Rattle.left_right.specs.Sides.{view};
     ghost use Rattle.camel_vlr.specs.Operation.{pending_operations};
     ghost use Rattle.camel_vlr.specs.Rule.{Knows};
@@ -36,6 +37,8 @@ impl Publisher for LeftRightWriter {
     ghost shown = { λ writer. writer.desk.shown.value };
 
     ghost pending = { pending_operations };
+
+    ghost droppable = { λ writer. pending_operations writer ≡ [] };
 
     // A publication waits for the looks that hold it up, so it is never known that there is none.
     ghost free = { λ _. ⊥ };
@@ -53,6 +56,21 @@ impl Publisher for LeftRightWriter {
         }
         Ok(())
     }
+
+    // A publication asks for all of it at once.
+    fn get_ready(&mut self) -> Result<(), AllocError> {
+        Ok(())
+    }
+
+    fn handed_over(&self) -> HandedOver<'_> {
+        if self.has_pending_operations() {
+            HandedOver::Kept
+        } else {
+            HandedOver::Nothing
+        }
+    }
+
+    fn drop_pending(&mut self) {}
 
     fn place(&mut self) -> Result<LeftRightSeat, Refusal> {
         let Ok(mut reader) = self.factory().reader() else {

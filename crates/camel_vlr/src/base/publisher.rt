@@ -1,5 +1,6 @@
 ghost use Rattle.std.specs.Prelude.{◌≡◌, ◌≤◌, ◌⊎◌, List, [], ◌∷◌, ◌++◌, None, IfErr, IfOk, OnErr, OnOk};
 ghost use Rattle.camel_rows.specs.Front.{IsFront};
+ghost use Rattle.camel_vlr.specs.HandedOver.{IsHandedOver};
 ghost use Rattle.camel_vlr.specs.Operation.{updates_among};
 ghost use Rattle.camel_vlr.specs.Prefix.{PrefixData};
 ghost use Rattle.camel_vlr.specs.PublishedCopy.{IsOfItsFront};
@@ -15,6 +16,14 @@ use crate::writer::operation::Operation;
 use camel_criteria::Refusal;
 use std::alloc::{AllocError, Global};
 use std::collections::VecDeque;
+
+/// What a base was handed over and has not published.
+pub enum HandedOver<'a> {
+    Nothing,
+    Operations(&'a VecDeque<Operation, Global>),
+    /// The base does not let it go.
+    Kept,
+}
 
 /// The writer's part of a base. No other crate sees it.
 pub trait Publisher: Sized {
@@ -35,6 +44,9 @@ pub trait Publisher: Sized {
     /// The operations that are pending.
     ghost pending: { Self → List Operation };
 
+    /// What is pending can be dropped.
+    ghost droppable: { Self → Type 0 };
+
     /// No look holds up the next publication, whatever sessions do until then.
     ghost free: { Self → Type 0 };
 
@@ -48,6 +60,25 @@ pub trait Publisher: Sized {
         ensures tells { KnowsNoLess tells self.old self.new }
         ensures pending { pending self.new ++ operations.new.items ≡ pending self.old ++ operations.old.items }
         ensures all { OnOk result (operations.new.items ≡ []) }
+        ensures free { free self.old → free self.new };
+
+    /// Asks for the memory that the pending operations need, as far as it can without publishing them.
+    fn get_ready(&mut self) -> Result<(), AllocError>
+        ensures shown { shown self.new ≡ shown self.old }
+        ensures tells { KnowsNoLess tells self.old self.new }
+        ensures pending { pending self.new ≡ pending self.old }
+        ensures free { free self.old → free self.new };
+
+    /// The operations that are pending, if the base shows them and can drop them.
+    fn handed_over(&self) -> HandedOver<'_>
+        ensures { IsHandedOver result (pending self.now) (droppable self.now) };
+
+    /// Drops all that is pending.
+    fn drop_pending(&mut self)
+        requires { droppable self.old }
+        ensures shown { shown self.new ≡ shown self.old }
+        ensures tells { KnowsNoLess tells self.old self.new }
+        ensures none { pending self.new ≡ [] }
         ensures free { free self.old → free self.new };
 
     /// A place for a session, at which all is known that is known to the writer. It fails with `OutOfMemory` (102) if

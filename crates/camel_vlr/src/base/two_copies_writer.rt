@@ -2,7 +2,7 @@ ghost use Rattle.std.specs.Prelude.{◌≡◌};
 ghost use Rattle.two_copies.specs.Copies.{pending_of, shown_by};
 ghost use Rattle.camel_vlr.specs.Rule.{IsPrefixOf};
 
-use crate::base::publisher::{Publisher, Publishes};
+use crate::base::publisher::{HandedOver, Publisher, Publishes};
 use crate::base::two_copies_seat::{FrontsGrow, TwoCopiesSeat};
 use crate::history::prefix::Prefix;
 use crate::published_copy::PublishedCopy;
@@ -27,6 +27,8 @@ impl Publisher for TwoCopiesWriter {
 
     ghost pending = { pending_of };
 
+    ghost droppable = { λ _. Unit {0} };
+
     ghost free = { IsFree };
 
     fn published(&self) -> &PublishedCopy {
@@ -35,6 +37,20 @@ impl Publisher for TwoCopiesWriter {
 
     fn append(&mut self, operations: &mut VecDeque<Operation, Global>) -> Result<(), AllocError> {
         self.push_all(operations)
+    }
+
+    fn get_ready(&mut self) -> Result<(), AllocError> {
+        self.bring_up()?;
+        // For the front that is put behind what is pending.
+        self.reserve(1)
+    }
+
+    fn handed_over(&self) -> HandedOver<'_> {
+        HandedOver::Operations(self.pending())
+    }
+
+    fn drop_pending(&mut self) {
+        Copies::drop_pending(self);
     }
 
     fn place(&mut self) -> Result<TwoCopiesSeat, Refusal> {

@@ -114,6 +114,7 @@ impl Vlr {
                 pending: VecDeque::new(alloc),
                 profile: terms.profile,
                 alloc,
+                is_ahead: false,
                 free: Snapshot::of(&false),
             }),
             Err(_) => {
@@ -150,6 +151,7 @@ impl Vlr {
             pending: _pending,
             profile: _profile,
             alloc: _alloc,
+            is_ahead: _is_ahead,
             free: _free,
         } = self;
         drop(writer.take(rt));

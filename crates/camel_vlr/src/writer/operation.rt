@@ -1,3 +1,7 @@
+ghost use Rattle.std.specs.Prelude.{◌≡◌, [], ◌∷◌, true, All};
+ghost use Rattle.camel_rows.specs.Update.{leaves_record};
+ghost use Rattle.camel_vlr.specs.Operation.{updates_among};
+
 use crate::history::prefix::Prefix;
 use camel_rows::Update;
 
@@ -9,4 +13,16 @@ use camel_rows::Update;
 pub enum Operation {
     Update(Box<Update>),
     Front(Prefix),
+}
+
+impl Operation {
+    /// Whether its update leaves a record, if it is accepted; a front has none.
+    pub(crate) fn leaves_record(&self) -> bool
+        ensures { result ≡ true → All (λ update. leaves_record update ≡ true) (updates_among (self.now ∷ [])) }
+    {
+        match self {
+            Operation::Update(update) => update.leaves_record(),
+            Operation::Front(_) => true,
+        }
+    }
 }

@@ -62,3 +62,18 @@ pub(crate) fn hand_over<W: Publisher>(
     pending.push_back(Operation::Front(front))?;
     writer.append(pending)
 }
+
+/// Hands all that is pending over to the base, which asks for the memory that it needs, and makes room for the front.
+pub(crate) fn make_room<W: Publisher>(
+    writer: &mut W,
+    pending: &mut VecDeque<Operation, Global>,
+) -> Result<(), AllocError>
+    ensures shown { W.shown writer.new ≡ W.shown writer.old }
+    ensures tells { KnowsNoLess W.tells writer.old writer.new }
+    ensures free { W.free writer.old → W.free writer.new }
+    ensures pending { W.pending writer.new ++ pending.new.items ≡ W.pending writer.old ++ pending.old.items }
+{
+    writer.append(pending)?;
+    pending.reserve(1)?;
+    writer.get_ready()
+}

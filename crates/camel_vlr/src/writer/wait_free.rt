@@ -89,6 +89,7 @@ impl Vlr<TwoCopiesWriter> {
             pending: VecDeque::new(alloc),
             profile: terms.profile,
             alloc,
+            is_ahead: false,
             free: Snapshot::of(&false),
         })
     }
@@ -156,6 +157,7 @@ impl Vlr<TwoCopiesWriter> {
             pending: _pending,
             profile: _profile,
             alloc: _alloc,
+            is_ahead: _is_ahead,
             free: _free,
         } = self;
         match writer.end() {

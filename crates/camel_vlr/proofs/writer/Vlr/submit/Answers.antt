@@ -52,6 +52,7 @@ invariant_of-self-2 g c =
       beyond = i.beyond;
       profile = i.profile;
       free = i.free;
+      ahead = i.ahead;
     }
 
 pub returns-clause-accepted : goal.returns-clause-accepted

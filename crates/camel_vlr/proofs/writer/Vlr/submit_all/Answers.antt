@@ -48,6 +48,7 @@ invariant_of-self-2 g c =
       beyond = i.beyond;
       profile = i.profile;
       free = i.free;
+      ahead = i.ahead;
     }
 
 pub returns-clause-all : goal.returns-clause-all

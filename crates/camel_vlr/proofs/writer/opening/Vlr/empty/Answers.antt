@@ -33,6 +33,7 @@ invariant_of-result g c =
       within = ([], append-nil c.new-history.result.updates ∙ sym (all ∙ ap (λ x. x.updates) same));
       beyond = ([], append-nil copy.front.updates ∙ ap (λ x. x.updates) same);
       profile = sym (ap (λ x. x.store.profile) same ∙ c.new-history.ensures.profile);
+      ahead = λ level. sym (ap (λ x. x.updates) same);
       free = λ known. absurd (search rules);
     }
 

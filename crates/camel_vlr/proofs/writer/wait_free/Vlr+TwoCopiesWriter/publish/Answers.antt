@@ -13,5 +13,6 @@ invariant_of-self c = record {
   profile = search rules;
   within = search rules;
   beyond = search rules;
+  ahead = search rules;
   free = λ known. absurd (let free_after_all = c.if-not-is_free.ensures.keeps (c.self.invariant.free known) in cc);
 }
