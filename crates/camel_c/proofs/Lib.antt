@@ -4,5 +4,6 @@ pub mod BoxRows
 pub mod LayoutLemmas
 pub mod ObjectDrop
 pub mod OctetsLemmas
+pub mod OctetsUpdate
 pub mod ReadingLemmas
 pub mod Values

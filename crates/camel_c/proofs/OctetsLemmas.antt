@@ -1,48 +1,49 @@
--- Submissions of octets: what is read, and what the octets of the caller are.
+-- Octets of the caller: what is read, what the octets are, and what a call makes of them.
 use Rattle.std.proofs.Common.{◌≡◌, ◌∙◌, ℕ, refl, sym, ap, subst, ◌⊎◌, inl, inr, ⊎_elim, arith}
 use Rattle.std.specs.Prelude.{Option, Result, Ok, Err}
-use Rattle.camel_rows.specs.declared.subscriber.update.Update.{Update}
+use Rattle.camel_ber.specs.Reading.{◌>>=◌}
 use Rattle.camel_c.proofs.ReadingLemmas.{no_fault, same_value}
-use Rattle.camel_c.specs.OctetsSubmission.{ReadsOctets, SubmitsOctets, octets_fault_code, octets_fault_place}
-use Rattle.camel_c.specs.Submission.{Submits}
+use Rattle.camel_c.specs.Octets.{ReadsOctets, TakesOctets, octets_fault_code, octets_fault_place}
 use Rattle.camel_c.specs.declared.object.Object.{Object}
-use Rattle.camel_c.specs.declared.submitting_map.OctetsFault.{OctetsFault}
+use Rattle.camel_c.specs.declared.reading_map.OctetsFault.{OctetsFault}
 
--- octets that are an update, which is submitted
-pub submits_update : (update : Update) (status : ℕ) (before after : Option Object)
-    → Submits (Ok update) status before after → SubmitsOctets (Ok update) status 0 before after
-submits_update update status before after submits = record {
-  submitted = λ e. refl;
-  unchanged = submits.unchanged;
-  update = λ other is.
-      (inl (subst (λ (u : Update). Submits (Ok u) status before after) (same_value update other is) submits), refl);
-  faulty = λ fault is. absurd (no_fault update fault is);
+-- octets without a fault, which are taken
+pub takes_value : {A : Type 0} (Takes : A → Type 0) (value : A) (status : ℕ) (before after : Option Object)
+    → Takes value → ((status ≡ 0 → ⊥) → after ≡ before)
+    → TakesOctets Takes (Ok value) status 0 before after
+takes_value Takes value status before after takes same = record {
+  taken = λ e. refl;
+  unchanged = same;
+  value = λ other is. (subst Takes (same_value value other is) takes, refl);
+  faulty = λ fault is. absurd (no_fault value fault is);
 }
 
 not_both : (status : ℕ) → status ≡ 102 → status ≡ 0 → ⊥
 not_both status refused e = omega (arith, e, refused)
 
 -- octets for which memory is refused
-octets_out_of_memory : (reading : Result Update OctetsFault) (status place : ℕ) (before after : Option Object)
-    → (status ≡ 102) × (place ≡ 0) → after ≡ before → SubmitsOctets reading status place before after
-octets_out_of_memory reading status place before after refused same = record {
-  submitted = λ e. absurd (not_both status refused.0 e);
+octets_out_of_memory : {A : Type 0} (Takes : A → Type 0) (reading : Result A OctetsFault) (status place : ℕ)
+    (before after : Option Object) → ((value : A) → (status ≡ 102) × (after ≡ before) → Takes value)
+    → (status ≡ 102) × (place ≡ 0) → after ≡ before → TakesOctets Takes reading status place before after
+octets_out_of_memory Takes reading status place before after or_refused refused same = record {
+  taken = λ e. absurd (not_both status refused.0 e);
   unchanged = λ _. same;
-  update = λ update is. (inr (refused.0, same), refused.1);
+  value = λ value is. (or_refused value (refused.0, same), refused.1);
   faulty = λ fault is. inr refused;
 }
 
--- what is submitted as read is submitted as the octets are
-pub submits_octets_as : (read reading : Result Update OctetsFault) (status place : ℕ) (before after : Option Object)
-    → ReadsOctets read reading → SubmitsOctets read status place before after
-    → SubmitsOctets reading status place before after
-submits_octets_as (Ok update) reading status place before after is as_read =
-    subst (λ (r : Result Update OctetsFault). SubmitsOctets r status place before after) (sym is) as_read
-submits_octets_as (Err fault) reading status place before after (inr is) as_read =
-    subst (λ (r : Result Update OctetsFault). SubmitsOctets r status place before after) (sym is) as_read
-submits_octets_as (Err fault) reading status place before after (inl memory) as_read =
+-- what is taken as read is taken as the octets are
+pub takes_octets_as : {A : Type 0} (Takes : A → Type 0) (read reading : Result A OctetsFault) (status place : ℕ)
+    (before after : Option Object) → ((value : A) → (status ≡ 102) × (after ≡ before) → Takes value)
+    → ReadsOctets read reading → TakesOctets Takes read status place before after
+    → TakesOctets Takes reading status place before after
+takes_octets_as {A} Takes (Ok value) reading status place before after or_refused is as_read =
+    subst (λ (r : Result A OctetsFault). TakesOctets Takes r status place before after) (sym is) as_read
+takes_octets_as {A} Takes (Err fault) reading status place before after or_refused (inr is) as_read =
+    subst (λ (r : Result A OctetsFault). TakesOctets Takes r status place before after) (sym is) as_read
+takes_octets_as {A} Takes (Err fault) reading status place before after or_refused (inl memory) as_read =
     let refused : (status ≡ 102) × (place ≡ 0) = ⊎_elim
     (λ (e : (status ≡ octets_fault_code fault) × (place ≡ octets_fault_place fault)).
     (e.0 ∙ ap octets_fault_code memory, e.1 ∙ ap octets_fault_place memory))
     (λ (e : (status ≡ 102) × (place ≡ 0)). e) (as_read.faulty fault refl) in
-    octets_out_of_memory reading status place before after refused (as_read.unchanged (not_both status refused.0))
+    octets_out_of_memory Takes reading status place before after or_refused refused (as_read.unchanged (not_both status refused.0))

@@ -7,6 +7,7 @@ pub mod Holding
 pub mod Kept
 pub mod Layouts
 pub mod Object
+pub mod Octets
 pub mod OctetsSubmission
 pub mod Opening
 pub mod Receipts

@@ -1,46 +1,15 @@
 -- Submissions of the octets of an argument of MAP: the update that they are, and what the store makes of it.
-use Rattle.std.specs.Prelude.{◌≡◌, ◌≢◌, ◌⊎◌, ◌==◌, ℕ, List, Option, Some, None, Result, Ok, Err, IsOk, if◌then◌else◌}
+use Rattle.std.specs.Prelude.{ℕ, List, Option, Result, Ok, Err}
 use Rattle.camel_ber.specs.Reading.{◌>>=◌}
 use Rattle.camel_rows.specs.declared.subscriber.update.Update.{Update}
-use Rattle.camel_map.specs.MapFault.{map_fault_code}
-use Rattle.camel_map.specs.Operation.{operation_of}
 use Rattle.camel_map.specs.Reading.{whole}
 use Rattle.camel_map.specs.Update.{update_of}
-use Rattle.camel_map.specs.declared.map_fault.MapFault.{MapFault}
-use Rattle.camel_map.specs.declared.operation.Operation.{Operation}
-use Rattle.camel_c_data.specs.Imsi.{imsi_in}
+use Rattle.camel_map.specs.declared.arrival.Arrival.{Arrival}
 use Rattle.camel_c_data.specs.declared.imsi.CamelImsi.{CamelImsi}
+use Rattle.camel_c.specs.Octets.{TakesOctets, dialogue_in, in_argument, operation_in}
 use Rattle.camel_c.specs.Submission.{ReadsAndSubmits}
 use Rattle.camel_c.specs.declared.object.Object.{Object}
-use Rattle.camel_c.specs.declared.submitting_map.OctetsFault.{OctetsFault}
-use Rattle.camel_c.specs.declared.submitting_map.OctetsFault.TheVariants.{Argument, Malformed, OutOfMemory}
-
--- the number of a fault
-abbrev pub octets_fault_code : OctetsFault → ℕ
-octets_fault_code Malformed = 502
-octets_fault_code OutOfMemory = 102
-octets_fault_code (Argument fault) = map_fault_code fault.kind
-
--- the octet of the argument at which a fault is; what is no fault of the argument is at none
-abbrev pub octets_fault_place : OctetsFault → ℕ
-octets_fault_place Malformed = 0
-octets_fault_place OutOfMemory = 0
-octets_fault_place (Argument fault) = fault.place
-
--- the operation of a code
-abbrev pub operation_in : ℕ → Result Operation OctetsFault
-operation_in code = elim (operation_of code) [ None ↦ Err Malformed | Some operation ↦ Ok operation ]
-
--- the IMSI of a dialogue, of which the number 0 says that it has none
-abbrev pub dialogue_in : CamelImsi → Result (Option (List ℕ)) OctetsFault
-dialogue_in held =
-    if held.number == 0 then Ok None
-    else elim (imsi_in held) [ Ok imsi ↦ Ok (Some imsi) | Err fault ↦ Err Malformed ]
-
--- a fault is one of the argument
-abbrev pub in_argument : {A : Type 0} → Result A MapFault → Result A OctetsFault
-in_argument (Ok value) = Ok value
-in_argument (Err fault) = Err (Argument fault)
+use Rattle.camel_c.specs.declared.reading_map.OctetsFault.{OctetsFault}
 
 -- the update that octets are, as the argument of the operation of a code in the dialogue of an IMSI
 unfoldable pub octets_in : ℕ → CamelImsi → List ℕ → Result Update OctetsFault
@@ -49,19 +18,12 @@ octets_in code imsi argument = do
   dialogue ← dialogue_in imsi
   in_argument (update_of operation dialogue (whole argument))
 
--- a function returns what its octets are, or is out of memory
-abbrev pub ReadsOctets : {A : Type 0} → Result A OctetsFault → Result A OctetsFault → Type 0
-ReadsOctets (Ok value) reading = reading ≡ Ok value
-ReadsOctets (Err fault) reading = (fault ≡ OutOfMemory) ⊎ (reading ≡ Err fault)
+-- the update that came
+abbrev pub update_read : Result Arrival OctetsFault → Result Update OctetsFault
+update_read reading = reading >>= λ arrival. Ok arrival.update
 
--- Octets that read so are submitted to what a handle held before; this is the status, and this the place that is told.
--- Memory may be refused (102) while the octets are read, and while the store takes the update.
-pub record SubmitsOctets (reading : Result Update OctetsFault) (status place : ℕ) (before after : Option Object) : Type 0 where
-  -- what the store has taken is an update
-  pub submitted : status ≡ 0 → IsOk reading
-  pub unchanged : status ≢ 0 → after ≡ before
-  -- the octets are an update, which is submitted as one of fields is, and the fault is at no octet
-  pub update : (update : Update) → reading ≡ Ok update → ReadsAndSubmits (Ok update) status before after × (place ≡ 0)
-  -- the octets are none
-  pub faulty : (fault : OctetsFault) → reading ≡ Err fault
-      → ((status ≡ octets_fault_code fault) × (place ≡ octets_fault_place fault)) ⊎ ((status ≡ 102) × (place ≡ 0))
+-- Octets that read so are submitted to what a handle held before, as an update of fields is; this is the status, and this
+-- the place that is told.
+abbrev pub SubmitsOctets : Result Update OctetsFault → ℕ → ℕ → Option Object → Option Object → Type 0
+SubmitsOctets reading status place before after =
+    TakesOctets (λ update. ReadsAndSubmits (Ok update) status before after) reading status place before after

@@ -24,6 +24,7 @@ mod making;
 mod object;
 mod opening;
 mod publishing;
+mod reading_map;
 mod receipts;
 mod showing;
 mod shown_at;
