@@ -1,7 +1,6 @@
 -- Octets of the caller: what is read, what the octets are, and what a call makes of them.
-use Rattle.std.proofs.Common.{◌≡◌, ◌∙◌, ℕ, refl, sym, ap, subst, ◌⊎◌, inl, inr, ⊎_elim, arith}
+use Rattle.std.proofs.Common.{◌≡◌, ◌∙◌, ℕ, refl, sym, ap, subst, inl, inr, ⊎_elim, arith}
 use Rattle.std.specs.Prelude.{Option, Result, Ok, Err}
-use Rattle.camel_ber.specs.Reading.{◌>>=◌}
 use Rattle.camel_c.proofs.ReadingLemmas.{no_fault, same_value}
 use Rattle.camel_c.specs.Octets.{ReadsOctets, TakesOctets, octets_fault_code, octets_fault_place}
 use Rattle.camel_c.specs.declared.object.Object.{Object}

@@ -2,10 +2,12 @@
 use Rattle.std.proofs.Common.{◌≡◌, ◌∙◌, ℕ, true≢false, refl, sym, ap, subst, inl, inr, arith}
 use Rattle.std.specs.Prelude.{Option, Result, Ok, Err, is_ok}
 use Rattle.camel_rows.specs.declared.subscriber.update.Update.{Update}
+use Rattle.camel_map.specs.declared.arrival.ItemCounts.{ItemCounts}
 use Rattle.camel_c_data.specs.DataFault.{data_fault_code}
 use Rattle.camel_c_data.specs.Reading.{ReadsAs}
 use Rattle.camel_c_data.specs.declared.data_fault.DataFault.{DataFault}
 use Rattle.camel_c.specs.Submission.{ReadsAndSubmits, Submits}
+use Rattle.camel_c.specs.Updates.{Makes, ReadsAndMakes, counted}
 use Rattle.camel_c.specs.declared.object.Object.{Object}
 
 value_or : {A E : Type 0} → A → Result A E → A
@@ -27,5 +29,17 @@ submits_as (Ok update) reading status before after is as_read =
 submits_as (Err fault) reading status before after (inr is) as_read =
     inl (subst (λ (r : Result Update DataFault). Submits r status before after) (sym is) as_read)
 submits_as (Err fault) reading status before after (inl memory) as_read =
+    let refused : status ≡ 102 = as_read.faulty fault refl ∙ ap data_fault_code memory in
+    inr (refused, as_read.unchanged (λ done. omega (arith, done, refused)))
+
+-- what is made as read is made as the fields are, unless memory was refused
+pub makes_as : (counts : ItemCounts) (read reading : Result Update DataFault) (status : ℕ) (before after : Option Object)
+    → ReadsAs read reading → Makes (counted counts read) status before after
+    → ReadsAndMakes (counted counts reading) status before after
+makes_as counts (Ok update) reading status before after is as_read =
+    inl (subst (λ (r : Result Update DataFault). Makes (counted counts r) status before after) (sym is) as_read)
+makes_as counts (Err fault) reading status before after (inr is) as_read =
+    inl (subst (λ (r : Result Update DataFault). Makes (counted counts r) status before after) (sym is) as_read)
+makes_as counts (Err fault) reading status before after (inl memory) as_read =
     let refused : status ≡ 102 = as_read.faulty fault refl ∙ ap data_fault_code memory in
     inr (refused, as_read.unchanged (λ done. omega (arith, done, refused)))

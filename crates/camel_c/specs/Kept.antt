@@ -1,5 +1,5 @@
 -- What is decided by the record of a subscriber that a call keeps.
-use Rattle.std.specs.Prelude.{◌≡◌, ◌≢◌, ◌⊎◌, ℕ, Option, Some, None, IfSome, IsSomeAnd, is_some, length}
+use Rattle.std.specs.Prelude.{◌≡◌, ℕ, Option, Some, None, IfSome, IsSomeAnd, is_some, length}
 use Rattle.camel_rows.specs.Decision.{by_record}
 use Rattle.camel_rows.specs.Event.{EventData}
 use Rattle.camel_rows.specs.Outcome.{outcome_of}

@@ -1,9 +1,14 @@
+pub mod Argument
 pub mod Change
 pub mod Counts
 pub mod Decides
 pub mod Failure
+pub mod Fetches
+pub mod Filling
 pub mod Handle
+pub mod HeldUpdates
 pub mod Holding
+pub mod Imsis
 pub mod Kept
 pub mod Layouts
 pub mod Object
@@ -14,3 +19,4 @@ pub mod Receipts
 pub mod Shown
 pub mod Shows
 pub mod Submission
+pub mod Updates

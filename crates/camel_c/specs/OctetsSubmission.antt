@@ -1,5 +1,5 @@
 -- Submissions of the octets of an argument of MAP: the update that they are, and what the store makes of it.
-use Rattle.std.specs.Prelude.{ℕ, List, Option, Result, Ok, Err}
+use Rattle.std.specs.Prelude.{ℕ, List, Option, Result, Ok}
 use Rattle.camel_ber.specs.Reading.{◌>>=◌}
 use Rattle.camel_rows.specs.declared.subscriber.update.Update.{Update}
 use Rattle.camel_map.specs.Reading.{whole}

@@ -1,6 +1,7 @@
 //! Filling a handle and emptying it: the calls that allocate and free.
 
 ghost use Rattle.std.specs.Prelude.{◌≡◌, ◌⊎◌, Err, Some, None, IfErr, OnErr, OnOk};
+ghost use Rattle.camel_c.specs.Filling.{Fills};
 ghost use Rattle.camel_c.specs.declared.failure.Failure.TheVariants as failure;
 
 use crate::failure::Failure;
@@ -33,6 +34,16 @@ pub(crate) fn fill(
                 Err(Failure::Refused(Refusal::OutOfMemory)),
             ),
         },
+    }
+}
+
+/// Puts an object into the handle if that is empty, and gives the status: 504 if it is not, and 102 if memory was refused.
+pub(crate) fn put(alloc: Global, handle: &mut CamelHandle, object: Object) -> u32
+    ensures { Fills object result handle.old.value handle.new.value }
+{
+    match replace_with(handle, (alloc, object), fill) {
+        Ok(()) => 0,
+        Err(why) => why.code(),
     }
 }
 

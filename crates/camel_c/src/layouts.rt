@@ -3,7 +3,9 @@
 ghost use Rattle.std.specs.Prelude.{◌≡◌, drop, length, take};
 ghost use Rattle.camel_c.specs.Layouts.{layout_sizes};
 
+use crate::argument::CamelArgument;
 use crate::handle::CamelHandle;
+use crate::update_parts::CamelUpdateParts;
 use camel_c_data::{
     CamelAddress, CamelAnswer, CamelBasicService, CamelBasicServices, CamelCauses, CamelCounts,
     CamelDecisions, CamelEvent, CamelImsi, CamelInsert, CamelIsdnAddress, CamelNumberCriterion,
@@ -13,17 +15,17 @@ use camel_c_data::{
 use std::mem::size_of;
 
 /// The version of the layouts and of the functions: `CAMEL_ABI_VERSION` of the header.
-pub(crate) const ABI_VERSION: u32 = 2;
+pub(crate) const ABI_VERSION: u32 = 3;
 
 /// The version of the layouts and of the functions, as the library has them.
 #[unsafe(no_mangle)]
 pub extern "C" fn camel_abi_version() -> u32
-    ensures { result ≡ 2 }
+    ensures { result ≡ 3 }
 {
     ABI_VERSION
 }
 
-const LAYOUT_COUNT: usize = 20;
+const LAYOUT_COUNT: usize = 22;
 
 /// The sizes of the types of the header in its order, and then of a handle.
 const LAYOUT_SIZES: [u32; LAYOUT_COUNT] = [
@@ -46,6 +48,8 @@ const LAYOUT_SIZES: [u32; LAYOUT_COUNT] = [
     size_of::<CamelAnswer>() as u32,
     size_of::<CamelCounts>() as u32,
     size_of::<CamelDecisions>() as u32,
+    size_of::<CamelUpdateParts>() as u32,
+    size_of::<CamelArgument>() as u32,
     size_of::<CamelHandle>() as u32,
 ];
 
@@ -53,9 +57,9 @@ const LAYOUT_SIZES: [u32; LAYOUT_COUNT] = [
 /// returns how many there are.
 #[unsafe(no_mangle)]
 pub extern "C" fn camel_layouts(sizes: &mut [u32]) -> u32
-    ensures count { result ≡ 20 }
-    ensures written { take 20 sizes.new ≡ take (length sizes.old) layout_sizes }
-    ensures rest { drop 20 sizes.new ≡ drop 20 sizes.old }
+    ensures count { result ≡ 22 }
+    ensures written { take 22 sizes.new ≡ take (length sizes.old) layout_sizes }
+    ensures rest { drop 22 sizes.new ≡ drop 22 sizes.old }
 {
     let count = sizes.len().min(LAYOUT_COUNT);
     sizes[..count].copy_from_slice(&LAYOUT_SIZES[..count]);

@@ -9,16 +9,21 @@
 //! of one allocator. A handle may go to another thread.
 #![tactic(auto)]
 
+mod argument;
 mod counting;
 mod deciding;
 mod deciding_kept;
+mod encoding;
 mod ending;
 mod failure;
 mod filling;
 mod handle;
+mod imsi_list;
+mod joining;
 mod keeping;
 mod kept_subscriber;
 mod layouts;
+mod listing;
 mod looks;
 mod making;
 mod object;
@@ -29,8 +34,14 @@ mod receipts;
 mod showing;
 mod shown_at;
 mod submitting;
+mod submitting_held;
 mod submitting_map;
 mod thread_session;
+mod update_parts;
+mod updates;
+mod updates_map;
 
+pub use argument::CamelArgument;
 pub use failure::Failure;
 pub use handle::CamelHandle;
+pub use update_parts::CamelUpdateParts;

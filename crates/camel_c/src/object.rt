@@ -2,8 +2,10 @@
 
 ghost use Rattle.std.specs.Prelude.{◌≡◌};
 
+use crate::imsi_list::ImsiList;
 use crate::kept_subscriber::KeptSubscriber;
 use crate::thread_session::ThreadSession;
+use camel_map::Arrival;
 use camel_vlr::{Closing, WaitFreeVlr};
 
 /// A store that takes updates.
@@ -72,13 +74,25 @@ pub enum Object {
     Session(ThreadSession),
     /// The record of a subscriber.
     Kept(KeptSubscriber),
+    /// An update, and what came beside it.
+    Update(Arrival),
+    /// IMSIs that are still to be told.
+    Imsis(ImsiList),
 }
 
 /// That this is proved shows that each kind of object is `Send`: C may hand any handle to another thread.
-pub fn are_sendable(store: Store, session: ThreadSession, kept: KeptSubscriber) {
+pub fn are_sendable(
+    store: Store,
+    session: ThreadSession,
+    kept: KeptSubscriber,
+    update: Arrival,
+    imsis: ImsiList,
+) {
     hand_over(store);
     hand_over(session);
     hand_over(kept);
+    hand_over(update);
+    hand_over(imsis);
 }
 
 fn hand_over<T: Send + Drop>(object: T) {

@@ -148,7 +148,7 @@ impl ThreadSession {
 }
 
 /// Writes what is found, and tells whether anything is.
-fn write<C: ShownAt>(found: Option<C>, place: &mut C, is_there: &mut u8)
+pub(crate) fn write<C: Copy>(found: Option<C>, place: &mut C, is_there: &mut u8)
     ensures { Writes found place.old place.new is_there.new }
 {
     match found {

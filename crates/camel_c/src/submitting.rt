@@ -34,7 +34,7 @@ pub extern "C" fn camel_submit_register(store: &mut CamelHandle, imsi: &CamelIms
     submit(store, read_register(imsi))
 }
 
-fn read_register(imsi: &CamelImsi) -> Result<Update, DataFault>
+pub(crate) fn read_register(imsi: &CamelImsi) -> Result<Update, DataFault>
     ensures { result ≡ register_in imsi.now }
 {
     Ok(Update::Register { imsi: imsi.read()? })
@@ -86,7 +86,7 @@ pub extern "C" fn camel_submit_cancel(store: &mut CamelHandle, imsi: &CamelImsi)
     submit(store, read_cancel(imsi))
 }
 
-fn read_cancel(imsi: &CamelImsi) -> Result<Update, DataFault>
+pub(crate) fn read_cancel(imsi: &CamelImsi) -> Result<Update, DataFault>
     ensures { result ≡ cancel_in imsi.now }
 {
     Ok(Update::Cancel { imsi: imsi.read()? })

@@ -1,5 +1,5 @@
 -- `get_mut` lends the object behind the pointer, and the handle follows it.
-use Rattle.std.proofs.Common.{◌≡◌, ◌∙◌, ℕ, true, true≢false, List, [], ◌∷◌, refl, sym, ap₂, subst}
+use Rattle.std.proofs.Common.{◌∙◌, ℕ, true, true≢false, List, [], ◌∷◌, refl, sym, ap₂, subst}
 use Rattle.std.specs.Prelude.{IsSome, Some}
 use Rattle.std.proofs.raw_atomic.Walks.{proved}
 use Rattle.std.proofs.VecSteps.Shapes.{after}

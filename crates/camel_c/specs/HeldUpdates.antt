@@ -1,0 +1,77 @@
+-- What calls make of an update that a handle holds.
+use Rattle.std.specs.Prelude.{◌≡◌, ℕ, Option, Some, None, Result, Ok, Err, IfOk, IfSome, is_some, min, unwrap_or}
+use Rattle.camel_tbcd.specs.ImsiNumber.{imsi_number}
+use Rattle.camel_rows.specs.Update.{update_imsi}
+use Rattle.camel_rows.specs.declared.subscriber.update.Update.{Update}
+use Rattle.camel_rows.specs.declared.subscriber.update.Update.TheVariants as update
+use Rattle.camel_map.specs.Lists.{IsJoin, IsOfLists, join_fault}
+use Rattle.camel_map.specs.MapFault.{join_fault_code}
+use Rattle.camel_map.specs.declared.arrival.Arrival.{Arrival}
+use Rattle.camel_map.specs.declared.join.JoinFault.{JoinFault}
+use Rattle.camel_c_data.specs.Flag.{flag_of}
+use Rattle.camel_c_data.specs.declared.update.CamelWithdrawal.{CamelWithdrawal}
+use Rattle.camel_c.specs.declared.object.Object.{Object}
+use Rattle.camel_c.specs.declared.object.Object.TheVariants as object
+use Rattle.camel_c.specs.declared.update_parts.CamelUpdateParts.{CamelUpdateParts}
+
+abbrev pub HoldsUpdate : Option Object → Type 0
+HoldsUpdate held = (arrival : Arrival) × (held ≡ Some (object.Update arrival))
+
+-- the number of what an update is
+abbrev pub kind_number : Update → ℕ
+kind_number (update.Register imsi) = 1
+kind_number (update.Insert imsi o o_criteria vt t_criteria) = 2
+kind_number (update.Delete imsi what) = 3
+kind_number (update.Cancel imsi) = 4
+kind_number update.ClearAll = 5
+
+-- the number of the IMSI of an update; 0, if it concerns all subscribers
+abbrev pub concerned_number : Update → ℕ
+concerned_number update = elim (update_imsi update) [ None ↦ 0 | Some imsi ↦ imsi_number imsi ]
+
+-- what a Delete names, and of another update nothing
+abbrev pub withdrawal_shown : Update → CamelWithdrawal
+withdrawal_shown (update.Delete imsi what) =
+    record { o = flag_of what.o; vt = flag_of what.vt; everything = flag_of what.everything }
+withdrawal_shown other = record { o = 0; vt = 0; everything = 0 }
+
+-- a count in an octet
+abbrev pub count_shown : ℕ → ℕ
+count_shown count = min count 255
+
+-- the fields of an update
+abbrev pub parts_of : Arrival → CamelUpdateParts
+parts_of arrival = record {
+  imsi = record { number = concerned_number arrival.update };
+  kind = kind_number arrival.update;
+  o_rows = count_shown arrival.counts.o;
+  o_criteria = count_shown arrival.counts.o_criteria;
+  vt_rows = count_shown arrival.counts.vt;
+  t_criteria = count_shown arrival.counts.t_criteria;
+  has_o_capability = flag_of (is_some arrival.capabilities.o);
+  has_vt_capability = flag_of (is_some arrival.capabilities.vt);
+  o_capability = unwrap_or arrival.capabilities.o 0;
+  vt_capability = unwrap_or arrival.capabilities.vt 0;
+  withdrawal = withdrawal_shown arrival.update;
+}
+
+-- the status of a join
+abbrev pub join_status : Result Arrival JoinFault → ℕ
+join_status (Ok joined) = 0
+join_status (Err why) = join_fault_code why
+
+-- what is in the place of an update after a join
+abbrev pub join_leaves : Arrival → Result Arrival JoinFault → Arrival
+join_leaves one (Ok joined) = joined
+join_leaves one (Err why) = one
+
+-- An Insert becomes its join with the next one, or stays: this is the status, and this is in its place.
+pub record JoinsNext (one other : Arrival) (status : ℕ) (after : Arrival) : Type 0 where
+  pub answer : Result Arrival JoinFault
+  pub told : status ≡ join_status answer
+  pub left : after ≡ join_leaves one answer
+  -- the lists of both are as those that one operation brings
+  pub joined : IsJoin one other answer
+  pub fault : IfSome (join_fault one.update other.update) (λ why. answer ≡ Err why)
+  -- so it may be joined with the next one of the dialogue
+  pub received : IsOfLists one → IsOfLists other → IfOk answer IsOfLists

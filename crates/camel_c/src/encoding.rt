@@ -1,0 +1,100 @@
+//! Encoding the record of a subscriber.
+
+ghost use Rattle.std.specs.Prelude.{◌≡◌, ◌≢◌, ◌⊎◌, Ok, IsErr, List, Option, ℕ, true};
+ghost use Rattle.camel_vlr.specs.Session.{SessionData};
+ghost use Rattle.camel_c_data.specs.Imsi.{imsi_in};
+ghost use Rattle.camel_c.specs.Argument.{MakesRecord};
+ghost use Rattle.camel_c.specs.Fetches.{Fetches};
+ghost use Rattle.camel_c.specs.Shown.{record_shown};
+ghost use Rattle.camel_c.specs.Shows.{Shows, ShowsWritten};
+
+use crate::argument::CamelArgument;
+use crate::failure::Failure;
+use crate::handle::CamelHandle;
+use crate::object::Object;
+use crate::showing::write;
+use crate::thread_session::ThreadSession;
+use camel_c_data::CamelImsi;
+use camel_criteria::Refusal;
+use camel_tbcd::Imsi;
+use std::alloc::Global;
+
+/// Tells whether a subscriber has a record, over the look that has begun, or else by a look of its own, and writes the
+/// argument of the InsertSubscriberData that makes it where the subscriber has just registered (TS 29.002): the parameter
+/// of a TCAP invoke, in BER. Octets behind those of the argument are 0.
+///
+/// It fails with 502 if the IMSI is none, with 503 if the handle holds no session, and with 104 if the store has ended;
+/// then nothing is changed. It fails with 102 if memory was refused: then the session has looked. Nothing is written if it
+/// fails.
+#[unsafe(no_mangle)]
+pub extern "C" fn camel_encode_record(
+    alloc: Global,
+    session: &mut CamelHandle,
+    imsi: &CamelImsi,
+    argument: &mut CamelArgument,
+    is_there: &mut u8,
+) -> u32
+    ensures fetches { Fetches (IsErr (imsi_in imsi.now)) (Unit {0})
+        (λ own shown left. Shows own shown left × (asked : List ℕ) × (imsi_in imsi.now ≡ Ok asked)
+        × ShowsWritten (MakesRecord asked) (record_shown shown asked) argument.old argument.new is_there.new)
+        result session.old.value session.new.value }
+    ensures unwritten { result ≢ 0 → (argument.new ≡ argument.old) × (is_there.new ≡ is_there.old) }
+{
+    let Ok(asked) = imsi.read() else {
+        return Failure::Malformed.code();
+    };
+    if !session.is_full() {
+        return Failure::WrongHandle.code();
+    }
+    encode_held(alloc, session.get_mut(), &asked, argument, is_there)
+}
+
+fn encode_held(
+    alloc: Global,
+    held: &mut Object,
+    imsi: &Imsi,
+    argument: &mut CamelArgument,
+    is_there: &mut u8,
+) -> u32
+    ensures fetches { Fetches ⊥ (Unit {0})
+        (λ own shown left. Shows own shown left
+        × ShowsWritten (MakesRecord imsi.now) (record_shown shown imsi.now) argument.old argument.new is_there.new)
+        result (Some held.old) (Some held.new) }
+    ensures unwritten { result ≢ 0 → (argument.new ≡ argument.old) × (is_there.new ≡ is_there.old) }
+{
+    match held {
+        Object::Session(own) => own.encode(alloc, imsi, argument, is_there),
+        _ => Failure::WrongHandle.code(),
+    }
+}
+
+impl ThreadSession {
+    fn encode(
+        &mut self,
+        alloc: Global,
+        imsi: &Imsi,
+        argument: &mut CamelArgument,
+        is_there: &mut u8,
+    ) -> u32
+        ensures shown { result ≡ 0 → (shown : SessionData) × Shows self.old shown self.new
+            × ShowsWritten (MakesRecord imsi.now) (record_shown shown imsi.now) argument.old argument.new is_there.new }
+        ensures unwritten { result ≢ 0 → (argument.new ≡ argument.old) × (is_there.new ≡ is_there.old) }
+        ensures unchanged { result ≡ 104 → self.new ≡ self.old }
+        ensures no_memory { result ≡ 102 → (shown : SessionData) × Shows self.old shown self.new }
+        ensures only { (result ≡ 0) ⊎ ((result ≡ 102) ⊎ (result ≡ 104)) }
+        ensures looking { self.old.session.looks ≡ true → (result ≡ 0) ⊎ (result ≡ 102) }
+    {
+        let Some(had_begun) = self.begin() else {
+            return Failure::Refused(Refusal::NoGuard).code();
+        };
+        let found = CamelArgument::shown_by(&self.session, alloc, imsi);
+        self.end(had_begun);
+        match found {
+            Ok(found) => {
+                write(found, argument, is_there);
+                0
+            }
+            Err(_) => Failure::Refused(Refusal::OutOfMemory).code(),
+        }
+    }
+}
