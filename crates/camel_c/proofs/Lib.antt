@@ -1,6 +1,7 @@
 pub mod BoxCalls
 pub mod BoxCode
 pub mod BoxRows
+pub mod HeldLemmas
 pub mod LayoutLemmas
 pub mod ObjectDrop
 pub mod OctetsLemmas

@@ -1,5 +1,6 @@
 -- What calls make of an update that a handle holds.
-use Rattle.std.specs.Prelude.{◌≡◌, ℕ, Option, Some, None, Result, Ok, Err, IfOk, IfSome, is_some, min, unwrap_or}
+use Rattle.std.specs.Prelude.{◌≡◌, ◌⊎◌, ℕ, List, map, Option, Some, None, Result, Ok, Err, IfOk, IfSome, IsSome, is_some, min, unwrap_or}
+use Rattle.camel_criteria.specs.declared.refusal.Refusal.TheVariants as refusal
 use Rattle.camel_tbcd.specs.ImsiNumber.{imsi_number}
 use Rattle.camel_rows.specs.Update.{update_imsi}
 use Rattle.camel_rows.specs.declared.subscriber.update.Update.{Update}
@@ -10,12 +11,29 @@ use Rattle.camel_map.specs.declared.arrival.Arrival.{Arrival}
 use Rattle.camel_map.specs.declared.join.JoinFault.{JoinFault}
 use Rattle.camel_c_data.specs.Flag.{flag_of}
 use Rattle.camel_c_data.specs.declared.update.CamelWithdrawal.{CamelWithdrawal}
+use Rattle.camel_c.specs.declared.failure.Failure.{Failure}
+use Rattle.camel_c.specs.declared.failure.Failure.TheVariants as failure
+use Rattle.camel_c.specs.declared.handle.CamelHandle.{CamelHandle}
 use Rattle.camel_c.specs.declared.object.Object.{Object}
 use Rattle.camel_c.specs.declared.object.Object.TheVariants as object
 use Rattle.camel_c.specs.declared.update_parts.CamelUpdateParts.{CamelUpdateParts}
 
 abbrev pub HoldsUpdate : Option Object → Type 0
 HoldsUpdate held = (arrival : Arrival) × (held ≡ Some (object.Update arrival))
+
+-- the update that is held, if one is
+abbrev pub update_held : Option Object → Option Update
+update_held (Some (object.Update arrival)) = Some arrival.update
+update_held other = None
+
+-- each handle holds the update in its place
+abbrev pub HoldUpdates : List CamelHandle → List Update → Type 0
+HoldUpdates handles updates = map (λ (handle : CamelHandle). update_held handle.value) handles ≡ map (λ (held : Update). Some held) updates
+
+-- why what is held is not copied: memory was refused (102), or it is no update (503)
+abbrev pub IsNoCopy : Option Update → Failure → Type 0
+IsNoCopy held why =
+    ((why ≡ failure.Refused refusal.OutOfMemory) × IsSome held) ⊎ ((why ≡ failure.WrongHandle) × (held ≡ None))
 
 -- the number of what an update is
 abbrev pub kind_number : Update → ℕ

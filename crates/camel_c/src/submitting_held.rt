@@ -1,11 +1,10 @@
 //! Submitting updates that C keeps.
 
-ghost use Rattle.std.specs.Prelude.{◌≡◌, ◌≢◌, ◌⊎◌, Ok, Err, Some, IfErr, IfOk};
-ghost use Rattle.camel_map.specs.declared.arrival.Arrival.{Arrival};
-ghost use Rattle.camel_c.specs.HeldUpdates.{HoldsUpdate};
+ghost use Rattle.std.specs.Prelude.{◌≡◌, ◌≢◌, ◌⊎◌, List, Ok, Some, IfErr, IfOk, IsSome};
+ghost use Rattle.camel_c.specs.HeldUpdates.{HoldUpdates, IsNoCopy, update_held};
+ghost use Rattle.camel_c.specs.Opening.{HoldAsBefore};
 ghost use Rattle.camel_c.specs.Submission.{ReadsAndSubmits};
 ghost use Rattle.camel_c.specs.declared.failure.Failure.TheVariants as failure;
-ghost use Rattle.camel_c.specs.declared.object.Object.TheVariants as object;
 
 use crate::failure::Failure;
 use crate::handle::CamelHandle;
@@ -13,6 +12,7 @@ use crate::object::Object;
 use crate::submitting::submit;
 use camel_criteria::Refusal;
 use camel_rows::Update;
+use std::alloc::Global;
 
 /// Submits a copy of an update. The handle keeps the update, which may be submitted again.
 ///
@@ -21,11 +21,11 @@ use camel_rows::Update;
 /// first handle holds no store that takes updates, or the other one no update. Then it is as if it had not been submitted.
 #[unsafe(no_mangle)]
 pub extern "C" fn camel_submit(store: &mut CamelHandle, update: &mut CamelHandle) -> u32
-    ensures submits { (held : Arrival) → update.old.value ≡ Some (object.Update held)
-        → ReadsAndSubmits (Ok held.update) result store.old.value store.new.value }
+    ensures submits { (held : Update) → update_held update.old.value ≡ Some held
+        → ReadsAndSubmits (Ok held) result store.old.value store.new.value }
     ensures same { update.new.value ≡ update.old.value }
     ensures unchanged { result ≢ 0 → store.new.value ≡ store.old.value }
-    ensures wrong { HoldsUpdate update.old.value ⊎ (result ≡ 503) }
+    ensures wrong { IsSome (update_held update.old.value) ⊎ (result ≡ 503) }
 {
     match copy_of(update) {
         Ok(copied) => submit(store, Ok(copied)),
@@ -36,10 +36,9 @@ pub extern "C" fn camel_submit(store: &mut CamelHandle, update: &mut CamelHandle
 /// A copy of the update that a handle holds. Fails with `WrongHandle` (503) if it holds none, and with `OutOfMemory`
 /// (102).
 fn copy_of(handle: &mut CamelHandle) -> Result<Update, Failure>
-    ensures copied { (held : Arrival) → handle.old.value ≡ Some (object.Update held) → IfOk result (λ copied. copied ≡ held.update) }
-    ensures only { HoldsUpdate handle.old.value → IfErr result (λ why. why ≡ failure.Refused Refusal.OutOfMemory) }
-    ensures wrong { HoldsUpdate handle.old.value ⊎ (result ≡ Err failure.WrongHandle) }
-    ensures same { handle.new.value ≡ handle.old.value }
+    ensures copied { IfOk result (λ copied. update_held handle.old.value ≡ Some copied) }
+    ensures only { IfErr result (IsNoCopy (update_held handle.old.value)) }
+    ensures same { handle.new ≡ handle.old }
 {
     if !handle.is_full() {
         return Err(Failure::WrongHandle);
@@ -48,9 +47,8 @@ fn copy_of(handle: &mut CamelHandle) -> Result<Update, Failure>
 }
 
 fn copy_held(held: &Object) -> Result<Update, Failure>
-    ensures copied { (kept : Arrival) → Some held.now ≡ Some (object.Update kept) → IfOk result (λ copied. copied ≡ kept.update) }
-    ensures only { HoldsUpdate (Some held.now) → IfErr result (λ why. why ≡ failure.Refused Refusal.OutOfMemory) }
-    ensures wrong { HoldsUpdate (Some held.now) ⊎ (result ≡ Err failure.WrongHandle) }
+    ensures copied { IfOk result (λ copied. update_held (Some held.now) ≡ Some copied) }
+    ensures only { IfErr result (IsNoCopy (update_held (Some held.now))) }
 {
     match held {
         Object::Update(arrival) => match arrival.update.copy() {
@@ -59,4 +57,21 @@ fn copy_held(held: &Object) -> Result<Update, Failure>
         },
         _ => Err(Failure::WrongHandle),
     }
+}
+
+/// Copies of the updates that handles hold, in their order. Fails as [`copy_of`] does for the first that fails.
+fn copies_of(alloc: Global, handles: &mut [CamelHandle]) -> Result<Vec<Update>, Failure>
+    ensures copied { IfOk result (λ copies. HoldUpdates handles.old copies.items) }
+    ensures only { IfErr result (λ why. (why ≡ failure.Refused Refusal.OutOfMemory) ⊎ (why ≡ failure.WrongHandle)) }
+    ensures wrong { (held : List Update) → HoldUpdates handles.old held → IfErr result (λ why. why ≡ failure.Refused Refusal.OutOfMemory) }
+    ensures same { handles.new ≡ handles.old }
+{
+    let mut copies = Vec::new(alloc);
+    for at in 0..handles.len() {
+        let copied = copy_of(&mut handles[at])?;
+        if copies.push(copied).is_err() {
+            return Err(Failure::Refused(Refusal::OutOfMemory));
+        }
+    }
+    Ok(copies)
 }

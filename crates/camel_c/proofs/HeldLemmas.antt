@@ -1,0 +1,28 @@
+-- Handles that each hold an update.
+use Rattle.std.proofs.Common.{◌≡◌, ◌∙◌, ◌<◌, ℕ, List, length, get_or, sym, ap, true≢false, arith}
+use Rattle.std.proofs.lemmas.List.{get_or-map, length-map}
+use Rattle.std.specs.Prelude.{Option, Some, None, is_some, Result, Ok, Err, IfErr}
+use Rattle.std.specs.Result.{IsErrAnd}
+use Rattle.camel_rows.specs.declared.subscriber.update.Update.{Update}
+use Rattle.camel_rows.specs.declared.subscriber.update.Update.TheVariants as update
+use Rattle.camel_c.specs.HeldUpdates.{HoldUpdates, update_held}
+use Rattle.camel_c.specs.declared.handle.CamelHandle.{CamelHandle}
+
+-- none of them holds no update
+pub held_at : (handles : List CamelHandle) (held : List Update) (at : ℕ) (other : CamelHandle)
+    → HoldUpdates handles held → at < length handles → update_held (get_or handles at other).value ≡ None → ⊥
+held_at handles held at other holds within none =
+    let held_in : CamelHandle → Option Update = λ handle. update_held handle.value in
+    let whole : Update → Option Update = λ held. Some held in
+    let lengths : length handles ≡ length held =
+    sym (length-map handles held_in) ∙ ap (λ (l : List (Option Update)). length l) holds ∙ length-map held whole in
+    let there : update_held (get_or handles at other).value ≡ Some (get_or held at update.ClearAll) =
+    sym (get_or-map held_in handles at other None within) ∙ ap (λ (l : List (Option Update)). get_or l at None) holds
+    ∙ get_or-map whole held at update.ClearAll None (omega (arith, within, lengths)) in
+    true≢false (ap is_some (sym there ∙ none))
+
+-- an error that is handed on
+pub if_err : {A E : Type 0} (result : Result A E) (Is Then : E → Type 0)
+    → IsErrAnd result Is → ((why : E) → Is why → Then why) → IfErr result Then
+if_err (Ok value) Is Then is next = absurd is
+if_err (Err why) Is Then is next = next why is
