@@ -2,9 +2,11 @@ pub mod BoxCalls
 pub mod BoxCode
 pub mod BoxRows
 pub mod HeldLemmas
+pub mod InsertLemmas
 pub mod LayoutLemmas
 pub mod ObjectDrop
 pub mod OctetsLemmas
 pub mod OctetsUpdate
 pub mod ReadingLemmas
+pub mod ReceivedLemmas
 pub mod Values

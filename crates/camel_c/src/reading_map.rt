@@ -1,6 +1,7 @@
 //! Reading the octets of arguments of MAP.
 
-ghost use Rattle.std.specs.Prelude.{◌≡◌};
+ghost use Rattle.std.specs.Prelude.{◌≡◌, IfOk};
+ghost use Rattle.camel_map.specs.Lists.{IsReceived};
 ghost use Rattle.camel_map.specs.Reading.{whole};
 ghost use Rattle.camel_map.specs.Update.{arrival_of};
 ghost use Rattle.camel_c.specs.Octets.{ReadsOctets, dialogue_in, in_argument, octets_fault_code, octets_fault_place, arrival_in, operation_in};
@@ -53,7 +54,8 @@ pub(crate) fn read_octets(
     imsi: &CamelImsi,
     argument: &[u8],
 ) -> Result<Arrival, OctetsFault>
-    ensures { ReadsOctets result (arrival_in operation imsi.now argument.now) }
+    ensures read { ReadsOctets result (arrival_in operation imsi.now argument.now) }
+    ensures received { IfOk result IsReceived }
 {
     let operation = read_operation(operation)?;
     let dialogue = read_dialogue(imsi)?;
@@ -86,7 +88,8 @@ fn read_argument(
     dialogue: Option<Imsi>,
     octets: &[u8],
 ) -> Result<Arrival, OctetsFault>
-    ensures { ReadsOctets result (in_argument (arrival_of operation dialogue (whole octets.now))) }
+    ensures read { ReadsOctets result (in_argument (arrival_of operation dialogue (whole octets.now))) }
+    ensures received { IfOk result IsReceived }
 {
     match decode(alloc, operation, dialogue, octets) {
         Ok(arrival) => Ok(arrival),

@@ -1,7 +1,9 @@
 //! Making updates of the octets of arguments of MAP.
 
+ghost use Rattle.std.specs.Prelude.{◌≡◌, IfOk};
+ghost use Rattle.camel_map.specs.Lists.{IsReceived};
 ghost use Rattle.camel_c.specs.Octets.{arrival_in};
-ghost use Rattle.camel_c.specs.Updates.{MakesOfOctets};
+ghost use Rattle.camel_c.specs.Updates.{HoldsReceived, MakesOfOctets};
 
 use crate::filling::put;
 use crate::handle::CamelHandle;
@@ -26,7 +28,9 @@ pub extern "C" fn camel_update_of_map(
     update: &mut CamelHandle,
     place: &mut u64,
 ) -> u32
-    ensures { MakesOfOctets (arrival_in operation imsi.now argument.now) result place.new update.old.value update.new.value }
+    ensures made { MakesOfOctets (arrival_in operation imsi.now argument.now) result place.new update.old.value update.new.value }
+    // An Insert is of lists, so it may be joined with another one.
+    ensures received { result ≡ 0 → HoldsReceived update.new.value }
 {
     let read = read_octets(alloc, operation, imsi, argument);
     keep_read(alloc, update, read, place)
@@ -38,7 +42,8 @@ fn keep_read(
     read: Result<Arrival, OctetsFault>,
     place: &mut u64,
 ) -> u32
-    ensures { MakesOfOctets read result place.new handle.old.value handle.new.value }
+    ensures made { MakesOfOctets read result place.new handle.old.value handle.new.value }
+    ensures received { IfOk read IsReceived → result ≡ 0 → HoldsReceived handle.new.value }
 {
     match read {
         Ok(arrival) => {

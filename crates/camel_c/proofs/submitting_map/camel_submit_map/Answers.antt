@@ -14,5 +14,5 @@ returns c =
     let after = c.submit_read.new.store.value in
     takes_octets_as (λ update. ReadsAndSubmits (Ok update) status before after) (update_read c.read_octets-read.result)
     (octets_in a.operation a.imsi.now a.argument.now) status c.submit_read.new.place before after (λ update e. inr e)
-    (reads_update a.operation a.imsi.now a.argument.now c.read_octets-read.result c.read_octets-read.ensures)
+    (reads_update a.operation a.imsi.now a.argument.now c.read_octets-read.result c.read_octets-read.ensures.read)
     c.submit_read.ensures

@@ -1,0 +1,74 @@
+-- The Insert of the lists that are sent is one of received lists.
+use Rattle.std.proofs.Common.{◌≡◌, ℕ, List, refl, sym, subst, inr, true≢false}
+use Rattle.std.specs.Prelude.{Option, Result, Ok, Err}
+use Rattle.camel_criteria.specs.Criteria.{OCriteriaData, TCriteriaData}
+use Rattle.camel_rows.specs.Received.{o_criteria_set_of, o_csi_of, t_criteria_set_of, vt_csi_of}
+use Rattle.camel_rows.specs.TdpRow.{TdpRowData}
+use Rattle.camel_rows.specs.declared.subscriber.update.Update.{Update}
+use Rattle.camel_rows.specs.declared.subscriber.update.Update.TheVariants as update
+use Rattle.camel_map.specs.Lists.{IsOfLists, insert_of_lists}
+use Rattle.camel_map.specs.declared.arrival.ItemCounts.{ItemCounts}
+use Rattle.camel_c_data.specs.Criteria.{o_criteria_set_in, t_criteria_set_in}
+use Rattle.camel_c_data.specs.Imsi.{imsi_in}
+use Rattle.camel_c_data.specs.Flag.{is_set}
+use Rattle.camel_c_data.specs.Reading.{ReadsAs}
+use Rattle.camel_c_data.specs.Row.{o_csi_in, vt_csi_in}
+use Rattle.camel_c_data.specs.Update.{insert_in}
+use Rattle.camel_c_data.specs.declared.data_fault.DataFault.{DataFault}
+use Rattle.camel_c_data.specs.declared.imsi.CamelImsi.{CamelImsi}
+use Rattle.camel_c_data.specs.declared.update.CamelInsert.{CamelInsert}
+use Rattle.camel_c.proofs.ReadingLemmas.{same_value}
+use Rattle.camel_c.proofs.ReceivedLemmas.{Came, came, part-kept, step_ok}
+use Rattle.camel_c.specs.Updates.{HoldsReceived, Makes, counted, counts_in, with_counts}
+use Rattle.camel_c.specs.declared.object.Object.{Object}
+
+of_came : (imsi : List ℕ) (counts : ItemCounts) (o : Option (List TdpRowData)) (o_criteria : Option (List OCriteriaData))
+    (vt : Option (List TdpRowData)) (t_criteria : Option (List TCriteriaData))
+    → Came o_csi_of o counts.o → Came o_criteria_set_of o_criteria counts.o_criteria
+    → Came vt_csi_of vt counts.vt → Came t_criteria_set_of t_criteria counts.t_criteria
+    → IsOfLists (with_counts counts (update.Insert imsi o o_criteria vt t_criteria))
+unfolding insert_of_lists
+of_came imsi counts o o_criteria vt t_criteria a b c d = record {
+  imsi = imsi;
+  lists = record { o = a.list; o_criteria = b.list; vt = c.list; t_criteria = d.list };
+  whole = rw (
+    a.is,
+    b.is,
+    c.is,
+    d.is,
+    part-kept o counts.o,
+    part-kept o_criteria counts.o_criteria,
+    part-kept vt counts.vt,
+    part-kept t_criteria counts.t_criteria,
+    a.counted,
+    b.counted,
+    c.counted,
+    d.counted,
+  ) refl;
+}
+
+pub insert_in-of_lists : (sent : CamelInsert) (held : CamelImsi) (made : Update)
+    → insert_in sent held ≡ Ok made → IsOfLists (with_counts (counts_in sent) made)
+unfolding insert_in o_csi_in o_criteria_set_in vt_csi_in t_criteria_set_in
+insert_in-of_lists sent held made is =
+    let imsi = step_ok (imsi_in held) _ made is in
+    let o = step_ok (o_csi_in (is_set sent.o.has_rows) sent.o.rows.now) _ made imsi.2 in
+    let o_criteria = step_ok (o_criteria_set_in (is_set sent.o.has_criteria) sent.o.criteria.now) _ made o.2 in
+    let vt = step_ok (vt_csi_in (is_set sent.vt.has_rows) sent.vt.rows.now) _ made o_criteria.2 in
+    let t_criteria = step_ok (t_criteria_set_in (is_set sent.vt.has_criteria) sent.vt.criteria.now) _ made vt.2 in
+    let o_came = came _ _ (is_set sent.o.has_rows) sent.o.rows.now o.0 o.1 in
+    let o_criteria_came = came _ _ (is_set sent.o.has_criteria) sent.o.criteria.now o_criteria.0 o_criteria.1 in
+    let vt_came = came _ _ (is_set sent.vt.has_rows) sent.vt.rows.now vt.0 vt.1 in
+    let t_criteria_came = came _ _ (is_set sent.vt.has_criteria) sent.vt.criteria.now t_criteria.0 t_criteria.1 in
+    let same : update.Insert imsi.0 o.0 o_criteria.0 vt.0 t_criteria.0 ≡ made = same_value _ made t_criteria.2 in
+    subst (λ (u : Update). IsOfLists (with_counts (counts_in sent) u)) same
+    (of_came imsi.0 (counts_in sent) o.0 o_criteria.0 vt.0 t_criteria.0 o_came o_criteria_came vt_came t_criteria_came)
+
+-- what is made of the lists that are sent is held as it is received
+pub made_received : (sent : CamelInsert) (held : CamelImsi) (read : Result Update DataFault) (status : ℕ)
+    (before after : Option Object) → ReadsAs read (insert_in sent held)
+    → Makes (counted (counts_in sent) read) status before after → status ≡ 0 → HoldsReceived after
+made_received sent held (Ok made) status before after is makes done =
+    let arrival = with_counts (counts_in sent) made in
+    (arrival, ((makes.update arrival refl).filled done).1, inr (insert_in-of_lists sent held made is))
+made_received sent held (Err fault) status before after is makes done = absurd (true≢false (sym (makes.made done)))
