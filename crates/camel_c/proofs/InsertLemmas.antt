@@ -1,13 +1,9 @@
 -- The Insert of the lists that are sent is one of received lists.
-use Rattle.std.proofs.Common.{◌≡◌, ℕ, List, refl, sym, subst, inr, true≢false}
+use Rattle.std.proofs.Common.{◌≡◌, ℕ, refl, sym, subst, inr, true≢false}
 use Rattle.std.specs.Prelude.{Option, Result, Ok, Err}
-use Rattle.camel_criteria.specs.Criteria.{OCriteriaData, TCriteriaData}
-use Rattle.camel_rows.specs.Received.{o_criteria_set_of, o_csi_of, t_criteria_set_of, vt_csi_of}
-use Rattle.camel_rows.specs.TdpRow.{TdpRowData}
 use Rattle.camel_rows.specs.declared.subscriber.update.Update.{Update}
 use Rattle.camel_rows.specs.declared.subscriber.update.Update.TheVariants as update
-use Rattle.camel_map.specs.Lists.{IsOfLists, insert_of_lists}
-use Rattle.camel_map.specs.declared.arrival.ItemCounts.{ItemCounts}
+use Rattle.camel_map.specs.Lists.{IsOfLists}
 use Rattle.camel_c_data.specs.Criteria.{o_criteria_set_in, t_criteria_set_in}
 use Rattle.camel_c_data.specs.Imsi.{imsi_in}
 use Rattle.camel_c_data.specs.Flag.{is_set}
@@ -18,34 +14,11 @@ use Rattle.camel_c_data.specs.declared.data_fault.DataFault.{DataFault}
 use Rattle.camel_c_data.specs.declared.imsi.CamelImsi.{CamelImsi}
 use Rattle.camel_c_data.specs.declared.update.CamelInsert.{CamelInsert}
 use Rattle.camel_c.proofs.ReadingLemmas.{same_value}
-use Rattle.camel_c.proofs.ReceivedLemmas.{Came, came, part-kept, step_ok}
+use Rattle.camel_c.proofs.ListsLemmas.{of_came}
+use Rattle.camel_c.proofs.ReceivedLemmas.{came}
+use Rattle.camel_c.proofs.StepLemmas.{step_ok}
 use Rattle.camel_c.specs.Updates.{HoldsReceived, Makes, counted, counts_in, with_counts}
 use Rattle.camel_c.specs.declared.object.Object.{Object}
-
-of_came : (imsi : List ℕ) (counts : ItemCounts) (o : Option (List TdpRowData)) (o_criteria : Option (List OCriteriaData))
-    (vt : Option (List TdpRowData)) (t_criteria : Option (List TCriteriaData))
-    → Came o_csi_of o counts.o → Came o_criteria_set_of o_criteria counts.o_criteria
-    → Came vt_csi_of vt counts.vt → Came t_criteria_set_of t_criteria counts.t_criteria
-    → IsOfLists (with_counts counts (update.Insert imsi o o_criteria vt t_criteria))
-unfolding insert_of_lists
-of_came imsi counts o o_criteria vt t_criteria a b c d = record {
-  imsi = imsi;
-  lists = record { o = a.list; o_criteria = b.list; vt = c.list; t_criteria = d.list };
-  whole = rw (
-    a.is,
-    b.is,
-    c.is,
-    d.is,
-    part-kept o counts.o,
-    part-kept o_criteria counts.o_criteria,
-    part-kept vt counts.vt,
-    part-kept t_criteria counts.t_criteria,
-    a.counted,
-    b.counted,
-    c.counted,
-    d.counted,
-  ) refl;
-}
 
 pub insert_in-of_lists : (sent : CamelInsert) (held : CamelImsi) (made : Update)
     → insert_in sent held ≡ Ok made → IsOfLists (with_counts (counts_in sent) made)

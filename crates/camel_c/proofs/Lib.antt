@@ -4,9 +4,11 @@ pub mod BoxRows
 pub mod HeldLemmas
 pub mod InsertLemmas
 pub mod LayoutLemmas
+pub mod ListsLemmas
 pub mod ObjectDrop
 pub mod OctetsLemmas
 pub mod OctetsUpdate
 pub mod ReadingLemmas
 pub mod ReceivedLemmas
+pub mod StepLemmas
 pub mod Values

@@ -1,38 +1,14 @@
--- An Insert that is read of fields is one of received lists.
-use Rattle.std.proofs.Common.{◌≡◌, ◌∙◌, ℕ, suc, Bool, true, false, List, [], ◌∷◌, length, refl, sym, ap, subst, true≢false}
-use Rattle.std.specs.Prelude.{Option, Some, None, is_some, Result, Ok, Err, if◌then◌else◌}
+-- A list that is sent is one that came.
+use Rattle.std.proofs.Common.{◌≡◌, ℕ, Bool, true, false, List, length, refl, sym, ap, subst, true≢false}
+use Rattle.std.specs.Prelude.{Option, Some, None, is_some, Result, Ok, if◌then◌else◌}
 use Rattle.camel_criteria.specs.declared.refusal.Refusal.{Refusal}
 use Rattle.camel_map.specs.Arrival.{count_of, kept_in}
 use Rattle.camel_map.specs.Lists.{list_of, part_of}
-use Rattle.camel_c_data.specs.Reading.{◌>>=◌, each_of, or_refused}
+use Rattle.camel_c_data.specs.Reading.{each_of, or_refused}
 use Rattle.camel_c_data.specs.SentList.{few_of, sent_list}
 use Rattle.camel_c_data.specs.declared.data_fault.DataFault.{DataFault}
-use Rattle.camel_c.proofs.ReadingLemmas.{no_fault, same_value}
-
--- a step that has a value, and what comes of it
-pub step_ok : {A B : Type 0} (step : Result A DataFault) (next : A → Result B DataFault) (whole : B)
-    → (step >>= next) ≡ Ok whole → (value : A) × (step ≡ Ok value) × (next value ≡ Ok whole)
-step_ok (Ok value) next whole is = (value, refl, is)
-step_ok (Err fault) next whole is = absurd (no_fault whole fault (sym is))
-
-each_of-length : {A S : Type 0} (value_of : S → Result A DataFault) (items : List S) (values : List A)
-    → each_of value_of items ≡ Ok values → length values ≡ length items
-unfolding each_of
-each_of-length value_of [] values is = ap (λ (l : List _). length l) (sym (same_value [] values is))
-each_of-length value_of (item ∷ more) values is =
-    let one = step_ok (value_of item) _ values is in
-    let rest = step_ok (each_of value_of more) _ values one.2 in
-    ap (λ (l : List _). length l) (sym (same_value (one.0 ∷ rest.0) values rest.2))
-    ∙ ap suc (each_of-length value_of more rest.0 rest.1)
-
-few_ok : {A : Type 0} (few : Bool) (reading : Result A DataFault) (fault : DataFault) (value : A)
-    → (if few then reading else Err fault) ≡ Ok value → reading ≡ Ok value
-few_ok true reading fault value is = is
-few_ok false reading fault value is = absurd (no_fault value fault (sym is))
-
-refused_ok : {A : Type 0} (kept : Result A Refusal) (value : A) → or_refused kept ≡ Ok value → kept ≡ Ok value
-refused_ok (Ok kept) value is = ap Ok (same_value kept value is)
-refused_ok (Err why) value is = absurd (no_fault value _ (sym is))
+use Rattle.camel_c.proofs.ReadingLemmas.{same_value}
+use Rattle.camel_c.proofs.StepLemmas.{each_of-length, few_ok, refused_ok, step_ok}
 
 -- the items that are kept of a list as it came
 pub part-kept : {A : Type 0} (kept : Option (List A)) (count : ℕ) → kept_in (part_of (λ (items : List A). items) kept count) ≡ kept
@@ -45,7 +21,8 @@ pub record Came {A : Type 0} (kept_of : List A → Result (List A) Refusal) (kep
   pub is : list_of kept_of list ≡ Ok (part_of (λ (items : List A). items) kept count)
   pub counted : count_of (part_of (λ (items : List A). items) kept count) ≡ count
 
-none_came : {A : Type 0} (kept_of : List A → Result (List A) Refusal) (kept : Option (List A)) → ◌≡◌ {A = Result _ DataFault} (Ok None) (Ok kept) → Came kept_of kept 0
+none_came : {A : Type 0} (kept_of : List A → Result (List A) Refusal) (kept : Option (List A))
+    → ◌≡◌ {A = Result _ DataFault} (Ok None) (Ok kept) → Came kept_of kept 0
 none_came kept_of None is = record { list = None; is = refl; counted = refl }
 none_came kept_of (Some items) is = absurd (true≢false (sym (ap is_some (same_value None (Some items) is))))
 

@@ -8,4 +8,11 @@ returns-in-Ok-clause-joins c = let join = c.in-Ok.ensures in
 
 pub returns-in-Err-clause-joins : goal.returns-in-Err-clause-joins
 returns-in-Err-clause-joins c = let join = c.in-Err.ensures in
-    record { answer = Err c.in-Err.why; told = c.from.ensures ∙ c.code.ensures; left = refl; joined = join.joined; fault = join.fault; received = join.received }
+    record {
+      answer = Err c.in-Err.why;
+      told = c.from.ensures ∙ c.code.ensures;
+      left = refl;
+      joined = join.joined;
+      fault = join.fault;
+      received = join.received;
+    }
