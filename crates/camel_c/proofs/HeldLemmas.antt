@@ -1,5 +1,5 @@
 -- Handles that each hold an update.
-use Rattle.std.proofs.Common.{◌≡◌, ◌∙◌, ◌<◌, ℕ, List, length, get_or, sym, ap, true≢false, arith}
+use Rattle.std.proofs.Common.{◌≡◌, ◌∙◌, ◌<◌, ℕ, List, [], ◌∷◌, length, map, get_or, refl, sym, ap, true≢false, arith}
 use Rattle.std.proofs.lemmas.List.{get_or-map, length-map}
 use Rattle.std.specs.Prelude.{Option, Some, None, is_some, Result, Ok, Err, IfErr}
 use Rattle.std.specs.Result.{IsErrAnd}
@@ -26,3 +26,18 @@ pub if_err : {A E : Type 0} (result : Result A E) (Is Then : E → Type 0)
     → IsErrAnd result Is → ((why : E) → Is why → Then why) → IfErr result Then
 if_err (Ok value) Is Then is next = absurd is
 if_err (Err why) Is Then is next = next why is
+
+update_or : Option Update → Update
+update_or None = update.ClearAll
+update_or (Some held) = held
+
+each_whole : (held : List Update) → map update_or (map (λ (held : Update). Some held) held) ≡ held
+unfolding update_or
+each_whole [] = refl
+each_whole (first ∷ more) = ap (λ (l : List Update). first ∷ l) (each_whole more)
+
+-- the updates that handles hold are the same ones
+pub held_once : (handles : List CamelHandle) (one other : List Update)
+    → HoldUpdates handles one → HoldUpdates handles other → one ≡ other
+held_once handles one other is also =
+    sym (each_whole one) ∙ ap (λ (l : List (Option Update)). map update_or l) (sym is ∙ also) ∙ each_whole other

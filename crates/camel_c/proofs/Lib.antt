@@ -1,6 +1,7 @@
 pub mod BoxCalls
 pub mod BoxCode
 pub mod BoxRows
+pub mod GroupLemmas
 pub mod HeldLemmas
 pub mod InsertLemmas
 pub mod LayoutLemmas

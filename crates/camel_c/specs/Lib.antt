@@ -5,6 +5,7 @@ pub mod Decides
 pub mod Failure
 pub mod Fetches
 pub mod Filling
+pub mod GroupSubmission
 pub mod Handle
 pub mod HeldUpdates
 pub mod Holding

@@ -1,18 +1,14 @@
 //! Submitting updates that C keeps.
 
-ghost use Rattle.std.specs.Prelude.{◌≡◌, ◌≢◌, ◌⊎◌, List, Ok, Some, IfErr, IfOk, IsSome};
-ghost use Rattle.camel_c.specs.HeldUpdates.{HoldUpdates, IsNoCopy, update_held};
-ghost use Rattle.camel_c.specs.Opening.{HoldAsBefore};
+ghost use Rattle.std.specs.Prelude.{◌≡◌, ◌≢◌, ◌⊎◌, Ok, Some, IfErr, IfOk, IsSome};
+ghost use Rattle.camel_c.specs.HeldUpdates.{IsNoCopy, update_held};
 ghost use Rattle.camel_c.specs.Submission.{ReadsAndSubmits};
-ghost use Rattle.camel_c.specs.declared.failure.Failure.TheVariants as failure;
 
 use crate::failure::Failure;
 use crate::handle::CamelHandle;
 use crate::object::Object;
 use crate::submitting::submit;
-use camel_criteria::Refusal;
 use camel_rows::Update;
-use std::alloc::Global;
 
 /// Submits a copy of an update. The handle keeps the update, which may be submitted again.
 ///
@@ -35,7 +31,7 @@ pub extern "C" fn camel_submit(store: &mut CamelHandle, update: &mut CamelHandle
 
 /// A copy of the update that a handle holds. Fails with `WrongHandle` (503) if it holds none, and with `OutOfMemory`
 /// (102).
-fn copy_of(handle: &mut CamelHandle) -> Result<Update, Failure>
+pub(crate) fn copy_of(handle: &mut CamelHandle) -> Result<Update, Failure>
     ensures copied { IfOk result (λ copied. update_held handle.old.value ≡ Some copied) }
     ensures only { IfErr result (IsNoCopy (update_held handle.old.value)) }
     ensures same { handle.new ≡ handle.old }
@@ -57,21 +53,4 @@ fn copy_held(held: &Object) -> Result<Update, Failure>
         },
         _ => Err(Failure::WrongHandle),
     }
-}
-
-/// Copies of the updates that handles hold, in their order. Fails as [`copy_of`] does for the first that fails.
-fn copies_of(alloc: Global, handles: &mut [CamelHandle]) -> Result<Vec<Update>, Failure>
-    ensures copied { IfOk result (λ copies. HoldUpdates handles.old copies.items) }
-    ensures only { IfErr result (λ why. (why ≡ failure.Refused Refusal.OutOfMemory) ⊎ (why ≡ failure.WrongHandle)) }
-    ensures wrong { (held : List Update) → HoldUpdates handles.old held → IfErr result (λ why. why ≡ failure.Refused Refusal.OutOfMemory) }
-    ensures same { handles.new ≡ handles.old }
-{
-    let mut copies = Vec::new(alloc);
-    for at in 0..handles.len() {
-        let copied = copy_of(&mut handles[at])?;
-        if copies.push(copied).is_err() {
-            return Err(Failure::Refused(Refusal::OutOfMemory));
-        }
-    }
-    Ok(copies)
 }

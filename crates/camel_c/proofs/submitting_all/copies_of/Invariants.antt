@@ -3,7 +3,7 @@ use Rattle.std.specs.Prelude.{Some}
 use Rattle.camel_rows.specs.declared.subscriber.update.Update.{Update}
 use Rattle.camel_c.specs.HeldUpdates.{update_held}
 use Rattle.camel_c.specs.declared.handle.CamelHandle.{CamelHandle}
-use Rattle.camel_c.proofs.submitting_held.copies_of.Given as goal
+use Rattle.camel_c.proofs.submitting_all.copies_of.Given as goal
 
 -- the handles are as before, and the updates of the first ones are copied
 abbrev pub invariant-loop-at : goal.invariant-loop-at

@@ -4,7 +4,7 @@ use Rattle.camel_c.proofs.HeldLemmas.{held_at, if_err}
 use Rattle.camel_c.specs.HeldUpdates.{HoldUpdates}
 use Rattle.camel_c.specs.declared.failure.Failure.TheVariants as failure
 use Rattle.camel_c.specs.declared.handle.CamelHandle.{CamelHandle}
-use Rattle.camel_c.proofs.submitting_held.copies_of.Goals as goal
+use Rattle.camel_c.proofs.submitting_all.copies_of.Goals as goal
 
 pub returns-in_err-copied-clause-wrong : goal.returns-in_err-copied-clause-wrong
 returns-in_err-copied-clause-wrong c = λ held holds.

@@ -1,0 +1,18 @@
+-- What a store has accepted together is pending behind the others.
+use Rattle.std.proofs.Common.{◌≡◌, ◌∙◌, List, [], ◌∷◌, ◌++◌, sym, ap}
+use Rattle.std.proofs.lemmas.List.{append-nil, append_assoc}
+use Rattle.std.specs.Prelude.{fold}
+use Rattle.camel_rows.specs.declared.subscriber.update.Update.{Update}
+use Rattle.camel_vlr.specs.Store.{StoreData, with_accepted}
+
+-- the store with these updates pending
+with_list : StoreData → List Update → StoreData
+with_list store pending = record store { updates = record store.updates { pending = pending } }
+
+pub all_pending : (store : StoreData) (updates : List Update)
+    → fold with_accepted store updates ≡ record store { updates = record store.updates { pending = store.updates.pending ++ updates } }
+unfolding with_list
+all_pending store [] = ap (λ (l : List Update). with_list store l) (sym (append-nil store.updates.pending))
+all_pending store (update ∷ more) =
+    all_pending (with_accepted store update) more
+    ∙ ap (λ (l : List Update). with_list store l) (append_assoc store.updates.pending (update ∷ []) more)
