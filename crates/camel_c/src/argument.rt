@@ -40,8 +40,8 @@ impl CamelArgument {
         }
     }
 
-    /// The argument of the Insert that makes a record. Fails if memory is refused, and if there are more octets than there
-    /// is room for, which no record has.
+    /// The argument of the Insert that makes a record. Fails if memory is refused, and if there are more octets than
+    /// there is room for, which no record has.
     fn of_record(
         alloc: Global,
         imsi: &Imsi,

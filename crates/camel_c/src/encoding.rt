@@ -20,12 +20,12 @@ use camel_tbcd::Imsi;
 use std::alloc::Global;
 
 /// Tells whether a subscriber has a record, over the look that has begun, or else by a look of its own, and writes the
-/// argument of the InsertSubscriberData that makes it where the subscriber has just registered (TS 29.002): the parameter
-/// of a TCAP invoke, in BER. Octets behind those of the argument are 0.
+/// argument of the InsertSubscriberData that makes it where the subscriber has just registered (TS 29.002): the
+/// parameter of a TCAP invoke, in BER. Octets behind those of the argument are 0.
 ///
 /// It fails with 502 if the IMSI is none, with 503 if the handle holds no session, and with 104 if the store has ended;
-/// then nothing is changed. It fails with 102 if memory was refused: then the session has looked. Nothing is written if it
-/// fails.
+/// then nothing is changed. It fails with 102 if memory was refused: then the session has looked. Nothing is written if
+/// it fails.
 #[unsafe(no_mangle)]
 pub extern "C" fn camel_encode_record(
     alloc: Global,

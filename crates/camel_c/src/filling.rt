@@ -37,7 +37,8 @@ pub(crate) fn fill(
     }
 }
 
-/// Puts an object into the handle if that is empty, and gives the status: 504 if it is not, and 102 if memory was refused.
+/// Puts an object into the handle if that is empty, and gives the status: 504 if it is not, and 102 if memory was
+/// refused.
 pub(crate) fn put(alloc: Global, handle: &mut CamelHandle, object: Object) -> u32
     ensures { Fills object result handle.old.value handle.new.value }
 {
@@ -49,8 +50,8 @@ pub(crate) fn put(alloc: Global, handle: &mut CamelHandle, object: Object) -> u3
 
 /// Frees what a handle holds, and leaves it empty. An empty one stays so.
 ///
-/// A store that was not closed ends too: each look that is held goes on until it is left, and no session begins another.
-/// Its data are freed when the last of them is left.
+/// A store that was not closed ends too: each look that is held goes on until it is left, and no session begins
+/// another. Its data are freed when the last of them is left.
 #[unsafe(no_mangle)]
 pub extern "C" fn camel_empty(alloc: Global, handle: &mut CamelHandle)
     ensures { handle.new.value ≡ None }

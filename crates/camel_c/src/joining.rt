@@ -10,9 +10,10 @@ use crate::object::Object;
 use camel_map::Arrival;
 use std::alloc::Global;
 
-/// Joins an Insert with the next one of its dialogue, which stays: an HLR may split the lists of a subscriber over several
-/// operations (TS 29.002). A list that comes in both is the first one with the items of the next one behind it, and all
-/// rules of received lists hold for the whole. Of a camelCapabilityHandling that came in both, the one of the next stands.
+/// Joins an Insert with the next one of its dialogue, which stays: an HLR may split the lists of a subscriber over
+/// several operations (TS 29.002). A list that comes in both is the first one with the items of the next one behind it,
+/// and all rules of received lists hold for the whole. Of a camelCapabilityHandling that came in both, the one of the
+/// next stands.
 ///
 /// It fails with 503 if a handle holds no update, with 408 if one of the two is no Insert, with 409 if they are of
 /// different subscribers, with 36 for a list of more than 10 items or of two of one detection point, and with 102 if
@@ -37,7 +38,8 @@ pub extern "C" fn camel_update_join(
 }
 
 fn join_held(alloc: Global, held: &mut Object, next: &Object) -> u32
-    ensures joins { (one other : Arrival) → Some held.old ≡ Some (object.Update one) → Some next.now ≡ Some (object.Update other)
+    ensures joins { (one other : Arrival) → Some held.old ≡ Some (object.Update one)
+        → Some next.now ≡ Some (object.Update other)
         → (left : Arrival) × (Some held.new ≡ Some (object.Update left)) × JoinsNext one other result left }
     ensures unchanged { result ≢ 0 → held.new ≡ held.old }
     ensures wrong { (HoldsUpdate (Some held.old) × HoldsUpdate (Some next.now)) ⊎ (result ≡ 503) }

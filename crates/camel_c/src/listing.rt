@@ -17,12 +17,12 @@ use camel_c_data::CamelImsi;
 use camel_criteria::Refusal;
 use std::alloc::Global;
 
-/// Fills an empty handle with the IMSIs that have a record, over the look that has begun, or else by a look of its own: a
-/// list of one front, in no order that is promised, each once. `camel_next_imsi` tells them.
+/// Fills an empty handle with the IMSIs that have a record, over the look that has begun, or else by a look of its own:
+/// a list of one front, in no order that is promised, each once. `camel_next_imsi` tells them.
 ///
-/// It fails with 503 if the first handle holds no session, with 504 if the one to be filled is not empty, and with 104 if
-/// the store has ended; then nothing is changed. It fails with 102 if memory was refused: then the session has looked, and
-/// the handle to be filled is empty.
+/// It fails with 503 if the first handle holds no session, with 504 if the one to be filled is not empty, and with 104
+/// if the store has ended; then nothing is changed. It fails with 102 if memory was refused: then the session has
+/// looked, and the handle to be filled is empty.
 #[unsafe(no_mangle)]
 pub extern "C" fn camel_imsis_of(
     alloc: Global,
@@ -78,8 +78,8 @@ impl ThreadSession {
     }
 }
 
-/// Writes the next of the IMSIs that are listed, and tells whether there is one; behind the last one there is none, and the
-/// IMSI is as it was. It takes no memory.
+/// Writes the next of the IMSIs that are listed, and tells whether there is one; behind the last one there is none, and
+/// the IMSI is as it was. It takes no memory.
 ///
 /// It fails with 503 if the handle holds no IMSIs. Then nothing is written.
 #[unsafe(no_mangle)]

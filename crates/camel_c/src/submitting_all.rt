@@ -14,14 +14,14 @@ use camel_rows::Update;
 use camel_vlr::Rejected;
 use std::alloc::Global;
 
-/// Submits copies of several updates, in their order: all of them are accepted, or none is. So a Register and the Inserts
-/// behind it are one step, as a location update is. The handles keep the updates. It writes the index of the update that
-/// was rejected, the first being 0, or how many there are if none was.
+/// Submits copies of several updates, in their order: all of them are accepted, or none is. So a Register and the
+/// Inserts behind it are one step, as a location update is. The handles keep the updates. It writes the index of the
+/// update that was rejected, the first being 0, or how many there are if none was.
 ///
-/// It fails as `camel_submit` does for the first update that the store does not accept over those before it, and with 36
-/// for a Cancel and a ClearAll, which leave no record: then that update was rejected. It fails with 102 if memory was
-/// refused, and with 503 if the first handle holds no store that takes updates, or another one no update: then none was
-/// rejected. If it fails, it is as if nothing had been submitted.
+/// It fails as `camel_submit` does for the first update that the store does not accept over those before it, and with
+/// 36 for a Cancel and a ClearAll, which leave no record: then that update was rejected. It fails with 102 if memory
+/// was refused, and with 503 if the first handle holds no store that takes updates, or another one no update: then none
+/// was rejected. If it fails, it is as if nothing had been submitted.
 #[unsafe(no_mangle)]
 pub extern "C" fn camel_submit_all(
     alloc: Global,
@@ -47,7 +47,8 @@ pub extern "C" fn camel_submit_all(
 fn copies_of(alloc: Global, handles: &mut [CamelHandle]) -> Result<Vec<Update>, Failure>
     ensures copied { IfOk result (λ copies. HoldUpdates handles.old copies.items) }
     ensures only { IfErr result (λ why. (why ≡ failure.Refused Refusal.OutOfMemory) ⊎ (why ≡ failure.WrongHandle)) }
-    ensures wrong { (held : List Update) → HoldUpdates handles.old held → IfErr result (λ why. why ≡ failure.Refused Refusal.OutOfMemory) }
+    ensures wrong { (held : List Update) → HoldUpdates handles.old held
+        → IfErr result (λ why. why ≡ failure.Refused Refusal.OutOfMemory) }
     ensures same { handles.new ≡ handles.old }
 {
     let mut copies = Vec::new(alloc);

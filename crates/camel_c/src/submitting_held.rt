@@ -14,7 +14,8 @@ use camel_rows::Update;
 ///
 /// It fails as `camel_submit_register` and the other calls do for the same update: with 5 or 35 if the store does not
 /// accept it, with 101 if it has taken as many updates as it may, with 102 if memory was refused, and with 503 if the
-/// first handle holds no store that takes updates, or the other one no update. Then it is as if it had not been submitted.
+/// first handle holds no store that takes updates, or the other one no update. Then it is as if it had not been
+/// submitted.
 #[unsafe(no_mangle)]
 pub extern "C" fn camel_submit(store: &mut CamelHandle, update: &mut CamelHandle) -> u32
     ensures submits { (held : Update) → update_held update.old.value ≡ Some held

@@ -20,8 +20,8 @@ pub struct CamelUpdateParts {
     pub imsi: CamelImsi,
     /// What the update is: 1 a Register, 2 an Insert, 3 a Delete, 4 a Cancel, 5 a ClearAll.
     pub kind: u8,
-    /// How many items of the rows of the O-CSI came in an Insert, those that are ignored among them: 1 to 10, or 0 if the
-    /// list did not come. The next three are those of the other lists.
+    /// How many items of the rows of the O-CSI came in an Insert, those that are ignored among them: 1 to 10, or 0 if
+    /// the list did not come. The next three are those of the other lists.
     pub o_rows: u8,
     pub o_criteria: u8,
     pub vt_rows: u8,
@@ -119,7 +119,8 @@ pub extern "C" fn camel_update_parts_of(
     update: &mut CamelHandle,
     parts: &mut CamelUpdateParts,
 ) -> u32
-    ensures told { result ≡ 0 → (held : Arrival) × (update.old.value ≡ Some (object.Update held)) × (parts.new ≡ parts_of held) }
+    ensures told { result ≡ 0
+        → (held : Arrival) × (update.old.value ≡ Some (object.Update held)) × (parts.new ≡ parts_of held) }
     ensures same { update.new.value ≡ update.old.value }
     ensures unwritten { result ≢ 0 → parts.new ≡ parts.old }
     ensures only { HoldsUpdate update.old.value → result ≡ 0 }
@@ -132,7 +133,8 @@ pub extern "C" fn camel_update_parts_of(
 }
 
 fn write_parts(held: &Object, parts: &mut CamelUpdateParts) -> u32
-    ensures told { result ≡ 0 → (arrival : Arrival) × (Some held.now ≡ Some (object.Update arrival)) × (parts.new ≡ parts_of arrival) }
+    ensures told { result ≡ 0
+        → (arrival : Arrival) × (Some held.now ≡ Some (object.Update arrival)) × (parts.new ≡ parts_of arrival) }
     ensures unwritten { result ≢ 0 → parts.new ≡ parts.old }
     ensures only { HoldsUpdate (Some held.now) → result ≡ 0 }
     ensures wrong { HoldsUpdate (Some held.now) ⊎ (result ≡ 503) }

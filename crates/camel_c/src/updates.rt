@@ -70,8 +70,8 @@ pub extern "C" fn camel_update_of_clear_all(alloc: Global, update: &mut CamelHan
     keep(alloc, update, Ok(Update::ClearAll))
 }
 
-/// Fills an empty handle with an Insert of the lists that are sent, as `camel_submit_lists` submits one. It has how many
-/// items were sent in each list, and no camelCapabilityHandling.
+/// Fills an empty handle with an Insert of the lists that are sent, as `camel_submit_lists` submits one. It has how
+/// many items were sent in each list, and no camelCapabilityHandling.
 ///
 /// It fails with 502, 35 or 36 if the data are none, as `camel_submit_lists` does, with 504 if the handle is not empty,
 /// and with 102 if memory was refused. Then the handle is as before.

@@ -13,12 +13,12 @@ use camel_c_data::CamelImsi;
 use camel_map::Arrival;
 use std::alloc::Global;
 
-/// Fills an empty handle with what the octets of an argument of MAP bring, as `camel_submit_map` submits it, with how many
-/// items came in each list and with the camelCapabilityHandling of each CSI.
+/// Fills an empty handle with what the octets of an argument of MAP bring, as `camel_submit_map` submits it, with how
+/// many items came in each list and with the camelCapabilityHandling of each CSI.
 ///
-/// It fails with 502, 401 to 407, 35 or 36 as `camel_submit_map` does, and writes the octet of a fault of the argument to
-/// the place; else the place is 0. It fails with 504 if the handle is not empty, and with 102 if memory was refused. Then
-/// the handle is as before.
+/// It fails with 502, 401 to 407, 35 or 36 as `camel_submit_map` does, and writes the octet of a fault of the argument
+/// to the place; else the place is 0. It fails with 504 if the handle is not empty, and with 102 if memory was refused.
+/// Then the handle is as before.
 #[unsafe(no_mangle)]
 pub extern "C" fn camel_update_of_map(
     alloc: Global,
@@ -28,7 +28,8 @@ pub extern "C" fn camel_update_of_map(
     update: &mut CamelHandle,
     place: &mut u64,
 ) -> u32
-    ensures made { MakesOfOctets (arrival_in operation imsi.now argument.now) result place.new update.old.value update.new.value }
+    ensures made { MakesOfOctets (arrival_in operation imsi.now argument.now) result place.new
+        update.old.value update.new.value }
     // An Insert is of lists, so it may be joined with another one.
     ensures received { result ≡ 0 → HoldsReceived update.new.value }
 {
