@@ -3,6 +3,7 @@ pub mod BoxCode
 pub mod BoxRows
 pub mod GroupLemmas
 pub mod HeldLemmas
+pub mod HoldingLemmas
 pub mod InsertLemmas
 pub mod LayoutLemmas
 pub mod ListsLemmas

@@ -1,6 +1,6 @@
 //! Submitting several updates together.
 
-ghost use Rattle.std.specs.Prelude.{◌≡◌, ◌≢◌, ◌⊎◌, List, length, Some, IfErr, IfOk};
+ghost use Rattle.std.specs.Prelude.{◌≡◌, ◌≢◌, ◌⊎◌, List, length, true, Some, IfErr, IfOk};
 ghost use Rattle.camel_c.specs.GroupSubmission.{ReadsAndSubmitsAll, SubmitsAll, TakesAll};
 ghost use Rattle.camel_c.specs.HeldUpdates.{HoldUpdates};
 ghost use Rattle.camel_c.specs.declared.failure.Failure.TheVariants as failure;
@@ -8,7 +8,7 @@ ghost use Rattle.camel_c.specs.declared.failure.Failure.TheVariants as failure;
 use crate::failure::Failure;
 use crate::handle::CamelHandle;
 use crate::object::{LiveStore, Object, Stage};
-use crate::submitting_held::copy_of;
+use crate::submitting_held::{copy_of, holds_update};
 use camel_criteria::Refusal;
 use camel_rows::Update;
 use camel_vlr::Rejected;
@@ -34,13 +34,30 @@ pub extern "C" fn camel_submit_all(
     ensures same { updates.new ≡ updates.old }
     ensures unchanged { result ≢ 0 → store.new.value ≡ store.old.value }
     ensures wrong { ((held : List Update) × HoldUpdates updates.old held)
-        ⊎ (((result ≡ 503) ⊎ (result ≡ 102)) × (rejected.new ≡ length updates.old)) }
+        ⊎ ((result ≡ 503) × (rejected.new ≡ length updates.old)) }
 {
     *rejected = updates.len();
+    if !hold_updates(updates) {
+        return Failure::WrongHandle.code();
+    }
     match copies_of(alloc, updates) {
         Ok(copies) => submit_copies(store, copies, rejected),
         Err(why) => why.code(),
     }
+}
+
+/// Whether each handle holds an update.
+fn hold_updates(handles: &mut [CamelHandle]) -> bool
+    ensures yes { result ≡ true → (held : List Update) × HoldUpdates handles.old held }
+    ensures no { (held : List Update) → HoldUpdates handles.old held → result ≡ true }
+    ensures same { handles.new ≡ handles.old }
+{
+    for at in 0..handles.len() {
+        if !holds_update(&mut handles[at]) {
+            return false;
+        }
+    }
+    true
 }
 
 /// Copies of the updates that handles hold, in their order. Fails as [`copy_of`] does for the first that fails.

@@ -1,6 +1,6 @@
 //! Submitting updates that C keeps.
 
-ghost use Rattle.std.specs.Prelude.{◌≡◌, ◌≢◌, ◌⊎◌, Ok, Some, IfErr, IfOk, IsSome};
+ghost use Rattle.std.specs.Prelude.{◌≡◌, ◌≢◌, ◌⊎◌, Ok, Some, IfErr, IfOk, IsSome, is_some};
 ghost use Rattle.camel_c.specs.HeldUpdates.{IsNoCopy, update_held};
 ghost use Rattle.camel_c.specs.Submission.{ReadsAndSubmits};
 
@@ -28,6 +28,20 @@ pub extern "C" fn camel_submit(store: &mut CamelHandle, update: &mut CamelHandle
         Ok(copied) => submit(store, Ok(copied)),
         Err(why) => why.code(),
     }
+}
+
+/// Whether a handle holds an update.
+pub(crate) fn holds_update(handle: &mut CamelHandle) -> bool
+    ensures told { result ≡ is_some (update_held handle.old.value) }
+    ensures same { handle.new ≡ handle.old }
+{
+    handle.is_full() && is_update(handle.get_mut())
+}
+
+fn is_update(held: &Object) -> bool
+    ensures { result ≡ is_some (update_held (Some held.now)) }
+{
+    matches!(held, Object::Update(_))
 }
 
 /// A copy of the update that a handle holds. Fails with `WrongHandle` (503) if it holds none, and with `OutOfMemory`
