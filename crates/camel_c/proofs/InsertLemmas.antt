@@ -1,5 +1,5 @@
 -- The Insert of the lists that are sent is one of received lists.
-use Rattle.std.proofs.Common.{◌≡◌, ℕ, refl, sym, subst, inr, true≢false}
+use Rattle.std.proofs.Common.{◌≡◌, ℕ, refl, sym, subst, true≢false}
 use Rattle.std.specs.Prelude.{Option, Result, Ok, Err}
 use Rattle.camel_rows.specs.declared.subscriber.update.Update.{Update}
 use Rattle.camel_rows.specs.declared.subscriber.update.Update.TheVariants as update
@@ -17,7 +17,7 @@ use Rattle.camel_c.proofs.ReadingLemmas.{same_value}
 use Rattle.camel_c.proofs.ListsLemmas.{of_came}
 use Rattle.camel_c.proofs.ReceivedLemmas.{came}
 use Rattle.camel_c.proofs.StepLemmas.{step_ok}
-use Rattle.camel_c.specs.Updates.{HoldsReceived, Makes, counted, counts_in, with_counts}
+use Rattle.camel_c.specs.Updates.{HoldsLists, Makes, counted, counts_in, with_counts}
 use Rattle.camel_c.specs.declared.object.Object.{Object}
 
 pub insert_in-of_lists : (sent : CamelInsert) (held : CamelImsi) (made : Update)
@@ -37,11 +37,11 @@ insert_in-of_lists sent held made is =
     subst (λ (u : Update). IsOfLists (with_counts (counts_in sent) u)) same
     (of_came imsi.0 (counts_in sent) o.0 o_criteria.0 vt.0 t_criteria.0 o_came o_criteria_came vt_came t_criteria_came)
 
--- what is made of the lists that are sent is held as it is received
-pub made_received : (sent : CamelInsert) (held : CamelImsi) (read : Result Update DataFault) (status : ℕ)
+-- what is made of the lists that are sent is held as an Insert of received lists
+pub made_lists : (sent : CamelInsert) (held : CamelImsi) (read : Result Update DataFault) (status : ℕ)
     (before after : Option Object) → ReadsAs read (insert_in sent held)
-    → Makes (counted (counts_in sent) read) status before after → status ≡ 0 → HoldsReceived after
-made_received sent held (Ok made) status before after is makes done =
+    → Makes (counted (counts_in sent) read) status before after → status ≡ 0 → HoldsLists after
+made_lists sent held (Ok made) status before after is makes done =
     let arrival = with_counts (counts_in sent) made in
-    (arrival, ((makes.update arrival refl).filled done).1, inr (insert_in-of_lists sent held made is))
-made_received sent held (Err fault) status before after is makes done = absurd (true≢false (sym (makes.made done)))
+    (arrival, ((makes.update arrival refl).filled done).1, insert_in-of_lists sent held made is)
+made_lists sent held (Err fault) status before after is makes done = absurd (true≢false (sym (makes.made done)))

@@ -7,7 +7,7 @@ use Rattle.camel_rows.specs.TdpRow.{TdpRowData}
 use Rattle.camel_rows.specs.declared.subscriber.update.Update.TheVariants as update
 use Rattle.camel_map.specs.Lists.{IsOfLists, insert_of_lists}
 use Rattle.camel_map.specs.declared.arrival.ItemCounts.{ItemCounts}
-use Rattle.camel_c.proofs.ReceivedLemmas.{Came, part-kept}
+use Rattle.camel_c.proofs.ReceivedLemmas.{Came}
 use Rattle.camel_c.specs.Updates.{with_counts}
 
 pub of_came : (imsi : List ℕ) (counts : ItemCounts) (o : Option (List TdpRowData)) (o_criteria : Option (List OCriteriaData))
@@ -20,17 +20,17 @@ of_came imsi counts o o_criteria vt t_criteria a b c d = record {
   imsi = imsi;
   lists = record { o = a.list; o_criteria = b.list; vt = c.list; t_criteria = d.list };
   whole = rw (
-    a.is,
-    b.is,
-    c.is,
-    d.is,
-    part-kept o counts.o,
-    part-kept o_criteria counts.o_criteria,
-    part-kept vt counts.vt,
-    part-kept t_criteria counts.t_criteria,
-    a.counted,
-    b.counted,
-    c.counted,
-    d.counted,
+    a.part.1,
+    b.part.1,
+    c.part.1,
+    d.part.1,
+    a.part.2,
+    b.part.2,
+    c.part.2,
+    d.part.2,
+    a.part.3,
+    b.part.3,
+    c.part.3,
+    d.part.3,
   ) refl;
 }

@@ -1,36 +1,30 @@
 -- A list that is sent is one that came.
-use Rattle.std.proofs.Common.{◌≡◌, ℕ, Bool, true, false, List, length, refl, sym, ap, subst, true≢false}
-use Rattle.std.specs.Prelude.{Option, Some, None, is_some, Result, Ok, if◌then◌else◌}
+use Rattle.std.proofs.Common.{◌≡◌, ℕ, Bool, true, false, List, length, refl}
+use Rattle.std.specs.Prelude.{Option, Some, None, Result, Ok, if◌then◌else◌}
 use Rattle.camel_criteria.specs.declared.refusal.Refusal.{Refusal}
 use Rattle.camel_map.specs.Arrival.{count_of, kept_in}
-use Rattle.camel_map.specs.Lists.{list_of, part_of}
+use Rattle.camel_map.specs.Lists.{list_of}
 use Rattle.camel_c_data.specs.Reading.{each_of, or_refused}
 use Rattle.camel_c_data.specs.SentList.{few_of, sent_list}
 use Rattle.camel_c_data.specs.declared.data_fault.DataFault.{DataFault}
 use Rattle.camel_c.proofs.ReadingLemmas.{same_value}
 use Rattle.camel_c.proofs.StepLemmas.{each_of-length, few_ok, refused_ok, step_ok}
 
--- the items that are kept of a list as it came
-pub part-kept : {A : Type 0} (kept : Option (List A)) (count : ℕ) → kept_in (part_of (λ (items : List A). items) kept count) ≡ kept
-part-kept None count = refl
-part-kept (Some items) count = refl
-
 -- a list that is sent is what is kept of one that came, with the items that are counted
 pub record Came {A : Type 0} (kept_of : List A → Result (List A) Refusal) (kept : Option (List A)) (count : ℕ) : Type 0 where
   pub list : Option (List A)
-  pub is : list_of kept_of list ≡ Ok (part_of (λ (items : List A). items) kept count)
-  pub counted : count_of (part_of (λ (items : List A). items) kept count) ≡ count
+  pub part : (came : _) × (list_of kept_of list ≡ Ok came) × (kept_in came ≡ kept) × (count_of came ≡ count)
 
 none_came : {A : Type 0} (kept_of : List A → Result (List A) Refusal) (kept : Option (List A))
     → ◌≡◌ {A = Result _ DataFault} (Ok None) (Ok kept) → Came kept_of kept 0
-none_came kept_of None is = record { list = None; is = refl; counted = refl }
-none_came kept_of (Some items) is = absurd (true≢false (sym (ap is_some (same_value None (Some items) is))))
+none_came kept_of kept is = record { list = None; part = (None, refl, same_value None kept is, refl) }
 
 some_came : {A : Type 0} (kept_of : List A → Result (List A) Refusal) (received left : List A) (kept : Option (List A)) (count : ℕ)
     → kept_of received ≡ Ok left → Some left ≡ kept → length received ≡ count → Came kept_of kept count
-some_came kept_of received left kept count same is counted =
-    subst (λ (k : Option (List _)). Came kept_of k count) is (subst (λ (n : ℕ). Came kept_of (Some left) n) counted
-    (record { list = Some received; is = rw same refl; counted = refl }))
+some_came kept_of received left kept count same is counted = record {
+  list = Some received;
+  part = (Some (record { kept = left; count = length received }), rw same refl, is, counted);
+}
 
 pub came : {A S : Type 0} (item_in : S → Result A DataFault) (kept_of : List A → Result (List A) Refusal) (is_sent : Bool)
     (items : List S) (kept : Option (List A)) → sent_list item_in kept_of is_sent items ≡ Ok kept

@@ -1,7 +1,7 @@
 -- Updates that C keeps.
 use Rattle.std.specs.Prelude.{◌≡◌, ◌≢◌, ◌⊎◌, ℕ, List, length, Option, Some, None, Result, Ok, Err, IsOk, if◌then◌else◌}
 use Rattle.camel_rows.specs.declared.subscriber.update.Update.{Update}
-use Rattle.camel_map.specs.Lists.{IsReceived}
+use Rattle.camel_map.specs.Lists.{IsOfLists, IsReceived}
 use Rattle.camel_map.specs.declared.arrival.Arrival.{Arrival}
 use Rattle.camel_map.specs.declared.arrival.ItemCounts.{ItemCounts}
 use Rattle.camel_c_data.specs.DataFault.{data_fault_code}
@@ -46,6 +46,10 @@ alone reading = counted (record { o = 0; o_criteria = 0; vt = 0; t_criteria = 0 
 -- the Insert of an IMSI and of the lists that are sent
 abbrev pub lists_in : CamelInsert → CamelImsi → Result Arrival DataFault
 lists_in sent imsi = counted (counts_in sent) (insert_in sent imsi)
+
+-- an Insert of received lists
+abbrev pub HoldsLists : Option Object → Type 0
+HoldsLists held = (arrival : Arrival) × (held ≡ Some (object.Update arrival)) × IsOfLists arrival
 
 -- an update as it is received: of lists, if it is an Insert
 abbrev pub HoldsReceived : Option Object → Type 0

@@ -3,7 +3,7 @@
 ghost use Rattle.std.specs.Prelude.{◌≡◌, Ok};
 ghost use Rattle.camel_c_data.specs.Update.{delete_in};
 ghost use Rattle.camel_c.specs.Submission.{cancel_in, register_in};
-ghost use Rattle.camel_c.specs.Updates.{HoldsReceived, Makes, ReadsAndMakes, alone, count_in, counted, counts_in, lists_in};
+ghost use Rattle.camel_c.specs.Updates.{HoldsLists, Makes, ReadsAndMakes, alone, count_in, counted, counts_in, lists_in};
 
 use crate::filling::put;
 use crate::handle::CamelHandle;
@@ -84,7 +84,7 @@ pub extern "C" fn camel_update_of_lists(
 ) -> u32
     ensures made { ReadsAndMakes (lists_in sent.now imsi.now) result update.old.value update.new.value }
     // It is of lists, so it may be joined with another Insert.
-    ensures received { result ≡ 0 → HoldsReceived update.new.value }
+    ensures received { result ≡ 0 → HoldsLists update.new.value }
 {
     let read = sent.read(alloc, imsi);
     keep_with(alloc, update, read, counts_in(sent))

@@ -2,7 +2,7 @@ use Rattle.std.proofs.Common.{subst}
 use Rattle.camel_map.specs.declared.arrival.ItemCounts.{ItemCounts}
 use Rattle.camel_c_data.specs.Update.{insert_in}
 use Rattle.camel_c.specs.Updates.{Makes, ReadsAndMakes, counted}
-use Rattle.camel_c.proofs.InsertLemmas.{made_received}
+use Rattle.camel_c.proofs.InsertLemmas.{made_lists}
 use Rattle.camel_c.proofs.ReadingLemmas.{makes_as}
 use Rattle.camel_c.proofs.updates.camel_update_of_lists.Goals as goal
 
@@ -24,4 +24,4 @@ returns-clause-received c =
     let after = c.keep_with.new.handle.value in
     let makes = subst (λ (counts : ItemCounts). Makes (counted counts c.read-read.result) status before after)
     c.counts_in.ensures c.keep_with.ensures in
-    made_received a.sent.now a.imsi.now c.read-read.result status before after c.read-read.ensures makes
+    made_lists a.sent.now a.imsi.now c.read-read.result status before after c.read-read.ensures makes
