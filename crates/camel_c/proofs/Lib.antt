@@ -1,6 +1,7 @@
 pub mod BoxCalls
 pub mod BoxCode
 pub mod BoxRows
+pub mod CountLemmas
 pub mod GroupLemmas
 pub mod HeldLemmas
 pub mod HoldingLemmas
@@ -10,6 +11,7 @@ pub mod ListsLemmas
 pub mod ObjectDrop
 pub mod OctetsLemmas
 pub mod OctetsUpdate
+pub mod PartsLemmas
 pub mod ReadingLemmas
 pub mod ReceivedLemmas
 pub mod StepLemmas

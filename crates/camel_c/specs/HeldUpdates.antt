@@ -8,6 +8,7 @@ use Rattle.camel_rows.specs.declared.subscriber.update.Update.TheVariants as upd
 use Rattle.camel_map.specs.Lists.{IsJoin, IsOfLists, join_fault}
 use Rattle.camel_map.specs.MapFault.{join_fault_code}
 use Rattle.camel_map.specs.declared.arrival.Arrival.{Arrival}
+use Rattle.camel_map.specs.declared.arrival.ItemCounts.{ItemCounts}
 use Rattle.camel_map.specs.declared.join.JoinFault.{JoinFault}
 use Rattle.camel_c_data.specs.Flag.{flag_of}
 use Rattle.camel_c_data.specs.declared.update.CamelWithdrawal.{CamelWithdrawal}
@@ -72,6 +73,13 @@ parts_of arrival = record {
   vt_capability = unwrap_or arrival.capabilities.vt 0;
   withdrawal = withdrawal_shown arrival.update;
 }
+
+-- it is told how many items came in each list
+pub record TellsCounts (counts : ItemCounts) (parts : CamelUpdateParts) : Type 0 where
+  pub o_rows : parts.o_rows ≡ counts.o
+  pub o_criteria : parts.o_criteria ≡ counts.o_criteria
+  pub vt_rows : parts.vt_rows ≡ counts.vt
+  pub t_criteria : parts.t_criteria ≡ counts.t_criteria
 
 -- the status of a join
 abbrev pub join_status : Result Arrival JoinFault → ℕ

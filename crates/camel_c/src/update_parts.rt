@@ -1,7 +1,8 @@
 //! What came with an update that C keeps.
 
 ghost use Rattle.std.specs.Prelude.{◌≡◌, ◌≢◌, ◌⊎◌, Some};
-ghost use Rattle.camel_c.specs.HeldUpdates.{HoldsUpdate, concerned_number, count_shown, kind_number, parts_of, withdrawal_shown};
+ghost use Rattle.camel_map.specs.Lists.{IsOfLists};
+ghost use Rattle.camel_c.specs.HeldUpdates.{HoldsUpdate, TellsCounts, concerned_number, count_shown, kind_number, parts_of, withdrawal_shown};
 ghost use Rattle.camel_c.specs.declared.object.Object.TheVariants as object;
 
 use crate::failure::Failure;
@@ -42,8 +43,10 @@ const _: () = prove!(size_of::<CamelUpdateParts>() == 32);
 
 impl CamelUpdateParts {
     /// The fields of an update. A count over 255, which no Insert has, is 255.
+    #[tactic(auto, using(crate::proofs::PartsLemmas::tells_counts))]
     fn of(arrival: &Arrival) -> CamelUpdateParts
-        ensures { result ≡ parts_of arrival.now }
+        ensures told { result ≡ parts_of arrival.now }
+        ensures counts { IsOfLists arrival.now → TellsCounts arrival.now.counts result }
     {
         let counts = &arrival.counts;
         let capabilities = &arrival.capabilities;
@@ -121,6 +124,9 @@ pub extern "C" fn camel_update_parts_of(
 ) -> u32
     ensures told { result ≡ 0
         → (held : Arrival) × (update.old.value ≡ Some (object.Update held)) × (parts.new ≡ parts_of held) }
+    // The counts of an Insert of received lists are told whole.
+    ensures counts { (held : Arrival) → update.old.value ≡ Some (object.Update held) → IsOfLists held
+        → TellsCounts held.counts parts.new }
     ensures same { update.new.value ≡ update.old.value }
     ensures unwritten { result ≢ 0 → parts.new ≡ parts.old }
     ensures only { HoldsUpdate update.old.value → result ≡ 0 }
@@ -135,6 +141,8 @@ pub extern "C" fn camel_update_parts_of(
 fn write_parts(held: &Object, parts: &mut CamelUpdateParts) -> u32
     ensures told { result ≡ 0
         → (arrival : Arrival) × (Some held.now ≡ Some (object.Update arrival)) × (parts.new ≡ parts_of arrival) }
+    ensures counts { (kept : Arrival) → Some held.now ≡ Some (object.Update kept) → IsOfLists kept
+        → TellsCounts kept.counts parts.new }
     ensures unwritten { result ≢ 0 → parts.new ≡ parts.old }
     ensures only { HoldsUpdate (Some held.now) → result ≡ 0 }
     ensures wrong { HoldsUpdate (Some held.now) ⊎ (result ≡ 503) }
