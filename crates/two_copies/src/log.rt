@@ -99,8 +99,11 @@ impl<O: Drop> Log<O> {
         ensures up { OnOk result (IsBroughtUp self.new) }
     {
         restore_all(copy, shown, &mut self.dropped)?;
-        copy.make_ready(&self.last)?;
-        copy.make_ready(&self.pending)?;
+        // A call that goes on with the pending operations has been ready for them before.
+        if self.pending_done == 0 {
+            copy.make_ready(&self.last)?;
+            copy.make_ready(&self.pending)?;
+        }
         move_all(copy, &mut self.last)?;
         apply_from(copy, &self.pending, &mut self.pending_done)
     }
