@@ -22,8 +22,8 @@
  *
  * Memory. The library calls malloc, realloc and free. A call that is refused memory returns CAMEL_OUT_OF_MEMORY, has
  * changed nothing, but that a session which looks may have seen a later front, and may be made again. Only camel_open,
- * camel_update_of_* and camel_update_join, camel_submit and camel_submit_*, camel_publish, camel_keep, camel_imsis_of
- * and camel_encode_record ask for any, and a publication that returns CAMEL_HELD for none.
+ * camel_update_of_* and camel_update_join, camel_submit and camel_submit_*, camel_publish, camel_drop_pending,
+ * camel_keep, camel_imsis_of and camel_encode_record ask for any, and a publication that returns CAMEL_HELD for none.
  *
  * What nothing checks. A handle is empty or as the library left it; a pointer is not null, but where NULL is named,
  * even one to no octets, and points to as much as is said; what is passed does not overlap; stores whose
@@ -445,6 +445,13 @@ camel_status camel_submit_all(camel_store *store, const camel_update *updates, s
  * CAMEL_OUT_OF_MEMORY. After both all is pending as before. */
 CAMEL_CALL
 camel_status camel_publish(camel_store *store);
+
+/* Drops all that is pending, as if it had not been submitted: the accepted updates are the published ones again, which
+ * also count for the limit. So a switch that answers the HLR with an error, after camel_publish has returned
+ * CAMEL_OUT_OF_MEMORY or CAMEL_HELD, does not show the data later. If a Cancel or a ClearAll is pending, it goes
+ * through all published records, and asks for memory, else for none. CAMEL_OUT_OF_MEMORY: all is pending as before. */
+CAMEL_CALL
+camel_status camel_drop_pending(camel_store *store);
 
 /* Whose looks hold the next publication up: bit i is that of session i, from 0, in the order of camel_open. */
 CAMEL_CALL

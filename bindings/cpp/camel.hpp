@@ -587,6 +587,10 @@ public:
         return status == CAMEL_OK ? receipt() : Failure{ status };
     }
 
+    /* Drops all that is pending, as if it had not been submitted, so that it is not shown later. CAMEL_OUT_OF_MEMORY only
+     * if a Cancel or a ClearAll is pending: all is pending as before. */
+    Result<void> drop_pending() noexcept { return detail::done(camel_drop_pending(handle_.at())); }
+
     /* A receipt of all that is published, without a publication. */
     Result<Receipt> receipt() const noexcept { return detail::read<Receipt>(camel_receipt_of, handle_.at()); }
 

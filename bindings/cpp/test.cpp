@@ -50,6 +50,7 @@ static_assert(noexcept(std::declval<const camel::Session &>().decisions()));
 static_assert(noexcept(std::declval<const camel::Subscriber &>().decide(std::declval<camel_event>())));
 static_assert(noexcept(std::declval<const camel::Update &>().parts()));
 static_assert(noexcept(std::declval<camel::Store &>().submit_all(std::declval<camel::Updates>())));
+static_assert(noexcept(std::declval<camel::Store &>().drop_pending()));
 
 static void data_are_made_or_refused()
 {

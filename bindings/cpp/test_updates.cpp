@@ -133,6 +133,27 @@ static void updates_are_all_submitted_or_none()
     CHECK(get(sessions[0].decide(event_at(13))).reason == CAMEL_REASON_NO_CSI);
 }
 
+/* What is pending is dropped, after a publication that is held too, and is not shown later. */
+static void pending_updates_are_dropped()
+{
+    using camel::Update;
+    auto [store, sessions] = open();
+    const Update updates[] = { get(Update::of_register(imsi())), inserted(imsi(), ROWS) };
+    camel::Look look = get(sessions[1].look());
+    CHECK(bool(store.publish()));
+    CHECK(bool(store.submit_all({ updates, 2 })) && store.publish().status() == CAMEL_HELD);
+    CHECK(get(store.counts()).pending == 2 && bool(store.drop_pending()));
+    CHECK(get(store.counts()).pending == 0 && get(store.counts()).published == 2);
+    CHECK(bool(look.leave()) && bool(sessions[0].learn(get(store.publish()))));
+    CHECK(get(sessions[0].decide(event_at(2))).key == 7 && get(sessions[0].decide(event_at(2))).front == 2);
+    CHECK(bool(store.submit_cancel(imsi())) && bool(store.drop_pending()));
+    CHECK(bool(store.submit_insert(imsi(), csis_of(8))) && bool(store.drop_pending()));
+    CHECK(bool(store.submit_all({ updates, 2 })));
+    CHECK(bool(sessions[0].learn(get(store.publish()))));
+    CHECK(get(sessions[0].decide(event_at(2))).key == 9 && get(sessions[0].decide(event_at(2))).front == 4);
+    CHECK(camel::Store().drop_pending().status() == CAMEL_WRONG_HANDLE);
+}
+
 /* A store that is restored from the records of another decides as that one. */
 static void records_are_restored()
 {
@@ -170,6 +191,7 @@ int main()
     inserts_are_joined();
     a_location_update_replaces_all();
     updates_are_all_submitted_or_none();
+    pending_updates_are_dropped();
     records_are_restored();
     std::puts("camel.hpp, updates and records: all is as it should be");
     return 0;

@@ -419,6 +419,7 @@ unsafe extern "C" {
     ) -> Status;
 
     pub fn camel_publish(store: *mut Store) -> Status;
+    pub fn camel_drop_pending(store: *mut Store) -> Status;
     pub fn camel_holders(store: *mut Store, sessions: *mut u64) -> Status;
     pub fn camel_counts_of(store: *const Store, counts: *mut Counts) -> Status;
 

@@ -187,6 +187,18 @@ impl Store {
         self.receipt()
     }
 
+    /// Drops all that is pending, as if it had not been submitted: the accepted updates are the published ones again,
+    /// which also count for the limit. So a switch that answers the HLR with an error, after a publication that failed,
+    /// does not show the data later. It takes no memory if no Cancel and no ClearAll is pending. Else it goes through
+    /// all published records.
+    ///
+    /// # Errors
+    /// All is pending as before. [`Error::OutOfMemory`]: drop it again later.
+    pub fn drop_pending(&mut self) -> Result<(), Error> {
+        // SAFETY: the handle is fit for a call, as `Owned` says.
+        done(unsafe { ffi::camel_drop_pending(self.handle.at()) })
+    }
+
     /// A receipt of all that is published. It fails only as the library does of itself, which safe code does not meet.
     pub fn receipt(&self) -> Result<Receipt, Error> {
         let mut receipt = ffi::Receipt::NONE;

@@ -1,5 +1,5 @@
-//! Updates that are made before they are submitted: what they are, how they are joined, and that several are submitted
-//! together or not at all.
+//! Updates that are made before they are submitted: what they are, how they are joined, that several are submitted
+//! together or not at all, and that what is pending is dropped.
 use camel::{
     Address, BasicService, CapabilityHandling, Csis, Error, Event, Imsi, IsdnAddress, ItemCounts,
     MAX_UPDATES, OCriteria, Operation, Outcome, PreparedUpdate, Profile, Reason, Rejected, Row,
@@ -223,6 +223,39 @@ fn a_limit_holds_for_all_of_them() {
     assert_eq!(pending(&store), 2);
     assert_eq!(store.submit_prepared(&updates[1]), Ok(()));
     assert_eq!(store.submit_prepared(&updates[1]), Err(Error::HistoryFull));
+}
+
+#[test]
+fn what_is_pending_is_dropped() {
+    let (mut store, mut session) = Store::open(1, 4, Profile::One, 1)
+        .map(|(store, mut sessions)| (store, sessions.remove(0)))
+        .unwrap();
+    let updates = [register(imsi()), inserted(imsi(), ROWS)];
+    let unknown = Outcome::NoTrigger(Reason::Unknown);
+    store.submit_all(&updates).unwrap();
+    assert_eq!(store.drop_pending(), Ok(()));
+    assert_eq!(pending(&store), 0);
+    assert_eq!(published(&mut store, &mut session, false), unknown);
+    assert_eq!(
+        store.submit_prepared(&updates[1]),
+        Err(Error::UnidentifiedSubscriber)
+    );
+    store.submit_all(&updates).unwrap();
+    assert!(published(&mut store, &mut session, false).is_trigger());
+    for update in [Update::Cancel { imsi: imsi() }, Update::ClearAll] {
+        store.submit(&update).unwrap();
+        store.submit(&Update::Register { imsi: other() }).unwrap();
+        assert_eq!(store.submit(&update), Err(Error::HistoryFull));
+        assert_eq!(store.drop_pending(), Ok(()));
+        assert_eq!(pending(&store), 0);
+        assert!(published(&mut store, &mut session, false).is_trigger());
+        assert_eq!(
+            store.submit_prepared(&inserted(other(), ROWS)),
+            Err(Error::UnidentifiedSubscriber)
+        );
+    }
+    assert_eq!(store.submit_prepared(&updates[1]), Ok(()));
+    assert_eq!(store.counts().unwrap().published, 2);
 }
 
 #[test]
