@@ -440,7 +440,7 @@ static void f_close(void)
 }
 
 /* The functions of camel.h, and how often each is called among CALLS calls. */
-enum { CALLS = 1340 };
+enum { CALLS = 1350 };
 static struct { const char *name; void (*make)(void); unsigned often; unsigned long counts[STATUSES]; } exports[] = {
 #define EXPORT(name, often) { "camel_" #name, f_##name, often, { 0 } }
     EXPORT(abi_version, 1), EXPORT(layouts, 1), EXPORT(imsi_of_tbcd, 15), EXPORT(imsi_of_digits, 15),
@@ -451,7 +451,7 @@ static struct { const char *name; void (*make)(void); unsigned often; unsigned l
     EXPORT(update_of_delete, 10), EXPORT(update_of_cancel, 5), EXPORT(update_of_clear_all, 2),
     EXPORT(update_of_map, 45), EXPORT(update_join, 40), EXPORT(update_parts_of, 15), EXPORT(submit, 20),
     EXPORT(submit_all, 30), EXPORT(imsis_of, 15), EXPORT(next_imsi, 23), EXPORT(encode_record, 10),
-    EXPORT(publish, 60), EXPORT(holders, 10), EXPORT(counts_of, 20), EXPORT(receipt_of, 30),
+    EXPORT(publish, 60), EXPORT(drop_pending, 10), EXPORT(holders, 10), EXPORT(counts_of, 20), EXPORT(receipt_of, 30),
     EXPORT(learn, 40), EXPORT(decide, 150), EXPORT(decisions_of, 10), EXPORT(look, 25), EXPORT(leave, 40),
     EXPORT(row_at, 30), EXPORT(o_criteria_at, 15), EXPORT(t_criteria_at, 15), EXPORT(keep, 40), EXPORT(decide_kept, 40),
     EXPORT(close, 2), EXPORT(empty, 100),

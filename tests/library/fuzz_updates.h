@@ -265,6 +265,14 @@ static void f_submit_all(void)
     IS((*rejected == count) == (status == CAMEL_OK || status == CAMEL_WRONG_HANDLE) && *rejected <= count);
 }
 
+/* The accepted updates are the published ones again. */
+static void f_drop_pending(void)
+{
+    unsigned slot = pick(STORE);
+    if (is_ok(OK | WRONG_HANDLE, camel_drop_pending(AS(store, slot))))
+        slots[slot].accepted = *published_of(slot);
+}
+
 static void f_imsis_of(void)
 {
     unsigned slot = pick_session(), to = pick_to_fill(IMSIS);

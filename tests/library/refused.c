@@ -1,13 +1,14 @@
 /* Each request for memory in the life of a store, refused in turn. The call that it fails returns CAMEL_OUT_OF_MEMORY
- * and has changed nothing; it is made again, or, of a publication, in a second sweep behind a further update. Each life
- * ends as one in which no memory was refused, with nothing left allocated. Prints how many requests fail each call, and
- * how many it does without. Linked with --wrap of malloc, realloc and free. */
+ * and has changed nothing; it is made again, or, of a publication, in a second sweep behind a further update. What two
+ * of the publications bring is dropped, if they fail, and comes again. Each life ends as one in which no memory was
+ * refused, with nothing left allocated. Prints how many requests fail each call, and how many it does without. Linked
+ * with --wrap of malloc, realloc and free. */
 #include "octets.h"
 
 enum kind {
     OPEN, REGISTER, INSERT_ROWS, INSERT_FEW, INSERT_MANY, INSERT_OCTETS, DELETE, CANCEL, CLEAR_ALL,
     UPDATE_PLAIN, UPDATE_LISTS, UPDATE_OCTETS, JOIN, SUBMIT, SUBMIT_ALL, PUBLISH_INSERTS, PUBLISH_NOTHING,
-    PUBLISH_DELETE, PUBLISH_CANCEL, PUBLISH_CLEAR_ALL, KEEP, LIST, ENCODE, KINDS
+    PUBLISH_DELETE, PUBLISH_CANCEL, PUBLISH_CLEAR_ALL, PUBLISH_OR_DROP, DROP_REMOVALS, KEEP, LIST, ENCODE, KINDS
 };
 
 static const char *const NAMES[KINDS] = {
@@ -31,6 +32,8 @@ static const char *const NAMES[KINDS] = {
     [PUBLISH_DELETE] = "`camel_publish`, of a delete, and the next one",
     [PUBLISH_CANCEL] = "`camel_publish`, of a cancel, and the next one",
     [PUBLISH_CLEAR_ALL] = "`camel_publish`, of a clear of all, and the next one",
+    [PUBLISH_OR_DROP] = "`camel_publish`, of registers and inserts, which are dropped if it fails",
+    [DROP_REMOVALS] = "`camel_drop_pending`, of a cancel and a clear of all",
     [KEEP] = "`camel_keep`",
     [LIST] = "`camel_imsis_of`",
     [ENCODE] = "`camel_encode_record`, all lists",
@@ -291,6 +294,8 @@ static void take_back(void)
     publish_to_both(PUBLISH_CLEAR_ALL);
 }
 
+#include "refused_drops.h"
+
 /* What holds up a publication, a look and a receipt asks for no memory, nor does a receipt. */
 static void hold(void)
 {
@@ -302,6 +307,7 @@ static void hold(void)
     NONE(CAMEL_OK, camel_holders(&store, &holders));
     IS(holders == 1);
     NONE(CAMEL_HELD, camel_publish(&store));
+    NONE(CAMEL_OK, camel_drop_pending(&store));
     NONE(CAMEL_HELD, camel_look(&sessions[0]));
     NONE(CAMEL_HELD, camel_learn(&sessions[0], &receipt));
     NONE(CAMEL_OK, camel_leave(&sessions[0]));
@@ -423,12 +429,14 @@ static uint64_t live(void)
     take_back();
     NONE(CAMEL_OK, camel_decide_kept(&kept, &failure, &answer));
     IS(is_there && answer.key == 101);
-    come(1, SHOWN - 1);
-    publish_to_both(PUBLISH_INSERTS);
+    come_or_drop(1, SHOWN / 2);
+    come_or_drop(SHOWN / 2 + 1, SHOWN - 1);
+    publish(PUBLISH_INSERTS);
     make_updates(SHOWN);
     update_location(SHOWN);
     publish_to_both(PUBLISH_INSERTS);
     uint64_t end = list_records();
+    drop_removals();
     fill();
     publish(PUBLISH_NOTHING);
     end += shown();

@@ -236,6 +236,8 @@ static void wrong_handles(camel_store *store, camel_session *session)
     RETURNS(CAMEL_WRONG_HANDLE, camel_submit_cancel((camel_store *)session, &imsi));
     RETURNS(CAMEL_WRONG_HANDLE, camel_submit_clear_all(&empty));
     RETURNS(CAMEL_WRONG_HANDLE, camel_publish((camel_store *)session));
+    RETURNS(CAMEL_WRONG_HANDLE, camel_drop_pending((camel_store *)session));
+    RETURNS(CAMEL_WRONG_HANDLE, camel_drop_pending(&empty));
     RETURNS(CAMEL_WRONG_HANDLE, camel_counts_of(&empty, &counts));
     RETURNS(CAMEL_WRONG_HANDLE, camel_counts_of((camel_store *)session, &counts));
     RETURNS(CAMEL_WRONG_HANDLE, camel_holders(&empty, &bits));
@@ -324,6 +326,7 @@ static void held_and_ended(camel_store *store, camel_session *session, camel_ses
     IS(counts_of(store).pending == 0);
     RETURNS(CAMEL_HELD, camel_close(store));
     RETURNS(CAMEL_WRONG_HANDLE, camel_publish(store));
+    RETURNS(CAMEL_WRONG_HANDLE, camel_drop_pending(store));
     RETURNS(CAMEL_WRONG_HANDLE, camel_counts_of(store, &counts));
     RETURNS(CAMEL_WRONG_HANDLE, camel_holders(store, &bits));
     RETURNS(CAMEL_WRONG_HANDLE, camel_receipt_of(store, &receipt));

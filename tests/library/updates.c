@@ -1,6 +1,6 @@
 /* Each status of the calls over updates in handles and over records, by a call that returns it, and that the call did
- * nothing then. Else updates are what was made, joined and submitted together, and records what was listed and encoded.
- */
+ * nothing then. Else updates are what was made, joined, submitted together and dropped, and records what was listed and
+ * encoded. */
 #include "octets.h"
 
 static camel_update_parts parts_of(const camel_update *update)
@@ -319,6 +319,64 @@ static void submitted_together(void)
         camel_free(&updates[at]);
 }
 
+/* Two updates that take the limit are dropped: the counts, the rejections and what is decided are those of the two that
+ * are published, of which the subscriber has a row at detection point 2. */
+static void dropped(camel_store *store, camel_session *session, const camel_update *updates)
+{
+    camel_row row = row_of(4, 104);
+    camel_counts counts;
+
+    SUBMITS_ALL(CAMEL_HISTORY_FULL, 0, store, &updates[1], 1);
+    RETURNS(CAMEL_OK, camel_drop_pending(store));
+    counts = counts_of(store);
+    IS(counts.published == 2 && counts.pending == 0 && counts.subscribers == 1);
+    RETURNS(CAMEL_UNIDENTIFIED_SUBSCRIBER, insert(store, 2, &row, 1, NULL, 0, NULL, 0, NULL, 0));
+    IS(decided(store, session, 2).is_trigger && decided(store, session, 2).front == 2);
+    RETURNS(CAMEL_OK, insert(store, 1, &row, 1, NULL, 0, NULL, 0, NULL, 0));
+    RETURNS(CAMEL_OK, camel_drop_pending(store));
+    IS(decided(store, session, 2).is_trigger && decided(store, session, 2).front == 2);
+}
+
+/* What is pending is dropped, also behind a publication that was held, and if records are removed by it. Then it is
+ * submitted again. */
+static void dropped_updates(void)
+{
+    static const uint8_t dps[] = { 2 };
+    camel_store store = CAMEL_EMPTY;
+    camel_session session = CAMEL_EMPTY;
+    camel_imsi imsi = imsi_of(1), other = imsi_of(2);
+    camel_update updates[2] = { CAMEL_EMPTY, CAMEL_EMPTY };
+    camel_withdrawal what = { .o = true };
+
+    RETURNS(CAMEL_OK, camel_open(&store, &session, 1, 4, 1, 1));
+    RETURNS(CAMEL_OK, camel_drop_pending(&store));
+    RETURNS(CAMEL_OK, camel_update_of_register(&imsi, &updates[0]));
+    updates[1] = rows_in(1, dps, 1, 3);
+    SUBMITS_ALL(CAMEL_OK, 2, &store, updates, 2);
+    IS(decided(&store, &session, 2).is_trigger);
+    camel_free(&updates[0]), camel_free(&updates[1]);
+    RETURNS(CAMEL_OK, camel_update_of_delete(&imsi, &what, &updates[0]));
+    RETURNS(CAMEL_OK, camel_update_of_register(&other, &updates[1]));
+
+    RETURNS(CAMEL_OK, camel_look(&session));
+    RETURNS(CAMEL_OK, camel_publish(&store));
+    SUBMITS_ALL(CAMEL_OK, 2, &store, updates, 2);
+    RETURNS(CAMEL_HELD, camel_publish(&store));
+    RETURNS(CAMEL_OK, camel_leave(&session));
+    dropped(&store, &session, updates);
+    RETURNS(CAMEL_OK, camel_submit_cancel(&store, &imsi));
+    RETURNS(CAMEL_OK, camel_submit_register(&store, &other));
+    dropped(&store, &session, updates);
+    RETURNS(CAMEL_OK, camel_submit_clear_all(&store));
+    RETURNS(CAMEL_OK, camel_submit_register(&store, &other));
+    dropped(&store, &session, updates);
+    SUBMITS_ALL(CAMEL_OK, 2, &store, updates, 2);
+    IS(!decided(&store, &session, 2).is_trigger && decided(&store, &session, 2).front == 4);
+    IS(counts_of(&store).subscribers == 2 && counts_of(&store).held == 1);
+    RETURNS(CAMEL_OK, camel_close(&store));
+    camel_free(&session), camel_free(&updates[0]), camel_free(&updates[1]);
+}
+
 /* What is no record, no session, or no list. */
 static void refused_records(camel_store *store, camel_session *session)
 {
@@ -428,6 +486,7 @@ int main(void)
     refused_joins();
     submitted_updates();
     submitted_together();
+    dropped_updates();
     listed_records();
     encoded_records();
     IS(strcmp(camel_status_name(CAMEL_NO_INSERT), "CAMEL_NO_INSERT") == 0);
