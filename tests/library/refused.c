@@ -32,7 +32,7 @@ static const char *const NAMES[KINDS] = {
     [PUBLISH_DELETE] = "`camel_publish`, of a delete, and the next one",
     [PUBLISH_CANCEL] = "`camel_publish`, of a cancel, and the next one",
     [PUBLISH_CLEAR_ALL] = "`camel_publish`, of a clear of all, and the next one",
-    [PUBLISH_OR_DROP] = "`camel_publish`, of registers and inserts, which are dropped if it fails",
+    [PUBLISH_OR_DROP] = "`camel_publish`, of a delete, registers and inserts, which are dropped if it fails",
     [DROP_REMOVALS] = "`camel_drop_pending`, of a cancel and a clear of all",
     [KEEP] = "`camel_keep`",
     [LIST] = "`camel_imsis_of`",
@@ -47,7 +47,7 @@ static camel_status freed(void *handle)
     return CAMEL_OK;
 }
 
-enum { LIMIT = 100, SUBSCRIBERS = 40, SHOWN = 7, FURTHER = 90, STRANGER = 91 };
+enum { LIMIT = 110, SUBSCRIBERS = 40, SHOWN = 7, FURTHER = 90, STRANGER = 91 };
 
 static camel_store store;
 static camel_session sessions[2];
@@ -429,8 +429,8 @@ static uint64_t live(void)
     take_back();
     NONE(CAMEL_OK, camel_decide_kept(&kept, &failure, &answer));
     IS(is_there && answer.key == 101);
-    come_or_drop(1, SHOWN / 2);
-    come_or_drop(SHOWN / 2 + 1, SHOWN - 1);
+    come_or_drop(0, 1, SHOWN / 2);
+    come_or_drop(2, SHOWN / 2 + 1, SHOWN - 1);
     publish(PUBLISH_INSERTS);
     make_updates(SHOWN);
     update_location(SHOWN);
@@ -472,6 +472,7 @@ int main(void)
     struct tallies again = tallies;
     submits_between = true;
     sweep(all, wanted);
+    IS(refused_restorings > 0);
     for (int kind = 0; kind < KINDS; kind++)
         IS(again.failed[kind] == tallies.failed[kind] && again.without[kind] == tallies.without[kind]);
 

@@ -2,22 +2,53 @@
 #ifndef REFUSED_DROPS_H
 #define REFUSED_DROPS_H
 
-/* A publication of subscribers who come. If it is refused memory, they are dropped without any: neither the store nor a
- * later publication shows them, and the store rejects further updates of them. Then they come again. */
-static void come_or_drop(unsigned first, unsigned last)
+static long refused_restorings; /* publications behind a drop that were refused memory */
+
+/* Publishes nothing behind a drop. The first try is refused its first request, the second its second one and so on,
+ * until a try makes fewer: each shows what was shown, and the last one goes on where the others stopped. */
+static void publish_behind_drop(uint64_t wanted)
+{
+    long refused_before = refused_at, tries = 0;
+    camel_status status;
+    do {
+        refused_at = requests + ++tries;
+        status = COUNTED(camel_publish(&store));
+        IS(status == CAMEL_OK || (status == CAMEL_OUT_OF_MEMORY && was_refused));
+        IS(shown() == wanted);
+        refused_restorings += was_refused;
+        was_refused = false;
+    } while (status == CAMEL_OUT_OF_MEMORY);
+    refused_at = refused_before;
+}
+
+/* A subscriber who is known, if it is not 0, loses all CSIs, and others come. */
+static void go_and_come(unsigned known, unsigned first, unsigned last)
+{
+    camel_imsi imsi = imsi_of(known);
+    camel_withdrawal what = { .everything = true };
+    if (known != 0) {
+        RETURNS(CAMEL_OK, camel_submit_delete(&store, &imsi, &what));
+        accepted++;
+    }
+    come(first, last);
+}
+
+/* A publication of these. If it is refused memory, they are dropped without any: neither the store nor a later
+ * publication of either copy shows them, and the store rejects further updates of them. Then they come again. */
+static void come_or_drop(unsigned known, unsigned first, unsigned last)
 {
     uint64_t before = shown(), accepted_before = accepted;
     camel_status status;
-    come(first, last);
+    go_and_come(known, first, last);
     status = COUNTED(camel_publish(&store));
     if (has_failed(PUBLISH_OR_DROP, status)) {
         NONE(CAMEL_OK, camel_drop_pending(&store));
         accepted = accepted_before;
         for (int times = 0; times < 3; times++) {
             IS(shown() == before && is_unknown(first) && is_unknown(last));
-            RETURNS(CAMEL_OK, camel_publish(&store));
+            publish_behind_drop(before);
         }
-        come(first, last);
+        go_and_come(known, first, last);
         status = camel_publish(&store);
     }
     RETURNS(CAMEL_OK, status);
