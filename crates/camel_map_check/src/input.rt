@@ -17,10 +17,18 @@ pub(crate) struct Argument {
     pub(crate) more: Vec<Vec<u8>>,
 }
 
-/// Why a line gives no argument.
+/// A record of a dump.
+#[derive(Drop)]
+pub(crate) struct Dumped {
+    pub(crate) imsi: Imsi,
+    /// The octets of the argument of the Insert that makes it.
+    pub(crate) octets: Vec<u8>,
+}
+
+/// Why a line gives no argument, or no record of a dump.
 #[derive(Clone, Copy)]
 pub(crate) enum LineFault {
-    /// It is no `OPERATION,IMSI,HEX`.
+    /// It is no `OPERATION,IMSI,HEX`, or in a dump no `IMSI,HEX`.
     Form,
     Memory,
 }
@@ -43,6 +51,17 @@ pub(crate) fn argument_of(alloc: Global, fields: &ByteRecord) -> Result<Argument
         octets: octets_of(alloc, field_of(fields, 2))?,
         more,
     })
+}
+
+/// The record that a line of a dump gives.
+pub(crate) fn dumped_of(alloc: Global, fields: &ByteRecord) -> Result<Dumped, LineFault> {
+    match imsi_of(field_of(fields, 0))? {
+        Some(imsi) if fields.len() == 2 => Ok(Dumped {
+            imsi,
+            octets: octets_of(alloc, field_of(fields, 1))?,
+        }),
+        _ => Err(LineFault::Form),
+    }
 }
 
 /// The field at a place, from 0; one that is not there is empty.

@@ -1,5 +1,6 @@
 //! Prints the update that each MAP argument of standard input is, as a record of a script (docs/SCRIPT.md), with
-//! `--encode` the argument that the encoder makes of that update, or with `--lists` what came beside it.
+//! `--encode` the argument that the encoder makes of that update, or with `--lists` what came beside it. With
+//! `--restore` the input is the dump of a store, of which it prints a script that makes the same records.
 //!
 //! An input line is `OPERATION,IMSI,HEX`: the operation by its name in TS 29.002, the IMSI of the dialogue or nothing,
 //! and the octets of the argument in hexadecimal. Behind them the arguments of further operations of the dialogue may
@@ -7,6 +8,12 @@
 //! with `--lists` the numbers of items of the O-CSI, its criteria, the VT-CSI and its criteria, and the
 //! camelCapabilityHandling of the two CSIs, `-` if it is not there. If an argument is not taken it is
 //! `fault NUMBER PLACE`, and `fault NUMBER` if two are not joined. An empty line is skipped, and not counted.
+//!
+//! A line of a dump is `IMSI,HEX`: the digits of a subscriber's IMSI, and the octets of the argument of the Insert that
+//! makes the record over a Register, as `camel_map::encode_record` writes them. Both are printed, the Register first. A
+//! line of which no record is made is left out, and said on standard error: `line NUMBER is no IMSI,HEX`, or `line
+//! NUMBER: fault NUMBER PLACE` if the argument is not taken in a dialogue of that IMSI. The lines behind it are printed
+//! too, and the status is 2.
 //!
 //! Decoding, joining and encoding are those of `camel_map`, whose contracts say which octets are which update. The texts
 //! here are tested, and not proved.
@@ -16,16 +23,16 @@ mod encoded;
 mod fault;
 mod input;
 mod lists;
+mod script;
 
 use crate::encoded::append_argument;
 use crate::fault::{ArgumentFault, append_fault};
 use crate::input::{Argument, LineFault, argument_of};
 use crate::lists::append_lists;
+use crate::script::{append_record, restore_line};
 use camel_map::{Arrival, MapFault, decode};
-use camel_record_text::{append_text, append_update};
-use camel_rows::Update;
 use csv::{ByteRecord, ErrorKind, Reader, ReaderBuilder};
-use std::alloc::{AllocError, Global};
+use std::alloc::Global;
 use std::io::{Read, Write};
 use std::process::ExitCode;
 use std::{env, io};
@@ -40,7 +47,7 @@ enum Stop {
     Write,
 }
 
-/// The status if a line is no `OPERATION,IMSI,HEX`.
+/// The status if a line is no `OPERATION,IMSI,HEX`, or if no record is made of one of a dump.
 const LINE_STATUS: u8 = 2;
 
 /// The status if memory, the input or the output fails.
@@ -48,6 +55,15 @@ const FAULT_STATUS: u8 = 1;
 
 /// How many octets of output are kept before they are written.
 const KEPT_OUTPUT: usize = 65536;
+
+/// What is printed of the input.
+#[derive(Clone, Copy, PartialEq, Eq)]
+enum Mode {
+    /// Of arguments, an answer to each.
+    Answers(Answer),
+    /// Of a dump, a script that makes its records.
+    Script,
+}
 
 /// What is printed of an argument.
 #[derive(Clone, Copy, PartialEq, Eq)]
@@ -61,22 +77,31 @@ enum Answer {
 }
 
 fn main(rt: HostRuntime) -> ExitCode {
-    let Ok(answer) = asked(&rt) else {
+    let Ok(mode) = asked(&rt) else {
         return report(&rt, Stop::Memory);
     };
-    match answer_all(rt.alloc(), answer, rt.stdin(), &mut rt.stdout()) {
-        Ok(()) => ExitCode::SUCCESS,
+    let answered = answer_all(
+        rt.alloc(),
+        mode,
+        rt.stdin(),
+        &mut rt.stdout(),
+        &mut rt.stderr(),
+    );
+    match answered {
+        Ok(true) => ExitCode::SUCCESS,
+        Ok(false) => ExitCode::from(LINE_STATUS),
         Err(stop) => report(&rt, stop),
     }
 }
 
 /// What the words of the command line ask for.
-fn asked(rt: &HostRuntime) -> io::Result<Answer> {
+fn asked(rt: &HostRuntime) -> io::Result<Mode> {
     let words = env::args(rt)?.collect::<Vec<String>>(rt.alloc())?;
     Ok(match words.get(1) {
-        Some(word) if word.as_str() == "--encode" => Answer::Argument,
-        Some(word) if word.as_str() == "--lists" => Answer::Lists,
-        _ => Answer::Record,
+        Some(word) if word.as_str() == "--encode" => Mode::Answers(Answer::Argument),
+        Some(word) if word.as_str() == "--lists" => Mode::Answers(Answer::Lists),
+        Some(word) if word.as_str() == "--restore" => Mode::Script,
+        _ => Mode::Answers(Answer::Record),
     })
 }
 
@@ -105,46 +130,69 @@ fn report(rt: &HostRuntime, stop: Stop) -> ExitCode {
     ExitCode::from(status)
 }
 
-/// Answers each line, and writes the answers also of the lines before the one at which it stops.
-fn answer_all<R: Read + Drop, W: Write>(
+/// Answers each line, and writes the answers also of the lines before the one at which it stops. Returns false if lines
+/// of a dump are left out, which are told.
+fn answer_all<R: Read + Drop, W: Write, E: Write>(
     alloc: Global,
-    answer: Answer,
+    mode: Mode,
     input: R,
     output: &mut W,
-) -> Result<(), Stop> {
+    told: &mut E,
+) -> Result<bool, Stop> {
+    // In a dump a quote is no digit, and takes no line behind it along.
     let mut reader = ReaderBuilder::new()
         .has_headers(false)
         .flexible(true)
+        .quoting(mode != Mode::Script)
         .from_reader(alloc, input);
     let mut answers = Vec::new(alloc);
-    let ended = answer_lines(alloc, answer, &mut reader, &mut answers, output);
+    let ended = answer_lines(alloc, mode, &mut reader, &mut answers, output, told);
     write_answers(&mut answers, output)?;
     ended
 }
 
-/// Answers each line. Some answers may not be written yet.
-fn answer_lines<R: Read, W: Write>(
+/// Answers each line. Some answers may not be written yet. Returns false if lines of a dump are left out.
+fn answer_lines<R: Read, W: Write, E: Write>(
     alloc: Global,
-    answer: Answer,
+    mode: Mode,
     reader: &mut Reader<R>,
     answers: &mut Vec<u8>,
     output: &mut W,
-) -> Result<(), Stop> {
+    told: &mut E,
+) -> Result<bool, Stop> {
     let mut fields = ByteRecord::new(alloc);
+    let mut is_whole = true;
     for number in 1..u64::MAX {
         if !read_fields(reader, &mut fields)? {
             break;
         }
-        match argument_of(alloc, &fields) {
-            Ok(argument) => append_answer(alloc, answer, answers, &argument)?,
-            Err(LineFault::Memory) => return Err(Stop::Memory),
-            Err(LineFault::Form) => return Err(Stop::Line(number)),
+        match mode {
+            Mode::Answers(answer) => answer_line(alloc, answer, number, &fields, answers)?,
+            Mode::Script => match restore_line(alloc, number, &fields, answers, told) {
+                Ok(is_restored) => is_whole = is_whole && is_restored,
+                Err(_) => return Err(Stop::Memory),
+            },
         }
         if answers.len() >= KEPT_OUTPUT {
             write_answers(answers, output)?;
         }
     }
-    Ok(())
+    Ok(is_whole)
+}
+
+/// Appends the line that answers the line of this number.
+fn answer_line(
+    alloc: Global,
+    answer: Answer,
+    number: u64,
+    fields: &ByteRecord,
+    answers: &mut Vec<u8>,
+) -> Result<(), Stop> {
+    match argument_of(alloc, fields) {
+        Ok(argument) => append_answer(alloc, answer, answers, &argument),
+        Err(LineFault::Memory) => Err(Stop::Memory),
+        Err(LineFault::Form) => Err(Stop::Line(number)),
+    }
 }
 
 /// Reads the fields of the next line, if there is one.
@@ -192,12 +240,6 @@ fn arrival_of(alloc: Global, argument: &Argument) -> Result<Arrival, ArgumentFau
 /// What one of the arguments of a line brings.
 fn decode_one(alloc: Global, argument: &Argument, octets: &[u8]) -> Result<Arrival, MapFault> {
     decode(alloc, argument.operation, argument.imsi, octets)
-}
-
-/// Appends the line of an update.
-fn append_record(out: &mut Vec<u8>, update: &Update) -> Result<(), AllocError> {
-    append_update(out, update)?;
-    append_text(out, "\n")
 }
 
 /// Writes the answers, of which none is kept then.
