@@ -1,6 +1,7 @@
 /* A restart: the records of a store go into a file, a line each, IMSI,HEX, and a new store that is made of the lines
- * decides as the first one. RECORDS random records, EVENTS random events; a line that is none is refused with its
- * number, and nothing of it is stored. What dumps and restores is there to be copied. Prints counts and times. */
+ * decides as the first one. RECORDS random records, EVENTS random events, SEED, and FILE if the dump is to be kept; a
+ * line that is none is refused with its number, and nothing of it is stored. What dumps and restores is there to be
+ * copied. Prints counts and times. */
 #define _DEFAULT_SOURCE
 #include "random.h"
 
@@ -297,7 +298,7 @@ int main(int argc, char **argv)
     unsigned long events = argc > 2 ? strtoul(argv[2], NULL, 10) : 1000000, count = 0, same = 0;
     camel_store store = CAMEL_EMPTY, restored = CAMEL_EMPTY;
     camel_session session = CAMEL_EMPTY, other = CAMEL_EMPTY;
-    FILE *file = tmpfile(), *again = tmpfile();
+    FILE *file = argc > 4 ? fopen(argv[4], "w+") : tmpfile(), *again = tmpfile();
     double start, dumped, ended_at;
 
     state = (argc > 3 ? strtoul(argv[3], NULL, 10) : 1) * 0x9e3779b97f4a7c15u + 1;
