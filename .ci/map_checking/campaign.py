@@ -18,6 +18,7 @@ from map_arguments.updates import text_of
 
 from . import dissection, scripts
 from .classes import classes_of
+from .dumped import drawn_dump, kept_dump, restored_texts
 from .encoded import encoded_lines, sent_update
 from .joined import check_pairs
 from .kept_capture import CAPTURE, check_capture
@@ -26,8 +27,8 @@ from .programs import CHECK, REPLAY, Difference, Programs, texts_of
 
 # A worker takes so many arguments at a time, and so many differences are printed.
 CHUNK, SHOWN = 1000, 10
-# As the tools write them, with edits, and as the encoder makes them of the written ones.
-KINDS = ("written", "edited", "encoded")
+# As the tools write them, with edits, as the encoder makes them of the written ones, and as a dump has them.
+KINDS = ("written", "edited", "encoded", "dumped")
 
 
 def chunks_of(count):
@@ -42,6 +43,8 @@ def side_by_side(check, items):
 
 def drawn_lines(seed, programs, kind, numbers):
     """The lines of these numbers, with the texts that they were written of, or with None if they have edits."""
+    if kind == "dumped":
+        return [*drawn_dump(seed, programs.check, numbers)]
     styles, sources = [*STYLES.values()], [random.Random(f"{seed} {number}") for number in numbers]
     drawn = [drawn_line(source, styles[number % len(styles)]) for number, source in zip(numbers, sources)]
     if kind == "edited":
@@ -70,10 +73,10 @@ def compared(line, text, read, reading):
     return classes
 
 
-def check_chunk(seed, programs, kind, numbers):
-    """Compares the lines of these numbers. Returns counts of answers, of classes, and the differences."""
-    lines, texts = zip(*drawn_lines(seed, programs, kind, numbers))
-    reads = texts_of(programs.check, lines)
+def check_lines(programs, kind, drawn):
+    """Compares lines. Returns counts of answers, of classes, and the differences."""
+    lines, texts = zip(*drawn)
+    reads = restored_texts(programs, lines) if kind == "dumped" else texts_of(programs.check, lines)
     kinds, classes, differences = Counter(), Counter(), []
     for line, text, read, reading in zip(lines, texts, reads, dissection.read(lines)):
         kinds[kind_of(read)] += 1
@@ -86,6 +89,11 @@ def check_chunk(seed, programs, kind, numbers):
     return kinds, classes, differences
 
 
+def check_chunk(seed, programs, kind, numbers):
+    """Compares the lines of these numbers."""
+    return check_lines(programs, kind, drawn_lines(seed, programs, kind, numbers))
+
+
 def reported(differences):
     """Prints the first of the differences. Returns how many there are."""
     for difference in differences[:SHOWN]:
@@ -93,17 +101,28 @@ def reported(differences):
     return len(differences)
 
 
-def run_arguments(seed, count, programs, kind):
-    """Compares so many arguments, and prints what they leave. Returns how many differ."""
+def run_arguments(check, chunks, name):
+    """Compares arguments, and prints what they leave. Returns how many differ."""
     kinds, classes, differences = Counter(), Counter(), []
-    for some_kinds, some_classes, some in side_by_side(partial(check_chunk, seed, programs, kind), chunks_of(count)):
+    for some_kinds, some_classes, some in side_by_side(check, chunks):
         kinds += some_kinds
         classes += some_classes
         differences += some
-    print(f"{count} {kind} arguments: {listed(kinds)}")
+    print(f"{kinds.total()} {name} arguments: {listed(kinds)}")
     for name, number in sorted(classes.items(), key=lambda item: (item[0] != "as tshark", item)):
         print(f"  {name}: {number}")
     return reported(differences)
+
+
+def run_drawn(seed, count, programs, kind):
+    return run_arguments(partial(check_chunk, seed, programs, kind), chunks_of(count), kind)
+
+
+def run_dump(path, programs):
+    """Compares the lines of a dump in a file."""
+    dump = kept_dump(path)
+    chunks = [dump[numbers.start : numbers.stop] for numbers in chunks_of(len(dump))]
+    return run_arguments(partial(check_lines, programs, "dumped"), chunks, f"dumped (in {path})")
 
 
 def run_joins(seed, count, programs):
@@ -136,6 +155,7 @@ def command_line():
     )
     parser.add_argument("seed", metavar="SEED", help="makes the arguments; the same seed makes the same ones")
     parser.add_argument("count", metavar="COUNT", type=int, help="of arguments as written, and again of edited ones")
+    parser.add_argument("--dump", metavar="FILE", help="a dump of a store, whose lines are compared too")
     parser.add_argument("--check", default=CHECK, metavar="PROGRAM", help=f"the decoder, {CHECK} if it is not given")
     parser.add_argument("--replay", default=REPLAY, metavar="PROGRAM", help=f"{REPLAY} if it is not given")
     return parser
@@ -151,7 +171,8 @@ def main():
         parser.error("SEED and COUNT are numbers, and COUNT is at least 1")
     programs = Programs(given.check, given.replay)
     try:
-        differing = sum(run_arguments(given.seed, given.count, programs, kind) for kind in KINDS)
+        differing = sum(run_drawn(given.seed, given.count, programs, kind) for kind in KINDS)
+        differing += run_dump(given.dump, programs) if given.dump else 0
         differing += run_joins(given.seed, given.count, programs)
         run_scripts(given.seed, programs)
         print(f"{CAPTURE}: {check_capture(programs)} messages, with the script that is kept")

@@ -18,16 +18,21 @@ class Programs(NamedTuple):
     replay: str = REPLAY
 
 
+def end_of(command, text):
+    """The end of a program, or of a tuple of one and its words, that was given a text."""
+    words = [command] if isinstance(command, str) else [*command]
+    try:
+        return subprocess.run(words, input=text.encode(), capture_output=True, timeout=TIMEOUT)
+    except subprocess.TimeoutExpired:
+        raise Difference(f"{words[0]} does not end within {TIMEOUT} seconds") from None
+
+
 def output_of(command, text):
     """What a program, or a tuple of one and its words, writes of a text. It is to end with status 0 and to say nothing
     else."""
-    words = [command] if isinstance(command, str) else [*command]
-    program = words[0]
-    try:
-        ended = subprocess.run(words, input=text.encode(), capture_output=True, timeout=TIMEOUT)
-    except subprocess.TimeoutExpired:
-        raise Difference(f"{program} does not end within {TIMEOUT} seconds") from None
+    ended = end_of(command, text)
     if ended.returncode or ended.stderr:
+        program = command if isinstance(command, str) else command[0]
         said = ended.stderr[-200:].decode(errors="replace")
         raise Difference(f"{program} ends with status {ended.returncode}: {said}")
     return ended.stdout.decode()
@@ -47,7 +52,12 @@ def answers_of(command, lines):
     return answers
 
 
+def with_lists(program, lines, records):
+    """The records that lines are read as, each with what came beside it, or the faults of the lines."""
+    lists = answers_of((program, "--lists"), lines)
+    return [record if record == listed else f"{record} {listed}" for record, listed in zip(records, lists)]
+
+
 def texts_of(program, lines):
     """The record that each line is read as, and what came beside it; or the fault of the line."""
-    records, lists = answers_of(program, lines), answers_of((program, "--lists"), lines)
-    return [record if record == listed else f"{record} {listed}" for record, listed in zip(records, lists)]
+    return with_lists(program, lines, answers_of(program, lines))
