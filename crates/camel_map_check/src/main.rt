@@ -10,10 +10,10 @@
 //! `fault NUMBER PLACE`, and `fault NUMBER` if two are not joined. An empty line is skipped, and not counted.
 //!
 //! A line of a dump is `IMSI,HEX`: the digits of a subscriber's IMSI, and the octets of the argument of the Insert that
-//! makes the record over a Register, as `camel_map::encode_record` writes them. Both are printed, the Register first. A
-//! line of which no record is made is left out, and said on standard error: `line NUMBER is no IMSI,HEX`, or `line
-//! NUMBER: fault NUMBER PLACE` if the argument is not taken in a dialogue of that IMSI. The lines behind it are printed
-//! too, and the status is 2.
+//! makes the record over a Register, as `camel_map::encode_record` writes them. Both are printed, the Register first; a
+//! replay says what a store refuses of them. A line that gives no Insert is left out, and said on standard error:
+//! `line NUMBER is no IMSI,HEX`, or `line NUMBER: fault NUMBER PLACE` if the argument is not taken in a dialogue of
+//! that IMSI. The lines behind it are printed too, and the status is 2.
 //!
 //! Decoding, joining and encoding are those of `camel_map`, whose contracts say which octets are which update. The texts
 //! here are tested, and not proved.
@@ -47,7 +47,7 @@ enum Stop {
     Write,
 }
 
-/// The status if a line is no `OPERATION,IMSI,HEX`, or if no record is made of one of a dump.
+/// The status if a line is no `OPERATION,IMSI,HEX`, or if one of a dump gives no Insert.
 const LINE_STATUS: u8 = 2;
 
 /// The status if memory, the input or the output fails.
