@@ -587,8 +587,8 @@ public:
         return status == CAMEL_OK ? receipt() : Failure{ status };
     }
 
-    /* Drops all that is pending, as if it had not been submitted, so that it is not shown later. CAMEL_OUT_OF_MEMORY only
-     * if a Cancel or a ClearAll is pending: all is pending as before. */
+    /* Drops all that is pending, as if it had not been submitted, so that it is not shown later. It returns
+     * CAMEL_OUT_OF_MEMORY only if a Cancel or a ClearAll is pending, and all is pending as before then. */
     Result<void> drop_pending() noexcept { return detail::done(camel_drop_pending(handle_.at())); }
 
     /* A receipt of all that is published, without a publication. */

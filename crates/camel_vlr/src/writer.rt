@@ -125,13 +125,13 @@ impl<W: Publisher> Vlr<W> {
         Ok(self.admission.accepted())
     }
 
-    /// Accepts several updates in their order, behind those that are pending, or none of them, and returns the number of
-    /// the last one. So a location update is one step: a Register and the Inserts behind it.
+    /// Accepts several updates in their order, behind those that are pending, or none of them, and returns the number
+    /// of the last one. So a location update is one step: a Register and the Inserts behind it.
     ///
-    /// If an update is rejected by the data that those before it leave, as [`Vlr::submit`] says, it is told which one, and
-    /// why. An update that leaves no record, a Cancel or a ClearAll, is rejected with `UnexpectedDataValue` (36), since
-    /// taking it back could be refused memory. If memory is refused, it fails with `OutOfMemory` (102). Then it is as if
-    /// none of them had been submitted.
+    /// It fails with the first update that is rejected by the data that those before it leave, as [`Vlr::submit`] says,
+    /// and why. An update that leaves no record, a Cancel or a ClearAll, is rejected with `UnexpectedDataValue` (36),
+    /// since taking it back could be refused memory. If memory is refused, it fails with `OutOfMemory` (102). Then it is
+    /// as if none of them had been submitted.
     pub fn submit_all(&mut self, updates: Vec<Update>) -> Result<u64, Rejected>
         ensures all { OnOk result (AcceptsAll submission_refusal with_accepted self.old updates.items) }
         ensures accepted { OnOk result (self.new ≡ fold with_accepted self.old updates.items) }

@@ -8,7 +8,7 @@ module _ {O : Type 0} where
   abbrev pub pending_in : Log O → List O
   pending_in log = log.pending.items
 
-  -- those of them that the copy which is not shown has
+  -- the pending operations that the copy which is not shown has
   abbrev pub done_in : Log O → List O
   done_in log = take log.pending_done log.pending.items
 

@@ -147,8 +147,8 @@ impl<T: Drop + Apply<O>, O: Drop, F: CopyRule<T>> Copies<T, O, F> {
         self.log.push(operation)
     }
 
-    /// Moves these operations behind those that are pending, all or none. If nothing is pending, two lists are exchanged;
-    /// else it asks for memory as a `VecDeque` does.
+    /// Moves these operations behind those that are pending, all or none. If nothing is pending, two lists are
+    /// exchanged; else it asks for memory as a `VecDeque` does.
     pub fn push_all(&mut self, operations: &mut VecDeque<O, Global>) -> Result<(), AllocError>
         ensures shown { shown_by self.new ≡ shown_by self.old }
         ensures pending { MatchResult result
@@ -187,8 +187,8 @@ impl<T: Drop + Apply<O>, O: Drop, F: CopyRule<T>> Copies<T, O, F> {
         self.log.drop_pending::<T>();
     }
 
-    /// Applies all that is pending to the copy that is not shown, so that a publication has little left to do and to ask
-    /// memory for. Nothing is published, and all is pending as before.
+    /// Applies all that is pending to the copy that is not shown, so that a publication has little left to do and to
+    /// ask memory for. Nothing is published, and all is pending as before.
     ///
     /// It fails if memory was refused, or if a look keeps that copy.
     pub fn bring_up(&mut self) -> Result<(), AllocError>

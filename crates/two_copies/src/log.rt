@@ -86,8 +86,8 @@ impl<O: Drop> Log<O> {
         self.pending.reserve(additional)
     }
 
-    /// Restores what the copy has of dropped operations as the shown copy has it, and applies what the copy lacks, as far
-    /// as memory lasts. A later call goes on from there.
+    /// Restores what the copy has of dropped operations as the shown copy has it, and applies what the copy lacks, as
+    /// far as memory lasts. A later call goes on from there.
     pub(crate) fn bring_up<T: Apply<O>>(
         &mut self,
         copy: &mut T,
@@ -108,7 +108,8 @@ impl<O: Drop> Log<O> {
         apply_from(copy, &self.pending, &mut self.pending_done)
     }
 
-    /// Drops the pending operations. What the copy has of them is restored before it is changed again. It takes no memory.
+    /// Drops the pending operations. What the copy has of them is restored before it is changed again. It takes no
+    /// memory.
     pub(crate) fn drop_pending<T: Apply<O>>(&mut self)
         ensures none { pending_in self.new ≡ [] }
         ensures alike { (spare shown : T.State) → IsAlike T.applied T.restored spare shown self.old
@@ -136,7 +137,8 @@ impl<O: Drop> Log<O> {
     }
 }
 
-/// Restores what the operations have changed, one after the other. One that is refused memory stays, with those behind it.
+/// Restores what the operations have changed, one after the other. One that is refused memory stays, with those behind
+/// it.
 fn restore_all<T: Apply<O>, O: Drop>(
     copy: &mut T,
     shown: &T,

@@ -18,12 +18,12 @@ use std::collections::VecDeque;
 
 impl<W: Publisher> Vlr<W> {
     /// Drops all that is pending, as if it had not been submitted: the accepted updates are the published ones again,
-    /// which also count for the limit. So a switch that was refused memory at a publication, and answers the HLR that it
-    /// did not take the data, does not show them later.
+    /// which also count for the limit. So a switch that was refused memory at a publication, and answers the HLR that
+    /// it did not take the data, does not show them later.
     ///
-    /// It takes no memory if each pending update leaves a record. If a Cancel or a ClearAll is pending, it goes through all
-    /// published records. It fails with `OutOfMemory` (102) if memory was refused, or if a publication over `left_right`
-    /// has failed, since that base keeps what it was handed; then all is pending as before.
+    /// It takes no memory if each pending update leaves a record. If a Cancel or a ClearAll is pending, it goes through
+    /// all published records. It fails with `OutOfMemory` (102) if memory was refused, or if a publication over
+    /// `left_right` has failed, since that base keeps what it was handed; then all is pending as before.
     pub fn drop_pending(&mut self) -> Result<(), Refusal>
         ensures dropped { OnOk result (self.new ≡ with_none_pending self.old) }
         ensures unchanged { OnErr result (self.new ≡ self.old) }
@@ -40,7 +40,8 @@ impl<W: Publisher> Vlr<W> {
     }
 }
 
-/// Makes an admission that of the published updates, if the base can drop what it was handed over. Else it is as before.
+/// Makes an admission that of the published updates, if the base can drop what it was handed over. Else it is as
+/// before.
 fn restore_admission<W: Publisher>(
     writer: &W,
     admission: &mut Admission,
