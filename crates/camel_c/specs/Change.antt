@@ -2,6 +2,7 @@
 use Rattle.std.specs.Prelude.{◌≡◌, ◌⊎◌, ◌+◌, ◌%◌, ◌^◌, Bool, false, List, Option, Some}
 use Rattle.camel_rows.specs.Store.{all_published, with_update}
 use Rattle.camel_rows.specs.declared.subscriber.update.Update.{Update}
+use Rattle.camel_vlr.specs.Store.{with_none_pending}
 use Rattle.camel_vlr.specs.Session.{LeavesLook, Sees, SessionData}
 use Rattle.camel_c.specs.Object.{closing_store, live_store}
 use Rattle.camel_c.specs.declared.object.LiveStore.{LiveStore}
@@ -21,6 +22,10 @@ with_pending update live = record live { vlr = record live.vlr { updates = with_
 -- a store that has published all that was pending; whether the next publication is held up is not known
 abbrev pub with_published : LiveStore → LiveStore
 with_published live = record live { vlr = record live.vlr { updates = all_published live.vlr.updates; free = false } }
+
+-- a store that has dropped all that was pending
+abbrev pub with_dropped : LiveStore → LiveStore
+with_dropped live = record live { vlr = with_none_pending live.vlr }
 
 -- a store of which a publication was held up, which is counted modulo 2^64
 abbrev pub with_held : LiveStore → LiveStore

@@ -14,6 +14,7 @@ mod argument;
 mod counting;
 mod deciding;
 mod deciding_kept;
+mod dropping;
 mod encoding;
 mod ending;
 mod failure;

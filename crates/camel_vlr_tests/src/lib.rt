@@ -36,6 +36,8 @@ mod set_up;
 #[cfg(test)]
 mod threads;
 #[cfg(test)]
+mod together;
+#[cfg(test)]
 mod transcripts;
 #[cfg(test)]
 mod wait_free;
