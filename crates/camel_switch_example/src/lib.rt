@@ -2,7 +2,8 @@
 //! call control, and the store.
 //!
 //! - `switch.rt` opens the store, and runs the writer and the callers, each in a thread of its own ([`run_switch`]).
-//! - `mapping.rt` makes an `Update` of a decoded InsertSubscriberData ([`update_of`]).
+//! - `mapping.rt` makes an `Update` of a decoded InsertSubscriberData ([`update_of`]), and in a location update several
+//!   ([`location_update_of`]).
 //! - `writer.rt` takes the HLR's operations, publishes, hands receipts to the callers, and answers the HLR.
 //! - `caller.rt` learns receipts, and decides calls at their set-up. [`SetUp`] keeps what a later detection point
 //!   needs.
@@ -24,7 +25,7 @@ mod writer;
 
 pub use caller::Call;
 pub use map_fault::MapFault;
-pub use mapping::update_of;
+pub use mapping::{location_update_of, update_of};
 pub use received::{
     BasicServiceCode, DestinationNumberCriteria, InsertSubscriberData, OCriteriaData,
     TCriteriaData, TdpData,
@@ -32,4 +33,4 @@ pub use received::{
 pub use set_up::SetUp;
 pub use switch::run_switch;
 pub use switch_fault::SwitchFault;
-pub use writer::Operation;
+pub use writer::{Change, Operation};

@@ -1,5 +1,6 @@
 use camel_criteria::Refusal;
 use camel_tbcd::{AddressFault, ImsiFault};
+use camel_vlr::Rejected;
 use std::alloc::{AllocError, AllocFailed};
 
 /// What the HLR is answered if an operation is not carried out (TS 29.002).
@@ -25,6 +26,12 @@ impl From<Refusal> for MapFault {
                 MapFault::ResourceLimitation
             }
         }
+    }
+}
+
+impl From<Rejected> for MapFault {
+    fn from(rejected: Rejected) -> MapFault {
+        rejected.why.into()
     }
 }
 

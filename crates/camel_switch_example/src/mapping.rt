@@ -15,6 +15,17 @@ use std::alloc::Global;
 /// The bits of a cause's octet that are its value: bit 8 is an extension bit (ITU-T Q.850).
 const CAUSE_VALUE: u8 = 0x7F;
 
+/// The updates of an InsertSubscriberData in a location update: a Register, and behind it the Insert of what came. So
+/// nothing else stays. It fails as [`update_of`] does.
+pub fn location_update_of(
+    alloc: Global,
+    data: &InsertSubscriberData,
+) -> Result<Vec<Update>, MapFault> {
+    let imsi = Imsi::from_tbcd(&data.imsi)?;
+    let insert = update_of(alloc, data)?;
+    Ok(vec![in alloc; Update::Register { imsi }, insert]?)
+}
+
 /// The Insert of an InsertSubscriberData. It fails as a whole if any part is refused.
 pub fn update_of(alloc: Global, data: &InsertSubscriberData) -> Result<Update, MapFault> {
     let imsi = Imsi::from_tbcd(&data.imsi)?;

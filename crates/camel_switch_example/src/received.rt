@@ -44,6 +44,9 @@ pub struct TCriteriaData {
 
 /// The fields of an InsertSubscriberDataArg that the store takes. The IMSI is that of the dialogue if none came. A list
 /// that came has items: the decoder rejects one without.
+///
+/// If a location update has several, these are the fields of all of them so far, and a list that came in two of them
+/// has the items of both, in their order: the Register before the Insert removes what the first one left.
 #[derive(Debug, Drop)]
 pub struct InsertSubscriberData {
     pub imsi: Vec<u8>,

@@ -1,8 +1,8 @@
 //! A switch, an HLR and calls: what the HLR was answered is what a call finds.
 
 use crate::{
-    BasicServiceCode, Call, DestinationNumberCriteria, InsertSubscriberData, MapFault,
-    OCriteriaData, Operation, SetUp, TdpData, run_switch, update_of,
+    BasicServiceCode, Call, Change, DestinationNumberCriteria, InsertSubscriberData, MapFault,
+    OCriteriaData, Operation, SetUp, TdpData, location_update_of, run_switch, update_of,
 };
 use camel_criteria::{BasicService, Cause, Handling, Refusal};
 use camel_rows::{CallEvent, Outcome, Reason, Update, Withdrawal};
@@ -86,6 +86,20 @@ fn insert_data(alloc: Global) -> Result<InsertSubscriberData, AllocError> {
     })
 }
 
+// The same with a VT-CSI too, of DP 12.
+fn with_vt_csi(alloc: Global) -> Result<InsertSubscriberData, AllocError> {
+    let mut data = insert_data(alloc)?;
+    data.vt_csi = Some(list(alloc, row_data(alloc, 12, 103)?)?);
+    Ok(data)
+}
+
+// Criteria without their CSI.
+fn criteria_only(alloc: Global) -> Result<InsertSubscriberData, AllocError> {
+    let mut data = insert_data(alloc)?;
+    data.o_csi = None;
+    Ok(data)
+}
+
 /// What the test sends to the switch.
 #[derive(Drop)]
 struct Network {
@@ -96,20 +110,26 @@ struct Network {
 
 impl Network {
     /// What the HLR is answered; None if it is not answered.
-    fn answer<R: Wait>(
+    fn answer<R: Wait>(&self, rt: &R, change: Change) -> Option<Result<(), MapFault>> {
+        let (reply, answered) = unbounded(self.alloc).ok()?;
+        self.operations.send(rt, Operation { change, reply }).ok()?;
+        answered.recv(rt).ok()
+    }
+
+    /// What the HLR is answered for these data in a location update.
+    fn update_location<R: Wait>(
         &self,
         rt: &R,
-        update: Update,
-        registers: bool,
+        data: &InsertSubscriberData,
     ) -> Option<Result<(), MapFault>> {
-        let (reply, answered) = unbounded(self.alloc).ok()?;
-        let operation = Operation {
-            update,
-            registers,
-            reply,
-        };
-        self.operations.send(rt, operation).ok()?;
-        answered.recv(rt).ok()
+        let updates = location_update_of(self.alloc, data).ok()?;
+        self.answer(rt, Change::LocationUpdate(updates))
+    }
+
+    /// What the HLR is answered for these data outside of a location update.
+    fn insert<R: Wait>(&self, rt: &R, data: &InsertSubscriberData) -> Option<Result<(), MapFault>> {
+        let insert = update_of(self.alloc, data).ok()?;
+        self.answer(rt, Change::One(insert))
     }
 
     /// What a call is given at its set-up; None if it is not decided.
@@ -129,13 +149,6 @@ impl Network {
     }
 }
 
-fn update_of_data(alloc: Global, data: &InsertSubscriberData) -> Result<Update, Fail> {
-    match update_of(alloc, data) {
-        Ok(update) => Ok(update),
-        Err(_) => Err(Fail::new("no update")),
-    }
-}
-
 // A call at DP 2.
 fn call() -> Result<CallEvent, Fail> {
     Ok(CallEvent::CollectedInfo {
@@ -146,7 +159,15 @@ fn call() -> Result<CallEvent, Fail> {
     })
 }
 
-// The same call after its route has failed with cause 17, user busy.
+// A call at DP 12.
+fn terminating_call() -> Result<CallEvent, Fail> {
+    Ok(CallEvent::TerminatingAttempt {
+        imsi: Imsi::from_tbcd(&IMSI)?,
+        basic: BasicService::Tele(0x11),
+    })
+}
+
+// The call at DP 2 after its route has failed with cause 17, user busy.
 fn route_failure() -> Result<CallEvent, Fail> {
     let Some(cause) = Cause::new(17) else {
         return Err(Refusal::UnexpectedDataValue.into());
@@ -169,12 +190,12 @@ fn triggered(dp: u8, key: u32) -> Result<Outcome, Fail> {
     })
 }
 
-// A call before the first InsertSubscriberData, and one after it.
-fn insert_first<R: Wait + Abort>(rt: &R, network: &Network) -> Result<(), Fail> {
+// A call before the first location update, and one after it.
+fn update_location_first<R: Wait + Abort>(rt: &R, network: &Network) -> Result<(), Fail> {
     let unknown = Outcome::NoTrigger(Reason::Unknown);
     assert_eq!(rt; network.outcome(rt, &call()?), Some(unknown));
-    let insert = update_of_data(network.alloc, &insert_data(network.alloc)?)?;
-    assert_eq!(rt; network.answer(rt, insert, true), Some(Ok(())));
+    let data = insert_data(network.alloc)?;
+    assert_eq!(rt; network.update_location(rt, &data), Some(Ok(())));
     assert_eq!(rt; network.outcome(rt, &call()?), Some(triggered(2, 100)?));
     Ok(())
 }
@@ -216,10 +237,7 @@ fn are_calls_served<R: Wait>(
 
 fn are_inserts_done<R: Wait>(rt: &R, network: &Network, data: &InsertSubscriberData) -> bool {
     for _ in 0..OPERATIONS {
-        let Ok(insert) = update_of(network.alloc, data) else {
-            return false;
-        };
-        if network.answer(rt, insert, false) != Some(Ok(())) {
+        if network.insert(rt, data) != Some(Ok(())) {
             return false;
         }
     }
@@ -240,28 +258,51 @@ fn keep_over_a_delete<R: Wait + Abort>(rt: &R, network: &Network) -> Result<(), 
             everything: false,
         },
     };
-    assert_eq!(rt; network.answer(rt, delete, false), Some(Ok(())));
+    assert_eq!(rt; network.answer(rt, Change::One(delete)), Some(Ok(())));
     assert_eq!(rt; kept.later(&route_failure()?), triggered(4, 101)?);
     let no_csi = Outcome::NoTrigger(Reason::NoCsi);
     assert_eq!(rt; network.outcome(rt, &call()?), Some(no_csi));
     Ok(())
 }
 
-// Operations that the HLR is answered with a user error. What is rejected with a Register leaves no record.
+// Operations that the HLR is answered with a user error, of a subscriber without a record. No Register is left behind,
+// neither published nor pending.
 fn rejected<R: Wait + Abort>(rt: &R, network: &Network) -> Result<(), Fail> {
     let imsi = Imsi::from_tbcd(&IMSI)?;
-    let cancel = Update::Cancel { imsi };
-    assert_eq!(rt; network.answer(rt, cancel, false), Some(Ok(())));
-    let mut data = insert_data(network.alloc)?;
-    let insert = update_of_data(network.alloc, &data)?;
-    let unknown = Err(MapFault::UnidentifiedSubscriber);
-    assert_eq!(rt; network.answer(rt, insert, false), Some(unknown));
-    data.o_csi = None;
-    let criteria_only = update_of_data(network.alloc, &data)?;
-    let missing = Err(MapFault::DataMissing);
-    assert_eq!(rt; network.answer(rt, criteria_only, true), Some(missing));
-    let no_data = Outcome::NoTrigger(Reason::Unknown);
-    assert_eq!(rt; network.outcome(rt, &call()?), Some(no_data));
+    let cancel = Change::One(Update::Cancel { imsi });
+    assert_eq!(rt; network.answer(rt, cancel), Some(Ok(())));
+    let data = insert_data(network.alloc)?;
+    let unidentified = Some(Err(MapFault::UnidentifiedSubscriber));
+    assert_eq!(rt; network.insert(rt, &data), unidentified);
+    let missing = Some(Err(MapFault::DataMissing));
+    assert_eq!(rt;
+        network.update_location(rt, &criteria_only(network.alloc)?),
+        missing
+    );
+    let unknown = Outcome::NoTrigger(Reason::Unknown);
+    assert_eq!(rt; network.outcome(rt, &call()?), Some(unknown));
+    assert_eq!(rt; network.insert(rt, &data), unidentified);
+    Ok(())
+}
+
+// Location updates of a subscriber who has a VT-CSI. One that is rejected leaves the record, also after the next
+// publication. One that is accepted leaves only what came.
+fn update_location_again<R: Wait + Abort>(rt: &R, network: &Network) -> Result<(), Fail> {
+    let (called, both) = (terminating_call()?, with_vt_csi(network.alloc)?);
+    assert_eq!(rt; network.update_location(rt, &both), Some(Ok(())));
+    assert_eq!(rt; network.outcome(rt, &called), Some(triggered(12, 103)?));
+    let missing = Some(Err(MapFault::DataMissing));
+    assert_eq!(rt;
+        network.update_location(rt, &criteria_only(network.alloc)?),
+        missing
+    );
+    let data = insert_data(network.alloc)?;
+    assert_eq!(rt; network.insert(rt, &data), Some(Ok(())));
+    assert_eq!(rt; network.outcome(rt, &called), Some(triggered(12, 103)?));
+    assert_eq!(rt; network.update_location(rt, &data), Some(Ok(())));
+    let no_csi = Outcome::NoTrigger(Reason::NoCsi);
+    assert_eq!(rt; network.outcome(rt, &called), Some(no_csi));
+    assert_eq!(rt; network.outcome(rt, &call()?), Some(triggered(2, 100)?));
     Ok(())
 }
 
@@ -290,8 +331,9 @@ fn a_call_finds_what_the_hlr_was_answered(rt: HostRuntime) -> Result<(), Fail> {
 
 // The senders end here, and with them the switch.
 fn drive<R: Threads + Wait + Abort + Sync>(rt: &R, network: Network) -> Result<(), Fail> {
-    insert_first(rt, &network)?;
+    update_location_first(rt, &network)?;
     calls_beside_operations(rt, &network)?;
+    update_location_again(rt, &network)?;
     keep_over_a_delete(rt, &network)?;
     rejected(rt, &network)
 }

@@ -1,20 +1,22 @@
 use crate::map_fault::MapFault;
-use camel_criteria::Refusal;
 use camel_rows::Update;
-use camel_tbcd::Imsi;
 use camel_vlr::{Of, Receipt, StoreName, Vlr};
 use crossbeam_channel::{Receiver, Sender};
 use std::sync::Wait;
-use std::thread;
+
+/// What an operation of the HLR makes of the subscriber's data.
+#[derive(Drop)]
+pub enum Change {
+    /// An InsertSubscriberData of a location update, by `location_update_of`: all its updates are accepted, or none is.
+    LocationUpdate(Vec<Update>),
+    /// Any other operation: an Insert, a Delete or a Cancel.
+    One(Update),
+}
 
 /// An operation of the HLR.
 #[derive(Drop)]
 pub struct Operation {
-    /// What it makes of the subscriber's data.
-    pub update: Update,
-    /// Whether it is the first InsertSubscriberData of a location update, of a subscriber who has no record. Then a
-    /// Register goes before it.
-    pub registers: bool,
+    pub change: Change,
     /// Takes what the HLR is answered.
     pub reply: Sender<Result<(), MapFault>>,
 }
@@ -34,35 +36,35 @@ impl<S: StoreName> Writer<S> {
             let Ok(operation) = self.operations.recv(rt) else {
                 return;
             };
-            let Operation {
-                update,
-                registers,
-                reply,
-            } = operation;
-            let done = self.carry_out(rt, store, update, registers);
+            let Operation { change, reply } = operation;
+            let done = self.carry_out(rt, store, change);
             // Nobody waits for the answer if its receiver is gone.
             let _ = reply.send(rt, done);
         }
     }
 
-    /// Submits the update, publishes it, and hands the receipt to each caller. So a call that is set up after the HLR
-    /// was answered finds a caller who has learnt of the update, unless memory was refused for its receipt.
+    /// Submits the change, publishes it, and hands the receipt to each caller. So a call that is set up after the HLR
+    /// was answered finds a caller who has learnt of the change, unless memory was refused for its receipt.
     ///
-    /// If memory is refused for the publication, the update stays pending, and the next publication shows it. The HLR,
-    /// which is answered with a reject, may send it again: what it leaves is the same a second time.
+    /// If memory is refused for the publication, the HLR is answered with a reject, and what is pending is dropped, so
+    /// that no later publication shows it. Dropping fails if memory was refused for it too, or if the store's base,
+    /// `left_right`, was handed what is pending, which it keeps. Then the next publication shows the change. The HLR
+    /// may send it again: what it leaves is the same a second time.
     fn carry_out<R: Wait>(
         &self,
         rt: &R,
         store: &mut Of<S, Vlr>,
-        update: Update,
-        registers: bool,
+        change: Change,
     ) -> Result<(), MapFault> {
-        if registers {
-            register(rt, store, update)?;
-        } else {
-            store.value.submit(update)?;
+        match change {
+            Change::LocationUpdate(updates) => submit_all(store, updates)?,
+            Change::One(update) => store.value.submit(update)?,
+        };
+        if let Err(why) = store.value.publish(rt) {
+            // If it can't be dropped, the next publication shows it.
+            let _ = store.value.drop_pending();
+            return Err(why.into());
         }
-        store.value.publish(rt)?;
         for caller in &self.receipts {
             // A caller whose thread is gone learns nothing. One for whom there is no memory learns the next receipt.
             let _ = caller.send(rt, Of::new(store.value.receipt()));
@@ -71,32 +73,7 @@ impl<S: StoreName> Writer<S> {
     }
 }
 
-/// Submits a Register of the update's subscriber, and the update behind it. If the update is rejected, a Cancel removes
-/// the record before anything is published, so that no call is decided by an empty one.
-fn register<S: StoreName, R: Wait>(
-    rt: &R,
-    store: &mut Of<S, Vlr>,
-    update: Update,
-) -> Result<(), Refusal> {
-    let Some(imsi) = update.imsi() else {
-        return Err(Refusal::UnexpectedDataValue);
-    };
-    store.value.submit(Update::Register { imsi })?;
-    match store.value.submit(update) {
-        Ok(_) => Ok(()),
-        Err(why) => {
-            cancel(rt, store, imsi);
-            Err(why)
-        }
-    }
-}
-
-/// Submits a Cancel, and submits it again while memory is refused for it.
-fn cancel<S: StoreName, R: Wait>(rt: &R, store: &mut Of<S, Vlr>, imsi: Imsi) {
-    for _ in rt.forever() {
-        match store.value.submit(Update::Cancel { imsi }) {
-            Err(Refusal::OutOfMemory) => thread::yield_now(),
-            _ => return,
-        }
-    }
+/// Accepts all the updates of a location update, or none of them.
+fn submit_all<S: StoreName>(store: &mut Of<S, Vlr>, updates: Vec<Update>) -> Result<u64, MapFault> {
+    Ok(store.value.submit_all(updates)?)
 }
