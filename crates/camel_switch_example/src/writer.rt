@@ -47,8 +47,8 @@ impl<S: StoreName> Writer<S> {
     /// was answered finds a caller who has learnt of the change, unless memory was refused for its receipt.
     ///
     /// If memory is refused for the publication, the HLR is answered with a reject, and what is pending is dropped, so
-    /// that no later publication shows it. Dropping fails if memory was refused for it too, or if the store's base,
-    /// `left_right`, was handed what is pending, which it keeps. Then the next publication shows the change. The HLR
+    /// that no later publication shows it. Dropping fails if the store's base, `left_right`, was handed what is
+    /// pending, which it keeps, or if memory is refused for it too. Then the next publication shows the change. The HLR
     /// may send it again: what it leaves is the same a second time.
     fn carry_out<R: Wait>(
         &self,
