@@ -14,5 +14,6 @@ pub mod OctetsUpdate
 pub mod PartsLemmas
 pub mod ReadingLemmas
 pub mod ReceivedLemmas
+pub mod SendLemmas
 pub mod StepLemmas
 pub mod Values
