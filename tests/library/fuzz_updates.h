@@ -37,23 +37,19 @@ static bool note_made(unsigned to, bool was_full, camel_update_parts parts, unsi
 
 enum { MAKES = OK | MALFORMED | FULL_HANDLE, MAKES_LISTS = MAKES | MISSING | UNEXPECTED };
 
-static void f_update_of_register(void)
+/* A call that makes an update of an IMSI only, and the kind of that update. */
+static void make_of_imsi(camel_status (*call)(const camel_imsi *, camel_update *), uint8_t kind)
 {
     unsigned to = pick_to_fill(UPDATE + below(4));
     bool was_full = handles[to].is_full;
     camel_imsi imsi = any_of_few();
-    camel_status status = camel_update_of_register(at_edge(0, &imsi, sizeof imsi), AS(update, to));
-    note_made(to, was_full, (camel_update_parts){ .imsi = imsi, .kind = CAMEL_UPDATE_REGISTER }, MAKES, status);
+    camel_status status = call(at_edge(0, &imsi, sizeof imsi), AS(update, to));
+    note_made(to, was_full, (camel_update_parts){ .imsi = imsi, .kind = kind }, MAKES, status);
 }
 
-static void f_update_of_cancel(void)
-{
-    unsigned to = pick_to_fill(UPDATE + below(4));
-    bool was_full = handles[to].is_full;
-    camel_imsi imsi = any_of_few();
-    camel_status status = camel_update_of_cancel(at_edge(0, &imsi, sizeof imsi), AS(update, to));
-    note_made(to, was_full, (camel_update_parts){ .imsi = imsi, .kind = CAMEL_UPDATE_CANCEL }, MAKES, status);
-}
+static void f_update_of_register(void) { make_of_imsi(camel_update_of_register, CAMEL_UPDATE_REGISTER); }
+
+static void f_update_of_cancel(void) { make_of_imsi(camel_update_of_cancel, CAMEL_UPDATE_CANCEL); }
 
 static void f_update_of_clear_all(void)
 {

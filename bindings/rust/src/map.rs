@@ -73,21 +73,16 @@ pub(crate) fn submit(
     imsi: Option<Imsi>,
     argument: &[u8],
 ) -> Result<(), MapFault> {
-    let mut place = 0;
-    // SAFETY: the handle is as the library left it, and in no other call, since this has it by `&mut`; the pointer and
-    // the length are of one slice, and the pointer of a slice of none is not null; the IMSI and the place are apart
-    // from them.
-    let status = unsafe {
-        ffi::camel_submit_map(
-            store.at(),
-            operation.code(),
-            &dialogue_of(imsi),
-            argument.as_ptr(),
-            argument.len(),
-            &mut place,
-        )
-    };
-    done_at(status, place)
+    // SAFETY: the handle is as the library left it, and in no other call, since this has it by `&mut`; `taken` hands
+    // over all else, apart from it.
+    taken(
+        operation,
+        imsi,
+        argument,
+        |code, imsi, octets, count, place| unsafe {
+            ffi::camel_submit_map(store.at(), code, imsi, octets, count, place)
+        },
+    )
 }
 
 /// Fills the empty handle of an update with what the octets of an argument are.
@@ -97,27 +92,35 @@ pub(crate) fn prepare(
     imsi: Option<Imsi>,
     argument: &[u8],
 ) -> Result<(), MapFault> {
-    let mut place = 0;
     // SAFETY: as of `submit`.
-    let status = unsafe {
-        ffi::camel_update_of_map(
-            operation.code(),
-            &dialogue_of(imsi),
-            argument.as_ptr(),
-            argument.len(),
-            update.at(),
-            &mut place,
-        )
-    };
-    done_at(status, place)
+    taken(
+        operation,
+        imsi,
+        argument,
+        |code, imsi, octets, count, place| unsafe {
+            ffi::camel_update_of_map(code, imsi, octets, count, update.at(), place)
+        },
+    )
 }
 
-/// The IMSI of a dialogue. To the library, the number 0 says that the dialogue has none.
-fn dialogue_of(imsi: Option<Imsi>) -> ffi::Imsi {
-    imsi.map_or(ffi::Imsi { number: 0 }, Imsi::raw)
-}
-
-fn done_at(status: ffi::Status, place: u64) -> Result<(), MapFault> {
+/// What a call says of the octets of an argument. It is handed the operation's code, the IMSI of the dialogue, of which
+/// the number 0 says that the dialogue has none, the octets with their count, and the place that it writes. The pointers
+/// are fit for the call, apart from each other, and the one of no octets is not null.
+fn taken(
+    operation: Operation,
+    imsi: Option<Imsi>,
+    argument: &[u8],
+    call: impl FnOnce(u8, *const ffi::Imsi, *const u8, usize, *mut u64) -> ffi::Status,
+) -> Result<(), MapFault> {
+    let dialogue = imsi.map_or(ffi::Imsi { number: 0 }, Imsi::raw);
+    let mut place = 0;
+    let status = call(
+        operation.code(),
+        &dialogue,
+        argument.as_ptr(),
+        argument.len(),
+        &mut place,
+    );
     done(status).map_err(|error| MapFault {
         error,
         place: place as usize,
