@@ -257,10 +257,7 @@ static void keep_data(camel_store *store, camel_session *session, const camel_im
     camel_answer answer;
     bool is_there = false;
 
-    OK(camel_look(session));
-    OK(camel_decide(session, &set_up, &answer));
-    OK(camel_keep(session, imsi, &kept, &is_there));
-    OK(camel_leave(session));
+    OK(camel_set_up(session, &set_up, &answer, &kept, &is_there));
     say("set-up", &answer);
     OK(camel_submit_delete(store, imsi, &everything));
     OK(camel_publish(store));

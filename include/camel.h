@@ -22,8 +22,9 @@
  *
  * Memory. The library calls malloc, realloc and free. A call that is refused memory returns CAMEL_OUT_OF_MEMORY, has
  * changed nothing, but that a session which looks may have seen a later front, and may be made again. Only camel_open,
- * camel_update_of_* and camel_update_join, camel_submit and camel_submit_*, camel_publish, camel_drop_pending,
- * camel_keep, camel_imsis_of and camel_encode_record ask for any, and a publication that returns CAMEL_HELD for none.
+ * camel_update_of_* and camel_update_join, camel_submit and camel_submit_*, camel_publish, camel_publish_to,
+ * camel_drop_pending, camel_keep, camel_set_up, camel_imsis_of and camel_encode_record ask for any, and a publication
+ * that returns CAMEL_HELD for none.
  *
  * What nothing checks. A handle is empty or as the library left it; a pointer is not null, but where NULL is named,
  * even one to no octets, and points to as much as is said; what is passed does not overlap; stores whose
@@ -50,6 +51,9 @@ extern "C" {
 #define CAMEL_MAX_SESSIONS 64
 #define CAMEL_MAX_UPDATES UINT64_C(0x7fffffffffffffff)
 #define CAMEL_MAX_ARGUMENT 1198
+
+/* What is written as the place of a fault where no octet of the argument is at fault. */
+#define CAMEL_NO_OCTET UINT64_MAX
 
 /* What a call returns is to be looked at, and no pointer that is passed to it is null. */
 #if defined(__GNUC__)
@@ -386,8 +390,8 @@ static inline camel_status camel_submit_insert(camel_store *store, const camel_i
  * length is definite, in up to four octets, or indefinite, at most 16 deep, and no string that is read is in pieces.
  * The IMSI is that of the dialogue, and its number is 0 if the dialogue has none. If the argument is not taken, the
  * call returns CAMEL_MALFORMED_OCTETS to CAMEL_OTHER_IMSI, CAMEL_DATA_MISSING or CAMEL_UNEXPECTED_DATA_VALUE, and place
- * is the octet, from 0, at which its first fault is. Else place is 0, and it is always written. CAMEL_MALFORMED is of
- * the operation or the IMSI, and a store rejects an update as above. */
+ * is the octet, from 0, at which its first fault is. Else place is CAMEL_NO_OCTET, and it is always written.
+ * CAMEL_MALFORMED is of the operation or the IMSI, and a store rejects an update as above. */
 CAMEL_CALL
 camel_status camel_submit_map(camel_store *store, uint8_t operation, const camel_imsi *imsi, const uint8_t *argument,
                               size_t argument_octet_count, uint64_t *place);
@@ -469,6 +473,14 @@ camel_status camel_receipt_of(const camel_store *store, camel_receipt *receipt);
 CAMEL_CALL
 camel_status camel_learn(camel_session *session, const camel_receipt *receipt);
 
+/* Publishes all that is pending, as camel_publish does, and has these sessions of the store, at most CAMEL_MAX_SESSIONS,
+ * learn it, as camel_learn does: from then on each shows it. So a switch with one event loop needs no receipt.
+ * CAMEL_WRONG_HANDLE, CAMEL_HELD or CAMEL_OTHER_STORE: the first session that cannot learn is none, has begun a look, or
+ * is of another store. Then nothing is published, as after a status of camel_publish. No run meets CAMEL_NO_LOOK, or
+ * CAMEL_OTHER_STORE of a session of the store: only then all is published, and that session does not show it. */
+CAMEL_CALL
+camel_status camel_publish_to(camel_store *store, camel_session *sessions, size_t session_count);
+
 /* Decides an event, over the look that has begun, or else by a look of its own. CAMEL_MALFORMED: the event is none.
  * CAMEL_NO_LOOK: the store has ended; so it is with the other calls that look. */
 CAMEL_CALL
@@ -508,6 +520,13 @@ CAMEL_CALL
 camel_status camel_keep(camel_session *session, const camel_imsi *imsi, camel_subscriber *subscriber, bool *is_there);
 CAMEL_CALL
 camel_status camel_decide_kept(const camel_subscriber *subscriber, const camel_event *event, camel_answer *answer);
+
+/* The set-up of a call at detection point 2 or 12: decides the event, as camel_decide does, and keeps the record of its
+ * subscriber, as camel_keep does, over one front. If memory is refused, nothing is decided, and the session may have seen
+ * a later front. */
+CAMEL_CALL
+camel_status camel_set_up(camel_session *session, const camel_event *event, camel_answer *answer,
+                          camel_subscriber *subscriber, bool *is_there);
 
 /* Fills a handle with the IMSIs that have a record, over the look that has begun, or else by a look of its own: they
  * are those of one front, whatever is published later, and also once the store has ended. They take memory of their

@@ -109,18 +109,20 @@ enum class Operation : uint8_t {
 };
 
 /* What is made of the octets of an argument. If nothing is, `place` is the octet of the argument, from 0, at which its
- * first fault is, and 0 if the fault is none of the argument. */
+ * first fault is, or empty if the fault is none of the argument. */
 template <class T>
 class [[nodiscard]] Decoded : public Result<T> {
 public:
     using Result<T>::Result;
     Decoded() = default;
-    Decoded(camel_status status, uint64_t place) noexcept : Result<T>(Failure{ status }), place_(place) {}
+    Decoded(camel_status status, std::optional<uint64_t> place) noexcept : Result<T>(Failure{ status }), place_(place)
+    {
+    }
 
-    uint64_t place() const noexcept { return place_; }
+    std::optional<uint64_t> place() const noexcept { return place_; }
 
 private:
-    uint64_t place_ = 0;
+    std::optional<uint64_t> place_;
 };
 
 /* Whether octets were submitted. */
@@ -169,12 +171,14 @@ template <class Call>
 MapResult by_argument(Operation operation, std::optional<camel_imsi> imsi, Octets argument, Call call) noexcept
 {
     if (imsi && imsi->number == 0) /* to the library, this number says that the dialogue has no IMSI */
-        return MapResult(CAMEL_MALFORMED, 0);
+        return MapResult(CAMEL_MALFORMED, {});
     camel_imsi given = imsi.value_or(camel_imsi{ 0 });
-    uint64_t place = 0;
+    uint64_t place = CAMEL_NO_OCTET;
     const uint8_t *octets = somewhere(argument.data, argument.count);
     camel_status status = call(static_cast<uint8_t>(operation), &given, octets, argument.count, &place);
-    return status == CAMEL_OK ? MapResult() : MapResult(status, place);
+    if (status == CAMEL_OK)
+        return MapResult();
+    return MapResult(status, place == CAMEL_NO_OCTET ? std::nullopt : std::optional(place));
 }
 
 /* What a call of the library writes if it is there. */
@@ -374,6 +378,12 @@ private:
     detail::Owned<camel_subscriber> handle_;
 };
 
+/* What is decided at the set-up of a call, and the record that it keeps, if there is one. */
+struct SetUp {
+    camel_answer answer;
+    Optional<Subscriber> kept;
+};
+
 /* The IMSIs that have a record, of one front: a list of its own, which holds nobody up, and outlives the store. */
 class Imsis {
 public:
@@ -443,6 +453,18 @@ public:
         return is_there ? Optional<Subscriber>(std::move(subscriber)) : Optional<Subscriber>();
     }
 
+    /* Decides the event of a call's set-up, and keeps the record of its subscriber, over one front. If memory is
+     * refused, nothing is decided, and the session may have seen a later front. */
+    Result<SetUp> set_up(const camel_event &event) noexcept
+    {
+        camel_answer answer{};
+        Subscriber kept;
+        bool is_there = false;
+        if (camel_status status = camel_set_up(handle_.at(), &event, &answer, kept.handle_.at(), &is_there))
+            return Failure{ status };
+        return SetUp{ answer, is_there ? Optional<Subscriber>(std::move(kept)) : Optional<Subscriber>() };
+    }
+
     /* The IMSIs that have a record. If memory is refused, here and of the next call, the session may have seen a later
      * front. */
     Result<Imsis> imsis() noexcept
@@ -499,6 +521,7 @@ public:
         return ask(&Session::t_criteria_at, imsi, dp);
     }
     Maybe<Subscriber> keep(camel_imsi imsi) noexcept { return ask(&Session::keep, imsi); }
+    Result<SetUp> set_up(const camel_event &event) noexcept { return ask(&Session::set_up, event); }
     Result<Imsis> imsis() noexcept { return ask(&Session::imsis); }
     Maybe<camel_argument> encode_record(camel_imsi imsi) noexcept { return ask(&Session::encode_record, imsi); }
 
@@ -514,6 +537,12 @@ private:
     }
 
     Session *session_ = nullptr;
+};
+
+/* Sessions of the caller's. */
+struct Sessions {
+    Session *data;
+    size_t count;
 };
 
 inline Result<Look> Session::look() noexcept
@@ -585,6 +614,19 @@ public:
     {
         camel_status status = camel_publish(handle_.at());
         return status == CAMEL_OK ? receipt() : Failure{ status };
+    }
+
+    /* Publishes all that is pending, and has these sessions of the store, at most MAX_SESSIONS, learn it: from then on
+     * each shows it. CAMEL_HELD also if a session has begun a look, and CAMEL_OTHER_STORE if it is of another store:
+     * then nothing is published. */
+    Result<void> publish_to(Sessions sessions) noexcept
+    {
+        /* A Session is its handle and nothing else, so they lie as the handles do. */
+        static_assert(std::is_standard_layout_v<Session> && sizeof(Session) == sizeof(camel_session));
+        Session none;
+        Session *first = sessions.count == 0 ? &none : sessions.data;
+        return detail::done(
+            camel_publish_to(handle_.at(), reinterpret_cast<camel_session *>(first), sessions.count));
     }
 
     /* Drops all that is pending, as if it had not been submitted, so that it is not shown later. It returns

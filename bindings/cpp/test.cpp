@@ -141,11 +141,11 @@ static void octets_are_submitted()
     camel::MapResult differs = store.submit_map(Operation::InsertSubscriberData, other, argument);
     CHECK(differs.status() == CAMEL_OTHER_IMSI && differs.place() == 2);
     camel::MapResult none = store.submit_map(Operation::InsertSubscriberData, camel_imsi{ 0 }, argument);
-    CHECK(none.status() == CAMEL_MALFORMED && none.place() == 0);
+    CHECK(none.status() == CAMEL_MALFORMED && !none.place());
 
     CHECK(bool(store.submit_map(Operation::CancelLocation, imsi(), Octets{ cancel, sizeof cancel })));
     camel::MapResult gone = store.submit_map(Operation::InsertSubscriberData, imsi(), argument);
-    CHECK(gone.status() == CAMEL_UNIDENTIFIED_SUBSCRIBER && gone.place() == 0);
+    CHECK(gone.status() == CAMEL_UNIDENTIFIED_SUBSCRIBER && !gone.place());
     CHECK(bool(sessions[0].learn(get(store.publish()))));
     CHECK(get(sessions[0].decide(event_at(2))).reason == CAMEL_REASON_UNKNOWN);
 }
@@ -193,6 +193,26 @@ static void a_look_is_of_one_front()
     CHECK(get(sessions[0].decide(event_at(2))).reason == CAMEL_REASON_UNKNOWN);
     CHECK(get(store.counts()).subscribers == 0);
     CHECK(get(kept->decide(event_at(13))).key == 7);
+}
+
+static void a_call_is_set_up_over_one_front()
+{
+    auto [store, sessions] = open();
+    auto [other, of_other] = open(0xfeed);
+    camel::Result<camel::SetUp> set_up = sessions[0].set_up(event_at(2));
+    CHECK(set_up && set_up->answer.key == 7 && set_up->answer.front == 2 && set_up->kept);
+    CHECK(bool(store.submit_delete(imsi(), camel_withdrawal{ true, true, true })));
+    CHECK(store.publish_to({ of_other.data(), of_other.size() }).status() == CAMEL_OTHER_STORE);
+    CHECK(get(store.counts()).pending == 1);
+    CHECK(bool(store.publish_to({ sessions.data(), sessions.size() })));
+    CHECK(get(sessions[1].decide(event_at(2))).reason == CAMEL_REASON_NO_CSI);
+    CHECK(get(set_up->kept->decide(event_at(13))).key == 7);
+    camel::Look look = get(sessions[1].look());
+    CHECK(get(look.set_up(event_at(2))).answer.front == 3);
+    CHECK(store.publish_to({ sessions.data(), sessions.size() }).status() == CAMEL_HELD);
+    CHECK(bool(look.leave()) && bool(store.submit_cancel(imsi())));
+    CHECK(bool(store.publish_to({ nullptr, 0 })));
+    CHECK(!get(sessions[0].set_up(event_at(2))).kept);
 }
 
 static void what_holds_nothing_is_refused()
@@ -368,6 +388,7 @@ int main()
     octets_are_submitted();
     a_receipt_of_another_store_is_refused();
     a_look_is_of_one_front();
+    a_call_is_set_up_over_one_front();
     what_holds_nothing_is_refused();
     no_value_is_none();
     an_assignment_frees_what_was_held();

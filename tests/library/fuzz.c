@@ -188,9 +188,11 @@ static camel_imsi any_dialogue(unsigned own)
 /* The faults of an argument have a place in it, and all other statuses none; 35 and 36 may be either. */
 static bool is_placed(camel_status status, size_t count, uint64_t place)
 {
-    bool is_of_argument = status == CAMEL_DATA_MISSING || status == CAMEL_UNEXPECTED_DATA_VALUE ||
-                          (status >= CAMEL_MALFORMED_OCTETS && status <= CAMEL_OTHER_IMSI);
-    return is_of_argument ? place <= count : place == 0;
+    if (status >= CAMEL_MALFORMED_OCTETS && status <= CAMEL_OTHER_IMSI)
+        return place <= count;
+    if (status == CAMEL_DATA_MISSING || status == CAMEL_UNEXPECTED_DATA_VALUE)
+        return place <= count || place == CAMEL_NO_OCTET;
+    return place == CAMEL_NO_OCTET;
 }
 
 static void f_submit_map(void)
@@ -336,21 +338,26 @@ static camel_answer *any_answer(void)
     return at_edge(1, &any, sizeof any);
 }
 
+/* Notes what a session has decided. */
+static void note_decided(unsigned at, const camel_answer *answer)
+{
+    struct slot *slot = &slots[at];
+    IS(is_whole(answer) && answer->front >= slot->seen && answer->front <= *published_of(at));
+    IS(!slot->is_looking || slot->front == 0 || slot->front == answer->front);
+    slot->seen = slot->front = answer->front;
+    slot->decisions[answer->reason]++;
+}
+
 static void f_decide(void)
 {
     unsigned at = pick_session();
-    struct slot *slot = &slots[at];
     camel_event event = any_event();
     camel_answer *answer = any_answer();
     bool is_decided;
     WRITES(is_decided, answer, OK | NO_LOOK | MALFORMED | WRONG_HANDLE,
            camel_decide(AS(session, at), at_edge(0, &event, sizeof event), answer));
-    if (!is_decided)
-        return;
-    IS(is_whole(answer) && answer->front >= slot->seen && answer->front <= *published_of(at));
-    IS(!slot->is_looking || slot->front == 0 || slot->front == answer->front);
-    slot->seen = slot->front = answer->front;
-    slot->decisions[answer->reason]++;
+    if (is_decided)
+        note_decided(at, answer);
 }
 
 static void f_decisions_of(void)
@@ -402,33 +409,7 @@ READS_AT(row_at, camel_row, any_row, is_whole_row)
 READS_AT(o_criteria_at, camel_o_criteria, any_o_criteria, is_whole_o)
 READS_AT(t_criteria_at, camel_t_criteria, any_t_criteria, is_whole_t)
 
-static void f_keep(void)
-{
-    unsigned slot = pick_session(), to = pick(KEPT);
-    camel_imsi imsi = any_imsi();
-    bool is_there = toss(), was_full = handles[to].is_full, was_there = is_there;
-    if (slot == to)
-        return;
-    if (!is_ok(OK | NO_LOOK | MALFORMED | WRONG_HANDLE | FULL_HANDLE,
-               camel_keep(AS(session, slot), &imsi, AS(subscriber, to), &is_there))) {
-        IS(is_there == was_there && handles[to].is_full == was_full);
-        return;
-    }
-    IS(!was_full && handles[to].is_full == is_there);
-    slots[to] = (struct slot){ .of = slots[slot].of };
-}
-
-static void f_decide_kept(void)
-{
-    unsigned slot = pick(KEPT);
-    camel_event event = any_event();
-    camel_answer *answer = any_answer();
-    bool is_decided;
-    WRITES(is_decided, answer, OK | MALFORMED | WRONG_HANDLE,
-           camel_decide_kept(AS(subscriber, slot), at_edge(0, &event, sizeof event), answer));
-    IS(!is_decided || (is_whole(answer) && answer->front <= *published_of(slot)));
-    IS(!is_decided || answer->reason != CAMEL_REASON_UNKNOWN);
-}
+#include "fuzz_set_ups.h"
 
 static void f_close(void)
 {
@@ -440,7 +421,7 @@ static void f_close(void)
 }
 
 /* The functions of camel.h, and how often each is called among CALLS calls. */
-enum { CALLS = 1350 };
+enum { CALLS = 1400 };
 static struct { const char *name; void (*make)(void); unsigned often; unsigned long counts[STATUSES]; } exports[] = {
 #define EXPORT(name, often) { "camel_" #name, f_##name, often, { 0 } }
     EXPORT(abi_version, 1), EXPORT(layouts, 1), EXPORT(imsi_of_tbcd, 15), EXPORT(imsi_of_digits, 15),
@@ -451,10 +432,10 @@ static struct { const char *name; void (*make)(void); unsigned often; unsigned l
     EXPORT(update_of_delete, 10), EXPORT(update_of_cancel, 5), EXPORT(update_of_clear_all, 2),
     EXPORT(update_of_map, 45), EXPORT(update_join, 40), EXPORT(update_parts_of, 15), EXPORT(submit, 20),
     EXPORT(submit_all, 30), EXPORT(imsis_of, 15), EXPORT(next_imsi, 23), EXPORT(encode_record, 10),
-    EXPORT(publish, 60), EXPORT(drop_pending, 10), EXPORT(holders, 10), EXPORT(counts_of, 20), EXPORT(receipt_of, 30),
+    EXPORT(publish, 60), EXPORT(publish_to, 20), EXPORT(drop_pending, 10), EXPORT(holders, 10), EXPORT(counts_of, 20), EXPORT(receipt_of, 30),
     EXPORT(learn, 40), EXPORT(decide, 150), EXPORT(decisions_of, 10), EXPORT(look, 25), EXPORT(leave, 40),
     EXPORT(row_at, 30), EXPORT(o_criteria_at, 15), EXPORT(t_criteria_at, 15), EXPORT(keep, 40), EXPORT(decide_kept, 40),
-    EXPORT(close, 2), EXPORT(empty, 100),
+    EXPORT(set_up, 30), EXPORT(close, 2), EXPORT(empty, 100),
 };
 
 enum { EXPORTS = sizeof exports / sizeof *exports };

@@ -243,7 +243,7 @@ static void fields_of_parts(void)
     RETURNS(CAMEL_OK, camel_update_of_map(CAMEL_INSERT_SUBSCRIBER_DATA, &imsi, argument, sizeof argument, &update,
                                           &place));
     RETURNS(CAMEL_OK, camel_update_parts_of(&update, &parts));
-    IS(place == 0 && parts.imsi.number == imsi.number && parts.kind == CAMEL_UPDATE_INSERT);
+    IS(place == CAMEL_NO_OCTET && parts.imsi.number == imsi.number && parts.kind == CAMEL_UPDATE_INSERT);
     IS(parts.o_rows == 1 && parts.o_criteria == 2 && parts.vt_rows == 3 && parts.t_criteria == 4);
     IS(parts.has_o_capability && parts.o_capability == 2 && parts.has_vt_capability && parts.vt_capability == 16);
     IS(!parts.withdrawal.o && !parts.withdrawal.vt && !parts.withdrawal.everything);

@@ -8,7 +8,7 @@
 enum kind {
     OPEN, REGISTER, INSERT_ROWS, INSERT_FEW, INSERT_MANY, INSERT_OCTETS, DELETE, CANCEL, CLEAR_ALL,
     UPDATE_PLAIN, UPDATE_LISTS, UPDATE_OCTETS, JOIN, SUBMIT, SUBMIT_ALL, PUBLISH_INSERTS, PUBLISH_NOTHING,
-    PUBLISH_DELETE, PUBLISH_CANCEL, PUBLISH_CLEAR_ALL, PUBLISH_OR_DROP, DROP_REMOVALS, KEEP, LIST, ENCODE, KINDS
+    PUBLISH_DELETE, PUBLISH_CANCEL, PUBLISH_CLEAR_ALL, PUBLISH_OR_DROP, PUBLISH_TO, DROP_REMOVALS, KEEP, SET_UP, LIST, ENCODE, KINDS
 };
 
 static const char *const NAMES[KINDS] = {
@@ -33,8 +33,10 @@ static const char *const NAMES[KINDS] = {
     [PUBLISH_CANCEL] = "`camel_publish`, of a cancel, and the next one",
     [PUBLISH_CLEAR_ALL] = "`camel_publish`, of a clear of all, and the next one",
     [PUBLISH_OR_DROP] = "`camel_publish`, of a delete, registers and inserts, which are dropped if it fails",
+    [PUBLISH_TO] = "`camel_publish_to`, of a location update to two sessions, and the next one",
     [DROP_REMOVALS] = "`camel_drop_pending`, of a cancel and a clear of all",
     [KEEP] = "`camel_keep`",
+    [SET_UP] = "`camel_set_up`",
     [LIST] = "`camel_imsis_of`",
     [ENCODE] = "`camel_encode_record`, all lists",
 };
@@ -121,8 +123,8 @@ static void submit_octets(unsigned number)
     write_tbcd(number, argument.octets + IMSI_AT);
     AGAIN(INSERT_OCTETS,
           camel_submit_map(&store, argument.operation, &imsi, argument.octets, argument.count, &place),
-          shown() == before && place == 0 && has_no_vt(number));
-    IS(place == 0);
+          shown() == before && place == CAMEL_NO_OCTET && has_no_vt(number));
+    IS(place == CAMEL_NO_OCTET);
 }
 
 /* Sends a subscriber who has just registered rows, or with them some criteria, or all lists. */
@@ -184,7 +186,7 @@ static void make_parts(unsigned number, camel_update *update, camel_update *next
     write_tbcd(number, argument.octets + IMSI_AT);
     AGAIN(UPDATE_OCTETS,
           camel_update_of_map(argument.operation, &imsi, argument.octets, argument.count, update, &place),
-          !update->is_full && place == 0);
+          !update->is_full && place == CAMEL_NO_OCTET);
     AGAIN(UPDATE_LISTS, camel_update_of_insert(&imsi, &sent, next), !next->is_full);
     AGAIN(JOIN, camel_update_join(update, next), has_items(update, 1, 0) && has_items(next, 0, 2));
     IS(has_items(update, 1, 2) && has_items(next, 0, 2));
@@ -251,17 +253,22 @@ static uint64_t list_records(void)
     return digest;
 }
 
+static camel_status published(enum kind kind)
+{
+    return kind == PUBLISH_TO ? camel_publish_to(&store, sessions, 2) : camel_publish(&store);
+}
+
 /* Publishes all that is pending. */
 static void publish(enum kind kind)
 {
     uint64_t before = shown();
     camel_counts counts;
-    camel_status status = COUNTED(camel_publish(&store));
+    camel_status status = COUNTED(published(kind));
     if (has_failed(kind, status)) {
         IS(shown() == before);
         if (submits_between)
             submit_register(FURTHER);
-        status = COUNTED(camel_publish(&store));
+        status = COUNTED(published(kind));
     }
     RETURNS(CAMEL_OK, status);
     counts = counts_of(&store);
@@ -307,6 +314,7 @@ static void hold(void)
     NONE(CAMEL_OK, camel_holders(&store, &holders));
     IS(holders == 1);
     NONE(CAMEL_HELD, camel_publish(&store));
+    NONE(CAMEL_HELD, camel_publish_to(&store, sessions, 2));
     NONE(CAMEL_OK, camel_drop_pending(&store));
     NONE(CAMEL_HELD, camel_look(&sessions[0]));
     NONE(CAMEL_HELD, camel_learn(&sessions[0], &receipt));
@@ -319,17 +327,7 @@ static void hold(void)
     NONE(CAMEL_OTHER_STORE, camel_learn(&sessions[0], &forged));
 }
 
-/* What camel_keep looks at before it asks for memory. */
-static void keep_none(camel_subscriber *full)
-{
-    camel_imsi imsi = imsi_of(5), none = { 0 };
-    camel_subscriber kept = CAMEL_EMPTY;
-    bool is_there = false;
-    NONE(CAMEL_MALFORMED, camel_keep(&sessions[0], &none, full, &is_there));
-    NONE(CAMEL_WRONG_HANDLE, camel_keep((camel_session *)&store, &imsi, full, &is_there));
-    NONE(CAMEL_FULL_HANDLE, camel_keep(&sessions[0], &imsi, full, &is_there));
-    IS(!is_there && !kept.is_full);
-}
+#include "refused_set_ups.h"
 
 /* All handles are empty, or a store is refused before any memory is asked for. */
 static void refuse_full_handles(void)
@@ -426,6 +424,7 @@ static uint64_t live(void)
     hold();
     AGAIN(KEEP, camel_keep(&sessions[0], &imsi, &kept, &is_there), !kept.is_full && !is_there);
     keep_none(&kept);
+    set_up();
     take_back();
     NONE(CAMEL_OK, camel_decide_kept(&kept, &failure, &answer));
     IS(is_there && answer.key == 101);
@@ -434,7 +433,7 @@ static uint64_t live(void)
     publish(PUBLISH_INSERTS);
     make_updates(SHOWN);
     update_location(SHOWN);
-    publish_to_both(PUBLISH_INSERTS);
+    publish_to_both(PUBLISH_TO);
     uint64_t end = list_records();
     drop_removals();
     fill();

@@ -178,7 +178,7 @@ static void faulty_arguments(camel_store *store)
     RETURNS_AT(CAMEL_UNEXPECTED_DATA_VALUE, 2, store, 1, with_octet(O_CSI, IMSI_AT, 0xa2));
     RETURNS_AT(CAMEL_DATA_MISSING, 6, store, 1,
                { CAMEL_INSERT_SUBSCRIBER_DATA, 8, { 0x30, 0x06, 0xad, 0x04, 0xa0, 0x02, 0x30, 0x00 } });
-    RETURNS_AT(CAMEL_MALFORMED, 0, store, 1, { .operation = 6, .count = 2, .octets = { 0x30, 0x00 } });
+    RETURNS_AT(CAMEL_MALFORMED, CAMEL_NO_OCTET, store, 1, { .operation = 6, .count = 2, .octets = { 0x30, 0x00 } });
 }
 
 /* Arguments that a store takes or rejects: then the fault is at no octet. */
@@ -193,22 +193,22 @@ static void submitted_arguments(void)
     uint64_t place = 99;
 
     RETURNS(CAMEL_OK, camel_open(&store, &session, 1, 4, 1, 1));
-    RETURNS_AT(CAMEL_UNIDENTIFIED_SUBSCRIBER, 0, &store, 1, ARGUMENT[O_CSI]);
+    RETURNS_AT(CAMEL_UNIDENTIFIED_SUBSCRIBER, CAMEL_NO_OCTET, &store, 1, ARGUMENT[O_CSI]);
     RETURNS(CAMEL_OK, camel_submit_register(&store, &imsi));
     faulty_arguments(&store);
-    RETURNS_AT(CAMEL_DATA_MISSING, 0, &store, 1, of_vt_criteria);
+    RETURNS_AT(CAMEL_DATA_MISSING, CAMEL_NO_OCTET, &store, 1, of_vt_criteria);
     RETURNS(CAMEL_MALFORMED, camel_submit_map(&store, CAMEL_CANCEL_LOCATION, &malformed, ARGUMENT[CANCELLED].octets,
                                               ARGUMENT[CANCELLED].count, &place));
-    IS(place == 0);
+    IS(place == CAMEL_NO_OCTET);
     IS(counts_of(&store).pending == 1);
-    RETURNS_AT(CAMEL_OK, 0, &store, 1, ARGUMENT[ALL_LISTS]);
-    RETURNS_AT(CAMEL_OK, 0, &store, 0, ARGUMENT[BOTH_CSIS]);
-    RETURNS_AT(CAMEL_OK, 0, &store, 0, ARGUMENT[CANCELLED]);
-    RETURNS_AT(CAMEL_HISTORY_FULL, 0, &store, 1, ARGUMENT[CANCELLED]);
-    RETURNS_AT(CAMEL_WRONG_HANDLE, 0, (camel_store *)&session, 1, ARGUMENT[CANCELLED]);
+    RETURNS_AT(CAMEL_OK, CAMEL_NO_OCTET, &store, 1, ARGUMENT[ALL_LISTS]);
+    RETURNS_AT(CAMEL_OK, CAMEL_NO_OCTET, &store, 0, ARGUMENT[BOTH_CSIS]);
+    RETURNS_AT(CAMEL_OK, CAMEL_NO_OCTET, &store, 0, ARGUMENT[CANCELLED]);
+    RETURNS_AT(CAMEL_HISTORY_FULL, CAMEL_NO_OCTET, &store, 1, ARGUMENT[CANCELLED]);
+    RETURNS_AT(CAMEL_WRONG_HANDLE, CAMEL_NO_OCTET, (camel_store *)&session, 1, ARGUMENT[CANCELLED]);
     camel_free(&session);
     RETURNS(CAMEL_OK, camel_close(&store));
-    RETURNS_AT(CAMEL_WRONG_HANDLE, 0, &store, 1, ARGUMENT[CANCELLED]);
+    RETURNS_AT(CAMEL_WRONG_HANDLE, CAMEL_NO_OCTET, &store, 1, ARGUMENT[CANCELLED]);
 }
 
 /* Handles that are empty, or of another kind. */
@@ -236,6 +236,10 @@ static void wrong_handles(camel_store *store, camel_session *session)
     RETURNS(CAMEL_WRONG_HANDLE, camel_submit_cancel((camel_store *)session, &imsi));
     RETURNS(CAMEL_WRONG_HANDLE, camel_submit_clear_all(&empty));
     RETURNS(CAMEL_WRONG_HANDLE, camel_publish((camel_store *)session));
+    RETURNS(CAMEL_WRONG_HANDLE, camel_publish_to((camel_store *)session, session, 1));
+    RETURNS(CAMEL_WRONG_HANDLE, camel_publish_to(&empty, session, 1));
+    RETURNS(CAMEL_WRONG_HANDLE, camel_publish_to(store, (camel_session *)&empty, 1));
+    RETURNS(CAMEL_WRONG_HANDLE, camel_publish_to(store, (camel_session *)&kept, 1));
     RETURNS(CAMEL_WRONG_HANDLE, camel_drop_pending((camel_store *)session));
     RETURNS(CAMEL_WRONG_HANDLE, camel_drop_pending(&empty));
     RETURNS(CAMEL_WRONG_HANDLE, camel_counts_of(&empty, &counts));
@@ -256,6 +260,7 @@ static void wrong_handles(camel_store *store, camel_session *session)
     RETURNS(CAMEL_WRONG_HANDLE, camel_o_criteria_at((camel_session *)store, &imsi, 2, &of_o, &is_there));
     RETURNS(CAMEL_WRONG_HANDLE, camel_t_criteria_at((camel_session *)store, &imsi, 12, &of_t, &is_there));
     RETURNS(CAMEL_WRONG_HANDLE, camel_keep((camel_session *)store, &imsi, &kept, &is_there));
+    RETURNS(CAMEL_WRONG_HANDLE, camel_set_up((camel_session *)store, &event, &answer, &kept, &is_there));
     RETURNS(CAMEL_WRONG_HANDLE, camel_close((camel_store *)session));
     RETURNS(CAMEL_WRONG_HANDLE, camel_close(&empty));
     IS(of_o.dp == 7 && of_t.dp == 7);

@@ -18,7 +18,7 @@ static camel_update update_in(unsigned dialogue, uint8_t operation, const uint8_
     camel_imsi imsi = imsi_of(dialogue);
     uint64_t place = 99;
     RETURNS(CAMEL_OK, camel_update_of_map(operation, &imsi, octets, count, &update, &place));
-    IS(place == 0 && update.is_full);
+    IS(place == CAMEL_NO_OCTET && update.is_full);
     return update;
 }
 
@@ -89,8 +89,8 @@ static void faulty_arguments(camel_update *to)
     DECODES_AT(CAMEL_OTHER_IMSI, 2, INSERT, &other, rows->octets, rows->count, to);
     DECODES_AT(CAMEL_UNEXPECTED_DATA_VALUE, 23, INSERT, &imsi, key.octets, key.count, to);
     DECODES_AT(CAMEL_DATA_MISSING, 6, INSERT, &imsi, list, sizeof list, to);
-    DECODES_AT(CAMEL_MALFORMED, 0, 6, &imsi, empty, sizeof empty, to);
-    DECODES_AT(CAMEL_MALFORMED, 0, INSERT, &malformed, empty, sizeof empty, to);
+    DECODES_AT(CAMEL_MALFORMED, CAMEL_NO_OCTET, 6, &imsi, empty, sizeof empty, to);
+    DECODES_AT(CAMEL_MALFORMED, CAMEL_NO_OCTET, INSERT, &malformed, empty, sizeof empty, to);
 }
 
 /* No update is made of what is none, and none in the place of another. */
@@ -113,7 +113,7 @@ static void refused_updates(void)
     RETURNS(CAMEL_FULL_HANDLE, camel_update_of_cancel(&imsi, &full));
     RETURNS(CAMEL_FULL_HANDLE, camel_update_of_insert(&imsi, &none, &full));
     RETURNS(CAMEL_FULL_HANDLE, camel_update_of_clear_all(&full));
-    DECODES_AT(CAMEL_FULL_HANDLE, 0, rows->operation, &imsi, rows->octets, rows->count, &full);
+    DECODES_AT(CAMEL_FULL_HANDLE, CAMEL_NO_OCTET, rows->operation, &imsi, rows->octets, rows->count, &full);
     IS(parts_of(&full).kind == CAMEL_UPDATE_CLEAR_ALL);
     camel_free(&full);
     camel_free(&update);

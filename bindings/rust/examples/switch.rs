@@ -234,10 +234,8 @@ fn restart(session: &mut Session, imsi: Imsi) -> Outcomes<()> {
 /// A call keeps the record of its set-up, whatever the HLR sends meanwhile.
 fn keep_data(store: &mut Store, session: &mut Session, imsi: Imsi) -> Outcomes<()> {
     let (set_up, failure) = (set_up_of(imsi)?, failure_of(imsi)?);
-    let look = session.look()?;
-    let answer = look.decide(&set_up)?;
-    let kept = look.keep(imsi)?.ok_or("there is no record to keep")?;
-    look.leave();
+    let (answer, kept) = session.set_up(&set_up)?;
+    let kept = kept.ok_or("there is no record to keep")?;
     say("set-up", &answer);
     let what = Withdrawal {
         everything: true,

@@ -7,6 +7,9 @@ pub const ABI_VERSION: u32 = 3;
 pub type Status = u32;
 pub const OK: Status = 0;
 
+/// What is written as a place where no octet of an argument is at fault.
+pub const NO_OCTET: u64 = u64::MAX;
+
 /// A handle: words of the caller's memory, empty if all of its bytes are 0.
 pub trait Handle {
     const EMPTY: Self;
@@ -425,6 +428,14 @@ unsafe extern "C" {
 
     pub fn camel_receipt_of(store: *const Store, receipt: *mut Receipt) -> Status;
     pub fn camel_learn(session: *mut Session, receipt: *const Receipt) -> Status;
+
+    pub fn camel_set_up(
+        session: *mut Session,
+        event: *const Event,
+        answer: *mut Answer,
+        subscriber: *mut Subscriber,
+        is_there: *mut bool,
+    ) -> Status;
 
     pub fn camel_decide(session: *mut Session, event: *const Event, answer: *mut Answer) -> Status;
     pub fn camel_decisions_of(session: *const Session, decisions: *mut Decisions) -> Status;

@@ -38,8 +38,8 @@ impl Operation {
 pub struct MapFault {
     /// Why.
     pub error: Error,
-    /// The octet of the argument, from 0, at which its first fault is; 0 if the fault is none of the argument.
-    pub place: usize,
+    /// The octet of the argument, from 0, at which its first fault is; None if the fault is none of the argument.
+    pub place: Option<usize>,
 }
 
 impl MapFault {
@@ -52,8 +52,8 @@ impl MapFault {
 impl fmt::Display for MapFault {
     fn fmt(&self, out: &mut fmt::Formatter<'_>) -> fmt::Result {
         match self.place {
-            0 => self.error.fmt(out),
-            place => write!(out, "{} at octet {place}", self.error),
+            None => self.error.fmt(out),
+            Some(place) => write!(out, "{} at octet {place}", self.error),
         }
     }
 }
@@ -113,7 +113,7 @@ fn taken(
     call: impl FnOnce(u8, *const ffi::Imsi, *const u8, usize, *mut u64) -> ffi::Status,
 ) -> Result<(), MapFault> {
     let dialogue = imsi.map_or(ffi::Imsi { number: 0 }, Imsi::raw);
-    let mut place = 0;
+    let mut place = ffi::NO_OCTET;
     let status = call(
         operation.code(),
         &dialogue,
@@ -123,6 +123,6 @@ fn taken(
     );
     done(status).map_err(|error| MapFault {
         error,
-        place: place as usize,
+        place: (place != ffi::NO_OCTET).then_some(place as usize),
     })
 }

@@ -9,7 +9,8 @@ use std::fmt;
 use std::marker::PhantomData;
 
 /// What one call-control thread decides its calls by. No call takes a lock, waits or yields, and none but
-/// [`keep`](Session::keep), [`imsis`](Session::imsis) and [`encode_record`](Session::encode_record) takes memory.
+/// [`keep`](Session::keep), [`set_up`](Session::set_up), [`imsis`](Session::imsis) and
+/// [`encode_record`](Session::encode_record) takes memory.
 ///
 /// Each call has a look of its own; [`look`](Session::look) has several over one front. The front of a session never
 /// goes back.
@@ -136,6 +137,16 @@ impl Session {
         self.keep_over(imsi)
     }
 
+    /// Decides the event of a call's set-up, at detection point 2 or 12, and keeps the record of its subscriber, over
+    /// one front.
+    ///
+    /// # Errors
+    /// As [`keep`](Session::keep). Nothing is decided.
+    pub fn set_up(&mut self, event: &Event) -> Result<(Answer, Option<Subscriber>), Error> {
+        self.leave_forgotten()?;
+        self.set_up_over(event)
+    }
+
     /// Lists the IMSIs that have a record, of one front. The list has memory of its own, and holds nobody up.
     ///
     /// # Errors
@@ -235,6 +246,26 @@ impl Session {
             )
         })?;
         Ok(is_there.then_some(subscriber))
+    }
+
+    fn set_up_over(&self, event: &Event) -> Result<(Answer, Option<Subscriber>), Error> {
+        let mut answer = ffi::Answer::NONE;
+        let subscriber = Subscriber {
+            handle: Owned::empty(),
+        };
+        let mut is_there = false;
+        // SAFETY: both handles are fit for a call, as `Owned` says, and that of the subscriber is empty; the others are
+        // apart from them.
+        done(unsafe {
+            ffi::camel_set_up(
+                self.handle.at(),
+                event.raw(),
+                &mut answer,
+                subscriber.handle.at(),
+                &mut is_there,
+            )
+        })?;
+        Ok((Answer::of_raw(&answer)?, is_there.then_some(subscriber)))
     }
 
     fn imsis_over(&self) -> Result<Imsis, Error> {
@@ -347,6 +378,15 @@ impl Look<'_> {
     /// As [`decide`](Look::decide), and [`Error::OutOfMemory`]: ask again, the look is as before.
     pub fn keep(&self, imsi: Imsi) -> Result<Option<Subscriber>, Error> {
         self.session.keep_over(imsi)
+    }
+
+    /// Decides the event of a call's set-up, at detection point 2 or 12, and keeps the record of its subscriber, both
+    /// of the front of the look.
+    ///
+    /// # Errors
+    /// As [`keep`](Look::keep). Nothing is decided.
+    pub fn set_up(&self, event: &Event) -> Result<(Answer, Option<Subscriber>), Error> {
+        self.session.set_up_over(event)
     }
 
     /// Lists the IMSIs that have a record, of the front of the look. The list does not hold the look.

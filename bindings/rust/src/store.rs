@@ -144,7 +144,7 @@ impl Store {
     /// # Errors
     /// The store is as before. [`Error::MalformedOctets`] to [`Error::OtherImsi`], [`Error::DataMissing`] and
     /// [`Error::UnexpectedDataValue`]: the argument has a fault, at the place that is said. The errors of
-    /// [`submit`](Store::submit) else, at place 0.
+    /// [`submit`](Store::submit) else, at no place.
     pub fn submit_map(
         &mut self,
         operation: Operation,
@@ -185,6 +185,23 @@ impl Store {
         // SAFETY: the handle is fit for a call, as `Owned` says.
         done(unsafe { ffi::camel_publish(self.handle.at()) })?;
         self.receipt()
+    }
+
+    /// Publishes all that is pending, and has these sessions of the store learn it: from then on each shows it. So a
+    /// switch with one event loop needs no receipt.
+    ///
+    /// # Errors
+    /// As [`publish`](Store::publish), and [`Error::OtherStore`] if a session is of another store: then nothing is
+    /// published.
+    pub fn publish_to(&mut self, sessions: &mut [Session]) -> Result<(), Error> {
+        let learn = |receipt: Receipt, sessions: &mut [Session]| {
+            sessions
+                .iter_mut()
+                .try_for_each(|session| session.learn(&receipt))
+        };
+        // A session of another store fails here, before anything is published.
+        learn(self.receipt()?, sessions)?;
+        learn(self.publish()?, sessions)
     }
 
     /// Drops all that is pending, as if it had not been submitted: the accepted updates are the published ones again,

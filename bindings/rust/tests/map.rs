@@ -46,7 +46,8 @@ fn published(store: &mut Store, session: &mut Session) -> Outcome {
     session.decide(&event).unwrap().outcome
 }
 
-fn fault(error: Error, place: usize) -> Result<(), MapFault> {
+fn fault(error: Error, place: impl Into<Option<usize>>) -> Result<(), MapFault> {
+    let place = place.into();
     Err(MapFault { error, place })
 }
 
@@ -67,7 +68,7 @@ fn octets_are_what_the_hlr_sends() {
         }
     }
     let gone = store.submit_map(Operation::InsertSubscriberData, None, INSERT);
-    assert_eq!(gone, fault(Error::UnidentifiedSubscriber, 0));
+    assert_eq!(gone, fault(Error::UnidentifiedSubscriber, None));
 }
 
 #[test]

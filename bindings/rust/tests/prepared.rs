@@ -159,9 +159,9 @@ fn an_argument_with_a_fault_is_no_update() {
         (fault.error, fault.place)
     };
     let cut = &ROWS[..ROWS.len() - 1];
-    assert_eq!(fault(Some(imsi()), cut), (Error::MalformedOctets, 2));
-    assert_eq!(fault(Some(imsi()), &[]), (Error::MissingField, 0));
-    assert_eq!(fault(None, ROWS), (Error::NoImsi, 0));
+    assert_eq!(fault(Some(imsi()), cut), (Error::MalformedOctets, Some(2)));
+    assert_eq!(fault(Some(imsi()), &[]), (Error::MissingField, Some(0)));
+    assert_eq!(fault(None, ROWS), (Error::NoImsi, Some(0)));
     let csis = Csis {
         o: Some(vec![]),
         ..Csis::default()

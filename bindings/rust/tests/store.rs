@@ -233,6 +233,44 @@ fn a_call_keeps_the_record_of_its_set_up() {
 }
 
 #[test]
+fn a_call_is_set_up_over_one_front() {
+    let (mut store, one, two) = open();
+    let mut sessions = [one, two];
+    let (answer, kept) = sessions[0].set_up(&event()).unwrap();
+    assert_eq!(Ok(answer), trigger(2, 5));
+    store.submit(&insert(6)).unwrap();
+    store.publish_to(&mut sessions).unwrap();
+    let look = sessions[1].look().unwrap();
+    assert_eq!(look.set_up(&event()).map(|set_up| set_up.0), trigger(3, 6));
+    look.leave();
+    assert_eq!(kept.unwrap().decide(&event()), trigger(2, 5));
+    let unknown = Event::busy(
+        Imsi::from_digits("262010000000002").unwrap(),
+        BasicService::Tele(0x11),
+        Cause::of_octet(17),
+    );
+    let (answer, kept) = sessions[0].set_up(&unknown).unwrap();
+    assert_eq!(Ok(answer), no_trigger(3, Reason::Unknown));
+    assert!(kept.is_none());
+}
+
+#[test]
+fn nothing_is_published_to_a_session_of_another_store() {
+    let (mut store, one, two) = open();
+    let (_other, foreign, _) = open();
+    let mut sessions = [one, foreign, two];
+    store.submit(&insert(6)).unwrap();
+    assert_eq!(store.publish_to(&mut sessions), Err(Error::OtherStore));
+    assert_eq!(store.counts().map(|counts| counts.pending), Ok(1));
+    let [one, _, two] = sessions;
+    let mut sessions = [one, two];
+    assert_eq!(store.publish_to(&mut sessions), Ok(()));
+    for session in &mut sessions {
+        assert_eq!(session.decide(&event()), trigger(3, 6));
+    }
+}
+
+#[test]
 fn each_reason_is_given() {
     let (mut store, mut session, _) = open();
     let emergency = Event::collected_info(

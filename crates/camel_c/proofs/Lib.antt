@@ -12,6 +12,7 @@ pub mod ObjectDrop
 pub mod OctetsLemmas
 pub mod OctetsUpdate
 pub mod PartsLemmas
+pub mod PublicationLemmas
 pub mod ReadingLemmas
 pub mod ReceivedLemmas
 pub mod SendLemmas

@@ -2,14 +2,14 @@
 use Rattle.std.proofs.Common.{◌≡◌, ◌∙◌, ℕ, refl, sym, ap, subst, inl, inr, ⊎_elim, arith}
 use Rattle.std.specs.Prelude.{Option, Result, Ok, Err}
 use Rattle.camel_c.proofs.ReadingLemmas.{no_fault, same_value}
-use Rattle.camel_c.specs.Octets.{ReadsOctets, TakesOctets, octets_fault_code, octets_fault_place}
+use Rattle.camel_c.specs.Octets.{ReadsOctets, TakesOctets, no_octet, octets_fault_code, octets_fault_place}
 use Rattle.camel_c.specs.declared.object.Object.{Object}
 use Rattle.camel_c.specs.declared.reading_map.OctetsFault.{OctetsFault}
 
 -- octets without a fault, which are taken
 pub takes_value : {A : Type 0} (Takes : A → Type 0) (value : A) (status : ℕ) (before after : Option Object)
     → Takes value → ((status ≡ 0 → ⊥) → after ≡ before)
-    → TakesOctets Takes (Ok value) status 0 before after
+    → TakesOctets Takes (Ok value) status no_octet before after
 takes_value Takes value status before after takes same = record {
   taken = λ e. refl;
   unchanged = same;
@@ -23,7 +23,7 @@ not_both status refused e = omega (arith, e, refused)
 -- octets for which memory is refused
 octets_out_of_memory : {A : Type 0} (Takes : A → Type 0) (reading : Result A OctetsFault) (status place : ℕ)
     (before after : Option Object) → ((value : A) → (status ≡ 102) × (after ≡ before) → Takes value)
-    → (status ≡ 102) × (place ≡ 0) → after ≡ before → TakesOctets Takes reading status place before after
+    → (status ≡ 102) × (place ≡ no_octet) → after ≡ before → TakesOctets Takes reading status place before after
 octets_out_of_memory Takes reading status place before after or_refused refused same = record {
   taken = λ e. absurd (not_both status refused.0 e);
   unchanged = λ _. same;
@@ -41,8 +41,8 @@ takes_octets_as {A} Takes (Ok value) reading status place before after or_refuse
 takes_octets_as {A} Takes (Err fault) reading status place before after or_refused (inr is) as_read =
     subst (λ (r : Result A OctetsFault). TakesOctets Takes r status place before after) (sym is) as_read
 takes_octets_as {A} Takes (Err fault) reading status place before after or_refused (inl memory) as_read =
-    let refused : (status ≡ 102) × (place ≡ 0) = ⊎_elim
+    let refused : (status ≡ 102) × (place ≡ no_octet) = ⊎_elim
     (λ (e : (status ≡ octets_fault_code fault) × (place ≡ octets_fault_place fault)).
     (e.0 ∙ ap octets_fault_code memory, e.1 ∙ ap octets_fault_place memory))
-    (λ (e : (status ≡ 102) × (place ≡ 0)). e) (as_read.faulty fault refl) in
+    (λ (e : (status ≡ 102) × (place ≡ no_octet)). e) (as_read.faulty fault refl) in
     octets_out_of_memory Takes reading status place before after or_refused refused (as_read.unchanged (not_both status refused.0))

@@ -16,7 +16,9 @@ pub mod Object
 pub mod Octets
 pub mod OctetsSubmission
 pub mod Opening
+pub mod Publication
 pub mod Receipts
+pub mod SetUp
 pub mod Shown
 pub mod Shows
 pub mod Submission

@@ -20,10 +20,14 @@ octets_fault_code Malformed = 502
 octets_fault_code OutOfMemory = 102
 octets_fault_code (Argument fault) = map_fault_code fault.kind
 
+-- what is told as a place where no octet of the argument is at fault: the greatest number of 64 bits
+abbrev pub no_octet : ℕ
+no_octet = 18446744073709551615
+
 -- the octet of the argument at which a fault is; what is no fault of the argument is at none
 abbrev pub octets_fault_place : OctetsFault → ℕ
-octets_fault_place Malformed = 0
-octets_fault_place OutOfMemory = 0
+octets_fault_place Malformed = no_octet
+octets_fault_place OutOfMemory = no_octet
 octets_fault_place (Argument fault) = fault.place
 
 -- the operation of a code
@@ -61,7 +65,7 @@ pub record TakesOctets {A : Type 0} (Takes : A → Type 0) (reading : Result A O
   pub taken : status ≡ 0 → IsOk reading
   pub unchanged : status ≢ 0 → after ≡ before
   -- the octets have no fault, and none is told
-  pub value : (value : A) → reading ≡ Ok value → Takes value × (place ≡ 0)
+  pub value : (value : A) → reading ≡ Ok value → Takes value × (place ≡ no_octet)
   -- the octets have one
   pub faulty : (fault : OctetsFault) → reading ≡ Err fault
-      → ((status ≡ octets_fault_code fault) × (place ≡ octets_fault_place fault)) ⊎ ((status ≡ 102) × (place ≡ 0))
+      → ((status ≡ octets_fault_code fault) × (place ≡ octets_fault_place fault)) ⊎ ((status ≡ 102) × (place ≡ no_octet))

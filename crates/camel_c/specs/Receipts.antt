@@ -2,6 +2,7 @@
 use Rattle.std.specs.Prelude.{◌≡◌, ◌≢◌, ◌⊎◌, ◌≤◌, ◌<◌, false, length, Option, Some}
 use Rattle.camel_vlr.specs.Session.{SessionData}
 use Rattle.camel_c_data.specs.declared.receipt.CamelReceipt.{CamelReceipt}
+use Rattle.camel_c.specs.Kept.{ShowsInVain}
 use Rattle.camel_c.specs.Object.{live_store}
 use Rattle.camel_c.specs.Shows.{Shows}
 use Rattle.camel_c.specs.declared.object.LiveStore.{LiveStore}
@@ -32,3 +33,7 @@ RejectsReceipt receipt before after = (own : ThreadSession) × (before ≡ Some 
     × (((receipt.store ≢ own.store) × (after ≡ before))
     ⊎ ((shown : SessionData) × (left : ThreadSession) × (after ≡ Some (object.Session left)) × Shows own shown left
     × (length shown.seen < receipt.front)))
+
+-- what is held is as before, or a session that has looked
+abbrev pub MayLook : Option Object → Option Object → Type 0
+MayLook before after = (after ≡ before) ⊎ ShowsInVain before after

@@ -1,15 +1,13 @@
 //! Keeping the record of a subscriber.
 
-ghost use Rattle.std.specs.Prelude.{◌≡◌, ◌≢◌, ◌⊎◌, Ok, None, Some, IfErr, IfOk, IsErr, List, Option, ℕ, true};
+ghost use Rattle.std.specs.Prelude.{◌≡◌, ◌≢◌, ◌⊎◌, Ok, None, Some, IfErr, IfOk, IsErr, OnErr, OnOk, List, Option, ℕ, true};
 ghost use Rattle.camel_criteria.specs.declared.refusal.Refusal.TheVariants as refusal;
 ghost use Rattle.camel_vlr.specs.Session.{SessionData};
 ghost use Rattle.camel_c_data.specs.Imsi.{imsi_in};
-ghost use Rattle.camel_c.specs.Kept.{FillsKept, KeepsShown, ShowsInVain};
-ghost use Rattle.camel_c.specs.Object.{HoldsAnySession, HoldsLook, HoldsSession};
+ghost use Rattle.camel_c.specs.Fetches.{Fetches};
+ghost use Rattle.camel_c.specs.Kept.{FillsKept, KeepsShown};
 ghost use Rattle.camel_c.specs.Shown.{record_shown};
 ghost use Rattle.camel_c.specs.Shows.{Shows};
-ghost use Rattle.camel_c.specs.declared.object.Object.TheVariants as object;
-ghost use Rattle.camel_c.specs.declared.thread_session.ThreadSession.{ThreadSession};
 
 use crate::failure::Failure;
 use crate::filling::fill;
@@ -20,6 +18,7 @@ use crate::thread_session::ThreadSession;
 use camel_c_data::CamelImsi;
 use camel_criteria::Refusal;
 use camel_tbcd::Imsi;
+use camel_vlr::WaitFreeSession;
 use core::mem::replace_with;
 use std::alloc::Global;
 
@@ -37,22 +36,12 @@ pub extern "C" fn camel_keep(
     subscriber: &mut CamelHandle,
     is_there: &mut u8,
 ) -> u32
-    ensures kept { result ≡ 0 → (asked : List ℕ) × (own : ThreadSession) × (shown : SessionData) × (left : ThreadSession)
-        × (imsi_in imsi.now ≡ Ok asked) × (session.old.value ≡ Some (object.Session own))
-        × (session.new.value ≡ Some (object.Session left)) × Shows own shown left
-        × FillsKept shown (record_shown shown asked) subscriber.old.value subscriber.new.value is_there.new }
+    ensures fetches { Fetches (IsErr (imsi_in imsi.now)) (subscriber.old.value ≡ None)
+        (λ own shown left. Shows own shown left × (asked : List ℕ) × (imsi_in imsi.now ≡ Ok asked)
+        × FillsKept shown (record_shown shown asked) subscriber.old.value subscriber.new.value is_there.new)
+        result session.old.value session.new.value }
     ensures unwritten { result ≢ 0
         → (subscriber.new.value ≡ subscriber.old.value) × (is_there.new ≡ is_there.old) }
-    ensures no_memory { result ≡ 102 → ShowsInVain session.old.value session.new.value }
-    ensures unchanged { result ≢ 0 → result ≢ 102 → session.new.value ≡ session.old.value }
-    ensures malformed { IsErr (imsi_in imsi.now) → result ≡ 502 }
-    ensures only { HoldsSession session.old.value → subscriber.old.value ≡ None
-        → IsErr (imsi_in imsi.now) ⊎ ((result ≡ 0) ⊎ ((result ≡ 102) ⊎ (result ≡ 104))) }
-    ensures looking { HoldsLook session.old.value → subscriber.old.value ≡ None
-        → IsErr (imsi_in imsi.now) ⊎ ((result ≡ 0) ⊎ (result ≡ 102)) }
-    ensures wrong { HoldsAnySession session.old.value ⊎ (IsErr (imsi_in imsi.now) ⊎ (result ≡ 503)) }
-    ensures full { HoldsAnySession session.old.value
-        → (subscriber.old.value ≡ None) ⊎ (IsErr (imsi_in imsi.now) ⊎ (result ≡ 504)) }
 {
     let Ok(asked) = imsi.read() else {
         return Failure::Malformed.code();
@@ -70,19 +59,12 @@ fn keep_held(
     subscriber: &mut CamelHandle,
     is_there: &mut u8,
 ) -> u32
-    ensures kept { result ≡ 0 → (own : ThreadSession) × (shown : SessionData) × (left : ThreadSession)
-        × (Some held.old ≡ Some (object.Session own)) × (Some held.new ≡ Some (object.Session left)) × Shows own shown left
-        × FillsKept shown (record_shown shown imsi.now) subscriber.old.value subscriber.new.value is_there.new }
+    ensures fetches { Fetches ⊥ (subscriber.old.value ≡ None)
+        (λ own shown left. Shows own shown left
+        × FillsKept shown (record_shown shown imsi.now) subscriber.old.value subscriber.new.value is_there.new)
+        result (Some held.old) (Some held.new) }
     ensures unwritten { result ≢ 0
         → (subscriber.new.value ≡ subscriber.old.value) × (is_there.new ≡ is_there.old) }
-    ensures no_memory { result ≡ 102 → ShowsInVain (Some held.old) (Some held.new) }
-    ensures unchanged { result ≢ 0 → result ≢ 102 → held.new ≡ held.old }
-    ensures only { HoldsSession (Some held.old) → subscriber.old.value ≡ None
-        → (result ≡ 0) ⊎ ((result ≡ 102) ⊎ (result ≡ 104)) }
-    ensures looking { HoldsLook (Some held.old) → subscriber.old.value ≡ None → (result ≡ 0) ⊎ (result ≡ 102) }
-    ensures wrong { HoldsAnySession (Some held.old) ⊎ (result ≡ 503) }
-    ensures full { HoldsAnySession (Some held.old) → (subscriber.old.value ≡ None) ⊎ (result ≡ 504) }
-    ensures numbers { (result ≡ 0) ⊎ ((result ≡ 102) ⊎ ((result ≡ 104) ⊎ ((result ≡ 503) ⊎ (result ≡ 504)))) }
 {
     let Object::Session(own) = held else {
         return Failure::WrongHandle.code();
@@ -114,21 +96,38 @@ impl ThreadSession {
         let Some(had_begun) = self.begin() else {
             return Failure::Refused(Refusal::NoGuard).code();
         };
-        let found = KeptSubscriber::shown_by(&self.session, imsi);
+        let kept = keep_shown(alloc, &self.session, imsi, subscriber, is_there);
         self.end(had_begun);
-        match found {
-            Ok(Some(kept)) => match replace_with(subscriber, (alloc, Object::Kept(kept)), fill) {
-                Ok(()) => {
-                    *is_there = 1;
-                    0
-                }
-                Err(_) => Failure::Refused(Refusal::OutOfMemory).code(),
-            },
-            Ok(None) => {
-                *is_there = 0;
-                0
-            }
+        match kept {
+            Ok(()) => 0,
             Err(why) => Failure::Refused(why).code(),
         }
     }
+}
+
+/// Fills an empty handle with a copy of the record that the look of a session shows, and tells whether there is one.
+/// Fails with `OutOfMemory` (102).
+pub(crate) fn keep_shown(
+    alloc: Global,
+    session: &WaitFreeSession,
+    imsi: &Imsi,
+    subscriber: &mut CamelHandle,
+    is_there: &mut u8,
+) -> Result<(), Refusal>
+    requires looks { session.now.looks ≡ true }
+    requires empty { subscriber.old.value ≡ None }
+    ensures kept { OnOk result
+        (FillsKept session.now (record_shown session.now imsi.now) subscriber.old.value subscriber.new.value is_there.new) }
+    ensures unwritten { OnErr result
+        ((subscriber.new.value ≡ subscriber.old.value) × (is_there.new ≡ is_there.old)) }
+    ensures only { IfErr result (λ why. why ≡ refusal.OutOfMemory) }
+{
+    match KeptSubscriber::shown_by(session, imsi)? {
+        Some(kept) => match replace_with(subscriber, (alloc, Object::Kept(kept)), fill) {
+            Ok(()) => *is_there = 1,
+            Err(_) => return Err(Refusal::OutOfMemory),
+        },
+        None => *is_there = 0,
+    }
+    Ok(())
 }

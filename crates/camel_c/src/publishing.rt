@@ -1,6 +1,6 @@
 //! Publishing what is pending.
 
-ghost use Rattle.std.specs.Prelude.{◌≡◌, ◌≢◌, ◌⊎◌, ◌==◌, Some};
+ghost use Rattle.std.specs.Prelude.{◌≡◌, ◌≢◌, ◌⊎◌, ◌==◌, Some, true};
 ghost use Rattle.camel_c.specs.Change.{ChangesStore, with_free, with_held, with_published};
 ghost use Rattle.camel_c.specs.Object.{HoldsFreeStore, HoldsLiveStore};
 
@@ -41,17 +41,30 @@ fn publish_held(held: &mut Object) -> u32
 {
     match held {
         Object::Store(store) => match &mut store.stage {
-            Stage::Live(LiveStore { vlr, held, .. }) => match vlr.publish() {
-                Ok(_) => 0,
-                Err(Unpublished::Held) => {
-                    *held = held.wrapping_add(1);
-                    Failure::Held.code()
-                }
-                Err(Unpublished::OutOfMemory) => Failure::Refused(Refusal::OutOfMemory).code(),
-            },
+            Stage::Live(live) => live.publish(),
             Stage::Closing(_) | Stage::Closed => Failure::WrongHandle.code(),
         },
         _ => Failure::WrongHandle.code(),
+    }
+}
+
+impl LiveStore {
+    /// Publishes all that is pending, and counts it if a look holds that up.
+    pub(crate) fn publish(&mut self) -> u32
+        ensures published { result ≡ 0 → self.new ≡ with_published self.old }
+        ensures held { result ≡ 501 → self.new ≡ with_held self.old }
+        ensures free { self.old.vlr.free ≡ true → result ≢ 501 }
+        ensures unchanged { result ≡ 102 → self.new ≡ self.old }
+        ensures only { (result ≡ 0) ⊎ ((result ≡ 102) ⊎ (result ≡ 501)) }
+    {
+        match self.vlr.publish() {
+            Ok(_) => 0,
+            Err(Unpublished::Held) => {
+                self.held = self.held.wrapping_add(1);
+                Failure::Held.code()
+            }
+            Err(Unpublished::OutOfMemory) => Failure::Refused(Refusal::OutOfMemory).code(),
+        }
     }
 }
 

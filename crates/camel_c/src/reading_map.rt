@@ -12,6 +12,9 @@ use camel_map::{Arrival, MapFault, MapFaultKind, Operation, decode};
 use camel_tbcd::Imsi;
 use std::alloc::Global;
 
+/// What is told as a place where no octet of the argument is at fault.
+pub(crate) const NO_OCTET: u64 = u64::MAX;
+
 /// Why octets of an argument are not read.
 #[derive(Clone, Copy)]
 pub(crate) enum OctetsFault {
@@ -35,12 +38,12 @@ impl OctetsFault {
         }
     }
 
-    /// The octet of the argument at which it is, or 0 if it is none of the argument.
+    /// The octet of the argument at which it is, or `NO_OCTET` if it is none of the argument.
     pub(crate) fn place(&self) -> u64
         ensures { result ≡ octets_fault_place self.now }
     {
         match self {
-            OctetsFault::Malformed | OctetsFault::OutOfMemory => 0,
+            OctetsFault::Malformed | OctetsFault::OutOfMemory => NO_OCTET,
             OctetsFault::Argument(fault) => fault.place as u64,
         }
     }

@@ -3,7 +3,7 @@
 ghost use Rattle.std.specs.Prelude.{◌≡◌, ◌≢◌, ◌⊎◌, length, Some, None, IfSome};
 ghost use Rattle.camel_vlr.specs.Session.{SessionData};
 ghost use Rattle.camel_c.specs.Object.{HoldsAnySession, HoldsLiveStore, HoldsLook, HoldsSession};
-ghost use Rattle.camel_c.specs.Receipts.{GivesReceipt, IsForeign, LearnsReceipt, RejectsReceipt};
+ghost use Rattle.camel_c.specs.Receipts.{GivesReceipt, IsForeign, LearnsReceipt, MayLook, RejectsReceipt};
 ghost use Rattle.camel_c.specs.Shows.{Shows};
 ghost use Rattle.camel_c.specs.declared.object.Object.TheVariants as object;
 ghost use Rattle.camel_c.specs.declared.thread_session.ThreadSession.{ThreadSession};
@@ -67,6 +67,7 @@ pub extern "C" fn camel_learn(session: &mut CamelHandle, receipt: &CamelReceipt)
     ensures other { result ≡ 505 → RejectsReceipt receipt.now session.old.value session.new.value }
     ensures foreign { IsForeign receipt.now session.old.value → result ≡ 505 }
     ensures unchanged { result ≢ 0 → result ≢ 505 → session.new.value ≡ session.old.value }
+    ensures looked { MayLook session.old.value session.new.value }
     ensures only { HoldsSession session.old.value → (result ≡ 0) ⊎ ((result ≡ 104) ⊎ (result ≡ 505)) }
     ensures held { HoldsLook session.old.value → result ≡ 501 }
     ensures wrong { HoldsAnySession session.old.value ⊎ (result ≡ 503) }
@@ -84,6 +85,7 @@ fn learn_held(held: &mut Object, receipt: &CamelReceipt) -> u32
     ensures other { result ≡ 505 → RejectsReceipt receipt.now (Some held.old) (Some held.new) }
     ensures foreign { IsForeign receipt.now (Some held.old) → result ≡ 505 }
     ensures unchanged { result ≢ 0 → result ≢ 505 → held.new ≡ held.old }
+    ensures looked { MayLook (Some held.old) (Some held.new) }
     ensures only { HoldsSession (Some held.old) → (result ≡ 0) ⊎ ((result ≡ 104) ⊎ (result ≡ 505)) }
     ensures held { HoldsLook (Some held.old) → result ≡ 501 }
     ensures wrong { HoldsAnySession (Some held.old) ⊎ (result ≡ 503) }

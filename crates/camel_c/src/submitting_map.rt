@@ -3,7 +3,7 @@
 ghost use Rattle.camel_c.specs.OctetsSubmission.{SubmitsOctets, octets_in, update_read};
 
 use crate::handle::CamelHandle;
-use crate::reading_map::{OctetsFault, read_octets};
+use crate::reading_map::{NO_OCTET, OctetsFault, read_octets};
 use crate::submitting::submit;
 use camel_c_data::CamelImsi;
 use camel_map::Arrival;
@@ -15,7 +15,7 @@ use std::alloc::Global;
 /// dialogue, and its number is 0 if the dialogue has none. The argument is the parameter of a TCAP invoke.
 ///
 /// It fails with 502 if the operation is none of these or the IMSI is none, and with 401 to 407, 35 or 36 if the
-/// argument has a fault, whose octet it writes to the place; else the place is 0. It fails with 5 or 35 if the store
+/// argument has a fault, whose octet it writes to the place; else the place is 2^64 - 1. It fails with 5 or 35 if the store
 /// does not accept the update, with 101 if it has taken as many as it may, with 102 if memory was refused, and with 503
 /// if the handle holds no store that takes updates. Then it is as if it had not been submitted.
 #[unsafe(no_mangle)]
@@ -38,7 +38,7 @@ fn submit_read(store: &mut CamelHandle, read: Result<Arrival, OctetsFault>, plac
 {
     match read {
         Ok(arrival) => {
-            *place = 0;
+            *place = NO_OCTET;
             submit(store, Ok(arrival.update))
         }
         Err(fault) => {

@@ -8,7 +8,7 @@ ghost use Rattle.camel_c.specs.Updates.{HoldsReceived, MakesOfOctets};
 use crate::filling::put;
 use crate::handle::CamelHandle;
 use crate::object::Object;
-use crate::reading_map::{OctetsFault, read_octets};
+use crate::reading_map::{NO_OCTET, OctetsFault, read_octets};
 use camel_c_data::CamelImsi;
 use camel_map::Arrival;
 use std::alloc::Global;
@@ -17,7 +17,7 @@ use std::alloc::Global;
 /// many items came in each list and with the camelCapabilityHandling of each CSI.
 ///
 /// It fails with 502, 401 to 407, 35 or 36 as `camel_submit_map` does, and writes the octet of a fault of the argument
-/// to the place; else the place is 0. It fails with 504 if the handle is not empty, and with 102 if memory was refused.
+/// to the place; else the place is 2^64 - 1. It fails with 504 if the handle is not empty, and with 102 if memory was refused.
 /// Then the handle is as before.
 #[unsafe(no_mangle)]
 pub extern "C" fn camel_update_of_map(
@@ -48,7 +48,7 @@ fn keep_read(
 {
     match read {
         Ok(arrival) => {
-            *place = 0;
+            *place = NO_OCTET;
             put(alloc, handle, Object::Update(arrival))
         }
         Err(fault) => {

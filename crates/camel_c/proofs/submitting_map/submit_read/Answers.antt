@@ -2,6 +2,7 @@ use Rattle.std.proofs.Common.{inl, sym, subst}
 use Rattle.std.specs.Prelude.{Ok, Result}
 use Rattle.camel_map.specs.declared.arrival.Arrival.{Arrival}
 use Rattle.camel_c.proofs.OctetsLemmas.{takes_value}
+use Rattle.camel_c.specs.Octets.{no_octet}
 use Rattle.camel_c.specs.OctetsSubmission.{SubmitsOctets, update_read}
 use Rattle.camel_c.specs.Submission.{ReadsAndSubmits}
 use Rattle.camel_c.specs.declared.reading_map.OctetsFault.{OctetsFault}
@@ -12,6 +13,6 @@ returns-in-Ok c =
     let before = c.args.store.now.value in
     let after = c.submit.new.store.value in
     let status = c.submit.result in
-    subst (λ (r : Result Arrival OctetsFault). SubmitsOctets (update_read r) status 0 before after) (sym c.in-Ok.is)
+    subst (λ (r : Result Arrival OctetsFault). SubmitsOctets (update_read r) status no_octet before after) (sym c.in-Ok.is)
     (takes_value (λ update. ReadsAndSubmits (Ok update) status before after) c.in-Ok.arrival.update status before after
     (inl c.submit.ensures) c.submit.ensures.unchanged)

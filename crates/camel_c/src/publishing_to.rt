@@ -1,0 +1,133 @@
+//! Publishing what is pending, and telling sessions of it.
+
+ghost use Rattle.std.specs.Prelude.{◌≡◌, ◌≢◌, ◌⊎◌, ◌≤◌, length, Some, true};
+ghost use Rattle.camel_c.specs.Change.{with_held, with_published};
+ghost use Rattle.camel_c.specs.Publication.{AllLearn, AllMayLook, AllReady, IsHeldReady, IsReady, PublishesTo};
+
+use crate::failure::Failure;
+use crate::handle::CamelHandle;
+use crate::object::{LiveStore, Object, Stage};
+use crate::receipts::camel_learn;
+use camel_c_data::CamelReceipt;
+use camel_vlr::MAX_PLACES;
+
+/// Publishes all that is pending, as `camel_publish` does, and has these sessions of the store learn a receipt of it, as
+/// `camel_learn` does: each shows it from then on. It does not wait.
+///
+/// It fails with 502 if there are more than 64, with 503 if the first handle holds no store that takes updates, with
+/// 503, 501 or 505 for the first session that is none, has begun a look or is of another store, and as `camel_publish`
+/// does. Then nothing was published, and all is pending as before. It names 104 and 505 too for a session that does not
+/// see what is published then, which no run meets.
+#[unsafe(no_mangle)]
+pub extern "C" fn camel_publish_to(store: &mut CamelHandle, sessions: &mut [CamelHandle]) -> u32
+    ensures { PublishesTo result store.old.value store.new.value sessions.old sessions.new }
+{
+    if MAX_PLACES < sessions.len() {
+        return Failure::Malformed.code();
+    }
+    if !store.is_full() {
+        return Failure::WrongHandle.code();
+    }
+    publish_held_to(store.get_mut(), sessions)
+}
+
+fn publish_held_to(held: &mut Object, sessions: &mut [CamelHandle]) -> u32
+    requires { length sessions.old ≤ 64 }
+    ensures { PublishesTo result (Some held.old) (Some held.new) sessions.old sessions.new }
+{
+    match held {
+        Object::Store(store) => match &mut store.stage {
+            Stage::Live(live) => live.publish_to(sessions),
+            Stage::Closing(_) | Stage::Closed => Failure::WrongHandle.code(),
+        },
+        _ => Failure::WrongHandle.code(),
+    }
+}
+
+impl LiveStore {
+    /// Publishes all that is pending if the sessions are ready, and has them learn it.
+    fn publish_to(&mut self, sessions: &mut [CamelHandle]) -> u32
+        ensures published { result ≡ 0 → self.new ≡ with_published self.old }
+        ensures learnt { result ≡ 0 → AllLearn (record { store = self.new.number; front = length self.new.vlr.updates.published })
+            sessions.old sessions.new }
+        ensures failed { result ≢ 0
+            → ((sessions.new ≡ sessions.old) × ((self.new ≡ self.old) ⊎ ((result ≡ 501) × (self.new ≡ with_held self.old))))
+            ⊎ (((result ≡ 104) ⊎ (result ≡ 505)) × (self.new ≡ with_published self.old) × AllMayLook sessions.old sessions.new) }
+        ensures only { AllReady self.old.number sessions.old
+            → (result ≡ 0) ⊎ ((result ≡ 102) ⊎ ((result ≡ 501) ⊎ ((result ≡ 104) ⊎ (result ≡ 505)))) }
+        ensures free { self.old.vlr.free ≡ true → AllReady self.old.number sessions.old → result ≢ 501 }
+        ensures unready { AllReady self.old.number sessions.old ⊎ ((result ≡ 501) ⊎ ((result ≡ 503) ⊎ (result ≡ 505))) }
+    {
+        match first_unready(sessions, self.number) {
+            0 => match self.publish() {
+                0 => {
+                    let receipt = CamelReceipt {
+                        store: self.number,
+                        front: self.vlr.published(),
+                    };
+                    learn_all(sessions, &receipt)
+                }
+                why => why,
+            },
+            why => why,
+        }
+    }
+}
+
+/// Why the first session that is not ready to learn a receipt of the store of this number is not, or 0 if all are.
+fn first_unready(sessions: &mut [CamelHandle], number: u64) -> u32
+    ensures ready { result ≡ 0 → AllReady number sessions.old }
+    ensures only { AllReady number sessions.old → result ≡ 0 }
+    ensures why { (result ≡ 0) ⊎ ((result ≡ 501) ⊎ ((result ≡ 503) ⊎ (result ≡ 505))) }
+    ensures same { sessions.new ≡ sessions.old }
+{
+    match sessions.split_first_mut() {
+        Some((first, rest)) => match unready(first, number) {
+            0 => first_unready(rest, number),
+            why => why,
+        },
+        None => 0,
+    }
+}
+
+/// Why a handle is not ready: it holds no session, or one of another store, or one that has begun a look.
+fn unready(handle: &mut CamelHandle, number: u64) -> u32
+    ensures ready { result ≡ 0 → IsReady number handle.old }
+    ensures only { IsReady number handle.old → result ≡ 0 }
+    ensures why { (result ≡ 0) ⊎ ((result ≡ 501) ⊎ ((result ≡ 503) ⊎ (result ≡ 505))) }
+    ensures same { handle.new ≡ handle.old }
+{
+    if !handle.is_full() {
+        return Failure::WrongHandle.code();
+    }
+    unready_held(handle.get_mut(), number)
+}
+
+fn unready_held(held: &Object, number: u64) -> u32
+    ensures ready { result ≡ 0 → IsHeldReady number (Some held.now) }
+    ensures only { IsHeldReady number (Some held.now) → result ≡ 0 }
+    ensures why { (result ≡ 0) ⊎ ((result ≡ 501) ⊎ ((result ≡ 503) ⊎ (result ≡ 505))) }
+{
+    match held {
+        Object::Session(own) if own.session.is_looking() => Failure::Held.code(),
+        Object::Session(own) if own.store != number => Failure::OtherStore.code(),
+        Object::Session(_) => 0,
+        _ => Failure::WrongHandle.code(),
+    }
+}
+
+/// Has each session learn a receipt, up to the first that does not.
+fn learn_all(sessions: &mut [CamelHandle], receipt: &CamelReceipt) -> u32
+    requires { AllReady receipt.now.store sessions.old }
+    ensures learnt { result ≡ 0 → AllLearn receipt.now sessions.old sessions.new }
+    ensures looked { AllMayLook sessions.old sessions.new }
+    ensures only { (result ≡ 0) ⊎ ((result ≡ 104) ⊎ (result ≡ 505)) }
+{
+    match sessions.split_first_mut() {
+        Some((first, rest)) => match camel_learn(first, receipt) {
+            0 => learn_all(rest, receipt),
+            why => why,
+        },
+        None => 0,
+    }
+}

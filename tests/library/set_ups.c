@@ -1,0 +1,176 @@
+/* A publication that sessions are told of, and the set-up of a call: what each does in one, and what it returns if more
+ * than one thing is wrong. That a refusal of memory comes behind these is in refused.c. */
+#include "check.h"
+
+enum { SESSIONS = 3, LIMIT = 100 };
+
+/* A store with sessions, and subscriber 1 registered and published. */
+static void open_store(camel_store *store, camel_session *sessions, uint64_t seed)
+{
+    camel_imsi imsi = imsi_of(1);
+    RETURNS(CAMEL_OK, camel_open(store, sessions, SESSIONS, LIMIT, 1, seed));
+    RETURNS(CAMEL_OK, camel_submit_register(store, &imsi));
+    RETURNS(CAMEL_OK, camel_publish(store));
+}
+
+static void close_store(camel_store *store, camel_session *sessions)
+{
+    for (size_t at = 0; at < SESSIONS; at++)
+        camel_free(&sessions[at]);
+    RETURNS(CAMEL_OK, camel_close(store));
+}
+
+/* The front of a session, that of the look which has begun or of a look of its own. */
+static uint64_t front_of(camel_session *session)
+{
+    camel_event event = event_of(1, 2);
+    camel_answer answer = { .front = UINT64_MAX };
+    RETURNS(CAMEL_OK, camel_decide(session, &event, &answer));
+    return answer.front;
+}
+
+/* Each session that is told sees what was published, again and again. */
+static void told_of(void)
+{
+    camel_store store = CAMEL_EMPTY;
+    camel_session sessions[SESSIONS] = { CAMEL_EMPTY, CAMEL_EMPTY, CAMEL_EMPTY };
+    camel_imsi imsi = imsi_of(2);
+
+    open_store(&store, sessions, 1);
+    for (uint64_t published = 2; published < LIMIT; published++) {
+        size_t told = published % (SESSIONS + 1);
+        RETURNS(CAMEL_OK, camel_submit_register(&store, &imsi));
+        RETURNS(CAMEL_OK, camel_publish_to(&store, sessions, told));
+        IS(counts_of(&store).pending == 0 && counts_of(&store).published == published);
+        for (size_t at = 0; at < told; at++)
+            IS(front_of(&sessions[at]) == published);
+    }
+    RETURNS(CAMEL_OK, camel_publish_to(&store, sessions, SESSIONS));
+    close_store(&store, sessions);
+}
+
+/* What is pending stays so if a session cannot learn, whichever it is. */
+static void not_told(void)
+{
+    camel_store store = CAMEL_EMPTY, other = CAMEL_EMPTY;
+    camel_session sessions[SESSIONS] = { CAMEL_EMPTY, CAMEL_EMPTY, CAMEL_EMPTY }, none = CAMEL_EMPTY;
+    camel_session of_other[SESSIONS] = { CAMEL_EMPTY, CAMEL_EMPTY, CAMEL_EMPTY }, many[CAMEL_MAX_SESSIONS + 1] = { 0 };
+    camel_imsi imsi = imsi_of(2);
+
+    open_store(&store, sessions, 1);
+    open_store(&other, of_other, 2);
+    RETURNS(CAMEL_OK, camel_submit_register(&store, &imsi));
+    RETURNS(CAMEL_MALFORMED, camel_publish_to(&store, many, CAMEL_MAX_SESSIONS + 1));
+    RETURNS(CAMEL_WRONG_HANDLE, camel_publish_to(&store, many, CAMEL_MAX_SESSIONS));
+    for (size_t at = 0; at < SESSIONS; at++) {
+        camel_session own = sessions[at];
+        sessions[at] = of_other[at];
+        RETURNS(CAMEL_OTHER_STORE, camel_publish_to(&store, sessions, SESSIONS));
+        sessions[at] = none;
+        RETURNS(CAMEL_WRONG_HANDLE, camel_publish_to(&store, sessions, SESSIONS));
+        sessions[at] = own;
+        RETURNS(CAMEL_OK, camel_look(&sessions[at]));
+        RETURNS(CAMEL_HELD, camel_publish_to(&store, sessions, SESSIONS));
+        IS(front_of(&sessions[at]) == 1);
+        RETURNS(CAMEL_OK, camel_leave(&sessions[at]));
+    }
+    IS(counts_of(&store).pending == 1 && counts_of(&store).published == 1 && counts_of(&store).held == 0);
+    IS(front_of(&sessions[0]) == 1);
+    RETURNS(CAMEL_OK, camel_publish_to(&store, sessions, SESSIONS));
+    IS(front_of(&sessions[0]) == 2);
+    close_store(&store, sessions);
+    close_store(&other, of_other);
+}
+
+/* A look of a session that is not told may hold the publication up, which is counted. */
+static void held_up(void)
+{
+    camel_store store = CAMEL_EMPTY;
+    camel_session sessions[SESSIONS] = { CAMEL_EMPTY, CAMEL_EMPTY, CAMEL_EMPTY };
+
+    open_store(&store, sessions, 1);
+    RETURNS(CAMEL_OK, camel_look(&sessions[2]));
+    RETURNS(CAMEL_OK, camel_publish_to(&store, sessions, 2));
+    RETURNS(CAMEL_HELD, camel_publish_to(&store, sessions, 2));
+    IS(counts_of(&store).held == 1);
+    RETURNS(CAMEL_OK, camel_leave(&sessions[2]));
+    RETURNS(CAMEL_OK, camel_publish_to(&store, sessions, SESSIONS));
+    close_store(&store, sessions);
+}
+
+/* Submits and publishes an O-CSI of detection point 2 with this service key. */
+static void publish_key(camel_store *store, camel_session *session, uint32_t key)
+{
+    camel_row row = row_of(2, key);
+    RETURNS(CAMEL_OK, insert(store, 1, &row, 1, NULL, 0, NULL, 0, NULL, 0));
+    RETURNS(CAMEL_OK, camel_publish_to(store, session, 1));
+}
+
+/* Decision and record are of one front, which later publications do not change. */
+static void set_up_over_one_front(void)
+{
+    camel_store store = CAMEL_EMPTY;
+    camel_session sessions[SESSIONS] = { CAMEL_EMPTY, CAMEL_EMPTY, CAMEL_EMPTY };
+    camel_subscriber kept = CAMEL_EMPTY, none = CAMEL_EMPTY;
+    camel_event event = event_of(1, 2), unknown = event_of(2, 2);
+    camel_answer answer = { 0 }, later = { 0 };
+    camel_decisions decisions;
+    bool is_there = false;
+
+    open_store(&store, sessions, 1);
+    publish_key(&store, sessions, 100);
+    RETURNS(CAMEL_OK, camel_set_up(sessions, &event, &answer, &kept, &is_there));
+    IS(is_there && kept.is_full && answer.is_trigger && answer.key == 100 && answer.front == 2);
+    publish_key(&store, sessions, 101);
+    RETURNS(CAMEL_OK, camel_decide_kept(&kept, &event, &later));
+    IS(later.key == 100 && later.front == 2);
+    camel_free(&kept);
+    RETURNS(CAMEL_OK, camel_look(sessions));
+    publish_key(&store, sessions + 1, 102);
+    RETURNS(CAMEL_OK, camel_set_up(sessions, &event, &answer, &kept, &is_there));
+    IS(is_there && answer.key == 101 && answer.front == 3 && front_of(sessions) == 3);
+    RETURNS(CAMEL_OK, camel_leave(sessions));
+    RETURNS(CAMEL_OK, camel_set_up(sessions, &unknown, &answer, &none, &is_there));
+    IS(!is_there && !none.is_full && !answer.is_trigger && answer.reason == CAMEL_REASON_UNKNOWN && answer.front == 4);
+    RETURNS(CAMEL_OK, camel_decisions_of(sessions, &decisions));
+    IS(decisions.by_reason[CAMEL_REASON_NONE] == 3 && decisions.by_reason[CAMEL_REASON_UNKNOWN] == 1);
+    camel_free(&kept);
+    close_store(&store, sessions);
+}
+
+/* The data are looked at first, then the session's handle, then the one to fill, then the store. */
+static void order_of_set_up(void)
+{
+    camel_store store = CAMEL_EMPTY;
+    camel_session sessions[SESSIONS] = { CAMEL_EMPTY, CAMEL_EMPTY, CAMEL_EMPTY }, empty = CAMEL_EMPTY;
+    camel_subscriber full = CAMEL_EMPTY, kept = CAMEL_EMPTY;
+    camel_event event = event_of(1, 2), malformed = event_of(1, 3);
+    camel_answer answer = { 0 };
+    bool is_there = false;
+
+    open_store(&store, sessions, 1);
+    RETURNS(CAMEL_OK, camel_set_up(sessions, &event, &answer, &full, &is_there));
+    IS(is_there && full.is_full && answer.reason == CAMEL_REASON_NO_CSI);
+    answer.front = 7;
+    RETURNS(CAMEL_FULL_HANDLE, camel_set_up(sessions, &event, &answer, &full, &is_there));
+    RETURNS(CAMEL_OK, camel_close(&store));
+    RETURNS(CAMEL_MALFORMED, camel_set_up(&empty, &malformed, &answer, &full, &is_there));
+    RETURNS(CAMEL_MALFORMED, camel_set_up(sessions, &malformed, &answer, &full, &is_there));
+    RETURNS(CAMEL_WRONG_HANDLE, camel_set_up(&empty, &event, &answer, &full, &is_there));
+    RETURNS(CAMEL_FULL_HANDLE, camel_set_up(sessions, &event, &answer, &full, &is_there));
+    RETURNS(CAMEL_NO_LOOK, camel_set_up(sessions, &event, &answer, &kept, &is_there));
+    IS(answer.front == 7 && is_there && full.is_full && !kept.is_full);
+    camel_free(&full);
+    for (size_t at = 0; at < SESSIONS; at++)
+        camel_free(&sessions[at]);
+}
+
+int main(void)
+{
+    told_of();
+    not_told();
+    held_up();
+    set_up_over_one_front();
+    order_of_set_up();
+    return ended("set_ups");
+}
