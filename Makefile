@@ -42,7 +42,7 @@ endef
 .PHONY: help try try-explain replay explain explain-check program check script crate pages try-make proofs must-not-compile \
 	examples scripts streams coprocess refusals fuzz map-check map-program library install library-test library-c \
 	library-cpp library-as-shipped library-installed library-deb library-rust deb soak fuzz-c bench bench-program \
-	bench-vlr bench-peers bench-map count-vlr test
+	bench-vlr bench-peers bench-loop bench-map count-vlr test
 # In order, so that what is missing is said before anything is built.
 .NOTPARALLEL:
 .SECONDEXPANSION:
@@ -220,6 +220,11 @@ bench-vlr: begin-$$@ $(BENCH)
 ## Measures the store beside others in Rust and C: about a quarter of an hour, once program and library are built.
 bench-peers: begin-$$@ $(BENCH) library
 	@bench/run-peers
+
+## Times the handlers of a switch with one event loop, at three sizes: half a minute, once the library is built.
+bench-loop: begin-$$@ library
+	@$(CC) -std=c11 -O2 -Wall -Wextra -Iout/library -o out/event_loop bench/event_loop.c out/library/libwenqolo.a
+	@out/event_loop 1000 100000 1000000
 
 ## Times a decoded argument of MAP, beside other decoders if they are there: a minute, once its program is built.
 bench-map: begin-$$@ $(BENCH)
