@@ -1,0 +1,225 @@
+/* SPDX-License-Identifier: MIT OR Apache-2.0 */
+/* CAMEL trigger decisions in osmo-msc. What is compared is standard output: a heading of each step, and the lines of the
+ * glue. */
+#include <camel.h>
+
+#include "camel_steps.h"
+
+static void test_criteria(void)
+{
+	begins("An O-CSI with criteria: of numbers at DP 2, of causes at DP 4");
+	location_update(&FIRST, DATA O_CRITERIA);
+	step("a listed number, and a listed cause");
+	calls(&FIRST, LISTED);
+	step("another number, and another cause");
+	sets_up(&FIRST, "0385", SPEECH, NOT_LISTED);
+	rejected_with(3);
+	step("a number of 22 octets, of which the first 20 are compared");
+	calls(&FIRST, LONG_NUMBER);
+	step("facsimile, asynchronous and synchronous data");
+	sets_up(&FIRST, "0385", FAX, LISTED);
+	rejected_with(38);
+	sets_up(&FIRST, "0385", ASYNCHRONOUS, LISTED);
+	rejected_with(38);
+	sets_up(&FIRST, "0385", SYNCHRONOUS, LISTED);
+	rejected_with(38);
+	ends();
+}
+
+static void test_release(void)
+{
+	begins("An O-CSI whose default call handling is release");
+	location_update(&FIRST, RELEASING_DATA);
+	calls_in_vain(&FIRST);
+	ends();
+}
+
+static void test_emergency(void)
+{
+	begins("Emergency calls are not asked");
+	location_update(&FIRST, DATA);
+	step("a SETUP to 112");
+	calls(&FIRST, EMERGENCY_NUMBER);
+	step("an EMERGENCY SETUP");
+	sets_up(&FIRST, "038e", SPEECH, "");
+	rejected_with(34);
+	ends();
+}
+
+static void test_not_asked_at_4(void)
+{
+	static const uint8_t causes[] = { 17, 18, 19, 20 };
+
+	begins("What is not asked at DP 4");
+	location_update(&FIRST, DATA);
+	for (size_t at = 0; at < ARRAY_SIZE(causes); at++) {
+		step("the cause %u", causes[at]);
+		sets_up(&FIRST, "0385", SPEECH, LISTED);
+		rejected_with(causes[at]);
+	}
+	step("the caller gives up");
+	sets_up(&FIRST, "0385", SPEECH, LISTED);
+	caller_disconnects();
+	step("the call is answered, and ended");
+	sets_up(&FIRST, "0385", SPEECH, LISTED);
+	dtap_expect_tx("8307");
+	mncc_sends(MNCC_SETUP_RSP, 0);
+	cc_to_mncc_expect_tx("", MNCC_SETUP_COMPL_IND);
+	ms_sends_msg("03cf");
+	caller_disconnects();
+	ends();
+}
+
+static void test_record_of_set_up(void)
+{
+	begins("A second O-CSI is published during a call");
+	location_update(&FIRST, DATA);
+	sets_up(&FIRST, "0385", SPEECH, LISTED);
+	inserts(&FIRST, OTHER_DATA);
+	step("the call has the record of its set-up");
+	rejected_with(34);
+	step("the next call has the new one");
+	calls(&FIRST, LISTED);
+	ends();
+}
+
+static void test_refused_data(void)
+{
+	begins("Data that are refused are answered so, and change nothing");
+	location_update(&FIRST, DATA);
+	step("an element that goes beyond its end");
+	insert_refused(&FIRST, "35023005", "020160");
+	step("a serviceKey above 2147483647");
+	insert_refused(&FIRST, "351b" "3019" "ad17" "a015" "3013" "3011" "0a0102" "0204ffffffff" "800391000081" "0100", "02015f");
+	step("an O-CSI without rows");
+	insert_refused(&FIRST, argument_of("a0023000"), "020164");
+	step("criteria of a VT-CSI that is not stored");
+	insert_refused(&FIRST, argument_of(T_CRITERIA), "020164");
+	step("a DeleteSubscriberData that is none");
+	hlr_sends(&FIRST, "14", "35023005", "15", "020160");
+	calls(&FIRST, LISTED);
+	step("a location update whose data are refused");
+	location_update_begins(&FIRST);
+	insert_refused(&FIRST, argument_of("a0023000"), "020164");
+	location_update_ends(&FIRST, "06", RES_ACCEPT);
+	calls(&FIRST, LISTED);
+	ends();
+}
+
+static void test_withdrawal(void)
+{
+	begins("A withdrawal");
+	location_update(&FIRST, DATA CALLED_RELEASE);
+	step("of the O-CSI");
+	hlr_sends(&FIRST, "14", WITHDRAWN_O, "16", "");
+	calls(&FIRST, LISTED);
+	step("it comes again");
+	inserts(&FIRST, OTHER_DATA);
+	calls(&FIRST, LISTED);
+	step("of all CAMEL data");
+	hlr_sends(&FIRST, "14", WITHDRAWN_ALL, "16", "");
+	calls(&FIRST, LISTED);
+	ends();
+}
+
+static void test_location_updates(void)
+{
+	begins("Location updates");
+	location_update(&FIRST, DATA);
+	step("the same data come again, in two operations");
+	location_update_begins(&FIRST);
+	inserts(&FIRST, DATA);
+	inserts(&FIRST, O_CRITERIA);
+	location_update_ends(&FIRST, "06", RES_ACCEPT);
+	calls(&FIRST, NOT_LISTED);
+	step("of the second operation the data are refused, and the first one stands");
+	location_update_begins(&FIRST);
+	inserts(&FIRST, OTHER_DATA);
+	insert_refused(&FIRST, argument_of(OTHER_DATA), "02015f");
+	inserts(&FIRST, CALLED_RELEASE);
+	location_update_ends(&FIRST, "06", RES_ACCEPT);
+	calls(&FIRST, LISTED);
+	called_in_vain(&FIRST);
+	step("a VT-CSI comes, and no O-CSI");
+	location_update(&FIRST, CALLED_RELEASE);
+	calls(&FIRST, LISTED);
+	called_in_vain(&FIRST);
+	step("no CAMEL data come");
+	location_update(&FIRST, NULL);
+	calls(&FIRST, LISTED);
+	step("outside of a location update an Insert replaces what comes only");
+	inserts(&FIRST, DATA);
+	inserts(&FIRST, CALLED_RELEASE);
+	calls(&FIRST, LISTED);
+	ends();
+}
+
+static void test_incoming(void)
+{
+	begins("Calls to a subscriber with a VT-CSI");
+	location_update(&FIRST, CALLED_DATA);
+	step("the mobile is busy");
+	is_called(&FIRST);
+	is_paged(&FIRST);
+	expect_bssap_clear();
+	called_mobile_sends("832a0802e091", MNCC_REJ_IND, "");
+	ran_sends_clear_complete();
+	step("the paging expires");
+	is_called(&FIRST);
+	cc_to_mncc_expect_tx("", MNCC_REL_IND);
+	fake_time_passes(11, 0);
+	OSMO_ASSERT(cc_to_mncc_tx_confirmed);
+	step("the SETUP is not answered (T303)");
+	is_called(&FIRST);
+	is_paged(&FIRST);
+	cc_to_mncc_expect_tx("", MNCC_REL_IND);
+	dtap_expect_tx("032d0805e1e6333033");
+	fake_time_passes(31, 0);
+	OSMO_ASSERT(cc_to_mncc_tx_confirmed && dtap_tx_confirmed);
+	released_by("836a");
+	step("the mobile alerts, and nobody answers (T301)");
+	is_called(&FIRST);
+	is_paged(&FIRST);
+	called_mobile_sends("8381", MNCC_ALERT_IND, "");
+	cc_to_mncc_expect_tx("", MNCC_DISC_IND);
+	dtap_expect_tx("03250805e1e6333031");
+	fake_time_passes(181, 0);
+	OSMO_ASSERT(cc_to_mncc_tx_confirmed && dtap_tx_confirmed);
+	cc_to_mncc_expect_tx("", MNCC_REL_IND);
+	released_by("832d");
+	ends();
+}
+
+static void test_called_party(void)
+{
+	begins("More calls to a subscriber with a VT-CSI");
+	location_update(&FIRST, DATA CALLED_DATA);
+	step("the call is answered");
+	is_called(&FIRST);
+	is_paged(&FIRST);
+	called_mobile_sends("83c7", MNCC_SETUP_CNF, FIRST.imsi);
+	called_mobile_sends("832502e091", MNCC_DISC_IND, "");
+	dtap_expect_tx("032d");
+	mncc_sends(MNCC_REL_REQ, 0);
+	cc_to_mncc_expect_tx("", MNCC_REL_CNF);
+	released_by("836a");
+	step("the caller gives up");
+	is_called(&FIRST);
+	cc_to_mncc_expect_tx("", MNCC_REL_CNF);
+	mncc_sends(MNCC_REL_REQ, 16);
+	ends();
+}
+
+msc_vlr_test_func_t msc_vlr_tests[] = {
+	test_criteria,
+	test_release,
+	test_emergency,
+	test_not_asked_at_4,
+	test_record_of_set_up,
+	test_refused_data,
+	test_withdrawal,
+	test_location_updates,
+	test_incoming,
+	test_called_party,
+	NULL
+};
