@@ -12,6 +12,9 @@ const struct subscriber FIRST = { "901700000010650", "010809710000000156f0", "08
 const struct subscriber SECOND = { "901700000010651", "010809710000000156f1", "089910070000106015" };
 
 static bool is_muted;
+
+/* The call that the mobile makes, or is called by. */
+enum { INCOMING = 0x423 };
 static uint32_t callref;
 
 enum refusal refused;
@@ -46,6 +49,16 @@ camel_status __wrap_camel_publish_to(camel_store *store, camel_session *sessions
 	if (refused == FROM_PUBLICATION_ON)
 		refused = EACH_REQUEST;
 	return status;
+}
+
+/* The diagnostics of a timer are left out: libosmogsm leaves an octet of such a cause undefined. */
+int __real_gsm48_encode_cause(struct msgb *msg, int lv_only, const struct gsm_mncc_cause *cause);
+int __wrap_gsm48_encode_cause(struct msgb *msg, int lv_only, const struct gsm_mncc_cause *cause)
+{
+	struct gsm_mncc_cause brief = *cause;
+
+	brief.diag_len = 0;
+	return __real_gsm48_encode_cause(msg, lv_only, &brief);
 }
 
 static void print_line(struct log_target *target, unsigned int level, const char *line)
@@ -92,7 +105,8 @@ void ends(void)
 	is_muted = false;
 }
 
-void hlr_sends(const struct subscriber *who, const char *type, const char *octets, const char *answer, const char *cause)
+void hlr_sends(const struct subscriber *who, const char *type, const char *octets, const char *answer,
+	       const char *cause)
 {
 	char sent[600], expected[64];
 
@@ -228,9 +242,8 @@ void caller_disconnects(void)
 
 static void setup_request(const struct subscriber *who)
 {
-	struct gsm_mncc setup = { .msg_type = MNCC_SETUP_REQ, .callref = 0x423 };
+	struct gsm_mncc setup = { .msg_type = MNCC_SETUP_REQ, .callref = INCOMING };
 
-	callref = setup.callref;
 	OSMO_STRLCPY_ARRAY(setup.imsi, who->imsi);
 	mncc_tx_to_cc(net, &setup);
 }
@@ -248,6 +261,17 @@ void is_called(const struct subscriber *who)
 	paging_sent = false;
 	setup_request(who);
 	OSMO_ASSERT(paging_sent);
+	callref = INCOMING;
+}
+
+void is_detached_and_called(const struct subscriber *who)
+{
+	struct vlr_subscr *vsub = vlr_subscr_find_by_imsi(net->vlr, who->imsi, __func__);
+
+	OSMO_ASSERT(vsub);
+	vlr_subscr_rx_imsi_detach(vsub);
+	called_in_vain(who);
+	vlr_subscr_put(vsub, __func__);
 }
 
 void is_paged(const struct subscriber *who)

@@ -1,6 +1,6 @@
 /* SPDX-License-Identifier: MIT OR Apache-2.0 */
-/* What an HLR, a mobile and MNCC do in the test of CAMEL trigger decisions, over the framework of osmo-msc's own msc_vlr
- * tests, with the arguments of MAP and the elements of TS 24.008 that they send. */
+/* What an HLR, a mobile and MNCC do in the test of CAMEL trigger decisions, over the framework of osmo-msc's own
+ * msc_vlr tests, with the arguments of MAP and the elements of TS 24.008 that they send. */
 #pragma once
 
 #include <stdbool.h>
@@ -42,8 +42,8 @@ extern const struct subscriber FIRST, SECOND;
 #define CALLED_DATA VT_CSI_3(ROW("0c", "67", CONTINUE), ROW("0d", "68", CONTINUE), ROW("0e", "69", RELEASE)) T_CRITERIA
 #define CALLED_RELEASE VT_CSI_1(ROW("0c", "6a", RELEASE))
 
-/* Bearer capabilities and called party numbers (TS 24.008): speech, facsimile group 3, asynchronous and synchronous data;
- * numbers of the nature international, and of an unknown one. */
+/* Bearer capabilities and called party numbers (TS 24.008): speech, facsimile group 3, asynchronous and synchronous
+ * data; numbers of the nature international, and an emergency number of an unknown one. */
 #define SPEECH "0406600402000581"
 #define FAX "0407a3b88121156380"
 #define ASYNCHRONOUS "0407a1b88121156380"
@@ -65,9 +65,10 @@ void begins(const char *what);
 void ends(void);
 
 /* The HLR sends a message, and is answered with one that begins with these octets. */
-void hlr_sends(const struct subscriber *who, const char *type, const char *octets, const char *answer, const char *cause);
+void hlr_sends(const struct subscriber *who, const char *type, const char *octets, const char *answer,
+	       const char *cause);
 
-/* The SS-Info information element with an InsertSubscriberDataArg that has these contents of vlrCamelSubscriptionInfo. */
+/* The SS-Info information element with an InsertSubscriberDataArg of these contents of vlrCamelSubscriptionInfo. */
 const char *argument_of(const char *contents);
 
 /* The HLR sends data in an InsertSubscriberData, or an argument, which is refused with a cause of GMM. */
@@ -89,10 +90,12 @@ void calls(const struct subscriber *who, const char *called);
 /* A call that is released at DP 2, of which MNCC is told nothing. */
 void calls_in_vain(const struct subscriber *who);
 
-/* MNCC sends a message of the call that is there, or sets one up to the subscriber; it has to release it at once. */
+/* MNCC sends a message of the call that is there, or sets one up to the subscriber, for which the mobile is paged, or
+ * which is released at once, as if the mobile is detached. */
 void mncc_sends(uint32_t message, uint8_t cause);
 void is_called(const struct subscriber *who);
 void called_in_vain(const struct subscriber *who);
+void is_detached_and_called(const struct subscriber *who);
 
 /* The mobile answers the paging, and has the SETUP; it sends a message of the call that it is called by, of which MNCC
  * is told. */

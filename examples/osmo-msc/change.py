@@ -9,10 +9,10 @@
 Both files have blocks of lines `key: value`, with an empty line between two blocks. Text is in the lines behind a key
 that begin with `|`. A comment begins with `#`.
 
-A hook names its file, the place `in` it, which is a function, or a structure as `struct NAME`, and an anchor: `before` or
-`behind` the one statement there that has these words in their order. A statement ends at `;`, `{` or `}`, comments and
-strings aside. Without `in` the anchor is a line of the file, and without both the text goes to its end. With `behind`
-and `in`, and the word `end`, the text goes behind the function.
+A hook names its file, the place `in` it, which is a function, or a structure as `struct NAME`, and an anchor: `before`
+or `behind` the one statement there that has these words in their order. A statement ends at `;`, `{` or `}`, comments
+and strings aside; the word `end` by itself is the end of a function. Without `in` the anchor is a line of the file, and
+without any anchor the text goes to the end of the file.
 """
 
 import re
@@ -29,7 +29,10 @@ COPIES = {
     "msc_vlr_test_camel.c": "tests/msc_vlr",
     "msc_vlr_test_camel.ok": "tests/msc_vlr",
 }
-HIDDEN = re.compile(r"/\*.*?\*/|//[^\n]*|\"(?:\\.|[^\"\\\n])*\"|'(?:\\.|[^'\\\n])'|^[ \t]*#(?:\\\n|[^\n])*", re.M | re.S)
+# Comments, strings, characters and lines of the preprocessor.
+HIDDEN = re.compile(
+    r"/\*.*?\*/|//[^\n]*|\"(?:\\.|[^\"\\\n])*\"|'(?:\\.|[^'\\\n])'|^[ \t]*#(?:\\\n|[^\n])*", re.M | re.S
+)
 
 
 def blocks(name):

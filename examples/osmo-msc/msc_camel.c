@@ -1,9 +1,9 @@
 /* SPDX-License-Identifier: MIT OR Apache-2.0 */
 /* The CAMEL data of osmo-msc's VLR in a store of libwenqolo, and its decisions at trigger detection points.
  *
- * GSUP has no CAMEL data. Here the SS-Info information element of an InsertSubscriberData or DeleteSubscriberData request
- * has the octets of MAP's argument (TS 29.002), at most 255, which no HLR sends. There is no CAP either: each dialogue
- * with a gsmSCF fails at once, and the default call handling of the row says what becomes of the call.
+ * GSUP has no CAMEL data. Here the SS-Info information element of an InsertSubscriberData or DeleteSubscriberData
+ * request has the octets of MAP's argument (TS 29.002), at most 255, which no HLR sends. There is no CAP either: each
+ * dialogue with a gsmSCF fails at once, and the default call handling of the row says what becomes of the call.
  *
  * Writer and session are in the event loop, and no handler leaves a look behind, so no publication is held. */
 #include <inttypes.h>
@@ -105,17 +105,20 @@ static camel_status publish(struct msc_camel *camel)
 	return status;
 }
 
-/* What the HLR is answered, and a line of it if that is an error. GSUP has the causes of GMM in place of MAP's errors, so
+/* What the HLR is answered, with a line if that is an error. GSUP has the causes of GMM in the place of MAP's errors:
  * which of them is which is ours. */
-static enum gsm48_gmm_cause cause_of(const struct vlr_subscr *vsub, const char *what, camel_status status, uint64_t place)
+static enum gsm48_gmm_cause cause_of(const struct vlr_subscr *vsub, const char *what, camel_status status,
+				     uint64_t place)
 {
-	if (status == CAMEL_OK)
-		return 0;
-	if (place == CAMEL_NO_OCTET)
-		LOG_CAMEL(vsub->imsi, LOGL_NOTICE, "%s refused: %s", what, camel_status_name(status));
-	else
-		LOG_CAMEL(vsub->imsi, LOGL_NOTICE, "%s refused: %s at octet %" PRIu64, what, camel_status_name(status), place);
+	const char *name = camel_status_name(status);
+
+	if (status != CAMEL_OK && place == CAMEL_NO_OCTET)
+		LOG_CAMEL(vsub->imsi, LOGL_NOTICE, "%s refused: %s", what, name);
+	else if (status != CAMEL_OK)
+		LOG_CAMEL(vsub->imsi, LOGL_NOTICE, "%s refused: %s at octet %" PRIu64, what, name, place);
 	switch (status) {
+	case CAMEL_OK:
+		return 0;
 	case CAMEL_UNIDENTIFIED_SUBSCRIBER:
 		return GMM_CAUSE_IMSI_UNKNOWN;
 	case CAMEL_DATA_MISSING:
@@ -145,7 +148,7 @@ void msc_camel_location_ended(struct vlr_subscr *vsub)
 	TALLOC_FREE(vsub->camel_location);
 }
 
-/* Makes the Insert of all that has come in a location update: what is kept, which stays as it is, and this behind it. */
+/* Makes the Insert of all that has come in a location update: what is kept, which stays as it is, and then this. */
 static camel_status join(const struct msc_camel_location *location, const camel_imsi *imsi,
 			 const struct osmo_gsup_message *gsup, camel_update *all, uint64_t *place)
 {
@@ -265,8 +268,9 @@ enum gsm48_gmm_cause msc_camel_cancel(struct vlr_subscr *vsub)
 
 void msc_camel_location_refused(struct vlr_subscr *vsub)
 {
+	if (vsub->camel_location)
+		cause_of(vsub, "the Cancel of a location update", cancel(vsub), CAMEL_NO_OCTET);
 	msc_camel_location_ended(vsub);
-	cause_of(vsub, "the Cancel of a location update", cancel(vsub), CAMEL_NO_OCTET);
 }
 
 /* A subscriber who was identified by the TMSI only has no IMSI, and no record. */
@@ -298,8 +302,8 @@ static camel_basic_service basic_service_of(const struct gsm_mncc *setup)
 	return service;
 }
 
-/* Logs an answer, and returns whether the call is to be released: there is no gsmSCF that could be asked. No call is set
- * up of which the data are not known. */
+/* Logs an answer, and returns whether the call is to be released: there is no gsmSCF that could be asked. No call is
+ * set up if there are no data of the subscriber. */
 static bool act(const struct msc_camel_call *call, camel_status status, const camel_answer *answer)
 {
 	const camel_event *event = &call->event;
@@ -316,13 +320,14 @@ static bool act(const struct msc_camel_call *call, camel_status status, const ca
 			  camel_reason_name(answer->reason));
 		return answer->reason == CAMEL_REASON_UNKNOWN;
 	}
-	LOG_CAMEL(call->imsi, LOGL_INFO, "%s front %" PRIu64 ": service %u at gsmSCF %s, default %s", what, answer->front,
-		  answer->key, osmo_hexdump_nospc(answer->scf.octets, answer->scf.length),
+	LOG_CAMEL(call->imsi, LOGL_INFO, "%s front %" PRIu64 ": service %u at gsmSCF %s, default %s", what,
+		  answer->front, answer->key, osmo_hexdump_nospc(answer->scf.octets, answer->scf.length),
 		  answer->is_release ? "release" : "continue");
 	return answer->is_release;
 }
 
-/* Decides the event of a set-up, and keeps the record. Without memory for that the later detection points are not asked. */
+/* Decides the event of a set-up, and keeps the record. Without memory for it the later detection points are not asked,
+ * and the set-up is decided all the same. */
 static bool set_up(struct vlr_subscr *vsub, struct msc_camel_call *call, struct msc_camel_call **kept)
 {
 	camel_session *session = &vsub->vlr->camel->session;

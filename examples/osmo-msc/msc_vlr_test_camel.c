@@ -1,6 +1,6 @@
 /* SPDX-License-Identifier: MIT OR Apache-2.0 */
-/* CAMEL trigger decisions in osmo-msc. What is compared is standard output: a heading of each step, and the lines of the
- * glue. */
+/* CAMEL trigger decisions in osmo-msc. What is compared is standard output: a heading of each step, and the lines of
+ * the glue. */
 #include <camel.h>
 
 #include "camel_steps.h"
@@ -66,7 +66,12 @@ static void test_not_asked_at_4(void)
 	mncc_sends(MNCC_SETUP_RSP, 0);
 	cc_to_mncc_expect_tx("", MNCC_SETUP_COMPL_IND);
 	ms_sends_msg("03cf");
-	caller_disconnects();
+	dtap_expect_tx("832502e1a2");
+	mncc_sends(MNCC_DISC_REQ, 34);
+	OSMO_ASSERT(dtap_tx_confirmed);
+	cc_to_mncc_expect_tx("", MNCC_REL_IND);
+	dtap_expect_tx("832a");
+	released_by("032d");
 	ends();
 }
 
@@ -90,7 +95,7 @@ static void test_refused_data(void)
 	step("an element that goes beyond its end");
 	insert_refused(&FIRST, "35023005", "020160");
 	step("a serviceKey above 2147483647");
-	insert_refused(&FIRST, "351b" "3019" "ad17" "a015" "3013" "3011" "0a0102" "0204ffffffff" "800391000081" "0100", "02015f");
+	insert_refused(&FIRST, argument_of(O_CSI_1("30110a0102" "0204ffffffff" "800391947181" "0100")), "02015f");
 	step("an O-CSI without rows");
 	insert_refused(&FIRST, argument_of("a0023000"), "020164");
 	step("criteria of a VT-CSI that is not stored");
@@ -173,7 +178,7 @@ static void test_incoming(void)
 	is_called(&FIRST);
 	is_paged(&FIRST);
 	cc_to_mncc_expect_tx("", MNCC_REL_IND);
-	dtap_expect_tx("032d0805e1e6333033");
+	dtap_expect_tx("032d0802e0e6");
 	fake_time_passes(31, 0);
 	OSMO_ASSERT(cc_to_mncc_tx_confirmed && dtap_tx_confirmed);
 	released_by("836a");
@@ -182,10 +187,11 @@ static void test_incoming(void)
 	is_paged(&FIRST);
 	called_mobile_sends("8381", MNCC_ALERT_IND, "");
 	cc_to_mncc_expect_tx("", MNCC_DISC_IND);
-	dtap_expect_tx("03250805e1e6333031");
+	dtap_expect_tx("032502e0e6");
 	fake_time_passes(181, 0);
 	OSMO_ASSERT(cc_to_mncc_tx_confirmed && dtap_tx_confirmed);
 	cc_to_mncc_expect_tx("", MNCC_REL_IND);
+	dtap_expect_tx("032a");
 	released_by("832d");
 	ends();
 }
@@ -203,10 +209,124 @@ static void test_called_party(void)
 	mncc_sends(MNCC_REL_REQ, 0);
 	cc_to_mncc_expect_tx("", MNCC_REL_CNF);
 	released_by("836a");
-	step("the caller gives up");
+	step("the caller gives up while the mobile is paged, and while it alerts");
 	is_called(&FIRST);
 	cc_to_mncc_expect_tx("", MNCC_REL_CNF);
 	mncc_sends(MNCC_REL_REQ, 16);
+	OSMO_ASSERT(cc_to_mncc_tx_confirmed);
+	fake_time_passes(11, 0);
+	is_called(&FIRST);
+	is_paged(&FIRST);
+	called_mobile_sends("8381", MNCC_ALERT_IND, "");
+	dtap_expect_tx("032502e190");
+	mncc_sends(MNCC_DISC_REQ, 16);
+	OSMO_ASSERT(dtap_tx_confirmed);
+	cc_to_mncc_expect_tx("", MNCC_REL_IND);
+	dtap_expect_tx("032a");
+	released_by("832d");
+	step("the user refuses the call");
+	is_called(&FIRST);
+	is_paged(&FIRST);
+	expect_bssap_clear();
+	called_mobile_sends("832a0802e095", MNCC_REJ_IND, "");
+	ran_sends_clear_complete();
+	step("the subscriber is in another call");
+	net->call_waiting = false;
+	sets_up(&FIRST, "0385", SPEECH, LISTED);
+	called_in_vain(&FIRST);
+	rejected_with(34);
+	net->call_waiting = true;
+	step("the subscriber is detached");
+	is_detached_and_called(&FIRST);
+	ends();
+}
+
+static void test_cancel_location(void)
+{
+	begins("CancelLocation during a call");
+	location_update(&FIRST, DATA);
+	sets_up(&FIRST, "0385", SPEECH, LISTED);
+	hlr_sends(&FIRST, "1c", "060100", "1e", "");
+	step("another call is not set up");
+	dtap_expect_tx("932a0802e1a9");
+	ms_sends_msg("1385" SPEECH LISTED "15020100");
+	OSMO_ASSERT(dtap_tx_confirmed);
+	step("the first one goes on with the record of its set-up");
+	rejected_with(34);
+	step("the subscriber returns");
+	location_update(&FIRST, OTHER_DATA);
+	calls(&FIRST, LISTED);
+	ends();
+}
+
+static void test_refused_location_update(void)
+{
+	begins("A location update that the HLR refuses");
+	location_update(&FIRST, CALLED_DATA);
+	location_update_begins(&FIRST);
+	location_update_ends(&FIRST, "05", RES_REJECT);
+	step("a call to the subscriber is not set up");
+	called_in_vain(&FIRST);
+	step("an InsertSubscriberData outside of a location update finds no record");
+	insert_refused(&FIRST, argument_of(DATA), "020102");
+	ends();
+}
+
+static void test_refused_memory(void)
+{
+	begins("Memory is refused at a publication: what is answered as refused is never seen");
+	location_update(&FIRST, DATA);
+	location_update(&SECOND, DATA);
+	step("data");
+	refused = OF_PUBLICATION;
+	insert_refused(&FIRST, argument_of(OTHER_DATA), "020116");
+	refused = NO_REQUEST;
+	inserts(&SECOND, OTHER_DATA);
+	calls(&FIRST, LISTED);
+	step("data in a location update");
+	location_update_begins(&FIRST);
+	refused = OF_PUBLICATION;
+	insert_refused(&FIRST, argument_of(OTHER_DATA), "020116");
+	refused = NO_REQUEST;
+	location_update_ends(&FIRST, "06", RES_ACCEPT);
+	inserts(&SECOND, DATA);
+	calls(&FIRST, LISTED);
+	step("the second data of a location update, and a third operation comes");
+	location_update_begins(&FIRST);
+	inserts(&FIRST, CALLED_RELEASE);
+	refused = OF_PUBLICATION;
+	insert_refused(&FIRST, argument_of(DATA), "020116");
+	refused = NO_REQUEST;
+	inserts(&FIRST, "");
+	location_update_ends(&FIRST, "06", RES_ACCEPT);
+	calls(&FIRST, LISTED);
+	step("a withdrawal");
+	inserts(&FIRST, DATA);
+	refused = OF_PUBLICATION;
+	hlr_sends(&FIRST, "14", WITHDRAWN_ALL, "15", "020116");
+	refused = NO_REQUEST;
+	inserts(&SECOND, OTHER_DATA);
+	calls(&FIRST, LISTED);
+	step("CancelLocation, and memory to drop it is refused too");
+	refused = FROM_PUBLICATION_ON;
+	hlr_sends(&FIRST, "1c", "060100", "1d", "020116");
+	refused = NO_REQUEST;
+	inserts(&SECOND, DATA);
+	calls(&FIRST, LISTED);
+	step("the end of a location update without CAMEL data");
+	location_update_begins(&FIRST);
+	refused = OF_PUBLICATION;
+	location_update_ends(&FIRST, "06", RES_REJECT);
+	refused = NO_REQUEST;
+	step("the location update is made again");
+	location_update(&FIRST, NULL);
+	calls(&FIRST, LISTED);
+	step("a set-up: it is decided, and has no record");
+	inserts(&FIRST, DATA);
+	refused = EACH_REQUEST;
+	sets_up(&FIRST, "0385", SPEECH, LISTED);
+	refused = NO_REQUEST;
+	rejected_with(34);
 	ends();
 }
 
@@ -221,5 +341,8 @@ msc_vlr_test_func_t msc_vlr_tests[] = {
 	test_location_updates,
 	test_incoming,
 	test_called_party,
+	test_cancel_location,
+	test_refused_location_update,
+	test_refused_memory,
 	NULL
 };
