@@ -21,7 +21,7 @@ MAP_CHECK := crates/camel_map_check/out/camel_map_check
 EXPLAIN := crates/camel_explain/out/camel_explain
 
 # The shell reads these, and not make, so that a name may have spaces.
-export SCRIPT LIMIT THREADS PROFILE CRATE PREFIX DESTDIR LIBDIR PARTS
+export SCRIPT LIMIT THREADS PROFILE CRATE PREFIX DESTDIR LIBDIR PARTS SANITIZE JOBS
 OPTIONS = --limit "$$LIMIT" $(if $(THREADS),--threads "$$THREADS") $(if $(PROFILE),--profile "$$PROFILE")
 
 # Prints what its line says of a target, or of each. The name of a time stands for its value there.
@@ -41,8 +41,8 @@ endef
 
 .PHONY: help try try-explain replay explain explain-check program check script crate pages try-make proofs must-not-compile \
 	examples scripts streams coprocess refusals fuzz map-check map-program library install library-test library-c \
-	library-cpp library-as-shipped library-installed library-deb library-rust deb soak fuzz-c bench bench-program \
-	bench-vlr bench-peers bench-loop bench-map count-vlr test
+	library-cpp library-as-shipped library-installed library-deb library-rust deb osmo-check osmo-source soak fuzz-c \
+	bench bench-program bench-vlr bench-peers bench-loop bench-map count-vlr test
 # In order, so that what is missing is said before anything is built.
 .NOTPARALLEL:
 .SECONDEXPANSION:
@@ -191,6 +191,15 @@ library-deb: begin-$$@ library
 library-rust: DECISIONS ?= 1000000
 library-rust: begin-$$@ library
 	@.ci/library-test rust $(DECISIONS)
+
+# It needs the packages that osmo-msc is built with, says which are missing, and fetches the source once. SANITIZE=1
+# builds osmo-msc with its sanitizers, by so many JOBS.
+## Builds Debian's osmo-msc over the library, and runs its tests and that of its glue: a minute, with it built.
+osmo-check: begin-$$@ osmo-source library
+	@.ci/osmo-check run
+
+osmo-source: begin-osmo-check
+	@.ci/osmo-check source
 
 # It makes so many DECISIONS, or goes on for so many SECONDS if they are given. Another SEED gives other calls and
 # updates.

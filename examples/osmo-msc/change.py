@@ -24,8 +24,8 @@ HERE = Path(__file__).resolve().parent
 COPIES = {
     "msc_camel.c": "src/libvlr",
     "msc_camel.h": "include/osmocom/msc",
-    "camel_steps.c": "tests/msc_vlr",
-    "camel_steps.h": "tests/msc_vlr",
+    "msc_vlr_camel_steps.c": "tests/msc_vlr",
+    "msc_vlr_camel_steps.h": "tests/msc_vlr",
     "msc_vlr_test_camel.c": "tests/msc_vlr",
     "msc_vlr_test_camel.ok": "tests/msc_vlr",
 }

@@ -138,14 +138,14 @@ static enum gsm48_gmm_cause cause_of(const struct vlr_subscr *vsub, const char *
 void msc_camel_location_requested(struct vlr_subscr *vsub)
 {
 	msc_camel_location_ended(vsub);
-	vsub->camel_location = talloc_zero(vsub, struct msc_camel_location);
-	OSMO_ASSERT(vsub->camel_location);
-	talloc_set_destructor(vsub->camel_location, free_location);
+	vsub->msc_camel_location = talloc_zero(vsub, struct msc_camel_location);
+	OSMO_ASSERT(vsub->msc_camel_location);
+	talloc_set_destructor(vsub->msc_camel_location, free_location);
 }
 
 void msc_camel_location_ended(struct vlr_subscr *vsub)
 {
-	TALLOC_FREE(vsub->camel_location);
+	TALLOC_FREE(vsub->msc_camel_location);
 }
 
 /* Makes the Insert of all that has come in a location update: what is kept, which stays as it is, and then this. */
@@ -172,7 +172,7 @@ static camel_status insert_anew(struct vlr_subscr *vsub, const camel_imsi *imsi,
 				uint64_t *place)
 {
 	struct msc_camel *camel = vsub->vlr->camel;
-	struct msc_camel_location *location = vsub->camel_location;
+	struct msc_camel_location *location = vsub->msc_camel_location;
 	camel_update updates[2] = { CAMEL_EMPTY, CAMEL_EMPTY };
 	size_t rejected;
 	camel_status status = join(location, imsi, gsup, &updates[1], place);
@@ -204,7 +204,7 @@ enum gsm48_gmm_cause msc_camel_insert(struct vlr_subscr *vsub, const struct osmo
 	if (!gsup->ss_info_len)
 		return 0;
 	status = begin(vsub, &imsi);
-	if (status == CAMEL_OK && vsub->camel_location) {
+	if (status == CAMEL_OK && vsub->msc_camel_location) {
 		status = insert_anew(vsub, &imsi, gsup, &place);
 	} else if (status == CAMEL_OK) {
 		status = camel_submit_map(&camel->store, CAMEL_INSERT_SUBSCRIBER_DATA, &imsi, gsup->ss_info,
@@ -222,7 +222,7 @@ enum gsm48_gmm_cause msc_camel_location_updated(struct vlr_subscr *vsub)
 	camel_status status = CAMEL_OK;
 	camel_imsi imsi;
 
-	if (vsub->camel_location && !vsub->camel_location->has_come) {
+	if (vsub->msc_camel_location && !vsub->msc_camel_location->has_come) {
 		status = begin(vsub, &imsi);
 		if (status == CAMEL_OK)
 			status = camel_submit_register(&camel->store, &imsi);
@@ -268,7 +268,7 @@ enum gsm48_gmm_cause msc_camel_cancel(struct vlr_subscr *vsub)
 
 void msc_camel_location_refused(struct vlr_subscr *vsub)
 {
-	if (vsub->camel_location)
+	if (vsub->msc_camel_location)
 		cause_of(vsub, "the Cancel of a location update", cancel(vsub), CAMEL_NO_OCTET);
 	msc_camel_location_ended(vsub);
 }

@@ -3,7 +3,7 @@
  * the glue. */
 #include <camel.h>
 
-#include "camel_steps.h"
+#include "msc_vlr_camel_steps.h"
 
 static void test_criteria(void)
 {

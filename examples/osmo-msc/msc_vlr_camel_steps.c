@@ -4,7 +4,7 @@
 
 #include <camel.h>
 
-#include "camel_steps.h"
+#include "msc_vlr_camel_steps.h"
 
 #include <osmocom/msc/gsm_04_08.h>
 
