@@ -26,7 +26,7 @@ camel_status __real_camel_publish_to(camel_store *store, camel_session *sessions
 
 static bool is_refused(void)
 {
-	return refused == EACH_REQUEST || (refused != NO_REQUEST && is_publishing);
+	return refused == EACH_REQUEST || (refused == OF_PUBLICATION && is_publishing);
 }
 
 void *__wrap_malloc(size_t size)
@@ -43,11 +43,13 @@ camel_status __wrap_camel_publish_to(camel_store *store, camel_session *sessions
 {
 	camel_status status;
 
+	if (refused == PUBLICATION || refused == PUBLICATION_AND_BEHIND) {
+		refused = refused == PUBLICATION ? NO_REQUEST : EACH_REQUEST;
+		return CAMEL_OUT_OF_MEMORY;
+	}
 	is_publishing = true;
 	status = __real_camel_publish_to(store, sessions, count);
 	is_publishing = false;
-	if (refused == FROM_PUBLICATION_ON)
-		refused = EACH_REQUEST;
 	return status;
 }
 
@@ -120,7 +122,7 @@ const char *argument_of(const char *contents)
 	static char argument[600];
 	unsigned count = strlen(contents) / 2;
 
-	snprintf(argument, sizeof(argument), "35%02x30%02xad%02x%s", count + 4, count + 2, count, contents);
+	snprintf(argument, sizeof(argument), "35%02x3081%02xad81%02x%s", count + 6, count + 3, count, contents);
 	return argument;
 }
 

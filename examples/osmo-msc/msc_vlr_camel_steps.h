@@ -32,9 +32,9 @@ extern const struct subscriber FIRST, SECOND;
 #define O_CRITERIA "a41e" "300f0a0102" "a00a800101a1050403913461" "300b0a0104" "a306040122040126"
 /* t-BCSM-CAMEL-TDP-CriteriaList [8]: at 13 the causes 17 and 20, at 14 the cause 18 */
 #define T_CRITERIA "a817" "300b0a010d" "a106040111040114" "30080a010e" "a103040112"
-/* DeleteSubscriberDataArg with specificCSI-Withdraw [15] of the O-CSI, and with camelSubscriptionInfoWithdraw [9] */
-#define WITHDRAWN_O "3506" "3004" "8f020080"
-#define WITHDRAWN_ALL "3504" "3002" "8900"
+/* DeleteSubscriberDataArg of FIRST with specificCSI-Withdraw [15] of the O-CSI, and camelSubscriptionInfoWithdraw [9] */
+#define WITHDRAWN_O "3510" "300e" "800809710000000156f0" "8f020080"
+#define WITHDRAWN_ALL "350e" "300c" "800809710000000156f0" "8900"
 
 #define DATA O_CSI_2(ROW("02", "64", CONTINUE), ROW("04", "65", RELEASE))
 #define OTHER_DATA O_CSI_2(ROW("02", "6e", CONTINUE), ROW("04", "6f", CONTINUE))
@@ -53,8 +53,9 @@ extern const struct subscriber FIRST, SECOND;
 #define LONG_NUMBER "5e1791346105" "1111111111111111111111111111111111111111"
 #define EMERGENCY_NUMBER "5e038111f2"
 
-/* Which requests of the library for memory are refused: those of a publication, also those behind it, or all. */
-enum refusal { NO_REQUEST, OF_PUBLICATION, FROM_PUBLICATION_ON, EACH_REQUEST };
+/* Which requests of the library for memory are refused: those of a publication, or all. The publication of a withdrawal
+ * or a Cancel may need no memory: it can be refused without a request, and all requests behind it. */
+enum refusal { NO_REQUEST, OF_PUBLICATION, EACH_REQUEST, PUBLICATION, PUBLICATION_AND_BEHIND };
 extern enum refusal refused;
 
 /* Prints a line beside those of the glue. */

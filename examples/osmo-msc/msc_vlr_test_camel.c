@@ -156,6 +156,15 @@ static void test_location_updates(void)
 	inserts(&FIRST, DATA);
 	inserts(&FIRST, CALLED_RELEASE);
 	calls(&FIRST, LISTED);
+	step("so it is behind a location update that the HLR does not answer");
+	location_update(&FIRST, CALLED_RELEASE);
+	location_update_begins(&FIRST);
+	expect_bssap_clear();
+	fake_time_passes(31, 0);
+	OSMO_ASSERT(lu_result_sent == RES_REJECT && bssap_clear_sent);
+	ran_sends_clear_complete();
+	inserts(&FIRST, DATA);
+	called_in_vain(&FIRST);
 	ends();
 }
 
@@ -272,57 +281,59 @@ static void test_refused_location_update(void)
 	ends();
 }
 
+/* The publication of data asks for memory if they have a number criterion or a VT-CSI. */
+#define GREAT_DATA DATA O_CRITERIA CALLED_DATA
+#define OTHER_GREAT_DATA OTHER_DATA O_CRITERIA CALLED_DATA
+
 static void test_refused_memory(void)
 {
 	begins("Memory is refused at a publication: what is answered as refused is never seen");
-	location_update(&FIRST, DATA);
-	location_update(&SECOND, DATA);
+	location_update(&FIRST, GREAT_DATA);
+	location_update(&SECOND, GREAT_DATA);
 	step("data");
 	refused = OF_PUBLICATION;
-	insert_refused(&FIRST, argument_of(OTHER_DATA), "020116");
+	insert_refused(&FIRST, argument_of(OTHER_GREAT_DATA), "020116");
 	refused = NO_REQUEST;
-	inserts(&SECOND, OTHER_DATA);
+	inserts(&SECOND, OTHER_GREAT_DATA);
 	calls(&FIRST, LISTED);
 	step("data in a location update");
 	location_update_begins(&FIRST);
 	refused = OF_PUBLICATION;
-	insert_refused(&FIRST, argument_of(OTHER_DATA), "020116");
+	insert_refused(&FIRST, argument_of(OTHER_GREAT_DATA), "020116");
 	refused = NO_REQUEST;
 	location_update_ends(&FIRST, "06", RES_ACCEPT);
-	inserts(&SECOND, DATA);
+	inserts(&SECOND, GREAT_DATA);
 	calls(&FIRST, LISTED);
 	step("the second data of a location update, and a third operation comes");
 	location_update_begins(&FIRST);
 	inserts(&FIRST, CALLED_RELEASE);
 	refused = OF_PUBLICATION;
-	insert_refused(&FIRST, argument_of(DATA), "020116");
+	insert_refused(&FIRST, argument_of(DATA O_CRITERIA), "020116");
 	refused = NO_REQUEST;
 	inserts(&FIRST, "");
 	location_update_ends(&FIRST, "06", RES_ACCEPT);
 	calls(&FIRST, LISTED);
 	step("a withdrawal");
-	inserts(&FIRST, DATA);
-	refused = OF_PUBLICATION;
-	hlr_sends(&FIRST, "14", WITHDRAWN_ALL, "15", "020116");
-	refused = NO_REQUEST;
-	inserts(&SECOND, OTHER_DATA);
+	inserts(&FIRST, GREAT_DATA);
+	refused = PUBLICATION;
+	hlr_sends(&FIRST, "14", WITHDRAWN_O, "15", "020116");
+	inserts(&SECOND, OTHER_GREAT_DATA);
 	calls(&FIRST, LISTED);
 	step("CancelLocation, and memory to drop it is refused too");
-	refused = FROM_PUBLICATION_ON;
+	refused = PUBLICATION_AND_BEHIND;
 	hlr_sends(&FIRST, "1c", "060100", "1d", "020116");
 	refused = NO_REQUEST;
-	inserts(&SECOND, DATA);
+	inserts(&SECOND, GREAT_DATA);
 	calls(&FIRST, LISTED);
 	step("the end of a location update without CAMEL data");
 	location_update_begins(&FIRST);
-	refused = OF_PUBLICATION;
+	refused = PUBLICATION;
 	location_update_ends(&FIRST, "06", RES_REJECT);
-	refused = NO_REQUEST;
 	step("the location update is made again");
 	location_update(&FIRST, NULL);
 	calls(&FIRST, LISTED);
 	step("a set-up: it is decided, and has no record");
-	inserts(&FIRST, DATA);
+	inserts(&FIRST, GREAT_DATA);
 	refused = EACH_REQUEST;
 	sets_up(&FIRST, "0385", SPEECH, LISTED);
 	refused = NO_REQUEST;
