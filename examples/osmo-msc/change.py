@@ -11,8 +11,7 @@ that begin with `|`. A comment begins with `#`.
 
 A hook names its file, the place `in` it, which is a function, or a structure as `struct NAME`, and an anchor: `before`
 or `behind` the one statement there that has these words in their order. A statement ends at `;`, `{` or `}`, comments
-and strings aside; the word `end` by itself is the end of a function. Without `in` the anchor is a line of the file, and
-without any anchor the text goes to the end of the file.
+and strings aside. Without `in` the anchor is a line of the file, and without any anchor the text goes to its end.
 """
 
 import re
@@ -113,9 +112,6 @@ def places(text, hook):
         return found
     hidden = masked(text)
     for start, end in bodies(hidden, hook["in"]):
-        if words == ["end"]:
-            found.append(end_of_line(text, end))
-            continue
         for begin, stop in statements(hidden, start, end):
             if has(hidden[begin:stop], words):
                 first = begin + len(hidden[begin:stop]) - len(hidden[begin:stop].lstrip())

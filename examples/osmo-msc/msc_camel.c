@@ -45,6 +45,7 @@ struct msc_camel_call {
 	char imsi[GSM23003_IMSI_MAX_DIGITS + 1];
 };
 
+/* What talloc does before it frees these. */
 static int free_store(struct msc_camel *camel)
 {
 	camel_free(&camel->session);
@@ -135,17 +136,23 @@ static enum gsm48_gmm_cause cause_of(const struct vlr_subscr *vsub, const char *
 	}
 }
 
+static void end_location(struct vlr_subscr *vsub)
+{
+	TALLOC_FREE(vsub->msc_camel_location);
+}
+
 void msc_camel_location_requested(struct vlr_subscr *vsub)
 {
-	msc_camel_location_ended(vsub);
+	end_location(vsub);
 	vsub->msc_camel_location = talloc_zero(vsub, struct msc_camel_location);
 	OSMO_ASSERT(vsub->msc_camel_location);
 	talloc_set_destructor(vsub->msc_camel_location, free_location);
 }
 
-void msc_camel_location_ended(struct vlr_subscr *vsub)
+void msc_camel_procedure_ended(struct vlr_subscr *vsub, const struct osmo_fsm_inst *procedure)
 {
-	TALLOC_FREE(vsub->msc_camel_location);
+	if (vsub && (procedure == vsub->lu_fsm || procedure == vsub->proc_arq_fsm))
+		end_location(vsub);
 }
 
 /* Makes the Insert of all that has come in a location update: what is kept, which stays as it is, and then this. */
@@ -194,9 +201,18 @@ static camel_status insert_anew(struct vlr_subscr *vsub, const camel_imsi *imsi,
 	return status;
 }
 
-enum gsm48_gmm_cause msc_camel_insert(struct vlr_subscr *vsub, const struct osmo_gsup_message *gsup)
+/* Submits and publishes what an operation of its own brings. */
+static camel_status submit(struct vlr_subscr *vsub, uint8_t operation, const camel_imsi *imsi,
+			   const struct osmo_gsup_message *gsup, uint64_t *place)
 {
 	struct msc_camel *camel = vsub->vlr->camel;
+	camel_status status = camel_submit_map(&camel->store, operation, imsi, gsup->ss_info, gsup->ss_info_len, place);
+
+	return status == CAMEL_OK ? publish(camel) : status;
+}
+
+enum gsm48_gmm_cause msc_camel_insert(struct vlr_subscr *vsub, const struct osmo_gsup_message *gsup)
+{
 	uint64_t place = CAMEL_NO_OCTET;
 	camel_imsi imsi;
 	camel_status status;
@@ -207,10 +223,7 @@ enum gsm48_gmm_cause msc_camel_insert(struct vlr_subscr *vsub, const struct osmo
 	if (status == CAMEL_OK && vsub->msc_camel_location) {
 		status = insert_anew(vsub, &imsi, gsup, &place);
 	} else if (status == CAMEL_OK) {
-		status = camel_submit_map(&camel->store, CAMEL_INSERT_SUBSCRIBER_DATA, &imsi, gsup->ss_info,
-					  gsup->ss_info_len, &place);
-		if (status == CAMEL_OK)
-			status = publish(camel);
+		status = submit(vsub, CAMEL_INSERT_SUBSCRIBER_DATA, &imsi, gsup, &place);
 	}
 	return cause_of(vsub, "InsertSubscriberData", status, place);
 }
@@ -229,22 +242,18 @@ enum gsm48_gmm_cause msc_camel_location_updated(struct vlr_subscr *vsub)
 		if (status == CAMEL_OK)
 			status = publish(camel);
 	}
-	msc_camel_location_ended(vsub);
+	end_location(vsub);
 	return cause_of(vsub, "UpdateLocation", status, CAMEL_NO_OCTET);
 }
 
 enum gsm48_gmm_cause msc_camel_delete(struct vlr_subscr *vsub, const struct osmo_gsup_message *gsup)
 {
-	struct msc_camel *camel = vsub->vlr->camel;
 	uint64_t place = CAMEL_NO_OCTET;
 	camel_imsi imsi;
 	camel_status status = begin(vsub, &imsi);
 
 	if (status == CAMEL_OK)
-		status = camel_submit_map(&camel->store, CAMEL_DELETE_SUBSCRIBER_DATA, &imsi, gsup->ss_info,
-					  gsup->ss_info_len, &place);
-	if (status == CAMEL_OK)
-		status = publish(camel);
+		status = submit(vsub, CAMEL_DELETE_SUBSCRIBER_DATA, &imsi, gsup, &place);
 	return cause_of(vsub, "DeleteSubscriberData", status, place);
 }
 
@@ -270,7 +279,7 @@ void msc_camel_location_refused(struct vlr_subscr *vsub)
 {
 	if (vsub->msc_camel_location)
 		cause_of(vsub, "the Cancel of a location update", cancel(vsub), CAMEL_NO_OCTET);
-	msc_camel_location_ended(vsub);
+	end_location(vsub);
 }
 
 /* A subscriber who was identified by the TMSI only has no IMSI, and no record. */
@@ -326,17 +335,18 @@ static bool act(const struct msc_camel_call *call, camel_status status, const ca
 	return answer->is_release;
 }
 
-/* Decides the event of a set-up, and keeps the record. Without memory for it the later detection points are not asked,
- * and the set-up is decided all the same. */
-static bool set_up(struct vlr_subscr *vsub, struct msc_camel_call *call, struct msc_camel_call **kept)
+/* Decides the event of a set-up, if the status of its data is CAMEL_OK, and keeps the record. Without memory for it the
+ * later detection points are not asked, and the set-up is decided all the same. */
+static bool set_up(struct vlr_subscr *vsub, struct msc_camel_call *call, camel_status status,
+		   struct msc_camel_call **kept)
 {
 	camel_session *session = &vsub->vlr->camel->session;
 	bool is_there = false, is_released;
 	camel_answer answer;
-	camel_status status;
 
 	OSMO_STRLCPY_ARRAY(call->imsi, vsub->imsi);
-	status = camel_imsi_of_digits((const uint8_t *)vsub->imsi, strlen(vsub->imsi), &call->event.imsi);
+	if (status == CAMEL_OK)
+		status = camel_imsi_of_digits((const uint8_t *)vsub->imsi, strlen(vsub->imsi), &call->event.imsi);
 	if (status == CAMEL_OK)
 		status = camel_set_up(session, &call->event, &answer, &call->kept, &is_there);
 	if (status == CAMEL_OUT_OF_MEMORY)
@@ -382,13 +392,12 @@ bool msc_camel_outgoing(struct gsm_trans *trans, const struct gsm_mncc *setup, c
 	call = new_call(trans, CAMEL_DP_COLLECTED_INFO, setup);
 	status = camel_address_of(called, OSMO_MIN(count, sizeof(call->event.destination.octets)),
 				  &call->event.destination);
-	OSMO_ASSERT(status == CAMEL_OK);
-	return set_up(trans->vsub, call, &trans->cc.camel);
+	return set_up(trans->vsub, call, status, &trans->cc.camel);
 }
 
 bool msc_camel_incoming(struct vlr_subscr *vsub, const struct gsm_mncc *setup, struct msc_camel_call **call)
 {
-	return set_up(vsub, new_call(vsub, CAMEL_DP_TERM_ATTEMPT_AUTHORIZED, setup), call);
+	return set_up(vsub, new_call(vsub, CAMEL_DP_TERM_ATTEMPT_AUTHORIZED, setup), CAMEL_OK, call);
 }
 
 /* Decides a later detection point by the record of the set-up. The call ends in any case, whatever the answer is. */
@@ -452,9 +461,9 @@ static void not_answered(struct gsm_trans *trans, const struct gsm_mncc *mncc)
 		decide_later(&trans->cc.camel, CAMEL_DP_T_BUSY, cause);
 }
 
-static bool is_incoming(const struct msc_camel_call *call)
+static bool is_incoming(const struct gsm_trans *trans)
 {
-	return call->event.dp == CAMEL_DP_TERM_ATTEMPT_AUTHORIZED;
+	return trans->cc.camel->event.dp == CAMEL_DP_TERM_ATTEMPT_AUTHORIZED;
 }
 
 void msc_camel_to_mncc(struct gsm_trans *trans, int message, const struct gsm_mncc *mncc)
@@ -465,7 +474,7 @@ void msc_camel_to_mncc(struct gsm_trans *trans, int message, const struct gsm_mn
 	case MNCC_DISC_IND:
 	case MNCC_REL_IND:
 	case MNCC_REJ_IND:
-		if (is_incoming(trans->cc.camel))
+		if (is_incoming(trans))
 			not_answered(trans, mncc);
 		break; /* else the caller gives up, which is no trigger detection point */
 	case MNCC_SETUP_CNF:
@@ -486,7 +495,7 @@ void msc_camel_from_mncc(struct gsm_trans *trans, const struct gsm_mncc *mncc)
 	case MNCC_DISC_REQ:
 	case MNCC_REL_REQ:
 	case MNCC_REJ_REQ:
-		if (!is_incoming(trans->cc.camel) && is_routing_cause(cause))
+		if (!is_incoming(trans) && is_routing_cause(cause))
 			decide_later(&trans->cc.camel, CAMEL_DP_ROUTE_SELECT_FAILURE, cause);
 		break; /* the caller of an incoming call gives up */
 	case MNCC_SETUP_RSP:

@@ -15,6 +15,7 @@ struct gsm_trans;
 struct msc_camel;
 struct msc_camel_call;
 struct msc_camel_location;
+struct osmo_fsm_inst;
 struct osmo_gsup_message;
 struct vlr_subscr;
 
@@ -24,11 +25,12 @@ enum { MSC_CAMEL_ABSENT = 20, MSC_CAMEL_RELEASED = GSM48_CC_CAUSE_TEMP_FAILURE }
 /* The store of a VLR, with its one writer and its one session, as a talloc child of ctx. NULL if it can't be opened. */
 struct msc_camel *msc_camel_open(void *ctx);
 
-/* A location update is requested. It ends well, is refused by the HLR, or ends in any way. */
+/* A location update is requested. The HLR ends it well, for which a cause other than 0 makes it fail, or refuses it. A
+ * procedure of the VLR ends that may have requested one of the subscriber, who may be NULL. */
 void msc_camel_location_requested(struct vlr_subscr *vsub);
 enum gsm48_gmm_cause msc_camel_location_updated(struct vlr_subscr *vsub);
 void msc_camel_location_refused(struct vlr_subscr *vsub);
-void msc_camel_location_ended(struct vlr_subscr *vsub);
+void msc_camel_procedure_ended(struct vlr_subscr *vsub, const struct osmo_fsm_inst *procedure);
 
 /* What the HLR sends. 0: it is published, and is answered as done. Else it has changed nothing, and is answered with
  * this cause. */

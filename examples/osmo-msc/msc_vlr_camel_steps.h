@@ -32,7 +32,7 @@ extern const struct subscriber FIRST, SECOND;
 #define O_CRITERIA "a41e" "300f0a0102" "a00a800101a1050403913461" "300b0a0104" "a306040122040126"
 /* t-BCSM-CAMEL-TDP-CriteriaList [8]: at 13 the causes 17 and 20, at 14 the cause 18 */
 #define T_CRITERIA "a817" "300b0a010d" "a106040111040114" "30080a010e" "a103040112"
-/* DeleteSubscriberDataArg of FIRST with specificCSI-Withdraw [15] of the O-CSI, and camelSubscriptionInfoWithdraw [9] */
+/* DeleteSubscriberDataArg of FIRST: specificCSI-Withdraw [15] of the O-CSI, and camelSubscriptionInfoWithdraw [9] */
 #define WITHDRAWN_O "3510" "300e" "800809710000000156f0" "8f020080"
 #define WITHDRAWN_ALL "350e" "300c" "800809710000000156f0" "8900"
 
