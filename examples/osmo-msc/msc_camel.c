@@ -337,13 +337,17 @@ static bool act(const struct msc_camel_call *call, camel_status status, const ca
 
 /* Decides the event of a set-up, if the status of its data is CAMEL_OK, and keeps the record. Without memory for it the
  * later detection points are not asked, and the set-up is decided all the same. */
-static bool set_up(struct vlr_subscr *vsub, struct msc_camel_call *call, camel_status status,
+static bool set_up(void *ctx, struct vlr_subscr *vsub, const camel_event *event, camel_status status,
 		   struct msc_camel_call **kept)
 {
 	camel_session *session = &vsub->vlr->camel->session;
+	struct msc_camel_call *call = talloc_zero(ctx, struct msc_camel_call);
 	bool is_there = false, is_released;
 	camel_answer answer;
 
+	OSMO_ASSERT(call);
+	talloc_set_destructor(call, free_call);
+	call->event = *event;
 	OSMO_STRLCPY_ARRAY(call->imsi, vsub->imsi);
 	if (status == CAMEL_OK)
 		status = camel_imsi_of_digits((const uint8_t *)vsub->imsi, strlen(vsub->imsi), &call->event.imsi);
@@ -357,17 +361,6 @@ static bool set_up(struct vlr_subscr *vsub, struct msc_camel_call *call, camel_s
 	else
 		talloc_free(call);
 	return is_released;
-}
-
-static struct msc_camel_call *new_call(void *ctx, uint8_t dp, const struct gsm_mncc *setup)
-{
-	struct msc_camel_call *call = talloc_zero(ctx, struct msc_camel_call);
-
-	OSMO_ASSERT(call);
-	talloc_set_destructor(call, free_call);
-	call->event.dp = dp;
-	call->event.basic = basic_service_of(setup);
-	return call;
 }
 
 /* A number that is routed as an emergency call, also if the mobile sends it in a SETUP (TS 22.101). */
@@ -384,20 +377,20 @@ static bool is_emergency_number(const char *number)
 
 bool msc_camel_outgoing(struct gsm_trans *trans, const struct gsm_mncc *setup, const uint8_t *called, size_t count)
 {
-	struct msc_camel_call *call;
-	camel_status status;
+	camel_event event = { .dp = CAMEL_DP_COLLECTED_INFO, .basic = basic_service_of(setup) };
+	camel_status status = camel_address_of(called, OSMO_MIN(count, sizeof(event.destination.octets)),
+					       &event.destination);
 
 	if (setup->emergency || is_emergency_number(setup->called.number))
 		return false;
-	call = new_call(trans, CAMEL_DP_COLLECTED_INFO, setup);
-	status = camel_address_of(called, OSMO_MIN(count, sizeof(call->event.destination.octets)),
-				  &call->event.destination);
-	return set_up(trans->vsub, call, status, &trans->cc.camel);
+	return set_up(trans, trans->vsub, &event, status, &trans->cc.camel);
 }
 
 bool msc_camel_incoming(struct vlr_subscr *vsub, const struct gsm_mncc *setup, struct msc_camel_call **call)
 {
-	return set_up(vsub, new_call(vsub, CAMEL_DP_TERM_ATTEMPT_AUTHORIZED, setup), CAMEL_OK, call);
+	camel_event event = { .dp = CAMEL_DP_TERM_ATTEMPT_AUTHORIZED, .basic = basic_service_of(setup) };
+
+	return set_up(vsub, vsub, &event, CAMEL_OK, call);
 }
 
 /* Decides a later detection point by the record of the set-up. The call ends in any case, whatever the answer is. */
@@ -433,18 +426,10 @@ static uint8_t cause_or(const struct gsm_mncc *mncc, uint8_t otherwise)
 	return mncc->fields & MNCC_F_CAUSE ? mncc->cause.value & 0x7f : otherwise;
 }
 
-/* Busy, not reachable and not answered are no trigger detection points of the calling party: 5 and 6 are none. */
+/* Busy (17), not answered (18, 19) and not reachable (20) are no trigger detection points of the calling party. */
 static bool is_routing_cause(uint8_t cause)
 {
-	switch (cause) {
-	case GSM48_CC_CAUSE_USER_BUSY:
-	case GSM48_CC_CAUSE_USER_NOTRESPOND:
-	case GSM48_CC_CAUSE_USER_ALERTING_NA:
-	case MSC_CAMEL_ABSENT:
-		return false;
-	default:
-		return true;
-	}
+	return cause < GSM48_CC_CAUSE_USER_BUSY || cause > MSC_CAMEL_ABSENT;
 }
 
 /* The mobile has ended an incoming call before its answer, or a timer has. osmo-msc has the cause 18 for both timers:
