@@ -184,7 +184,6 @@ static camel_status insert_anew(struct vlr_subscr *vsub, const camel_imsi *imsi,
 	size_t rejected;
 	camel_status status = join(location, imsi, gsup, &updates[1], place);
 
-	location->has_come = true;
 	if (status == CAMEL_OK)
 		status = camel_update_of_register(imsi, &updates[0]);
 	if (status == CAMEL_OK)
@@ -219,12 +218,13 @@ enum gsm48_gmm_cause msc_camel_insert(struct vlr_subscr *vsub, const struct osmo
 
 	if (!gsup->ss_info_len)
 		return 0;
+	if (vsub->msc_camel_location)
+		vsub->msc_camel_location->has_come = true;
 	status = begin(vsub, &imsi);
-	if (status == CAMEL_OK && vsub->msc_camel_location) {
+	if (status == CAMEL_OK && vsub->msc_camel_location)
 		status = insert_anew(vsub, &imsi, gsup, &place);
-	} else if (status == CAMEL_OK) {
+	else if (status == CAMEL_OK)
 		status = submit(vsub, CAMEL_INSERT_SUBSCRIBER_DATA, &imsi, gsup, &place);
-	}
 	return cause_of(vsub, "InsertSubscriberData", status, place);
 }
 
