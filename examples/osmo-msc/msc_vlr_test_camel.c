@@ -152,7 +152,13 @@ static void test_location_updates(void)
 	step("no CAMEL data come");
 	location_update(&FIRST, NULL);
 	calls(&FIRST, LISTED);
-	step("outside of a location update an Insert replaces what comes only");
+	ends();
+}
+
+static void test_no_location_update(void)
+{
+	begins("Outside of a location update an Insert replaces what comes only");
+	location_update(&FIRST, NULL);
 	inserts(&FIRST, DATA);
 	inserts(&FIRST, CALLED_RELEASE);
 	calls(&FIRST, LISTED);
@@ -205,10 +211,10 @@ static void test_incoming(void)
 	ends();
 }
 
-static void test_called_party(void)
+static void test_not_asked_at_13(void)
 {
-	begins("More calls to a subscriber with a VT-CSI");
-	location_update(&FIRST, DATA CALLED_DATA);
+	begins("What is not asked at DP 13 and DP 14");
+	location_update(&FIRST, CALLED_DATA);
 	step("the call is answered");
 	is_called(&FIRST);
 	is_paged(&FIRST);
@@ -233,6 +239,13 @@ static void test_called_party(void)
 	cc_to_mncc_expect_tx("", MNCC_REL_IND);
 	dtap_expect_tx("032a");
 	released_by("832d");
+	ends();
+}
+
+static void test_not_reached(void)
+{
+	begins("More that is asked at DP 13");
+	location_update(&FIRST, DATA CALLED_DATA);
 	step("the user refuses the call");
 	is_called(&FIRST);
 	is_paged(&FIRST);
@@ -285,7 +298,7 @@ static void test_refused_location_update(void)
 #define GREAT_DATA DATA O_CRITERIA CALLED_DATA
 #define OTHER_GREAT_DATA OTHER_DATA O_CRITERIA CALLED_DATA
 
-static void test_refused_memory(void)
+static void test_refused_publication(void)
 {
 	begins("Memory is refused at a publication: what is answered as refused is never seen");
 	location_update(&FIRST, GREAT_DATA);
@@ -313,8 +326,15 @@ static void test_refused_memory(void)
 	inserts(&FIRST, "");
 	location_update_ends(&FIRST, "06", RES_ACCEPT);
 	calls(&FIRST, LISTED);
+	ends();
+}
+
+static void test_refused_withdrawals(void)
+{
+	begins("A publication of no data is refused");
+	location_update(&FIRST, GREAT_DATA);
+	location_update(&SECOND, GREAT_DATA);
 	step("a withdrawal");
-	inserts(&FIRST, GREAT_DATA);
 	refused = PUBLICATION;
 	hlr_sends(&FIRST, "14", WITHDRAWN_O, "15", "020116");
 	inserts(&SECOND, OTHER_GREAT_DATA);
@@ -332,8 +352,13 @@ static void test_refused_memory(void)
 	step("the location update is made again");
 	location_update(&FIRST, NULL);
 	calls(&FIRST, LISTED);
-	step("a set-up: it is decided, and has no record");
-	inserts(&FIRST, GREAT_DATA);
+	ends();
+}
+
+static void test_refused_record(void)
+{
+	begins("Memory is refused to the record of a set-up, which is decided without it");
+	location_update(&FIRST, DATA);
 	refused = EACH_REQUEST;
 	sets_up(&FIRST, "0385", SPEECH, LISTED);
 	refused = NO_REQUEST;
@@ -350,10 +375,14 @@ msc_vlr_test_func_t msc_vlr_tests[] = {
 	test_refused_data,
 	test_withdrawal,
 	test_location_updates,
+	test_no_location_update,
 	test_incoming,
-	test_called_party,
+	test_not_asked_at_13,
+	test_not_reached,
 	test_cancel_location,
 	test_refused_location_update,
-	test_refused_memory,
+	test_refused_publication,
+	test_refused_withdrawals,
+	test_refused_record,
 	NULL
 };
