@@ -76,6 +76,7 @@ static void submit(struct loop *loop, camel_imsi imsi)
     camel_free(&updates[1]);
 }
 
+/* The last publications bring both copies up, which the first update would wait for else. */
 static void fill(struct loop *loop, uint64_t subscribers)
 {
     for (uint64_t at = 0; at < subscribers; at++) {
@@ -83,7 +84,8 @@ static void fill(struct loop *loop, uint64_t subscribers)
         if (at % AT_ONCE == AT_ONCE - 1)
             OK(camel_publish_to(&loop->store, &loop->session, 1));
     }
-    OK(camel_publish_to(&loop->store, &loop->session, 1));
+    for (int copy = 0; copy < 2; copy++)
+        OK(camel_publish_to(&loop->store, &loop->session, 1));
 }
 
 /* One location update, and the set-up of one call behind it. */

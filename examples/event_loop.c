@@ -10,6 +10,7 @@
 struct loop {
     camel_store store;
     camel_session session;
+    bool has_rest; /* pending updates that could not be dropped */
 };
 
 /* A call: its event, and the record of its set-up, which decides its later detection points. */
@@ -28,13 +29,19 @@ static void expect(const char *what, bool is_so)
 
 #define EXPECT(condition) expect(#condition, condition)
 
-/* Shows what was submitted. What the HLR is answered as refused must not be shown later: it is dropped. If even that is
- * refused memory, as only a Cancel or a ClearAll may meet, the handler of a timer has to publish it. */
+/* What the HLR is answered as refused must not be shown later: it is dropped. If that is refused memory too, as only a
+ * Cancel or a ClearAll may meet, the next handler drops it before it submits anything. */
+static camel_status begin(struct loop *loop)
+{
+    camel_status status = loop->has_rest ? camel_drop_pending(&loop->store) : CAMEL_OK;
+    loop->has_rest = status != CAMEL_OK;
+    return status;
+}
+
 static camel_status publish(struct loop *loop)
 {
     camel_status status = camel_publish_to(&loop->store, &loop->session, 1);
-    if (status && camel_drop_pending(&loop->store))
-        printf("not dropped\n");
+    loop->has_rest = status != CAMEL_OK && camel_drop_pending(&loop->store) != CAMEL_OK;
     return status;
 }
 
@@ -44,7 +51,9 @@ static camel_status on_insert(struct loop *loop, const camel_imsi *imsi, const u
     camel_update updates[2] = { CAMEL_EMPTY, CAMEL_EMPTY };
     uint64_t place;
     size_t rejected;
-    camel_status status = camel_update_of_register(imsi, &updates[0]);
+    camel_status status = begin(loop);
+    if (!status)
+        status = camel_update_of_register(imsi, &updates[0]);
     if (!status)
         status = camel_update_of_map(CAMEL_INSERT_SUBSCRIBER_DATA, imsi, argument, count, &updates[1], &place);
     if (!status)
@@ -61,7 +70,9 @@ static camel_status on_operation(struct loop *loop, uint8_t operation, const cam
                                  size_t count)
 {
     uint64_t place;
-    camel_status status = camel_submit_map(&loop->store, operation, imsi, argument, count, &place);
+    camel_status status = begin(loop);
+    if (!status)
+        status = camel_submit_map(&loop->store, operation, imsi, argument, count, &place);
     return status ? status : publish(loop);
 }
 
@@ -113,7 +124,7 @@ int main(void)
 {
     static const uint8_t digits[] = "262010000000001", called[] = { 0x91, 0x21, 0x43, 0x65 };
     static const uint8_t cancel_argument[] = { 0xa3, 0x0a, 0x04, 0x08, 0x62, 0x02, 0x01, 0x00, 0x00, 0x00, 0x00, 0xf1 };
-    struct loop loop = { CAMEL_EMPTY, CAMEL_EMPTY };
+    struct loop loop = { CAMEL_EMPTY, CAMEL_EMPTY, false };
     struct call call = { .event = { .basic = { .code = 0x11 } } };
     camel_imsi imsi;
     uint64_t seed;
