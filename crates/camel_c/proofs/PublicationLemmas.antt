@@ -25,7 +25,7 @@ live_in other (Some (object.Store store)) = live_at other store.stage
 live_in other held = other
 
 -- a handle holds one store
-same_live : (one other : LiveStore) → Some (live_store one) ≡ Some (live_store other) → other ≡ one
+pub same_live : (one other : LiveStore) → Some (live_store one) ≡ Some (live_store other) → other ≡ one
 unfolding live_in live_at
 same_live one other is = sym (ap (live_in one) is)
 

@@ -1,10 +1,10 @@
 -- A publication that sessions are told of.
-use Rattle.std.specs.Prelude.{◌≡◌, ◌≢◌, ◌⊎◌, ◌≤◌, ℕ, false, List, length, Option, Some, All}
+use Rattle.std.specs.Prelude.{◌≡◌, ◌≢◌, ◌⊎◌, ◌≤◌, ℕ, false, List, ◌∷◌, ◌++◌, length, Option, Some, All}
 use Rattle.std.specs.List.{AllZip}
 use Rattle.camel_vlr.specs.Session.{SessionData}
 use Rattle.camel_c_data.specs.declared.receipt.CamelReceipt.{CamelReceipt}
 use Rattle.camel_c.specs.Change.{ChangesStore, with_held, with_published}
-use Rattle.camel_c.specs.Object.{HoldsFreeStore, HoldsLiveStore, live_store}
+use Rattle.camel_c.specs.Object.{HoldsAnySession, HoldsFreeStore, HoldsLiveStore, HoldsLook, HoldsSession, live_store}
 use Rattle.camel_c.specs.Receipts.{GivesReceipt, LearnsReceipt, MayLook}
 use Rattle.camel_c.specs.declared.handle.CamelHandle.{CamelHandle}
 use Rattle.camel_c.specs.declared.object.LiveStore.{LiveStore}
@@ -22,6 +22,22 @@ IsReady number handle = IsHeldReady number handle.value
 
 abbrev pub AllReady : ℕ → List CamelHandle → Type 0
 AllReady number handles = All (IsReady number) handles
+
+-- it is no session (503), or has begun a look (501), or is of another store (505)
+pub record IsUnready (number : ℕ) (held : Option Object) (status : ℕ) : Type 0 where
+  pub session : HoldsAnySession held → (status ≡ 501) ⊎ (status ≡ 505)
+  pub none : HoldsAnySession held ⊎ (status ≡ 503)
+  pub looks : HoldsLook held → status ≡ 501
+  pub foreign : HoldsSession held → status ≡ 505
+
+-- all handles before this one are ready, and it is not
+pub record FirstUnready (number : ℕ) (handles : List CamelHandle) (status : ℕ) : Type 0 where
+  pub ready : List CamelHandle
+  pub one : CamelHandle
+  pub rest : List CamelHandle
+  pub whole : handles ≡ ready ++ one ∷ rest
+  pub before : AllReady number ready
+  pub is : IsUnready number one.value status
 
 -- it is a session, which has learnt the receipt
 abbrev pub Learns : CamelReceipt → CamelHandle → CamelHandle → Type 0
@@ -53,5 +69,5 @@ pub record PublishesTo (status : ℕ) (before after : Option Object) (sessions l
   pub free : HoldsFreeStore before → AreReady before sessions → status ≢ 501
   pub many : (length sessions ≤ 64) ⊎ (status ≡ 502)
   pub wrong : length sessions ≤ 64 → HoldsLiveStore before ⊎ (status ≡ 503)
-  pub unready : length sessions ≤ 64 → HoldsLiveStore before
-      → AreReady before sessions ⊎ ((status ≡ 501) ⊎ ((status ≡ 503) ⊎ (status ≡ 505)))
+  pub unready : length sessions ≤ 64 → (live : LiveStore) → before ≡ Some (live_store live)
+      → AllReady live.number sessions ⊎ FirstUnready live.number sessions status

@@ -2,7 +2,7 @@
 
 ghost use Rattle.std.specs.Prelude.{◌≡◌, ◌≢◌, ◌⊎◌, ◌≤◌, length, Some, true};
 ghost use Rattle.camel_c.specs.Change.{with_held, with_published};
-ghost use Rattle.camel_c.specs.Publication.{AllLearn, AllMayLook, AllReady, IsHeldReady, IsReady, PublishesTo};
+ghost use Rattle.camel_c.specs.Publication.{AllLearn, AllMayLook, AllReady, FirstUnready, IsHeldReady, IsReady, IsUnready, PublishesTo};
 
 use crate::failure::Failure;
 use crate::handle::CamelHandle;
@@ -56,7 +56,7 @@ impl LiveStore {
         ensures only { AllReady self.old.number sessions.old
             → (result ≡ 0) ⊎ ((result ≡ 102) ⊎ ((result ≡ 501) ⊎ ((result ≡ 104) ⊎ (result ≡ 505)))) }
         ensures free { self.old.vlr.free ≡ true → AllReady self.old.number sessions.old → result ≢ 501 }
-        ensures unready { AllReady self.old.number sessions.old ⊎ ((result ≡ 501) ⊎ ((result ≡ 503) ⊎ (result ≡ 505))) }
+        ensures unready { AllReady self.old.number sessions.old ⊎ FirstUnready self.old.number sessions.old result }
     {
         match first_unready(sessions, self.number) {
             0 => match self.publish() {
@@ -78,7 +78,7 @@ impl LiveStore {
 fn first_unready(sessions: &mut [CamelHandle], number: u64) -> u32
     ensures ready { result ≡ 0 → AllReady number sessions.old }
     ensures only { AllReady number sessions.old → result ≡ 0 }
-    ensures why { (result ≡ 0) ⊎ ((result ≡ 501) ⊎ ((result ≡ 503) ⊎ (result ≡ 505))) }
+    ensures why { (result ≡ 0) ⊎ FirstUnready number sessions.old result }
     ensures same { sessions.new ≡ sessions.old }
 {
     match sessions.split_first_mut() {
@@ -94,7 +94,7 @@ fn first_unready(sessions: &mut [CamelHandle], number: u64) -> u32
 fn unready(handle: &mut CamelHandle, number: u64) -> u32
     ensures ready { result ≡ 0 → IsReady number handle.old }
     ensures only { IsReady number handle.old → result ≡ 0 }
-    ensures why { (result ≡ 0) ⊎ ((result ≡ 501) ⊎ ((result ≡ 503) ⊎ (result ≡ 505))) }
+    ensures why { (result ≡ 0) ⊎ IsUnready number handle.old.value result }
     ensures same { handle.new ≡ handle.old }
 {
     if !handle.is_full() {
@@ -106,7 +106,7 @@ fn unready(handle: &mut CamelHandle, number: u64) -> u32
 fn unready_held(held: &Object, number: u64) -> u32
     ensures ready { result ≡ 0 → IsHeldReady number (Some held.now) }
     ensures only { IsHeldReady number (Some held.now) → result ≡ 0 }
-    ensures why { (result ≡ 0) ⊎ ((result ≡ 501) ⊎ ((result ≡ 503) ⊎ (result ≡ 505))) }
+    ensures why { (result ≡ 0) ⊎ IsUnready number (Some held.now) result }
 {
     match held {
         Object::Session(own) if own.session.is_looking() => Failure::Held.code(),

@@ -1,10 +1,10 @@
-use Rattle.std.proofs.Common.{◌≡◌, ◌∙◌, length, inl, inr, ⊎_elim, sym, ap, subst, refl}
+use Rattle.std.proofs.Common.{◌≡◌, ◌∙◌, ◌⊎◌, length, inl, inr, ⊎_elim, sym, ap, subst, refl}
 use Rattle.std.specs.Prelude.{Some}
 use Rattle.camel_c.specs.Object.{HoldsFreeStore, live_store}
-use Rattle.camel_c.specs.Publication.{AreReady}
+use Rattle.camel_c.specs.Publication.{AllReady, AreReady, FirstUnready}
 use Rattle.camel_c.specs.declared.object.LiveStore.{LiveStore}
 use Rattle.camel_c.specs.declared.object.Object.TheVariants as object
-use Rattle.camel_c.proofs.PublicationLemmas.{free_of, ready_of}
+use Rattle.camel_c.proofs.PublicationLemmas.{free_of, ready_of, same_live}
 use Rattle.camel_c.proofs.publishing_to.publish_held_to.Goals as goal
 
 pub returns-in-Live : goal.returns-in-Live
@@ -28,5 +28,6 @@ returns-in-Live c =
           (ready_of live sessions (subst (λ h. AreReady h sessions) held ready));
       many = inl c.requires;
       wrong = λ few. inl (live, held);
-      unready = λ few holds. ⊎_elim (λ all. inl (live, held, all)) inr ensures.unready;
+      unready = λ few other is. subst (λ (l : LiveStore). AllReady l.number sessions ⊎ FirstUnready l.number sessions c.publish_to.result)
+          (sym (same_live live other (sym held ∙ is))) ensures.unready;
     }
