@@ -31,6 +31,8 @@ pub struct Measurement {
 pub enum Request {
     Check(Check),
     Measurement(Measurement),
+    /// So many registers into an empty store, each published by itself.
+    Registers(u64),
 }
 
 impl Request {
@@ -42,6 +44,7 @@ impl Request {
                 every: every.parse().ok()?,
                 batch: batch.parse().ok()?,
             })),
+            ["registers", count] => Some(Request::Registers(count.parse().ok()?)),
             [known, readers, seconds, batch, rate, repeat] => {
                 Some(Request::Measurement(Measurement {
                     known: known.parse().ok()?,
@@ -82,6 +85,7 @@ impl fmt::Display for Request {
                     "{known} {readers} {seconds} {batch} {rate} {repeat}"
                 )
             }
+            Request::Registers(count) => write!(formatter, "registers {count}"),
         }
     }
 }

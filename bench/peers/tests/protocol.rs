@@ -16,7 +16,11 @@ fn requests_are_read_as_they_are_written() {
         rate: 100.0,
         repeat: 3,
     };
-    for request in [check, Request::Measurement(measurement)] {
+    for request in [
+        check,
+        Request::Measurement(measurement),
+        Request::Registers(100),
+    ] {
         let text = request.to_string();
         let words: Vec<_> = text.split(' ').collect();
         assert_eq!(Request::from_words(&words), Some(request));

@@ -2,6 +2,7 @@
 
 mod check;
 mod readers;
+mod registers;
 mod runs;
 mod signals;
 mod store;
@@ -21,5 +22,6 @@ pub(crate) fn answer<R: AllocGlobal + Clock + Files + Print + Threads + Wait + S
     match request {
         Request::Check(asked) => check::check(rt, asked),
         Request::Measurement(asked) => runs::measure(rt, asked),
+        Request::Registers(count) => registers::time(rt, *count),
     }
 }

@@ -7,6 +7,8 @@ use std::time::Duration;
 pub(crate) enum Request {
     Check(Check),
     Measurement(Measurement),
+    /// So many registers into an empty store, each published by itself.
+    Registers(u64),
 }
 
 /// Decisions by one reader with publications among them.
@@ -46,6 +48,9 @@ impl Request {
                     every: every.parse().ok()?,
                     batch: batch.parse().ok()?,
                 }))
+            }
+            [what, count] if what.as_str() == "registers" => {
+                Some(Request::Registers(count.parse().ok()?))
             }
             [known, readers, seconds, batch, rate, repeat] => {
                 Some(Request::Measurement(Measurement {

@@ -64,7 +64,7 @@ fn wait_until_due<R: Clock>(rt: &R, start: Instant, due: u64) -> io::Result<()> 
     Ok(())
 }
 
-// A run takes less than 2^64 nanoseconds, which are centuries.
-fn nanoseconds_since<R: Clock>(rt: &R, start: Instant) -> io::Result<u64> {
+/// The time since then. A run takes less than 2^64 nanoseconds, which are centuries.
+pub(super) fn nanoseconds_since<R: Clock>(rt: &R, start: Instant) -> io::Result<u64> {
     Ok(u64::try_from(start.elapsed(rt)?.as_nanos()).unwrap_or(u64::MAX))
 }

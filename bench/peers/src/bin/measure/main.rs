@@ -6,6 +6,7 @@ mod faults;
 mod figures;
 mod memory;
 mod programs;
+mod registers;
 mod settings;
 mod table;
 mod turns;
@@ -45,6 +46,7 @@ fn measured() -> Result<Notes, Box<dyn Error>> {
         sections.push((known, figures));
     }
     let table = table::table(&programs, &sections);
-    print!("{settings}\n{table}\n{notes}");
+    let registers = registers::lines(&programs, &settings.sizes, &mut notes);
+    print!("{settings}\n{table}\n{registers}{notes}");
     Ok(notes)
 }

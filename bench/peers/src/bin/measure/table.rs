@@ -1,13 +1,14 @@
-use super::figures::Figures;
+use super::figures::{BATCHES, Figures};
 use super::programs::Program;
+use std::array;
 
 /// The programs of the store that the peers are compared with, which are none of them.
 const PRODUCT: [&str; 2] = ["camel_vlr", "libwenqolo"];
 
 const HEAD: &str = "\
-| Subscribers | Program | A publication is seen | ns a decision | 4 readers to 1 | µs a publication of 10 \
-| octets a subscriber |
-|---|---|---|---|---|---|---|
+| Subscribers | Program | A publication is seen | ns a decision | 4 readers to 1 | µs a publication of 1 | of 10 \
+| of 1000 | octets a subscriber |
+|---|---|---|---|---|---|---|---|---|
 ";
 
 /// One table of all programs, with a section for each number of subscribers.
@@ -32,19 +33,21 @@ fn least_of_peers(programs: &[Program], all: &[Option<Figures>]) -> Figures {
         .fold(Figures::default(), |least, of| Figures {
             decision: least.decision.min(of.decision),
             decision_of_four: least.decision_of_four.min(of.decision_of_four),
-            publication: least.publication.min(of.publication),
+            publications: array::from_fn(|at| least.publications[at].min(of.publications[at])),
             octets: least.octets.min(of.octets),
         })
 }
 
 fn row(known: u64, program: &Program, figures: &Figures, least: &Figures) -> String {
+    let publications: [_; BATCHES.len()] =
+        array::from_fn(|at| beside(figures.publications[at], least.publications[at]));
     format!(
         "| {known} | {} | {} | {} | {} | {} | {} |\n",
         program.name,
         program.batch,
         beside(figures.decision, least.decision),
         rounded(figures.four_to_one()),
-        beside(figures.publication, least.publication),
+        publications.join(" | "),
         beside(figures.octets, least.octets),
     )
 }

@@ -1,6 +1,6 @@
 use super::answers;
 use super::faults::Notes;
-use super::figures::Figures;
+use super::figures::{BATCHES, Figures};
 use super::memory;
 use super::programs::Program;
 use super::settings::Settings;
@@ -8,11 +8,13 @@ use peers::protocol::{Measurement, Request};
 use peers::reference::Sums;
 
 const MOST_READERS: usize = 4;
-const BATCH: usize = 10;
 
 /// What is measured at a number of subscribers: decisions of one reader and of four, and publications.
-fn measurements(known: u64, seconds: f64) -> [Measurement; 3] {
-    [(1, 0), (MOST_READERS, 0), (0, BATCH)].map(|(readers, batch)| Measurement {
+fn measurements(known: u64, seconds: f64) -> impl Iterator<Item = Measurement> {
+    let readers = [1, MOST_READERS].map(|readers| (readers, 0));
+    let writers = BATCHES.map(|batch| (0, batch));
+    let all = readers.into_iter().chain(writers);
+    all.map(move |(readers, batch)| Measurement {
         known,
         readers,
         seconds,
@@ -59,7 +61,7 @@ fn after(
     notes: &mut Notes,
 ) -> Option<Figures> {
     match answers::runs(program, asked, sums) {
-        Ok(Some(runs)) => runs.iter().for_each(|run| figures.note(run, asked.known)),
+        Ok(Some(runs)) => runs.iter().for_each(|run| figures.note(run, asked)),
         Ok(None) => notes.add_absence(&program.name, &Request::Measurement(*asked)),
         Err(fault) => {
             notes.add_fault(&program.name, &Request::Measurement(*asked), &fault);
