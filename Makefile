@@ -42,7 +42,7 @@ endef
 .PHONY: help try try-explain replay explain explain-check program check script crate pages try-make proofs must-not-compile \
 	examples scripts streams coprocess refusals fuzz map-check map-program library install library-test library-c \
 	library-cpp library-as-shipped library-installed library-deb library-rust deb osmo-check osmo-source soak fuzz-c \
-	bench bench-program bench-vlr bench-peers bench-loop bench-map count-vlr test
+	bench bench-program bench-peers bench-loop bench-map count-vlr test
 # In order, so that what is missing is said before anything is built.
 .NOTPARALLEL:
 .SECONDEXPANSION:
@@ -221,12 +221,8 @@ bench: begin-$$@ $(PROGRAM) $(EXPLAIN)
 bench-program: $(BENCH)
 	@echo "$< is built, and no source is newer" >&2
 
-## Measures the store: about an hour, once its program is built.
-bench-vlr: begin-$$@ $(BENCH)
-	@bench/run-vlr
-
 # Says which Debian packages it needs, if one is missing.
-## Measures the store beside others in Rust and C: about a quarter of an hour, once program and library are built.
+## Measures the store beside others in Rust and C: about half an hour, once program and library are built.
 bench-peers: begin-$$@ $(BENCH) library
 	@bench/run-peers
 
