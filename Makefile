@@ -151,8 +151,8 @@ coprocess: begin-$$@ $(PROGRAM)
 	@$(COPROCESS) $(PROGRAM) $(CALLS)
 	@.ci/install out/installed && PATH="$(CURDIR)/out/installed/bin:$$PATH" .ci/first-calls docs/PIPES.md
 
-## Refuses each request for memory in turn: some minutes, once its program is built.
-refusals: begin-$$@ $(REFUSALS)
+## Refuses each request for memory in turn: some minutes, once the two programs are built.
+refusals: begin-$$@ $(REFUSALS) $(PROGRAM)
 	@.ci/refusals
 
 ## Proves and builds the library for C, C++ and Rust, into out/library: LONG_TIME.
