@@ -2,37 +2,22 @@
 
 use crate::attempts::Refusals;
 use crate::failure::Failure;
+use crate::openings;
 use crate::publications::Next;
 use crate::stage_calls::{StageCall, make_on_stage};
-use crate::{addresses, openings, records, replays, scripts, workers};
 use std::random::RandomSource;
 use std::sync::Wait;
-use std::thread::Threads;
 
 /// A call, or several that take no memory.
 #[derive(Clone, Copy)]
 pub(crate) enum Call {
-    Addresses,
-    CopyUpdate,
-    ListImsis,
-    ToInsert,
     Open,
     /// A call of a store that is opened for it, or of its session.
     OnStage(StageCall),
-    NewScript,
-    ReadRecord,
-    PushLine,
-    Replay,
-    ReplayThreads,
-    Audit,
 }
 
 /// Each call, whether it takes memory, and its name.
-pub(crate) const CALLS: [(Call, bool, &str); 23] = [
-    (Call::Addresses, false, "all calls of `camel_tbcd`"),
-    (Call::CopyUpdate, true, "`Update::copy`, Insert"),
-    (Call::ListImsis, true, "`Records::imsis`"),
-    (Call::ToInsert, true, "`Subscriber::to_insert`"),
+pub(crate) const CALLS: [(Call, bool, &str); 13] = [
     (Call::Open, true, "`Vlr::open`"),
     (
         Call::OnStage(StageCall::Publish(1, Next::Publish)),
@@ -85,13 +70,7 @@ pub(crate) const CALLS: [(Call, bool, &str); 23] = [
         "`Session::answer_all`",
     ),
     (Call::OnStage(StageCall::Close), true, "`Vlr::close`"),
-    (Call::NewScript, false, "`Script::new`"),
-    (Call::ReadRecord, true, "`Script::read_record`"),
-    (Call::PushLine, true, "`push_line`"),
-    (Call::Replay, true, "`replay`"),
     (Call::OnStage(StageCall::Serve), true, "`serve`"),
-    (Call::ReplayThreads, true, "`replay_threads`"),
-    (Call::Audit, true, "`audit`"),
 ];
 
 impl Call {
@@ -107,23 +86,13 @@ impl Call {
 }
 
 /// Makes a call in a run of its own.
-pub(crate) fn make<R: AllocGlobal + Print + RandomSource + Threads + Wait + Sync>(
+pub(crate) fn make<R: AllocGlobal + Print + RandomSource + Wait>(
     rt: &R,
     call: Call,
     refusals: &mut Refusals,
 ) -> Result<(), Failure> {
     match call {
-        Call::Addresses => addresses::addresses(rt),
-        Call::CopyUpdate => records::copy_update(rt, refusals),
-        Call::ListImsis => records::list_imsis(rt, refusals),
-        Call::ToInsert => records::to_insert(rt, refusals),
         Call::Open => openings::open(rt, refusals),
         Call::OnStage(call) => make_on_stage(rt, refusals, call),
-        Call::NewScript => scripts::new_script(rt),
-        Call::ReadRecord => scripts::read_record(rt, refusals),
-        Call::PushLine => scripts::push(rt, refusals),
-        Call::Replay => replays::replay_script(rt, refusals),
-        Call::ReplayThreads => replays::replay_with_threads(rt, refusals),
-        Call::Audit => workers::audit_transcript(rt, refusals),
     }
 }

@@ -1,7 +1,4 @@
-use camel_audit::AuditFault;
 use camel_criteria::Refusal;
-use camel_replay_lib::ReplayFault;
-use camel_script::ScriptFault;
 use camel_tbcd::{AddressFault, ImsiFault};
 use camel_vlr::NoLook;
 use std::alloc::{AllocError, AllocFailed};
@@ -34,10 +31,6 @@ pub(crate) enum Lost {
     Streams,
     #[error("a value was not made")]
     Value,
-    #[error("equal values differ")]
-    Equality,
-    #[error("a record is missing")]
-    Record,
     #[error("a subscriber without a record is not unknown")]
     Unknown,
     #[error("a store does not open empty")]
@@ -58,14 +51,6 @@ pub(crate) enum Lost {
     Seen,
     #[error("a worker ended early")]
     Worker,
-    #[error("a refused call left octets, or others than the first of the output")]
-    Octets,
-    #[error("the output is another")]
-    Output,
-    #[error("a fault names another record")]
-    RecordNumber,
-    #[error("a failed script reads on")]
-    ReadsOn,
 }
 
 impl Failure {
@@ -91,24 +76,6 @@ pub(crate) fn check(holds: bool, lost: Lost) -> Result<(), Failure> {
 impl From<Refusal> for Failure {
     fn from(refusal: Refusal) -> Failure {
         Failure::of_code(refusal.code())
-    }
-}
-
-impl From<ScriptFault> for Failure {
-    fn from(fault: ScriptFault) -> Failure {
-        Failure::of_code(fault.code())
-    }
-}
-
-impl From<AuditFault> for Failure {
-    fn from(fault: AuditFault) -> Failure {
-        Failure::of_code(fault.code())
-    }
-}
-
-impl From<ReplayFault> for Failure {
-    fn from(fault: ReplayFault) -> Failure {
-        Failure::of_code(fault.code)
     }
 }
 

@@ -6,15 +6,11 @@
 //! is checked to leave all as it was, and is made again. Which step that was, and its answer, comes on standard error.
 #![tactic(auto)]
 
-mod addresses;
 mod attempts;
 mod calls;
 mod failure;
 mod openings;
 mod publications;
-mod records;
-mod replays;
-mod scripts;
 mod sessions;
 mod stage;
 mod stage_calls;
@@ -28,7 +24,6 @@ use std::io;
 use std::process::ExitCode;
 use std::random::RandomSource;
 use std::sync::Wait;
-use std::thread::Threads;
 
 fn main(rt: HostRuntime) -> ExitCode {
     let mut refusals = Refusals::none();
@@ -55,7 +50,7 @@ fn word(rt: &HostRuntime) -> Result<Option<String>, Failure> {
 }
 
 // Makes the call that the word names, or lists the calls.
-fn run<R: AllocGlobal + Print + RandomSource + Threads + Wait + Sync>(
+fn run<R: AllocGlobal + Print + RandomSource + Wait>(
     rt: &R,
     word: Option<String>,
     refusals: &mut Refusals,

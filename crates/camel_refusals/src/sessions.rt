@@ -2,7 +2,6 @@
 
 use crate::attempts::{MOST_ATTEMPTS, Refusals, again};
 use crate::failure::{Failure, Lost, OUT_OF_MEMORY, check};
-use crate::records::print;
 use crate::stage::{Stage, set};
 use crate::values::{KNOWN, SECOND, STRANGER, SUBSCRIBERS, full_insert};
 use camel_fixtures::{call_of, imsi_of};
@@ -75,6 +74,13 @@ pub(crate) fn close<S: StoreName, R: AllocGlobal + Print + Wait>(
             Err(failure)
         }
     }
+}
+
+fn print(rt: &impl Print, records: &Records) -> Result<(), Failure> {
+    for number in SUBSCRIBERS {
+        println!(rt; "{number}: {:?}", records.get(&imsi_of(number)?))?;
+    }
+    Ok(())
 }
 
 // Publishes data of two subscribers, and submits a Cancel, which the close drops.

@@ -8,21 +8,13 @@ use camel_tbcd::{Imsi, IsdnAddress};
 use std::alloc::Global;
 
 /// The subscribers of a stage, of whom the first has data.
-pub(crate) const SUBSCRIBERS: [u64; 7] = [KNOWN, SECOND, STRANGER, FOURTH, FIFTH, SIXTH, SEVENTH];
+pub(crate) const SUBSCRIBERS: [u64; 7] = [KNOWN, SECOND, STRANGER, 4, 5, 6, 7];
 
 pub(crate) const KNOWN: u64 = 1;
 
 pub(crate) const SECOND: u64 = 2;
 
 pub(crate) const STRANGER: u64 = 3;
-
-pub(crate) const FOURTH: u64 = 4;
-
-pub(crate) const FIFTH: u64 = 5;
-
-pub(crate) const SIXTH: u64 = 6;
-
-pub(crate) const SEVENTH: u64 = 7;
 
 /// Ten numbers, as many as a criterion lists.
 fn ten_numbers() -> Result<[IsdnAddress; 10], Failure> {

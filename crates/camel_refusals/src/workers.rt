@@ -1,13 +1,11 @@
-//! Workers, and audits of what they answer.
+//! Workers.
 
 use crate::attempts::{Refusals, again};
 use crate::failure::{Failure, Lost, OUT_OF_MEMORY, check};
 use crate::stage::{Stage, set};
 use crate::values::{KNOWN, SECOND};
-use camel_audit::{Entry, Job, Transcript, audit};
-use camel_fixtures::{call_of, imsi_of, row_update, triggered};
-use camel_rows::{Answer, Outcome, Reason, Update};
-use camel_tbcd::Profile;
+use camel_audit::{Job, Transcript};
+use camel_fixtures::{call_of, imsi_of};
 use camel_vlr::{Of, Session, StoreName, Vlr};
 use camel_workers::{Ended, OpenGate, Served, serve};
 use std::alloc::Global;
@@ -89,45 +87,4 @@ fn jobs(alloc: Global) -> Result<Vec<Job>, Failure> {
         jobs.push(Job { call, event })?;
     }
     Ok(jobs)
-}
-
-/// Audits what a session answered before and after a publication.
-pub(crate) fn audit_transcript<R: AllocGlobal + Print>(
-    rt: &R,
-    refusals: &mut Refusals,
-) -> Result<(), Failure> {
-    let updates = again(&mut refusals.stage, || updates(rt.alloc()))?;
-    let transcript = again(&mut refusals.stage, || transcript(rt.alloc()))?;
-    let transcripts = [transcript];
-    again(&mut refusals.call, || {
-        Ok(audit(rt.alloc(), &updates, &transcripts, Profile::One)?)
-    })?;
-    println!(rt; "{transcripts:?}")?;
-    Ok(())
-}
-
-fn updates(alloc: Global) -> Result<Vec<Update>, Failure> {
-    let imsi = imsi_of(KNOWN)?;
-    let mut updates = Vec::new(alloc);
-    updates.push(Update::Register { imsi })?;
-    updates.push(row_update(imsi)?)?;
-    Ok(updates)
-}
-
-fn transcript(alloc: Global) -> Result<Transcript, Failure> {
-    let event = call_of(imsi_of(KNOWN)?)?;
-    let outcomes = [
-        Outcome::NoTrigger(Reason::Unknown),
-        Outcome::NoTrigger(Reason::NoCsi),
-        triggered()?,
-    ];
-    let mut entries = Vec::new(alloc);
-    for (front, outcome) in (0..).zip(outcomes) {
-        entries.push(Entry {
-            call: front,
-            event,
-            answer: Answer { front, outcome },
-        })?;
-    }
-    Ok(Transcript { entries })
 }
