@@ -1,5 +1,5 @@
 # `make` lists the targets: a line `## ` says what the target below it does, and how long that takes. Which tools each
-# target runs by, and which targets are the parts of `make test`, stands in .ci/parts.
+# target runs by, and which targets are the parts of `make test`, stands in scripts/parts.
 
 # How long what takes, on four cores: to prove and build a program, one that takes longer, and all tests.
 BUILD_TIME := about 14 minutes the first time
@@ -52,7 +52,7 @@ endef
 wanted := awk $(if $(filter-out help,$(MAKECMDGOALS)),bash find)
 lacking := $(strip $(foreach tool,$(wanted),$(shell command -v $(tool) > /dev/null || echo $(tool))))
 $(if $(lacking),$(error missing: $(lacking). All targets run by awk, and all but `make help` by bash and find))
-sources = $(if $(filter bash,$(wanted)),$(shell .ci/sources $(1)))
+sources = $(if $(filter bash,$(wanted)),$(shell scripts/sources $(1)))
 
 ## Lists the targets.
 help:
@@ -60,7 +60,7 @@ help:
 
 # The first thing that a target has done: it fails if a tool of the target is missing, and says what the target does.
 begin-%:
-	@.ci/parts need $*
+	@scripts/parts need $*
 	$(call targets,$*) >&2
 
 script:
@@ -73,27 +73,27 @@ crate:
 # Proves and builds a program if a source below it is newer, and runs it once. What `rt ci` has built is newer than
 # its sources.
 $(PROGRAM) $(BENCH) $(REFUSALS) $(MAP_CHECK) $(EXPLAIN): $$(call sources,$$(@F))
-	@.ci/parts need build
+	@scripts/parts need build
 	@echo "$(@F): proved and built with all that it stands on, $(BUILD_TIME); log: $(@D)/build.log" >&2
-	@.ci/build $(@F)
+	@scripts/build $(@F)
 	@touch $@
 
 $(EXPLAIN): BUILD_TIME = $(LONG_TIME)
 
-# The output comes at the end, and is at most 1 MiB; the program has 60 seconds. `.ci/try` ends with the program's
+# The output comes at the end, and is at most 1 MiB; the program has 60 seconds. `scripts/try` ends with the program's
 # status, or with 125 if it gave none. `make` ends with status 2 if that is not 0, and names it.
 ## Runs SCRIPT by the program, with nothing proved and nothing built: about a minute, each time.
 try: script begin-$$@
-	@.ci/replay .ci/try camel_replay $(OPTIONS) < "$$SCRIPT"
+	@scripts/replay scripts/try camel_replay $(OPTIONS) < "$$SCRIPT"
 
 # Only the output of the script comes on standard output.
 ## Runs SCRIPT by the proved program: at once, once it is built, which takes BUILD_TIME.
 replay: script $(PROGRAM)
-	@.ci/replay $(PROGRAM) $(OPTIONS) < "$$SCRIPT"
+	@scripts/replay $(PROGRAM) $(OPTIONS) < "$$SCRIPT"
 
 ## Explains SCRIPT, record by record, with nothing proved and nothing built: two minutes, each time.
 try-explain: script begin-$$@
-	@.ci/try camel_explain --limit "$$LIMIT" $(if $(PROFILE),--profile "$$PROFILE") < "$$SCRIPT"
+	@scripts/try camel_explain --limit "$$LIMIT" $(if $(PROFILE),--profile "$$PROFILE") < "$$SCRIPT"
 
 ## Explains SCRIPT, record by record, by the program for people: at once, once it is built, which takes LONG_TIME.
 explain: script $(EXPLAIN)
@@ -109,14 +109,14 @@ check: crate begin-$$@
 
 ## Looks up what the pages name, compares their numbers, crates and figures, and looks for banned words: a second.
 pages: begin-$$@
-	@.ci/pages
-	@.ci/numbers
-	@.ci/words
+	@scripts/pages
+	@scripts/numbers
+	@scripts/words
 	@bench/plot --check
 
 ## Tries what make says of missing tools, of parts that are left out, and after a fault: seconds.
 try-make: begin-$$@
-	@.ci/try-make
+	@scripts/try-make
 
 ## Proves every crate, tries the edits of its contracts, and runs the tests of the crates: nearly all of `make test`.
 proofs: begin-$$@
@@ -124,49 +124,49 @@ proofs: begin-$$@
 
 ## Tries the programs that the compiler has to refuse: some minutes, once their crates are proved.
 must-not-compile: begin-$$@
-	@.ci/must-not-compile
+	@scripts/must-not-compile
 
 ## Compares what the scripts and the converter of examples/ leave: seconds, once the program is built.
 examples: begin-$$@ $(PROGRAM)
-	@.ci/scripts examples
-	@.ci/addresses
+	@scripts/compare examples
+	@scripts/addresses
 
 ## Compares what each script of tests/scripts/ leaves: seconds, once the program is built.
 scripts: begin-$$@ $(PROGRAM)
-	@.ci/scripts tests/scripts
+	@scripts/compare tests/scripts
 
 ## Compares what camel_explain says of each script of tests/explain/, and its answers: seconds, once it is built.
 explain-check: begin-$$@ $(PROGRAM) $(EXPLAIN)
-	@.ci/scripts tests/explain camel_explain
-	@.ci/explain
+	@scripts/compare tests/explain camel_explain
+	@scripts/explain
 
 ## Runs the program over streams, at a terminal and with signals: seconds, once it is built.
 streams: begin-$$@ $(PROGRAM)
-	@.ci/streams
+	@scripts/streams
 
 # The round trip is that of so many CALLS.
 ## Runs the program as the child of a switch in C, and of the first call through pipes: seconds, once it is built.
 coprocess: begin-$$@ $(PROGRAM)
 	@$(CC) -std=c11 -O2 -Wall -Wextra -o $(COPROCESS) examples/coprocess.c
 	@$(COPROCESS) $(PROGRAM) $(CALLS)
-	@.ci/install out/installed && PATH="$(CURDIR)/out/installed/bin:$$PATH" .ci/first-calls docs/PIPES.md
+	@scripts/install out/installed && PATH="$(CURDIR)/out/installed/bin:$$PATH" scripts/first-calls docs/PIPES.md
 
 ## Refuses each request for memory in turn: some minutes, once the two programs are built.
 refusals: begin-$$@ $(REFUSALS) $(PROGRAM)
-	@.ci/refusals
+	@scripts/refusals
 
 ## Proves and builds the library for C, C++ and Rust, into out/library: LONG_TIME.
 library: begin-$$@
-	@.ci/library
+	@scripts/library
 
-# Nothing is built, so that whoever may write to PREFIX needs no toolchain. DESTDIR and LIBDIR are those of `.ci/install`.
+# Nothing is built, so that whoever may write to PREFIX needs no toolchain. DESTDIR and LIBDIR are those of `scripts/install`.
 ## Copies to PREFIX what is built of library, camel_replay and camel_explain, and says what is not: a second.
 install: begin-$$@
-	@.ci/install "$$PREFIX"
+	@scripts/install "$$PREFIX"
 
 ## Makes Debian packages of the library that is built, in out/deb: seconds.
 deb: begin-$$@
-	@.ci/deb
+	@scripts/deb
 
 # Each part of it may be left out of `make test`. The soak makes DECISIONS, and COUNT calls have random fields.
 ## Compiles and runs the tests, the examples and the bindings of the library: a minute, once it is built.
@@ -174,44 +174,44 @@ library-test: begin-$$@ library-c library-cpp library-as-shipped library-install
 
 library-c: COUNT ?= 100000
 library-c: begin-$$@ library
-	@.ci/library-test c $(COUNT)
+	@scripts/library-test c $(COUNT)
 
 library-cpp: begin-$$@ library
-	@.ci/library-test cpp
+	@scripts/library-test cpp
 
 library-as-shipped: begin-$$@ library
-	@.ci/library-as-shipped
+	@scripts/library-as-shipped
 
 library-installed: begin-$$@ library
-	@.ci/library-test installed
+	@scripts/library-test installed
 
 library-deb: begin-$$@ library
-	@.ci/library-test deb
+	@scripts/library-test deb
 
 library-rust: DECISIONS ?= 1000000
 library-rust: begin-$$@ library
-	@.ci/library-test rust $(DECISIONS)
+	@scripts/library-test rust $(DECISIONS)
 
 # It needs the packages that osmo-msc is built with, says which are missing, and fetches the source once. SANITIZE=1
 # builds osmo-msc with its sanitizers, by so many JOBS.
 ## Builds Debian's osmo-msc over the library, and runs its tests and that of its glue: a minute, with it built.
 osmo-check: begin-$$@ osmo-source library
-	@.ci/osmo-check run
+	@scripts/osmo-check run
 
 osmo-source: begin-osmo-check
-	@.ci/osmo-check source
+	@scripts/osmo-check source
 
 # It makes so many DECISIONS, or goes on for so many SECONDS if they are given. Another SEED gives other calls and
 # updates.
 soak: DECISIONS ?= 100000000
 ## Uses the library as a switch does, with a plain model beside it: minutes, once it is built.
 soak: begin-$$@ library
-	@.ci/soak $(if $(SECONDS),--seconds $(SECONDS),--decisions $(DECISIONS)) --subscribers $(SUBSCRIBERS) --seed $(SEED)
+	@scripts/soak $(if $(SECONDS),--seconds $(SECONDS),--decisions $(DECISIONS)) --subscribers $(SUBSCRIBERS) --seed $(SEED)
 
 fuzz-c: COUNT ?= 1000000
 ## Makes COUNT calls of the library with the random fields of SEED: seconds, once it is built.
 fuzz-c: begin-$$@ library
-	@.ci/fuzz-c $(COUNT) $(SEED)
+	@scripts/fuzz-c $(COUNT) $(SEED)
 
 ## Measures the program beside a plain one in Rust: some minutes, once it is built.
 bench: begin-$$@ $(PROGRAM) $(EXPLAIN)
@@ -243,13 +243,13 @@ count-vlr: begin-$$@ $(BENCH)
 fuzz: COUNT ?= 100000
 ## Replays COUNT scripts of bad octets: 2 to 5 minutes for 100,000, once the program is built.
 fuzz: begin-$$@ $(PROGRAM)
-	@.ci/fuzz $(SEED) $(COUNT)
+	@scripts/fuzz $(SEED) $(COUNT)
 
 # COUNT arguments that SEED makes, in five styles, COUNT of them with edits, and COUNT that the encoder makes of them.
 map-check: COUNT ?= 100000
 ## Compares what is read and made of COUNT MAP arguments with tshark: 6 minutes for 100,000, with the programs built.
 map-check: begin-$$@ $(PROGRAM) $(MAP_CHECK)
-	@.ci/map-check $(SEED) $(COUNT)
+	@scripts/map-check $(SEED) $(COUNT)
 
 ## Proves and builds the program that reads MAP arguments for `tools/map2script`: BUILD_TIME.
 map-program: $(MAP_CHECK)
@@ -258,4 +258,4 @@ map-program: $(MAP_CHECK)
 ## Passes every proof and every test: TEST_TIME. PARTS=any leaves out those whose tools are missing, and says which.
 test:
 	$(call targets,$@) >&2
-	@MAKE='$(MAKE)' .ci/parts pass "$$PARTS"
+	@MAKE='$(MAKE)' scripts/parts pass "$$PARTS"

@@ -1,4 +1,4 @@
-//! Makes each call of the libraries in a run in which memory is refused. `.ci/refusals` starts it with the name of a
+//! Makes each call of the libraries in a run in which memory is refused. `scripts/refusals` starts it with the name of a
 //! call, refuses one request for memory in each run, and compares what the runs print. Without a name it lists the
 //! calls.
 //!

@@ -1,0 +1,83 @@
+"""Each beginning of a script is a script too."""
+
+from checking import Difference
+
+from .comparison import compare
+from .csv_records import ended_records, octets_before
+from .program import MAX_LIMIT, Fault, Left, Options, replay
+from .samples import FIRST_CALL_LINES
+
+SAMPLE = "examples/first-call.csv"
+SAMPLE_OPTIONS = Options(threads=2, limit=MAX_LIMIT, profile=1)
+
+NO_LINE = b""
+ONE_LINE, TWO_LINES, THREE_LINES, FOUR_LINES = (b"".join(FIRST_CALL_LINES[:count]) for count in range(1, 5))
+
+# What a shorter IMSI in the second record gives: no subscriber has it.
+UNKNOWN = b"accepted 1\nrefused 5\n"
+
+# How many octets of SAMPLE are read, at most; what is written then; and the fault of the next record, if there is one.
+# The shortest beginning of a row has an octet more than the longest one of the row before.
+BEGINNINGS = (
+    (0, NO_LINE, None),
+    (7, NO_LINE, 202),
+    (8, NO_LINE, 203),
+    (13, NO_LINE, 205),
+    (25, ONE_LINE, None),
+    (30, ONE_LINE, 202),
+    (31, ONE_LINE, 203),
+    (36, ONE_LINE, 205),
+    (46, UNKNOWN, None),
+    (47, TWO_LINES, None),
+    (48, ONE_LINE, 202),
+    (68, ONE_LINE, 203),
+    (69, ONE_LINE, 205),
+    (71, TWO_LINES, None),
+    (77, TWO_LINES, 202),
+    (79, THREE_LINES, None),
+    (82, THREE_LINES, 202),
+    (83, THREE_LINES, 203),
+    (84, THREE_LINES, 202),
+    (114, THREE_LINES, 203),
+    (115, THREE_LINES, 202),
+    (117, FOUR_LINES, None),
+)
+
+
+def expected_of_sample():
+    """What one thread leaves of each beginning of SAMPLE, the shortest first."""
+    expected = []
+    for longest, output, code in BEGINNINGS:
+        fault = None if code is None else Fault(output.count(b"\n") + 1, code)
+        expected += [Left(fault, output)] * (longest + 1 - len(expected))
+    return expected
+
+
+def check_beginning_of_sample(beginning, expected):
+    left = replay(beginning, SAMPLE_OPTIONS)
+    if left != expected:
+        raise Difference(f"it leaves {left}, and not {expected}")
+
+
+def check_beginning(beginning, whole, options):
+    """Replays a beginning of a script in both ways, and compares what is left with what the whole script leaves."""
+    _, left = compare(beginning, options)
+    ended = ended_records(beginning)
+    lines = left.output.splitlines(True)
+    if not whole.output.startswith(b"".join(lines[:ended])):
+        raise Difference("a line that the whole script does not give")
+    expected = expected_fault(beginning, ended, whole.fault, options)
+    if left.fault != expected:
+        raise Difference(f"it ends with {left.fault}, and its records with {expected}")
+
+
+def expected_fault(beginning, ended, fault_of_whole, options):
+    """The fault of the whole script, if its record is among those that have ended, and else what the record gives by
+    itself that is cut."""
+    if fault_of_whole and fault_of_whole.record <= ended:
+        return fault_of_whole
+    before = octets_before(beginning, ended + 1)
+    if before is None:
+        return None
+    fault = replay(beginning[len(before) :], options).fault
+    return fault and Fault(ended + fault.record, fault.code)

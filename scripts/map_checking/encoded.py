@@ -1,0 +1,68 @@
+"""The arguments that the encoder makes of updates, compared with what the tools write of the same updates."""
+
+import random
+
+from map_arguments import encoding, updates
+from map_arguments.ber import context
+from map_arguments.lines import Line
+from map_arguments.styles import STYLES
+
+from checking import Difference
+
+from .programs import answers_of
+
+# What stands for the items of a list of which all are ignored.
+IGNORED_ROW, IGNORED_ENTRY = updates.Row(255, 0, bytes(1), 0), updates.Entry(255)
+
+
+def sent_number(number):
+    return number and updates.NumberCriterion(number.match_type, number.numbers or None, number.lengths or None)
+
+
+def sent_item(item):
+    """An item with the values that count: of a code of several octets the first, of a cause seven bits."""
+    if isinstance(item, updates.Row):
+        return updates.Row(item.point, item.key, item.address, int(updates.is_release(item.handling)))
+    basics = [(tag, octets[:1]) for tag, octets in item.basics or ()]
+    causes = [cause & 127 for cause in item.causes or ()]
+    return updates.Entry(item.point, sent_number(item.number), basics or None, item.call_type, causes or None)
+
+
+def sent_items(name, items):
+    kept = [sent_item(item) for item in items if item.point in updates.points_of(name)]
+    return kept or [IGNORED_ENTRY if name.endswith("c") else IGNORED_ROW]
+
+
+def sent_update(update):
+    """An update with all that counts of another and no more, in version 3."""
+    if isinstance(update, updates.Cancel):
+        return updates.Cancel(update.imsi)
+    if isinstance(update, updates.Delete):
+        named = updates.withdrawn(update)
+        bits = f"{int('o' in named)}000{int('vt' in named)}000"
+        return updates.Delete(update.imsi, "all" in named, bits if "1" in bits else None)
+    return updates.Insert(update.imsi, {name: sent_items(name, items) for name, items in update.lists.items()})
+
+
+def sent_element(update):
+    """The argument of such an update. That of an insert has all fields, also if no list is sent."""
+    if not isinstance(update, updates.Insert):
+        return encoding.element_of(update)
+    lists = [encoding.list_element(name, update.lists[name]) for name in encoding.TAGS if name in update.lists]
+    return encoding.sequence([context(0, encoding.tbcd(update.imsi)), context(13, lists)])
+
+
+def line_of(text):
+    operation, imsi, digits = text.split(",")
+    return Line(operation, imsi, bytes.fromhex(digits))
+
+
+def encoded_lines(program, drawn):
+    """The lines that the encoder makes of the updates that lines are read as. Octet for octet they are to be those that
+    the tools write of these updates in the shortest style."""
+    lines = [line_of(text) for text in answers_of((program, "--encode"), [line for _, line in drawn])]
+    for (update, given), line in zip(drawn, lines):
+        written = STYLES["minimal"].octets(random, sent_element(sent_update(update)))
+        if (line.operation, line.octets) != (updates.OPERATIONS[type(update)], written):
+            raise Difference(f"{given}\n  is encoded as {line}\n  and written as {written.hex()}")
+    return lines
