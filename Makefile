@@ -159,7 +159,8 @@ refusals: begin-$$@ $(REFUSALS) $(PROGRAM)
 library: begin-$$@
 	@scripts/library
 
-# Nothing is built, so that whoever may write to PREFIX needs no toolchain. DESTDIR and LIBDIR are those of `scripts/install`.
+# Nothing is built, so that whoever may write to PREFIX needs no toolchain. DESTDIR and LIBDIR are those of
+# `scripts/install`.
 ## Copies to PREFIX what is built of library, camel_replay and camel_explain, and says what is not: a second.
 install: begin-$$@
 	@scripts/install "$$PREFIX"
