@@ -2,6 +2,7 @@
 
 use crate::colours::{Colour, Colours};
 use crate::counts::Counts;
+use crate::listing::Listing;
 use crate::mistakes::say_mistake;
 use crate::reasons::say_reason;
 use crate::refusals::say_store_refusal;
@@ -9,7 +10,6 @@ use crate::shown::Shown;
 use crate::stop::Stop;
 use crate::stored::{INDENT, append_store, say_stored};
 use camel_criteria::Refusal;
-use camel_listing::Listing;
 use camel_replay_lib::{MAX_RECORDS, Store};
 use camel_rows::Outcome;
 use camel_script::{Line, Record, ScriptFault, first_mistake, parse_record, push_line};

@@ -8,6 +8,7 @@ mod counts;
 mod criteria;
 mod explainer;
 mod flaw;
+mod listing;
 mod mistakes;
 mod options;
 mod progress;

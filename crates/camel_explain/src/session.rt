@@ -2,12 +2,12 @@
 
 use crate::colours::Colours;
 use crate::explainer::{Explainer, View};
+use crate::listing::{Listing, ListingFault};
 use crate::options::Options;
 use crate::progress::Progress;
 use crate::prompt::Prompted;
 use crate::stop::Stop;
 use crate::stored::{append_memory, append_store};
-use camel_listing::{Listing, ListingFault};
 use camel_replay_lib::write_all;
 use std::io::{IsTerminal, Read, Write};
 use std::{env, fs};
