@@ -1,6 +1,0 @@
-pub mod Fields
-pub mod LineEnds
-pub mod LinesLeft
-pub mod Listed
-pub mod Phase
-pub mod RecordReader
