@@ -26,7 +26,7 @@ pub(crate) struct ScriptLines<R: Read> {
     ends: LineEnds,
     /// The source has ended, and is not asked again.
     has_ended: bool,
-    /// The next line is no part of the record that is kept. `csv` lends its reader only as shared.
+    /// The next line is no part of the record that is kept. It is a cell, since `csv` lends its reader only as shared.
     is_between: Cell<bool>,
 }
 
@@ -104,10 +104,11 @@ impl<R: Read> ScriptLines<R> {
     /// Appends the octets of a line that are there, and returns whether the line or the script has ended.
     fn append_part(&mut self) -> io::Result<bool> {
         if let Err(error) = self.source.fill_buf() {
-            // A signal interrupts a read that nothing is wrong with.
+            // A signal interrupts a read that nothing is wrong with. Any other failure is one of the input, also if the
+            // system has no memory for it: `OutOfMemory` is for memory that is refused here.
             return match error.kind() {
                 ErrorKind::Interrupted => Ok(false),
-                _ => Err(error),
+                _ => Err(io::Error::from(ErrorKind::Other)),
             };
         }
         let octets = self.source.buffer();
