@@ -120,7 +120,7 @@ try-make: begin-$$@
 
 ## Proves every crate, tries the edits of its contracts, and runs the tests of the crates: nearly all of `make test`.
 proofs: begin-$$@
-	rt ci
+	@scripts/proofs
 
 ## Tries the programs that the compiler has to refuse: some minutes, once their crates are proved.
 must-not-compile: begin-$$@
