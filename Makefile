@@ -223,7 +223,7 @@ bench-program: $(BENCH)
 	@echo "$< is built, and no source is newer" >&2
 
 # Says which Debian packages it needs, if one is missing.
-## Measures the store beside others in Rust and C: ten minutes for three turns, once program and library are built.
+## Measures the store beside others in Rust and C: about a quarter of an hour, once program and library are built.
 bench-peers: begin-$$@ $(BENCH) library
 	@bench/run-peers
 
