@@ -4,8 +4,10 @@ use crate::colours::{Colour, Colours};
 use crate::counts::Counts;
 use crate::listing::Listing;
 use crate::mistakes::say_mistake;
+use crate::notes::say_notes;
 use crate::reasons::say_reason;
 use crate::refusals::say_store_refusal;
+use crate::session_word::{HELP, SessionWord, session_word_of};
 use crate::shown::Shown;
 use crate::stop::Stop;
 use crate::stored::{INDENT, append_store, say_stored};
@@ -20,10 +22,12 @@ use std::io::Read;
 /// What is printed of a record.
 #[derive(Clone, Copy)]
 pub(crate) struct View {
-    /// Records are printed; at a prompt they have just been typed.
-    pub(crate) prints_records: bool,
+    /// Records are typed at a prompt. They are not printed, and there are words for the session.
+    pub(crate) is_at_prompt: bool,
     /// Records of which there is nothing to say are left out.
     pub(crate) is_quiet: bool,
+    /// Only records with a fault or a refusal are printed.
+    pub(crate) only_mistakes: bool,
     /// Nothing is run.
     pub(crate) only_checks: bool,
     pub(crate) colours: Colours,
@@ -45,6 +49,8 @@ pub(crate) struct Explainer {
     line: Vec<u8>,
     /// The sentence of which it is the subject.
     sentence: String,
+    /// The lines of its notes.
+    notes: String,
 }
 
 impl Explainer {
@@ -59,20 +65,37 @@ impl Explainer {
             record: Record::Publish,
             line: Vec::new(alloc),
             sentence: String::new(alloc),
+            notes: String::new(alloc),
         }
     }
 
-    /// Explains the record that was read last.
-    pub(crate) fn explain<R: Read>(&mut self, listing: &Listing<R>) -> Result<(), Stop> {
+    /// Explains the record that was read last, and returns whether the session goes on.
+    pub(crate) fn explain<R: Read>(&mut self, listing: &Listing<R>) -> Result<bool, Stop> {
         if let Some(asked) = asked_of(listing.text()) {
-            return Ok(self.show(listing, asked)?);
+            self.show(listing, asked)?;
+            return Ok(true);
         }
+        let session_word = match self.view.is_at_prompt {
+            true => session_word_of(listing.text()),
+            false => None,
+        };
+        match session_word {
+            Some(SessionWord::Quit) => return Ok(false),
+            Some(SessionWord::Help) => self.said.push_str(HELP)?,
+            None => self.explain_record(listing)?,
+        }
+        Ok(true)
+    }
+
+    /// Explains a text that is a record.
+    fn explain_record<R: Read>(&mut self, listing: &Listing<R>) -> Result<(), Stop> {
         if self.counts.records() >= MAX_RECORDS {
             return Err(Stop::TooManyRecords);
         }
         self.counts.count_record();
         self.line.clear();
         self.sentence.clear();
+        self.notes.clear();
         match parse_record(self.alloc, listing.fields(), &mut self.record) {
             Ok(()) => Ok(self.explain_read(listing)?),
             Err(ScriptFault::OutOfMemory) => Err(Stop::Memory),
@@ -100,16 +123,39 @@ impl Explainer {
         } else if self.view.only_checks {
             return Ok(());
         }
+        self.note_update(listing)?;
         let line = self.store.answer_from(&mut self.record)?;
         push_line(self.alloc, &mut self.line, &line)?;
         self.counts.count(&line);
         self.say_why(listing, &line)?;
-        if self.sentence.is_empty() && self.view.is_quiet {
+        if !matches!(line, Line::Accepted(_)) {
+            self.notes.clear();
+        }
+        if !self.is_wanted(&line) {
             return Ok(());
         }
         self.say_head(listing)?;
         self.say_answer(colour_of(&line))?;
-        Ok(self.say_sentence()?)
+        self.say_sentence()?;
+        Ok(self.said.push_str(&self.notes)?)
+    }
+
+    /// Puts the notes on an update in their place, before it is made.
+    fn note_update<R: Read>(&mut self, listing: &Listing<R>) -> Result<(), AllocError> {
+        match &self.record {
+            Record::Update(update) if !self.view.only_mistakes => {
+                say_notes(&mut self.notes, &self.store, listing.fields(), update.get())
+            }
+            _ => Ok(()),
+        }
+    }
+
+    /// Whether a record with this answer is printed.
+    fn is_wanted(&self, line: &Line) -> bool {
+        if self.view.only_mistakes {
+            return matches!(line, Line::Refused(_));
+        }
+        !self.view.is_quiet || !self.sentence.is_empty() || !self.notes.is_empty()
     }
 
     /// Puts the sentence of a refusal of the store, or of a call that triggers nothing, in its place.
@@ -141,7 +187,7 @@ impl Explainer {
 
     /// Prints the record with the number of its line.
     fn say_head<R: Read>(&mut self, listing: &Listing<R>) -> Result<(), AllocError> {
-        if !self.view.prints_records {
+        if self.view.is_at_prompt {
             return Ok(());
         }
         let place = format!(in self.alloc; "{}:", listing.line())?;
@@ -172,7 +218,7 @@ impl Explainer {
 
     /// Prints what is stored: of an IMSI, or how much if none is asked for.
     fn show<R: Read>(&mut self, listing: &Listing<R>, asked: &[u8]) -> Result<(), Refusal> {
-        if self.view.only_checks {
+        if self.view.only_checks || self.view.only_mistakes {
             return Ok(());
         }
         self.say_head(listing)?;

@@ -13,6 +13,8 @@ pub(crate) struct Options<'m> {
     pub(crate) file: Option<&'m str>,
     /// Only records of which there is something to say are printed.
     pub(crate) quiet: bool,
+    /// Only records with a fault or a refusal are printed.
+    pub(crate) mistakes: bool,
     /// Counts are printed at the end.
     pub(crate) summary: bool,
     /// The script is read, and nothing is run.
@@ -40,6 +42,12 @@ pub(crate) fn command<'a>(alloc: Global) -> Result<Command<'a>, Error> {
                 "quiet",
                 'q',
                 "Prints only records of which there is something to say",
+            ))?
+            .arg(flag(
+                alloc,
+                "mistakes",
+                'm',
+                "Prints only records with a fault or a refusal",
             ))?
             .arg(flag(alloc, "summary", 's', "Prints counts at the end"))?
             .arg(flag(
@@ -84,6 +92,7 @@ pub(crate) fn options_of<'m>(matches: &'m ArgMatches) -> Option<Options<'m>> {
     Some(Options {
         file: matches.get_str("FILE").filter(|path| *path != "-"),
         quiet: matches.get_flag("quiet"),
+        mistakes: matches.get_flag("mistakes"),
         summary: matches.get_flag("summary"),
         check: matches.get_flag("check"),
         limit: matches.get_one::<u64>("limit")?,
@@ -106,10 +115,12 @@ script goes on; the status is 1 at the end if there was one. Here a script may a
 Examples:
 
   camel_explain script.csv                   each record with its line number, its answer, and what there is to say
-  camel_explain --quiet script.csv           only mistakes, refusals, and calls that trigger nothing
+  camel_explain --quiet script.csv           only mistakes, refusals, calls that trigger nothing, and notes
+  camel_explain --mistakes script.csv        only mistakes and refusals
   camel_explain --check script.csv           only mistakes, with nothing run
   camel_explain -qs script.csv               the same as with --quiet, and counts at the end
-  camel_explain                              a prompt, where records are typed; Ctrl-D ends it
+  camel_explain                              a prompt, where records are typed; help is a word there, Ctrl-D ends it
+  rlwrap camel_explain                       the same, with a history of the lines (rlwrap is a program of its own)
 
 A mistake is shown like this:
 

@@ -6,6 +6,7 @@ use crate::listing::{Listing, ListingFault};
 use crate::options::Options;
 use crate::progress::Progress;
 use crate::prompt::Prompted;
+use crate::session_word::GREETING;
 use crate::stop::Stop;
 use crate::stored::{append_memory, append_store};
 use camel_replay_lib::write_all;
@@ -26,9 +27,11 @@ pub(crate) fn explain<R: Read + IsTerminal + Drop>(
 ) -> Result<bool, Stop> {
     let is_typed = reader.is_terminal();
     let is_shown = rt.stdout().is_terminal();
+    let is_at_prompt = is_typed && is_shown;
     let view = View {
-        prints_records: !(is_typed && is_shown),
+        is_at_prompt,
         is_quiet: options.quiet,
+        only_mistakes: options.mistakes,
         only_checks: options.check,
         colours: Colours {
             are_on: is_shown && !forbids_colours(rt),
@@ -36,9 +39,14 @@ pub(crate) fn explain<R: Read + IsTerminal + Drop>(
     };
     let mut explainer = Explainer::new(rt.alloc(), options.limit, options.profile, view);
     // Where records are printed as they come, they say how far the run is.
-    let is_said = rt.stderr().is_terminal() && !is_typed && (options.quiet || !is_shown);
+    let leaves_out = options.quiet || options.mistakes;
+    let is_said = rt.stderr().is_terminal() && !is_typed && (leaves_out || !is_shown);
     let mut progress = Progress::new(rt, is_said);
-    let reader = Prompted::new(rt, reader, is_typed && is_shown);
+    if is_at_prompt {
+        explainer.said.push_str(GREETING)?;
+        write_said(rt, &mut explainer)?;
+    }
+    let reader = Prompted::new(rt, reader, is_at_prompt);
     let read = explain_records(
         rt,
         &mut explainer,
@@ -47,7 +55,8 @@ pub(crate) fn explain<R: Read + IsTerminal + Drop>(
         is_typed || is_shown,
     );
     progress.end(rt);
-    if is_typed && is_shown && read.is_ok() {
+    // Ctrl-D leaves the cursor behind the prompt.
+    if is_at_prompt && matches!(read, Ok(End::OfScript)) {
         explainer.said.push('\n')?;
     }
     if options.summary && read.is_ok() {
@@ -67,6 +76,15 @@ fn forbids_colours(rt: &HostRuntime) -> bool {
     }
 }
 
+/// How a run ends that nothing stops.
+#[derive(Clone, Copy)]
+enum End {
+    /// The script has no more records.
+    OfScript,
+    /// A word that was typed ends it.
+    Quit,
+}
+
 /// Explains each record. What is said of one is written at once if somebody waits for it.
 fn explain_records<R: Read + Drop>(
     rt: &HostRuntime,
@@ -74,7 +92,7 @@ fn explain_records<R: Read + Drop>(
     progress: &mut Progress,
     reader: R,
     is_awaited: bool,
-) -> Result<(), Stop> {
+) -> Result<End, Stop> {
     let mut listing = match Listing::new(rt.alloc(), reader) {
         Ok(listing) => listing,
         Err(_) => return Err(Stop::Memory),
@@ -86,13 +104,15 @@ fn explain_records<R: Read + Drop>(
             Err(ListingFault::OutOfMemory) => return Err(Stop::Memory),
             Err(ListingFault::Read) => return Err(Stop::Read),
         }
-        explainer.explain(&listing)?;
+        if !explainer.explain(&listing)? {
+            return Ok(End::Quit);
+        }
         progress.tick(rt, explainer.counts.records());
         if is_awaited || explainer.said.len() >= KEPT_OUTPUT {
             write_said(rt, explainer)?;
         }
     }
-    Ok(())
+    Ok(End::OfScript)
 }
 
 /// Writes what is said, of which nothing is kept then.

@@ -5,12 +5,12 @@ use crate::shown::Shown;
 use camel_script::Expected;
 use std::alloc::AllocError;
 
-/// The words of records.
-const WORDS: [&str; 7] = [
-    "register", "insert", "delete", "cancel", "clear", "publish", "call",
+/// The words of records, and the one that shows what is stored.
+const WORDS: [&str; 8] = [
+    "register", "insert", "delete", "cancel", "clear", "publish", "call", "show",
 ];
 
-const WORDS_TEXT: &str = "register, insert, delete, cancel, clear, publish and call";
+const WORDS_TEXT: &str = "register, insert, delete, cancel, clear, publish, call and show";
 
 /// What a delete names.
 const WHATS: [&str; 3] = ["o", "vt", "all"];
@@ -33,6 +33,12 @@ pub(crate) fn say_unreadable(
     match expected {
         Expected::Word if text == b"show".as_slice() => {
             write!(out, "the IMSI of a show stands behind a space")
+        }
+        Expected::Word if is_utf_16(text) => {
+            write!(
+                out,
+                "the script seems to be in UTF-16, and is read as UTF-8"
+            )
         }
         Expected::Word => say_not_one_of(out, text, &WORDS, WORDS_TEXT),
         Expected::Imsi => write!(out, "{}", imsi_flaw(text)),
@@ -73,19 +79,38 @@ fn say_flaw(out: &mut String, flaw: Option<Flaw<'_>>) -> Result<(), AllocError> 
     }
 }
 
-/// Appends that a text is none of a few words, or one of them in upper case.
+/// Whether a word has what only UTF-16 has: its byte order mark, or half of a character of ASCII.
+fn is_utf_16(text: &[u8]) -> bool {
+    text.starts_with(b"\xff\xfe") || text.starts_with(b"\xfe\xff") || text.contains(&0)
+}
+
+/// Appends that a text is none of a few words, or one of them in upper case or with spaces around it.
 fn say_not_one_of(
     out: &mut String,
     text: &[u8],
     words: &[&str],
     words_text: &str,
 ) -> Result<(), AllocError> {
+    let inner = without_spaces(text);
     for word in words {
-        if text.eq_ignore_ascii_case(word.as_bytes()) {
-            return write!(out, "it has to be in lower case, {word}");
+        if inner.eq_ignore_ascii_case(word.as_bytes()) {
+            let how = match (inner.len() < text.len(), inner == word.as_bytes()) {
+                (false, _) => "in lower case",
+                (true, true) => "without spaces around it",
+                (true, false) => "in lower case and without spaces around it",
+            };
+            return write!(out, "it has to be {how}, {word}");
         }
     }
     write!(out, "not one of {words_text}")
+}
+
+/// A text without the spaces around it. One with a control character, such as a line end, stays as it is.
+fn without_spaces(text: &[u8]) -> &[u8] {
+    if text.iter().any(|octet| octet.is_ascii_control()) {
+        return text;
+    }
+    text.trim_ascii()
 }
 
 /// The kinds of elements that lists have.
