@@ -50,7 +50,10 @@ fn note_item(out: &mut String, number: usize, item: &[u8]) -> Result<(), AllocEr
 /// Appends that an item is ignored, if its detection point is none of its CSI.
 fn note_ignored(out: &mut String, number: usize, name: &[u8], dp: &[u8]) -> Result<(), AllocError> {
     // A detection point whose text can be read is an octet.
-    let point = decimal(dp).unwrap_or(0) as u8;
+    let point = match decimal(dp) {
+        Some(value) if value <= 255 => value as u8,
+        _ => 0,
+    };
     let (csi, counts) = match name {
         b"o" | b"oc" => ("O-CSI", is_o_detection_point(point)),
         _ => ("VT-CSI", is_vt_detection_point(point)),

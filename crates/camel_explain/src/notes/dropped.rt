@@ -97,10 +97,18 @@ impl Kind {
     }
 }
 
+/// How many pending updates are looked through. Of a script with more of them behind an update there is no note.
+const LOOKED_BACK: usize = 1000;
+
 /// Whether criteria of a CSI are stored, by the last pending update that leaves some or none, or else by what is
 /// published.
 fn has_criteria(store: &Store, imsi: &Imsi, kind: Kind) -> bool {
+    let mut left = LOOKED_BACK;
     for update in store.pending().iter().rev() {
+        if left == 0 {
+            return false;
+        }
+        left = left.saturating_sub(1);
         if update.imsi().is_none_or(|of| of == *imsi) {
             if let Some(has) = kind.criteria_after(update) {
                 return has;
