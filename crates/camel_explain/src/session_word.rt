@@ -22,8 +22,7 @@ pub(crate) fn session_word_of(text: &[u8]) -> Option<SessionWord> {
 pub(crate) const GREETING: &str = "help prints what may be typed; Ctrl-D ends the session\n";
 
 /// What may be typed at a prompt, in short.
-pub(crate) const HELP: &str = "\
-   register,IMSI                        an empty record is stored
+pub(crate) const HELP: &str = "   register,IMSI                        an empty record is stored
    insert,IMSI,ITEM,..                  an item is one of o:DP:KEY:SCF:HANDLING, t:DP:KEY:SCF:HANDLING,
                                         oc:DP:NUMBER:BASICS:TYPE:CAUSES, tc:DP:BASICS:CAUSES
    delete,IMSI,WHAT                     WHAT is o, vt or all
