@@ -89,6 +89,15 @@ static inline camel_receipt receipt_of(const camel_store *store)
     return receipt;
 }
 
+/* The front of a session, that of the look which has begun or of a look of its own. */
+static inline uint64_t front_of(camel_session *session)
+{
+    camel_event event = event_of(1, 2);
+    camel_answer answer = { .front = UINT64_MAX };
+    RETURNS(CAMEL_OK, camel_decide(session, &event, &answer));
+    return answer.front;
+}
+
 /* Whether what came with two updates is the same. */
 static inline bool is_same_parts(const camel_update_parts *one, const camel_update_parts *other)
 {

@@ -13,14 +13,6 @@ static void publish(camel_store *store, unsigned updates)
     RETURNS(CAMEL_OK, camel_publish(store));
 }
 
-static uint64_t front_of(camel_session *session)
-{
-    camel_event event = event_of(1, 2);
-    camel_answer answer = { .front = UINT64_MAX };
-    RETURNS(CAMEL_OK, camel_decide(session, &event, &answer));
-    return answer.front;
-}
-
 /* A receipt is of what is published when it is made. It is plain data, and any number of sessions may learn it. */
 static void learnt_by_any(const camel_store *store, camel_session *sessions, uint64_t published)
 {

@@ -20,15 +20,6 @@ static void close_store(camel_store *store, camel_session *sessions)
     RETURNS(CAMEL_OK, camel_close(store));
 }
 
-/* The front of a session, that of the look which has begun or of a look of its own. */
-static uint64_t front_of(camel_session *session)
-{
-    camel_event event = event_of(1, 2);
-    camel_answer answer = { .front = UINT64_MAX };
-    RETURNS(CAMEL_OK, camel_decide(session, &event, &answer));
-    return answer.front;
-}
-
 /* Each session that is told sees what was published, again and again. */
 static void told_of(void)
 {
