@@ -14,7 +14,7 @@ use crate::stored::{INDENT, append_store, say_stored};
 use camel_criteria::Refusal;
 use camel_replay_lib::{MAX_RECORDS, Store};
 use camel_rows::Outcome;
-use camel_script::{Line, Record, ScriptFault, first_mistake, parse_record, push_line};
+use camel_script::{Line, Mistake, Record, ScriptFault, parse_fields, push_line};
 use camel_tbcd::Profile;
 use std::alloc::{AllocError, Global};
 use std::io::Read;
@@ -96,10 +96,21 @@ impl Explainer {
         self.line.clear();
         self.sentence.clear();
         self.notes.clear();
-        match parse_record(self.alloc, listing.fields(), &mut self.record) {
-            Ok(()) => Ok(self.explain_read(listing)?),
+        let mistake = match parse_fields(self.alloc, listing.fields(), &mut self.record) {
+            Ok(()) => return Ok(self.explain_read(listing)?),
+            Err(mistake) => mistake,
+        };
+        match mistake.into_record() {
+            Ok(refused) => {
+                self.record = refused;
+                self.say_first_mistake(listing, &mistake)?;
+                Ok(self.explain_read(listing)?)
+            }
             Err(ScriptFault::OutOfMemory) => Err(Stop::Memory),
-            Err(fault) => Ok(self.explain_fault(listing, fault.code())?),
+            Err(fault) => {
+                self.say_first_mistake(listing, &mistake)?;
+                Ok(self.explain_fault(listing, fault.code())?)
+            }
         }
     }
 
@@ -110,7 +121,6 @@ impl Explainer {
         code: u16,
     ) -> Result<(), AllocError> {
         self.counts.count_fault();
-        self.say_first_mistake(listing)?;
         self.say_head(listing)?;
         self.say_line(Colour::Fault, &format!(in self.alloc; "fault {code}")?)?;
         self.say_sentence()
@@ -118,9 +128,7 @@ impl Explainer {
 
     /// Explains a record whose texts can be read.
     fn explain_read<R: Read>(&mut self, listing: &Listing<R>) -> Result<(), Refusal> {
-        if let Record::Refused(_) = self.record {
-            self.say_first_mistake(listing)?;
-        } else if self.view.only_checks {
+        if self.view.only_checks && !matches!(self.record, Record::Refused(_)) {
             return Ok(());
         }
         self.note_update(listing)?;
@@ -175,14 +183,13 @@ impl Explainer {
     }
 
     /// Puts the sentence of the record's first mistake in its place.
-    fn say_first_mistake<R: Read>(&mut self, listing: &Listing<R>) -> Result<(), AllocError> {
-        match first_mistake(self.alloc, listing.fields())? {
-            Some(mistake) => {
-                say_mistake(&mut self.sentence, listing.fields(), &mistake)?;
-                say_lines(&mut self.sentence, listing.text())
-            }
-            None => Ok(()),
-        }
+    fn say_first_mistake<R: Read>(
+        &mut self,
+        listing: &Listing<R>,
+        mistake: &Mistake,
+    ) -> Result<(), AllocError> {
+        say_mistake(&mut self.sentence, listing.fields(), mistake)?;
+        say_lines(&mut self.sentence, listing.text())
     }
 
     /// Prints the record with the number of its line.

@@ -7,7 +7,6 @@ mod colours;
 mod counts;
 mod criteria;
 mod explainer;
-mod flaw;
 mod listing;
 mod mistakes;
 mod notes;

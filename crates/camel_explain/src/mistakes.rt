@@ -121,3 +121,8 @@ fn name_of(expected: Expected) -> &'static str {
         Expected::Nothing => "nothing",
     }
 }
+
+/// The value of a text of decimal digits, if it has no more than 64 bits.
+pub(crate) fn decimal(text: &[u8]) -> Option<u64> {
+    std::str::from_utf8(text).ok()?.parse::<u64>().ok()
+}

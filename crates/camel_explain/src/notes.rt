@@ -2,7 +2,7 @@
 
 mod dropped;
 
-use crate::flaw::decimal;
+use crate::mistakes::decimal;
 use crate::notes::dropped::note_what_is_dropped;
 use crate::shown::Shown;
 use crate::stored::INDENT;

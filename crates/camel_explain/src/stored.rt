@@ -3,7 +3,7 @@
 use crate::counts::append_count;
 use crate::shown::{Shown, ShownImsi};
 use camel_criteria::Refusal;
-use camel_record_text::append_update;
+use camel_script::append_update;
 use camel_replay_lib::Store;
 use camel_rows::{Records, Subscriber, Update};
 use camel_tbcd::Imsi;

@@ -1,6 +1,6 @@
 use camel_map::{Operation, encode};
-use camel_record_text::append_text;
 use camel_rows::Update;
+use camel_script::append_text;
 use std::alloc::{AllocError, Global};
 
 /// Appends the line of the argument that says an update, without the IMSI of a dialogue.

@@ -1,6 +1,6 @@
 use camel_criteria::Refusal;
 use camel_map::{JoinFault, MapFault, MapFaultKind};
-use camel_record_text::{append_decimal, append_text};
+use camel_script::{append_decimal, append_text};
 use std::alloc::AllocError;
 
 /// Why the arguments of a line bring nothing.

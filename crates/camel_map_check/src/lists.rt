@@ -1,5 +1,5 @@
 use camel_map::{Arrival, CapabilityHandling, ItemCounts};
-use camel_record_text::{append_decimal, append_text};
+use camel_script::{append_decimal, append_text};
 use std::alloc::AllocError;
 
 /// Appends the line of what came beside an update.

@@ -1,8 +1,8 @@
 use crate::fault::append_fault;
 use crate::input::{LineFault, dumped_of};
 use camel_map::{Operation, decode};
-use camel_record_text::{append_decimal, append_text, append_update};
 use camel_rows::Update;
+use camel_script::{append_decimal, append_text, append_update};
 use csv::ByteRecord;
 use std::alloc::{AllocError, Global};
 use std::io::Write;

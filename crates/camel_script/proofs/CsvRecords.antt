@@ -1,5 +1,6 @@
 -- The CSV records of bytes, one after the other.
-use Rattle.std.proofs.Common.{◌≡◌, ◌∙◌, ℕ, zero, suc, ◌+◌, ◌<◌, ◌≤◌, Bool, true, false, List, [], ◌∷◌, length, Option, Some, None, refl, sym, ap, arith, add-one}
+use Rattle.std.proofs.Common.{◌≡◌, ◌∙◌, ℕ, zero, suc, ◌+◌, ◌<◌, ◌≤◌, Bool, true, false, List, [], ◌∷◌, length, Option, Some, None}
+use Rattle.std.proofs.Common.{refl, sym, ap, arith, add-one}
 use Rattle.csv.specs.Machine.{Read, ends_at_end, field_after, fields_after, is_end, next_record, step}
 use Rattle.csv.specs.Reading.{default_config, records_from, records_next}
 use Rattle.csv.specs.declared.parser.Config.{Config}
@@ -30,7 +31,8 @@ shrinks cfg s fields field c [] p h = by (is_end (step cfg s c).1) refl
 shrinks cfg s fields field c (d ∷ rest) p h = by (is_end (step cfg s c).1) refl (shrinks cfg (step cfg s c).0 _ _ d rest p)
   where
     by : (b : Bool) → is_end (step cfg s c).1 ≡ b
-        → (next_record cfg (step cfg s c).0 (fields_after (step cfg s c).1 fields field) (field_after (step cfg s c).1 c field) (d ∷ rest) ≡ Some p → length p.2 ≤ length rest)
+        → (next_record cfg (step cfg s c).0 (fields_after (step cfg s c).1 fields field) (field_after (step cfg s c).1 c field) (d ∷ rest)
+        ≡ Some p → length p.2 ≤ length rest)
         → length p.2 ≤ length (d ∷ rest)
     by true e more = let l = same_rest _ p (rw e at h) in omega arith
     by false e more = let l = more (rw e at h) in omega arith

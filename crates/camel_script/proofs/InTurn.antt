@@ -1,48 +1,50 @@
 -- Sources in turn, as a loop takes them.
-use Rattle.std.proofs.Common.{◌≡◌, ◌∙◌, ℕ, suc, ◌+◌, ◌<◌, ◌≤◌, List, [], ◌∷◌, ◌++◌, length, drop, get_or, Result, Ok, Err, inl, inr, refl, sym, ap, add-one, drop-cons}
+use Rattle.std.proofs.Common.{◌≡◌, ◌∙◌, ◌⊎◌, ℕ, suc, ◌+◌, ◌<◌, ◌≤◌, List, [], ◌∷◌, ◌++◌, length, drop, get_or, Result, Ok, Err}
+use Rattle.std.proofs.Common.{inl, inr, refl, sym, ap, add-one, drop-cons}
 use Rattle.std.proofs.lemmas.List.{drop_all}
-use Rattle.camel_script.specs.Reading.{FailsAs, ReadsAs, in_turn, with_value}
+use Rattle.camel_script.proofs.FieldLemmas.{drop-field}
+use Rattle.camel_script.specs.Field.{field}
+use Rattle.camel_script.specs.Reading.{FailsAs, ReadsAs, in_turn, numbered, with_value}
 use Rattle.camel_script.specs.declared.text.record_fault.RecordFault.{RecordFault}
 
 -- the sources from a place on begin with the one there
 pub drop-source : {S : Type 0} (sources : List S) (at : ℕ) (source : S)
-    → at < length sources → source ≡ get_or sources at source → drop at sources ≡ source ∷ drop (suc at) sources
+    → at < length sources → source ≡ get_or sources at source → drop at sources ≡ source ∷ drop (at + 1) sources
 drop-source sources at source lt is =
-    drop-cons sources at source lt ∙ ap (λ (first : _). first ∷ drop (suc at) sources) (sym is)
+    rw add-one (drop-cons sources at source lt ∙ ap (λ (first : _). first ∷ drop (suc at) sources) (sym is))
 
-module _ {A S : Type 0} (take_source : A → S → Result A RecordFault) where
-  pub goes_on : (sources : List S) (at : ℕ) (source : S) (made next : A) (total : Result A RecordFault)
-      → drop at sources ≡ source ∷ drop (suc at) sources → take_source made source ≡ Ok next
-      → in_turn take_source made (drop at sources) ≡ total → in_turn take_source next (drop (at + 1) sources) ≡ total
+-- the numbered fields from a place on begin with the one there
+pub numbered-field : (fields : List (List ℕ)) (at : ℕ) → at < length fields
+    → numbered (at + 1) (drop at fields) ≡ (at + 1, field fields at) ∷ numbered (at + 1 + 1) (drop (at + 1) fields)
+unfolding numbered
+numbered-field fields at lt = rw (drop-field fields at lt, add-one, add-one) refl
+
+-- no field is behind the last
+pub numbered-none : (fields : List (List ℕ)) (at : ℕ) → length fields ≤ at → numbered (at + 1) (drop at fields) ≡ []
+unfolding numbered
+numbered-none fields at le = rw (drop_all at fields le) refl
+
+module _ {A S F : Type 0} (take_source : A → S → Result A F) {left : List S} (made : A) (total : Result A F)
+    (so_far : in_turn take_source made left ≡ total) where
+  pub goes_on : {source : S} {more : List S} {next : A} → left ≡ source ∷ more → take_source made source ≡ Ok next
+      → in_turn take_source next more ≡ total
   unfolding in_turn
-  goes_on sources at source made next total here taken so_far =
-      let one : in_turn take_source made (drop at sources) ≡ in_turn take_source next (drop (suc at) sources) =
-      rw (here, taken) refl in
-      rw add-one (sym one ∙ so_far)
+  goes_on here taken = rw (here, taken) at so_far
 
-  pub fails_here : (sources : List S) (at : ℕ) (source : S) (made : A) (fault : RecordFault)
-      (total : Result A RecordFault)
-      → drop at sources ≡ source ∷ drop (suc at) sources → take_source made source ≡ Err fault
-      → in_turn take_source made (drop at sources) ≡ total → total ≡ Err fault
+  pub fails_here : {source : S} {more : List S} {fault : F} → left ≡ source ∷ more → take_source made source ≡ Err fault
+      → total ≡ Err fault
   unfolding in_turn
-  fails_here sources at source made fault total here fails so_far =
-      let one : in_turn take_source made (drop at sources) ≡ Err fault = rw (here, fails) refl in
-      sym so_far ∙ one
+  fails_here here fails = sym (rw (here, fails) at so_far)
 
-  pub fails_at : (sources : List S) (at : ℕ) (source : S) (made : A) (fault : RecordFault)
-      (total : Result A RecordFault)
-      → drop at sources ≡ source ∷ drop (suc at) sources → FailsAs fault (take_source made source)
-      → in_turn take_source made (drop at sources) ≡ total → FailsAs fault total
-  fails_at sources at source made fault total here (inl memory) so_far = inl memory
-  fails_at sources at source made fault total here (inr fails) so_far =
-      inr (fails_here sources at source made fault total here fails so_far)
+  -- also if memory is refused
+  pub fails_at : {source : S} {more : List S} {fault : F} {Memory : Type 0} → left ≡ source ∷ more
+      → Memory ⊎ (take_source made source ≡ Err fault) → Memory ⊎ (total ≡ Err fault)
+  fails_at here (inl memory) = inl memory
+  fails_at here (inr fails) = inr (fails_here here fails)
 
-  pub is_done : (sources : List S) (at : ℕ) (made : A) (total : Result A RecordFault)
-      → length sources ≤ at → in_turn take_source made (drop at sources) ≡ total → total ≡ Ok made
+  pub is_done : left ≡ [] → total ≡ Ok made
   unfolding in_turn
-  is_done sources at made total le so_far =
-      let one : in_turn take_source made (drop at sources) ≡ Ok made = rw (drop_all at sources le) refl in
-      sym so_far ∙ one
+  is_done none = sym (rw none at so_far)
 
 -- a function that returns just what its source reads as
 pub reads_exactly : {A : Type 0} (answer reading : Result A RecordFault) → answer ≡ reading → ReadsAs answer reading

@@ -51,7 +51,8 @@ too_many (Some bytes) None state next fields most none front = absurd front
 too_many (Some bytes) (Some rest) state next fields most none front = inr (rw (front, none) refl)
 
 -- a CSV record that is a record of the script
-pub gives_record : (source after : Option (List ℕ)) (state next : State) (fields : List (List ℕ)) (most less : ℕ) (read : Record) → most ≡ suc less → record_of fields ≡ Ok read
+pub gives_record : (source after : Option (List ℕ)) (state next : State) (fields : List (List ℕ)) (most less : ℕ) (read : Record)
+    → most ≡ suc less → record_of fields ≡ Ok read
     → StandsInFront source after state next fields → Gives (known_data source state most) (known_data after next less) (Some read)
 unfolding script_of
 gives_record None after state next fields most less read some is front = tt
@@ -61,7 +62,8 @@ gives_record (Some bytes) (Some rest) state next fields most less read some is f
     (ap (λ (given : ScriptData). given.records) e, ap (λ (given : ScriptData). given.fault) e)
 
 -- a CSV record with a fault of its text
-fault_of_text : (source after : Option (List ℕ)) (state next : State) (fields : List (List ℕ)) (most : ℕ) (e : ScriptFault) → 0 < most → record_of fields ≡ Err e
+fault_of_text : (source after : Option (List ℕ)) (state next : State) (fields : List (List ℕ)) (most : ℕ) (e : ScriptFault)
+    → 0 < most → record_of fields ≡ Err e
     → StandsInFront source after state next fields → IsOnlyFault e (known_data source state most)
 unfolding script_of
 fault_of_text None after state next fields most e some is front = tt
@@ -69,14 +71,16 @@ fault_of_text (Some bytes) None state next fields most e some is front = absurd 
 fault_of_text (Some bytes) (Some rest) state next fields most e some is front =
     let one_more : most ≡ suc (most - 1) = omega arith in rw (front, one_more, is) refl
 
-pub fault_in_record : (source after : Option (List ℕ)) (state next : State) (fields : List (List ℕ)) (most : ℕ) (e : ScriptFault) → 0 < most → (e ≡ fault.OutOfMemory) ⊎ (record_of fields ≡ Err e)
+pub fault_in_record : (source after : Option (List ℕ)) (state next : State) (fields : List (List ℕ)) (most : ℕ) (e : ScriptFault)
+    → 0 < most → (e ≡ fault.OutOfMemory) ⊎ (record_of fields ≡ Err e)
     → StandsInFront source after state next fields → FaultsAs e (known_data source state most)
 fault_in_record source after state next fields most e some (inl memory) front = inl (inl memory)
 fault_in_record source after state next fields most e some (inr is) front = inr (fault_of_text source after state next fields most e some is front)
 
 -- a read of a script's reader is of the next CSV record, and leaves the bytes after it
 reads_next : {R : Type 0} (remaining : R → Option (List ℕ)) (old new : Reader R) (found : Bool) (fields : List (List ℕ))
-    → IsConfigured old → ReadRecord remaining old new found fields → ReadsNext default_config old.state (source_of remaining old) (source_of remaining new) found fields new.state
+    → IsConfigured old → ReadRecord remaining old new found fields
+    → ReadsNext default_config old.state (source_of remaining old) (source_of remaining new) found fields new.state
 reads_next remaining old new found fields set_up reads = rw reads.1 (rw set_up.config at reads.0)
 
 pub read_none : {R : Type 0} (remaining : R → Option (List ℕ)) (old new : Reader R) (fields : List (List ℕ)) (most : ℕ)

@@ -1,26 +1,38 @@
 -- The items of an insert (profile 1's own format): rows and entries of criteria, in two lists for each CSI. The
 -- texts of an item are read before its data are checked.
-use Rattle.std.specs.Prelude.{ℕ, List, [], ◌∷◌, ◌++◌, codes, Option, Some, None, Result, Ok, Err, if◌then◌else◌}
+use Rattle.std.specs.Prelude.{ℕ, ◌==◌, ◌&&◌, not, nat_le, List, [], ◌∷◌, ◌++◌, length, codes, Option, Some, None, Result, Ok, Err, if◌then◌else◌}
+use Rattle.std.specs.Result.{result_unwrap_or}
 use Rattle.std.specs.Str.{bytes_eq}
 use Rattle.camel_criteria.specs.Criteria.{NumberCriterionData, OCriteriaData, TCriteriaData, number_criterion_of, o_criteria_of, t_criteria_of}
+use Rattle.camel_criteria.specs.DetectionPoint.{is_among}
 use Rattle.camel_criteria.specs.Handling.{handling_of}
+use Rattle.camel_criteria.specs.declared.basic_service.BasicService.{BasicService}
 use Rattle.camel_criteria.specs.declared.criteria.MatchType.{MatchType}
+use Rattle.camel_rows.specs.Received.{max_tdp_data}
 use Rattle.camel_rows.specs.TdpRow.{TdpRowData, tdp_row_of}
-use Rattle.camel_script.specs.Reading.{◌>>=◌, each_of, elements_as, in_turn, of_count, or_refused}
+use Rattle.camel_script.specs.Mistake.{at_part, mistake_at, part_count}
+use Rattle.camel_script.specs.Reading.{◌>>=◌, each_of, elements_as, in_turn, numbered, of_count, or_refused}
 use Rattle.camel_script.specs.Parts.{item_part, item_separator, number_separator, part, parts_of}
 use Rattle.camel_script.specs.Texts.{basic_service_of, call_type_of, decimal_of, isdn_address_of, match_type_of, octets_of}
+use Rattle.camel_script.specs.declared.mistake.Expected.{Expected}
+use Rattle.camel_script.specs.declared.mistake.Expected.TheVariants.{ItemName, DetectionPoint, ServiceKey, GsmScfAddress, Handling}
+use Rattle.camel_script.specs.declared.mistake.Expected.TheVariants.{NumberCriterion, BasicServices, ItemCallType, Causes}
+use Rattle.camel_script.specs.declared.mistake.Mistake.{Mistake}
 use Rattle.camel_script.specs.declared.text.record_fault.RecordFault.{RecordFault}
 use Rattle.camel_script.specs.declared.text.record_fault.RecordFault.TheVariants as record_fault
 
 -- o:DP:KEY:SCF:HANDLING and t:DP:KEY:SCF:HANDLING
-unfoldable pub row_of_parts : List ℕ → Result TdpRowData RecordFault
-row_of_parts item = do
-  dp ← decimal_of 255 (item_part item 1)
-  key ← decimal_of 4294967295 (item_part item 2)
-  octets ← octets_of (item_part item 3)
-  received ← decimal_of 4294967295 (item_part item 4)
-  scf ← isdn_address_of octets
-  or_refused (tdp_row_of dp key scf (handling_of received))
+abbrev pub row_texts : List Expected
+row_texts = ItemName ∷ DetectionPoint ∷ ServiceKey ∷ GsmScfAddress ∷ Handling ∷ []
+
+unfoldable pub row_of_parts : ℕ × List ℕ → Result TdpRowData Mistake
+row_of_parts (number, item) = do
+  dp ← at_part number 2 DetectionPoint (decimal_of 255 (item_part item 1))
+  key ← at_part number 3 ServiceKey (decimal_of 4294967295 (item_part item 2))
+  octets ← at_part number 4 GsmScfAddress (octets_of (item_part item 3))
+  received ← at_part number 5 Handling (decimal_of 4294967295 (item_part item 4))
+  scf ← at_part number 4 GsmScfAddress (isdn_address_of octets)
+  at_part number 3 ServiceKey (or_refused (tdp_row_of dp key scf (handling_of received)))
 
 -- the texts of NUMBER: its match type, the octets of its listed numbers, and its lengths
 pub record NumberTextsData : Type 0 where
@@ -49,24 +61,37 @@ number_criterion_from (Some texts) = do
   criterion ← or_refused (number_criterion_of texts.match_type numbers texts.lengths)
   Ok (Some criterion)
 
+-- what of an entry is refused, and which part that is: the basic services if there are too many, else the causes
+abbrev pub refused_text : List BasicService → Expected
+refused_text basic = if nat_le (length basic) 5 then Causes else BasicServices
+
+abbrev pub refused_part : ℕ → ℕ → List BasicService → ℕ
+refused_part basic_part causes_part basic = if nat_le (length basic) 5 then causes_part else basic_part
+
 -- oc:DP:NUMBER:BASICS:TYPE:CAUSES
-unfoldable pub o_entry_of_parts : List ℕ → Result OCriteriaData RecordFault
-o_entry_of_parts item = do
-  dp ← decimal_of 255 (item_part item 1)
-  texts ← number_texts_of (item_part item 2)
-  basic ← elements_as basic_service_of (item_part item 3)
-  call_type ← call_type_of (item_part item 4)
-  causes ← elements_as (decimal_of 255) (item_part item 5)
-  number ← number_criterion_from texts
-  or_refused (o_criteria_of dp number basic call_type causes)
+abbrev pub o_entry_texts : List Expected
+o_entry_texts = ItemName ∷ DetectionPoint ∷ NumberCriterion ∷ BasicServices ∷ ItemCallType ∷ Causes ∷ []
+
+unfoldable pub o_entry_of_parts : ℕ × List ℕ → Result OCriteriaData Mistake
+o_entry_of_parts (number, item) = do
+  dp ← at_part number 2 DetectionPoint (decimal_of 255 (item_part item 1))
+  texts ← at_part number 3 NumberCriterion (number_texts_of (item_part item 2))
+  basic ← at_part number 4 BasicServices (elements_as basic_service_of (item_part item 3))
+  call_type ← at_part number 5 ItemCallType (call_type_of (item_part item 4))
+  causes ← at_part number 6 Causes (elements_as (decimal_of 255) (item_part item 5))
+  criterion ← at_part number 3 NumberCriterion (number_criterion_from texts)
+  at_part number (refused_part 4 6 basic) (refused_text basic) (or_refused (o_criteria_of dp criterion basic call_type causes))
 
 -- tc:DP:BASICS:CAUSES
-unfoldable pub t_entry_of_parts : List ℕ → Result TCriteriaData RecordFault
-t_entry_of_parts item = do
-  dp ← decimal_of 255 (item_part item 1)
-  basic ← elements_as basic_service_of (item_part item 2)
-  causes ← elements_as (decimal_of 255) (item_part item 3)
-  or_refused (t_criteria_of dp basic causes)
+abbrev pub t_entry_texts : List Expected
+t_entry_texts = ItemName ∷ DetectionPoint ∷ BasicServices ∷ Causes ∷ []
+
+unfoldable pub t_entry_of_parts : ℕ × List ℕ → Result TCriteriaData Mistake
+t_entry_of_parts (number, item) = do
+  dp ← at_part number 2 DetectionPoint (decimal_of 255 (item_part item 1))
+  basic ← at_part number 3 BasicServices (elements_as basic_service_of (item_part item 2))
+  causes ← at_part number 4 Causes (elements_as (decimal_of 255) (item_part item 3))
+  at_part number (refused_part 3 4 basic) (refused_text basic) (or_refused (t_criteria_of dp basic causes))
 
 -- the rows and entries of an insert, each list in the order of its items
 pub record ItemsData : Type 0 where
@@ -79,25 +104,43 @@ pub record ItemsData : Type 0 where
 abbrev pub no_items : ItemsData
 no_items = record { o = []; o_criteria = []; vt = []; t_criteria = [] }
 
--- a list with what an item of so many parts reads as at its end
-abbrev pub with_item : {A : Type 0} → ℕ → (List ℕ → Result A RecordFault) → List A → List ℕ
-    → Result (List A) RecordFault
-with_item count item_of items item =
-    of_count count (parts_of item_separator item) (item_of item >>= λ value. Ok (items ++ value ∷ []))
+-- a list with what an item reads as at its end; the item is in the field of this number, and of these parts
+abbrev pub with_item : {A : Type 0} → List Expected → (ℕ × List ℕ → Result A Mistake) → List A → ℕ × List ℕ
+    → Result (List A) Mistake
+with_item texts item_of items (number, item) =
+    if length (parts_of item_separator item) == length texts
+    then (item_of (number, item) >>= λ value. Ok (items ++ value ∷ []))
+    else Err (part_count number texts (length (parts_of item_separator item)))
 
 -- the lists with one item more, in the list that its name says
-unfoldable pub item_into : ItemsData → List ℕ → Result ItemsData RecordFault
-item_into items item =
+unfoldable pub item_into : ItemsData → ℕ × List ℕ → Result ItemsData Mistake
+item_into items (number, item) =
     if bytes_eq (item_part item 0) (codes "o")
-    then (with_item 5 row_of_parts items.o item >>= λ rows. Ok (record items { o = rows }))
+    then (with_item row_texts row_of_parts items.o (number, item) >>= λ rows. Ok (record items { o = rows }))
     else if bytes_eq (item_part item 0) (codes "t")
-    then (with_item 5 row_of_parts items.vt item >>= λ rows. Ok (record items { vt = rows }))
+    then (with_item row_texts row_of_parts items.vt (number, item) >>= λ rows. Ok (record items { vt = rows }))
     else if bytes_eq (item_part item 0) (codes "oc")
-    then (with_item 6 o_entry_of_parts items.o_criteria item >>= λ entries. Ok (record items { o_criteria = entries }))
+    then (with_item o_entry_texts o_entry_of_parts items.o_criteria (number, item)
+    >>= λ entries. Ok (record items { o_criteria = entries }))
     else if bytes_eq (item_part item 0) (codes "tc")
-    then (with_item 4 t_entry_of_parts items.t_criteria item >>= λ entries. Ok (record items { t_criteria = entries }))
-    else Err record_fault.Word
+    then (with_item t_entry_texts t_entry_of_parts items.t_criteria (number, item)
+    >>= λ entries. Ok (record items { t_criteria = entries }))
+    else Err (mistake_at number 1 ItemName record_fault.Word)
 
--- the lists that the items of an insert make
-abbrev pub items_of : List (List ℕ) → Result ItemsData RecordFault
-items_of items = in_turn item_into no_items items
+-- the lists that the items of an insert make, whose first stands in field 3
+abbrev pub items_of : List (List ℕ) → Result ItemsData Mistake
+items_of items = in_turn item_into no_items (numbered 3 items)
+
+-- the detection point of an item; 0 if its text is none
+abbrev pub item_dp : List ℕ → ℕ
+item_dp item = result_unwrap_or (decimal_of 255 (item_part item 1)) 0
+
+-- the first item of a name that its list can't take, behind items of these detection points: the eleventh, or the second
+-- of a detection point that counts for the list. An insert with a list that is refused has one
+unfoldable pub refused_item : RecordFault → List ℕ → List ℕ → List ℕ → List (ℕ × List ℕ) → Mistake
+refused_item fault name points dps [] = mistake_at 3 1 ItemName fault
+refused_item fault name points dps ((number, item) ∷ more) =
+    if not (bytes_eq (item_part item 0) name) then refused_item fault name points dps more
+    else if nat_le max_tdp_data (length dps) then mistake_at number 1 ItemName fault
+    else if is_among points (item_dp item) && is_among dps (item_dp item) then mistake_at number 2 DetectionPoint fault
+    else refused_item fault name points (dps ++ item_dp item ∷ []) more

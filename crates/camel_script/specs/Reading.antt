@@ -1,18 +1,19 @@
--- The reading of a record in steps, each of which may end it with a fault.
-use Rattle.std.specs.Prelude.{◌≡◌, ◌==◌, ◌⊎◌, ℕ, not, List, [], ◌∷◌, ◌++◌, length, Vec, Result, Ok, Err, if◌then◌else◌}
+-- The reading of a record in steps, each of which may end it with a fault of a text, or with a mistake of the record.
+use Rattle.std.specs.Prelude.{◌≡◌, ◌==◌, ◌⊎◌, ℕ, not, suc, List, [], ◌∷◌, ◌++◌, length, Vec, Result, Ok, Err, if◌then◌else◌}
 use Rattle.camel_criteria.specs.declared.refusal.Refusal.{Refusal}
 use Rattle.camel_criteria.specs.declared.refusal.Refusal.TheVariants as refusal
 use Rattle.camel_script.specs.Parts.{elements_of}
+use Rattle.camel_script.specs.declared.mistake.Mistake.{Mistake}
 use Rattle.camel_script.specs.declared.text.record_fault.RecordFault.{RecordFault}
 use Rattle.camel_script.specs.declared.text.record_fault.RecordFault.TheVariants.{FieldCount, OutOfMemory, Refused}
 
 -- a step, and the next one if the first has no fault
 infixl 10 ◌>>=◌
-abbrev pub ◌>>=◌ : {A B : Type 0} → Result A RecordFault → (A → Result B RecordFault) → Result B RecordFault
+abbrev pub ◌>>=◌ : {A B F : Type 0} → Result A F → (A → Result B F) → Result B F
 Ok value >>= next = next value
 Err fault >>= next = Err fault
 
--- a reading of so many fields or parts
+-- a reading of so many parts
 abbrev pub of_count : {A : Type 0} → ℕ → List (List ℕ) → Result A RecordFault → Result A RecordFault
 of_count count texts reading = if not (length texts == count) then Err FieldCount else reading
 
@@ -22,16 +23,21 @@ or_refused (Ok value) = Ok value
 or_refused (Err refusal) = Err (Refused refusal)
 
 -- sources in turn, each taken into what those before it made, up to the first fault
-unfoldable pub in_turn : {A S : Type 0} → (A → S → Result A RecordFault) → A → List S → Result A RecordFault
+unfoldable pub in_turn : {A S F : Type 0} → (A → S → Result A F) → A → List S → Result A F
 in_turn take made [] = Ok made
 in_turn take made (source ∷ more) = take made source >>= λ next. in_turn take next more
 
+-- texts with their numbers, from a number on
+unfoldable pub numbered : ℕ → List (List ℕ) → List (ℕ × List ℕ)
+numbered number [] = []
+numbered number (text ∷ more) = (number, text) ∷ numbered (suc number) more
+
 -- a list, and behind it what a source stands for
-abbrev pub with_value : {A S : Type 0} → (S → Result A RecordFault) → List A → S → Result (List A) RecordFault
+abbrev pub with_value : {A S F : Type 0} → (S → Result A F) → List A → S → Result (List A) F
 with_value value_of values source = value_of source >>= λ value. Ok (values ++ value ∷ [])
 
 -- what each source stands for
-abbrev pub each_of : {A S : Type 0} → (S → Result A RecordFault) → List S → Result (List A) RecordFault
+abbrev pub each_of : {A S F : Type 0} → (S → Result A F) → List S → Result (List A) F
 each_of value_of sources = in_turn (with_value value_of) [] sources
 
 -- what each element of a list stands for
@@ -52,10 +58,19 @@ abbrev pub ReadsAs : {A : Type 0} → Result A RecordFault → Result A RecordFa
 ReadsAs (Ok value) reading = reading ≡ Ok value
 ReadsAs (Err fault) reading = FailsAs fault reading
 
--- a function puts into its place what its text reads as, or is out of memory
-abbrev pub ReadsInto : {A : Type 0} → Result (Unit {0}) RecordFault → A → Result A RecordFault → Type 0
+-- a function fails with the mistake of what it reads, or out of memory
+abbrev pub MistakenAs : {A : Type 0} → Mistake → Result A Mistake → Type 0
+MistakenAs mistake reading = (mistake.fault ≡ OutOfMemory) ⊎ (reading ≡ Err mistake)
+
+-- a function returns what it reads, or the mistake, or is out of memory
+abbrev pub ReadsAt : {A : Type 0} → Result A Mistake → Result A Mistake → Type 0
+ReadsAt (Ok value) reading = reading ≡ Ok value
+ReadsAt (Err mistake) reading = MistakenAs mistake reading
+
+-- a function puts into its place what it reads, or fails with the mistake, or out of memory
+abbrev pub ReadsInto : {A : Type 0} → Result (Unit {0}) Mistake → A → Result A Mistake → Type 0
 ReadsInto (Ok done) value reading = reading ≡ Ok value
-ReadsInto (Err fault) value reading = FailsAs fault reading
+ReadsInto (Err mistake) value reading = MistakenAs mistake reading
 
 -- a function returns the list that its text reads as, or is out of memory
 abbrev pub ReadsList : {A G : Type 0} → Result (Vec A G) RecordFault → Result (List A) RecordFault → Type 0

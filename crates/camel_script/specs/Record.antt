@@ -3,14 +3,19 @@
 use Rattle.std.specs.Prelude.{ℕ, nat_lt, true, false, List, [], ◌∷◌, length, drop, codes, Option, Some, None, Result, Ok, Err, if◌then◌else◌}
 use Rattle.std.specs.Str.{bytes_eq}
 use Rattle.camel_criteria.specs.declared.refusal.Refusal.{Refusal}
+use Rattle.camel_criteria.specs.DetectionPoint.{o_detection_points, vt_detection_points}
 use Rattle.camel_rows.specs.Received.{o_criteria_set_of, o_csi_of, t_criteria_set_of, vt_csi_of}
 use Rattle.camel_rows.specs.declared.subscriber.update.Update.TheVariants as update
 use Rattle.camel_rows.specs.declared.subscriber.update.Withdrawal.{Withdrawal}
 use Rattle.camel_script.specs.Call.{call_of}
-use Rattle.camel_script.specs.Item.{ItemsData, items_of}
-use Rattle.camel_script.specs.Reading.{◌>>=◌, in_turn, of_count, or_refused}
 use Rattle.camel_script.specs.Field.{field}
+use Rattle.camel_script.specs.Item.{ItemsData, items_of, refused_item}
+use Rattle.camel_script.specs.Mistake.{at_field, field_count, mistake_at, with_fields}
+use Rattle.camel_script.specs.Reading.{◌>>=◌, in_turn, numbered, record_fault_of}
 use Rattle.camel_script.specs.Texts.{imsi_of_text}
+use Rattle.camel_script.specs.declared.mistake.Expected.{Expected}
+use Rattle.camel_script.specs.declared.mistake.Expected.TheVariants.{Word, Imsi, Withdrawal as What}
+use Rattle.camel_script.specs.declared.mistake.Mistake.{Mistake}
 use Rattle.camel_script.specs.declared.record.Record.{Record}
 use Rattle.camel_script.specs.declared.record.Record.TheVariants as record_of_script
 use Rattle.camel_script.specs.declared.record.RecordKind.{RecordKind}
@@ -20,73 +25,92 @@ use Rattle.camel_script.specs.declared.script_fault.ScriptFault.TheVariants as f
 use Rattle.camel_script.specs.declared.text.record_fault.RecordFault.{RecordFault}
 use Rattle.camel_script.specs.declared.text.record_fault.RecordFault.TheVariants as record_fault
 
--- the IMSI of a record that has only a word and an IMSI
-unfoldable pub imsi_alone_of : List (List ℕ) → Result (List ℕ) RecordFault
-imsi_alone_of fields = of_count 2 fields (imsi_of_text (field fields 1))
+-- a record that has only a word
+abbrev pub word_texts : List Expected
+word_texts = Word ∷ []
+
+-- a record that has only a word and an IMSI
+abbrev pub imsi_texts : List Expected
+imsi_texts = Word ∷ Imsi ∷ []
+
+abbrev pub imsi_of : List (List ℕ) → Result (List ℕ) Mistake
+imsi_of fields = at_field 2 Imsi (imsi_of_text (field fields 1))
+
+unfoldable pub imsi_alone_of : List (List ℕ) → Result (List ℕ) Mistake
+imsi_alone_of fields = with_fields imsi_texts fields (imsi_of fields)
 
 -- register,IMSI
-abbrev pub register_of : List (List ℕ) → Result Record RecordFault
+abbrev pub register_of : List (List ℕ) → Result Record Mistake
 register_of fields = imsi_alone_of fields >>= λ imsi. Ok (record_of_script.Update (update.Register imsi))
 
 -- cancel,IMSI
-abbrev pub cancel_of : List (List ℕ) → Result Record RecordFault
+abbrev pub cancel_of : List (List ℕ) → Result Record Mistake
 cancel_of fields = imsi_alone_of fields >>= λ imsi. Ok (record_of_script.Update (update.Cancel imsi))
 
--- the received list that items make; without items the list is omitted
-abbrev pub received_list : {A : Type 0} → (List A → Result (List A) Refusal) → List A
-    → Result (Option (List A)) RecordFault
-received_list kept_of [] = Ok None
-received_list kept_of (first ∷ more) = or_refused (kept_of (first ∷ more)) >>= λ kept. Ok (Some kept)
+-- the received list that the items of a name make; without items the list is omitted. If it is refused, the mistake is at
+-- the first item that it can't take
+abbrev pub or_refused_item : {A : Type 0} → List ℕ → List ℕ → List (List ℕ) → Result A Refusal → Result A Mistake
+or_refused_item name points fields (Ok kept) = Ok kept
+or_refused_item name points fields (Err refusal) =
+    Err (refused_item (record_fault_of refusal) name points [] (numbered 3 (drop 2 fields)))
+
+abbrev pub received_list : {A : Type 0} → List ℕ → List ℕ → List (List ℕ) → (List A → Result (List A) Refusal) → List A
+    → Result (Option (List A)) Mistake
+received_list name points fields kept_of [] = Ok None
+received_list name points fields kept_of (first ∷ more) =
+    or_refused_item name points fields (kept_of (first ∷ more)) >>= λ kept. Ok (Some kept)
 
 -- the update Insert of an IMSI and the lists of its items
-unfoldable pub insert_of_items : List ℕ → ItemsData → Result Record RecordFault
-insert_of_items imsi items = do
-  o ← received_list o_csi_of items.o
-  o_criteria ← received_list o_criteria_set_of items.o_criteria
-  vt ← received_list vt_csi_of items.vt
-  t_criteria ← received_list t_criteria_set_of items.t_criteria
+unfoldable pub insert_of_items : List (List ℕ) → List ℕ → ItemsData → Result Record Mistake
+insert_of_items fields imsi items = do
+  o ← received_list (codes "o") o_detection_points fields o_csi_of items.o
+  o_criteria ← received_list (codes "oc") o_detection_points fields o_criteria_set_of items.o_criteria
+  vt ← received_list (codes "t") vt_detection_points fields vt_csi_of items.vt
+  t_criteria ← received_list (codes "tc") vt_detection_points fields t_criteria_set_of items.t_criteria
   Ok (record_of_script.Update (update.Insert imsi o o_criteria vt t_criteria))
 
 -- insert,IMSI,ITEM..
-unfoldable pub insert_of : List (List ℕ) → Result Record RecordFault
+unfoldable pub insert_of : List (List ℕ) → Result Record Mistake
 insert_of fields =
-    if nat_lt (length fields) 2 then Err record_fault.FieldCount
+    if nat_lt (length fields) 2 then Err (field_count imsi_texts (length fields))
     else do
-      imsi ← imsi_of_text (field fields 1)
+      imsi ← imsi_of fields
       items ← items_of (drop 2 fields)
-      insert_of_items imsi items
+      insert_of_items fields imsi items
 
--- a withdrawal with one text more of what a delete names
-unfoldable pub withdrawal_with : Withdrawal → List ℕ → Result Withdrawal RecordFault
-withdrawal_with what text =
+-- a withdrawal with one text more of what a delete names, in the field of this number
+unfoldable pub withdrawal_with : Withdrawal → ℕ × List ℕ → Result Withdrawal Mistake
+withdrawal_with what (number, text) =
     if bytes_eq text (codes "o") then Ok (record what { o = true })
     else if bytes_eq text (codes "vt") then Ok (record what { vt = true })
     else if bytes_eq text (codes "all") then Ok (record what { everything = true })
-    else Err record_fault.Word
+    else Err (mistake_at number 0 What record_fault.Word)
 
 -- the withdrawal of nothing
 abbrev pub no_withdrawal : Withdrawal
 no_withdrawal = record { o = false; vt = false; everything = false }
 
 -- delete,IMSI,WHAT..
-unfoldable pub delete_of : List (List ℕ) → Result Record RecordFault
+abbrev pub delete_texts : List Expected
+delete_texts = Word ∷ Imsi ∷ What ∷ []
+
+unfoldable pub delete_of : List (List ℕ) → Result Record Mistake
 delete_of fields =
-    if nat_lt (length fields) 3 then Err record_fault.FieldCount
+    if nat_lt (length fields) 3 then Err (field_count delete_texts (length fields))
     else do
-      imsi ← imsi_of_text (field fields 1)
-      what ← in_turn withdrawal_with no_withdrawal (drop 2 fields)
+      imsi ← imsi_of fields
+      what ← in_turn withdrawal_with no_withdrawal (numbered 3 (drop 2 fields))
       Ok (record_of_script.Update (update.Delete imsi what))
 
--- a record that has only a word
-unfoldable pub word_alone_of : List (List ℕ) → Record → Result Record RecordFault
-word_alone_of fields read = of_count 1 fields (Ok read)
+unfoldable pub word_alone_of : List (List ℕ) → Record → Result Record Mistake
+word_alone_of fields read = with_fields word_texts fields (Ok read)
 
 -- clear
-abbrev pub clear_of : List (List ℕ) → Result Record RecordFault
+abbrev pub clear_of : List (List ℕ) → Result Record Mistake
 clear_of fields = word_alone_of fields (record_of_script.Update update.ClearAll)
 
 -- publish
-abbrev pub publish_of : List (List ℕ) → Result Record RecordFault
+abbrev pub publish_of : List (List ℕ) → Result Record Mistake
 publish_of fields = word_alone_of fields record_of_script.Publish
 
 -- the kind of record that a word names
@@ -102,7 +126,7 @@ kind_of_word word =
     else Err record_fault.Word
 
 -- what the fields of a record of each kind read as
-abbrev pub reading_of_kind : RecordKind → List (List ℕ) → Result Record RecordFault
+abbrev pub reading_of_kind : RecordKind → List (List ℕ) → Result Record Mistake
 reading_of_kind kind.Register fields = register_of fields
 reading_of_kind kind.Insert fields = insert_of fields
 reading_of_kind kind.Delete fields = delete_of fields
@@ -112,18 +136,21 @@ reading_of_kind kind.Publish fields = publish_of fields
 reading_of_kind kind.Call fields = call_of fields
 
 -- what fields read as; the first one is the word
-unfoldable pub reading_of : List (List ℕ) → Result Record RecordFault
-reading_of fields = kind_of_word (field fields 0) >>= λ kind. reading_of_kind kind fields
+unfoldable pub reading_of : List (List ℕ) → Result Record Mistake
+reading_of fields = at_field 1 Word (kind_of_word (field fields 0)) >>= λ kind. reading_of_kind kind fields
 
 -- a record whose data are refused is a record, and a fault of its text is the script's
-abbrev pub record_or_fault : Result Record RecordFault → Result Record ScriptFault
+abbrev pub refused_or_fault : RecordFault → Result Record ScriptFault
+refused_or_fault (record_fault.Refused refusal) = Ok (record_of_script.Refused refusal)
+refused_or_fault record_fault.OutOfMemory = Err fault.OutOfMemory
+refused_or_fault record_fault.Word = Err fault.Word
+refused_or_fault record_fault.FieldCount = Err fault.FieldCount
+refused_or_fault record_fault.Hexadecimal = Err fault.Hexadecimal
+refused_or_fault record_fault.Number = Err fault.Number
+
+abbrev pub record_or_fault : Result Record Mistake → Result Record ScriptFault
 record_or_fault (Ok read) = Ok read
-record_or_fault (Err (record_fault.Refused refusal)) = Ok (record_of_script.Refused refusal)
-record_or_fault (Err record_fault.OutOfMemory) = Err fault.OutOfMemory
-record_or_fault (Err record_fault.Word) = Err fault.Word
-record_or_fault (Err record_fault.FieldCount) = Err fault.FieldCount
-record_or_fault (Err record_fault.Hexadecimal) = Err fault.Hexadecimal
-record_or_fault (Err record_fault.Number) = Err fault.Number
+record_or_fault (Err mistake) = refused_or_fault mistake.fault
 
 -- the record that fields are, or the fault of the script
 unfoldable pub record_of : List (List ℕ) → Result Record ScriptFault

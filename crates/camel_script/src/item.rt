@@ -1,20 +1,26 @@
 //! The items of an insert.
 
-ghost use Rattle.std.specs.Prelude.{◌≡◌, IfErr, OnOk};
-ghost use Rattle.camel_script.specs.Item.{item_into, no_items, o_entry_of_parts, row_of_parts, t_entry_of_parts, with_item};
-ghost use Rattle.camel_script.specs.Reading.{ReadsAs, FailsAs};
-ghost use Rattle.camel_script.specs.Parts.{item_part};
+ghost use Rattle.std.specs.Prelude.{◌≡◌, ◌≢◌, Err, IfErr, Ok, OnOk, length};
+ghost use Rattle.camel_script.specs.Item.{item_into, no_items, o_entry_of_parts, o_entry_texts, refused_part, refused_text, row_of_parts, row_texts, t_entry_of_parts, t_entry_texts, with_item};
+ghost use Rattle.camel_script.specs.Mistake.{part_count};
+ghost use Rattle.camel_script.specs.Reading.{MistakenAs, ReadsAt};
+ghost use Rattle.camel_script.specs.Parts.{item_part, item_separator, parts_of};
 
 pub(crate) mod number;
 
 use crate::item::number::{make_number_criterion, parse_number_texts};
+use crate::mistake::Expected::{
+    BasicServices, Causes, DetectionPoint, GsmScfAddress, ItemCallType, ItemName, NumberCriterion,
+    ServiceKey,
+};
+use crate::mistake::{Expected, Mistake, at_part, mistake_at, part_count, refused_at};
 use crate::text::lists::{parse_basic_services, parse_small_decimals};
-use crate::text::parts::{ITEM_SEPARATOR, cut_part, part_count};
+use crate::text::parts::{ITEM_SEPARATOR, count_parts, cut_part};
 use crate::text::record_fault::RecordFault;
 use crate::text::{
     make_isdn_address, parse_call_type, parse_decimal, parse_octets, parse_small_decimal,
 };
-use camel_criteria::{Handling, OCriteria, TCriteria};
+use camel_criteria::{BasicService, Handling, MAX_BASIC_SERVICES, OCriteria, TCriteria};
 use camel_rows::TdpRow;
 use std::alloc::Global;
 use std::marker::Model;
@@ -58,56 +64,102 @@ impl Items {
         }
     }
 
-    /// Pushes the next item, a row or an entry, to the list that its name says. After an Err the record has that fault,
-    /// and the lists are of no use.
+    /// Pushes the next item, a row or an entry, to the list that its name says. It is in the field of this number. After
+    /// an Err the record has that mistake, and the lists are of no use.
     #[tactic(auto, unfolding(crate::specs::Item::item_into))]
-    pub(crate) fn push(&mut self, alloc: Global, item: &[u8]) -> Result<(), RecordFault>
-        ensures taken { OnOk result (item_into self.old item.now ≡ Ok self.new) }
-        ensures fails { IfErr result (λ fault. FailsAs fault (item_into self.old item.now)) }
+    pub(crate) fn push(&mut self, alloc: Global, number: usize, item: &[u8]) -> Result<(), Mistake>
+        ensures taken { OnOk result (item_into self.old (number, item.now) ≡ Ok self.new) }
+        ensures fails { IfErr result (λ mistake. MistakenAs mistake (item_into self.old (number, item.now))) }
     {
         match cut_part(item, ITEM_SEPARATOR).0 {
-            b"o" => push_row(alloc, &mut self.o, item),
-            b"t" => push_row(alloc, &mut self.vt, item),
-            b"oc" => push_o_entry(alloc, &mut self.o_criteria, item),
-            b"tc" => push_t_entry(alloc, &mut self.t_criteria, item),
-            _ => Err(RecordFault::Word),
+            b"o" => push_row(alloc, &mut self.o, number, item),
+            b"t" => push_row(alloc, &mut self.vt, number, item),
+            b"oc" => push_o_entry(alloc, &mut self.o_criteria, number, item),
+            b"tc" => push_t_entry(alloc, &mut self.t_criteria, number, item),
+            _ => Err(mistake_at(number, 1, ItemName, RecordFault::Word)),
         }
     }
 }
 
-fn push_row(alloc: Global, rows: &mut Vec<TdpRow>, item: &[u8]) -> Result<(), RecordFault>
-    ensures pushed { OnOk result (with_item 5 row_of_parts rows.old.items item.now ≡ Ok rows.new.items) }
-    ensures fails { IfErr result (λ fault. FailsAs fault (with_item 5 row_of_parts rows.old.items item.now)) }
+const ROW: [Expected; 5] = [
+    ItemName,
+    DetectionPoint,
+    ServiceKey,
+    GsmScfAddress,
+    Expected::Handling,
+];
+
+const O_ENTRY: [Expected; 6] = [
+    ItemName,
+    DetectionPoint,
+    NumberCriterion,
+    BasicServices,
+    ItemCallType,
+    Causes,
+];
+
+const T_ENTRY: [Expected; 4] = [ItemName, DetectionPoint, BasicServices, Causes];
+
+/// Counts the parts of an item, of which these are expected.
+fn check_parts(texts: &[Expected], number: usize, item: &[u8]) -> Result<(), Mistake>
+    ensures counted { OnOk result (length (parts_of item_separator item.now) ≡ length texts.now) }
+    ensures fails { IfErr result (λ mistake. (length (parts_of item_separator item.now) ≢ length texts.now)
+        × (mistake ≡ part_count number texts.now (length (parts_of item_separator item.now)))) }
 {
-    if part_count(item, ITEM_SEPARATOR) != 5 {
-        return Err(RecordFault::FieldCount);
+    let count = count_parts(item, ITEM_SEPARATOR);
+    if count != texts.len() {
+        return Err(part_count(number, texts, count));
     }
-    rows.push(parse_row(alloc, item)?)?;
     Ok(())
 }
 
-fn push_o_entry(alloc: Global, entries: &mut Vec<OCriteria>, item: &[u8]) -> Result<(), RecordFault>
-    ensures pushed { OnOk result (with_item 6 o_entry_of_parts entries.old.items item.now ≡ Ok entries.new.items) }
-    ensures fails { IfErr result (λ fault. FailsAs fault (with_item 6 o_entry_of_parts entries.old.items item.now)) }
+fn push_row(
+    alloc: Global,
+    rows: &mut Vec<TdpRow>,
+    number: usize,
+    item: &[u8],
+) -> Result<(), Mistake>
+    ensures pushed { OnOk result (with_item row_texts row_of_parts rows.old.items (number, item.now) ≡ Ok rows.new.items) }
+    ensures fails { IfErr result (λ mistake.
+        MistakenAs mistake (with_item row_texts row_of_parts rows.old.items (number, item.now))) }
 {
-    if part_count(item, ITEM_SEPARATOR) != 6 {
-        return Err(RecordFault::FieldCount);
-    }
-    let entry = parse_o_entry(alloc, item)?;
+    check_parts(&ROW, number, item)?;
+    rows.push(parse_row(alloc, number, item)?)?;
+    Ok(())
+}
+
+fn push_o_entry(
+    alloc: Global,
+    entries: &mut Vec<OCriteria>,
+    number: usize,
+    item: &[u8],
+) -> Result<(), Mistake>
+    ensures pushed { OnOk result
+        (with_item o_entry_texts o_entry_of_parts entries.old.items (number, item.now) ≡ Ok entries.new.items) }
+    ensures fails { IfErr result (λ mistake.
+        MistakenAs mistake (with_item o_entry_texts o_entry_of_parts entries.old.items (number, item.now))) }
+{
+    check_parts(&O_ENTRY, number, item)?;
+    let entry = parse_o_entry(alloc, number, item)?;
     // A set of several entries keeps the vector itself: room for one more and no other.
     entries.reserve_exact(1)?;
     entries.push(entry)?;
     Ok(())
 }
 
-fn push_t_entry(alloc: Global, entries: &mut Vec<TCriteria>, item: &[u8]) -> Result<(), RecordFault>
-    ensures pushed { OnOk result (with_item 4 t_entry_of_parts entries.old.items item.now ≡ Ok entries.new.items) }
-    ensures fails { IfErr result (λ fault. FailsAs fault (with_item 4 t_entry_of_parts entries.old.items item.now)) }
+fn push_t_entry(
+    alloc: Global,
+    entries: &mut Vec<TCriteria>,
+    number: usize,
+    item: &[u8],
+) -> Result<(), Mistake>
+    ensures pushed { OnOk result
+        (with_item t_entry_texts t_entry_of_parts entries.old.items (number, item.now) ≡ Ok entries.new.items) }
+    ensures fails { IfErr result (λ mistake.
+        MistakenAs mistake (with_item t_entry_texts t_entry_of_parts entries.old.items (number, item.now))) }
 {
-    if part_count(item, ITEM_SEPARATOR) != 4 {
-        return Err(RecordFault::FieldCount);
-    }
-    let entry = parse_t_entry(alloc, item)?;
+    check_parts(&T_ENTRY, number, item)?;
+    let entry = parse_t_entry(alloc, number, item)?;
     // A set of several entries keeps the vector itself: room for one more and no other.
     entries.reserve_exact(1)?;
     entries.push(entry)?;
@@ -149,41 +201,73 @@ fn item_parts(item: &[u8]) -> ItemParts<'_>
 
 /// Reads a row. The texts of all its parts are read before its data are checked.
 #[tactic(auto, unfolding(crate::specs::Item::row_of_parts))]
-fn parse_row(alloc: Global, item: &[u8]) -> Result<TdpRow, RecordFault>
-    ensures { ReadsAs result (row_of_parts item.now) }
+fn parse_row(alloc: Global, number: usize, item: &[u8]) -> Result<TdpRow, Mistake>
+    ensures { ReadsAt result (row_of_parts (number, item.now)) }
 {
     let parts = item_parts(item);
-    let dp = parse_small_decimal(parts.first)?;
-    let key = parse_decimal(parts.second, u32::MAX)?;
-    let octets = parse_octets(alloc, parts.third)?;
-    let received = parse_decimal(parts.fourth, u32::MAX)?;
-    let scf = make_isdn_address(&octets)?;
-    Ok(TdpRow::new(dp, key, scf, Handling::of_received(received))?)
+    let dp = at_part(number, 2, DetectionPoint, parse_small_decimal(parts.first))?;
+    let key = at_part(number, 3, ServiceKey, parse_decimal(parts.second, u32::MAX))?;
+    let octets = at_part(number, 4, GsmScfAddress, parse_octets(alloc, parts.third))?;
+    let received = parse_decimal(parts.fourth, u32::MAX);
+    let received = at_part(number, 5, Expected::Handling, received)?;
+    let scf = at_part(number, 4, GsmScfAddress, make_isdn_address(&octets))?;
+    let row = TdpRow::new(dp, key, scf, Handling::of_received(received));
+    refused_at(number, 3, ServiceKey, row)
 }
 
 /// Reads an entry of the criteria of the O-CSI. The texts of all its parts are read before its data are checked.
 #[tactic(auto, unfolding(crate::specs::Item::o_entry_of_parts))]
-fn parse_o_entry(alloc: Global, item: &[u8]) -> Result<OCriteria, RecordFault>
-    ensures { ReadsAs result (o_entry_of_parts item.now) }
+fn parse_o_entry(alloc: Global, number: usize, item: &[u8]) -> Result<OCriteria, Mistake>
+    ensures { ReadsAt result (o_entry_of_parts (number, item.now)) }
 {
     let parts = item_parts(item);
-    let dp = parse_small_decimal(parts.first)?;
-    let texts = parse_number_texts(alloc, parts.second)?;
-    let basic = parse_basic_services(alloc, parts.third)?;
-    let call_type = parse_call_type(parts.fourth)?;
-    let causes = parse_small_decimals(alloc, parts.fifth)?;
-    let number = make_number_criterion(alloc, &texts)?;
-    Ok(OCriteria::new(alloc, dp, number, &basic, call_type, &causes)?)
+    let dp = at_part(number, 2, DetectionPoint, parse_small_decimal(parts.first))?;
+    let texts = parse_number_texts(alloc, parts.second);
+    let texts = at_part(number, 3, NumberCriterion, texts)?;
+    let basic = parse_basic_services(alloc, parts.third);
+    let basic = at_part(number, 4, BasicServices, basic)?;
+    let call_type = at_part(number, 5, ItemCallType, parse_call_type(parts.fourth))?;
+    let causes = at_part(number, 6, Causes, parse_small_decimals(alloc, parts.fifth))?;
+    let criterion = make_number_criterion(alloc, &texts);
+    let criterion = at_part(number, 3, NumberCriterion, criterion)?;
+    let entry = OCriteria::new(alloc, dp, criterion, &basic, call_type, &causes);
+    let part = refused_part(4, 6, &basic);
+    refused_at(number, part, refused_text(&basic), entry)
 }
 
 /// Reads an entry of the criteria of the VT-CSI. The texts of all its parts are read before its data are checked.
 #[tactic(auto, unfolding(crate::specs::Item::t_entry_of_parts))]
-fn parse_t_entry(alloc: Global, item: &[u8]) -> Result<TCriteria, RecordFault>
-    ensures { ReadsAs result (t_entry_of_parts item.now) }
+fn parse_t_entry(alloc: Global, number: usize, item: &[u8]) -> Result<TCriteria, Mistake>
+    ensures { ReadsAt result (t_entry_of_parts (number, item.now)) }
 {
     let parts = item_parts(item);
-    let dp = parse_small_decimal(parts.first)?;
-    let basic = parse_basic_services(alloc, parts.second)?;
-    let causes = parse_small_decimals(alloc, parts.third)?;
-    Ok(TCriteria::new(dp, &basic, &causes)?)
+    let dp = at_part(number, 2, DetectionPoint, parse_small_decimal(parts.first))?;
+    let basic = parse_basic_services(alloc, parts.second);
+    let basic = at_part(number, 3, BasicServices, basic)?;
+    let causes = at_part(number, 4, Causes, parse_small_decimals(alloc, parts.third))?;
+    let entry = TCriteria::new(dp, &basic, &causes);
+    let part = refused_part(3, 4, &basic);
+    refused_at(number, part, refused_text(&basic), entry)
+}
+
+/// What of an entry is refused: its basic services if there are too many, else its causes.
+fn refused_text(basic: &[BasicService]) -> Expected
+    ensures { result ≡ refused_text basic.now }
+{
+    if basic.len() > MAX_BASIC_SERVICES {
+        BasicServices
+    } else {
+        Causes
+    }
+}
+
+/// Which of these parts of an entry is refused.
+fn refused_part(basic_part: usize, causes_part: usize, basic: &[BasicService]) -> usize
+    ensures { result ≡ refused_part basic_part causes_part basic.now }
+{
+    if basic.len() > MAX_BASIC_SERVICES {
+        basic_part
+    } else {
+        causes_part
+    }
 }

@@ -1,19 +1,24 @@
 //! Scripts of subscriber data updates and calls, read record by record, and the lines that answer them.
 #![tactic(auto)]
 
+mod append;
 mod boxed_update;
 mod item;
 mod line;
 mod mistake;
 mod record;
+mod record_text;
 mod script;
 mod script_fault;
 mod text;
 
+pub use append::{append_decimal, append_text};
 pub use boxed_update::BoxedUpdate;
 pub use line::{Line, push_line};
-pub use mistake::{Expected, Mistake, first_mistake};
-pub use record::{Record, parse_record};
+pub use mistake::{Expected, Mistake};
+pub use record::{Record, parse_fields, parse_record};
+pub use record_text::append_update;
 pub use script::Script;
 pub use script_fault::ScriptFault;
+pub use text::MAX_DECIMAL_DIGITS;
 pub use text::record_fault::RecordFault;

@@ -7,10 +7,10 @@ ghost use Rattle.hex.specs.Hex.{encode_lower};
 ghost use Rattle.camel_rows.specs.Outcome.{action_of};
 ghost use Rattle.camel_script.specs.Line.{action_text, decided_text, line_text, reason_text, served_text};
 
+use crate::append::{append_character, append_decimal, append_text};
 use camel_criteria::{Handling, Refusal};
 use camel_rows::{Answer, CallAction, Outcome, Reason, on_failure};
 use camel_tbcd::{IsdnAddress, MAX_ISDN_ADDRESS_LENGTH};
-use itoa::Buffer;
 use std::alloc::{AllocError, Global};
 
 /// A line of output, in the texts of docs/SCRIPT.md.
@@ -159,34 +159,6 @@ fn append_reason(out: &mut Vec<u8>, reason: Reason) -> Result<(), AllocError>
     ensures kept { take (length out.old.items) out.new.items ≡ out.old.items }
 {
     append_text(out, reason_end(reason))
-}
-
-/// Appends a text.
-fn append_text(out: &mut Vec<u8>, text: &str) -> Result<(), AllocError>
-    ensures appended { OnOk result (out.new.items ≡ out.old.items ++ text.now) }
-    ensures kept { take (length out.old.items) out.new.items ≡ out.old.items }
-{
-    out.extend_from_slice(text.as_bytes())
-}
-
-/// Appends a character.
-fn append_character(out: &mut Vec<u8>, character: u8) -> Result<(), AllocError>
-    ensures appended { OnOk result (out.new.items ≡ out.old.items ++ character ∷ []) }
-    ensures kept { take (length out.old.items) out.new.items ≡ out.old.items }
-{
-    match out.push(character) {
-        Ok(()) => Ok(()),
-        Err(_) => Err(AllocError),
-    }
-}
-
-/// Appends a number in decimal digits.
-fn append_decimal(out: &mut Vec<u8>, number: u64) -> Result<(), AllocError>
-    ensures appended { OnOk result (out.new.items ≡ out.old.items ++ decimal number) }
-    ensures kept { take (length out.old.items) out.new.items ≡ out.old.items }
-{
-    let mut digits = Buffer::new();
-    append_text(out, digits.format(number))
 }
 
 /// The end of a line: what is done with the call if the dialogue with the gsmSCF fails.

@@ -1,30 +1,17 @@
 //! Where a record has its first mistake.
 
-ghost use Rattle.std.specs.Prelude.{◌≡◌, ◌∷◌, [], IfOk};
+ghost use Rattle.std.specs.Prelude.{◌≡◌, ◌≢◌, Err, IfErr, IfOk, IsErrAnd, Ok, OnOk, length};
 ghost use Rattle.csv.specs.Records.{fields_of};
-ghost use Rattle.camel_script.specs.Mistake.{Agrees, Finds, mistake_of, table_mistake};
-ghost use Rattle.camel_script.specs.Record.{reading_of};
-ghost use Rattle.camel_script.specs.declared.mistake.Expected.TheVariants.{Imsi};
-ghost use Rattle.camel_script.specs.declared.mistake.place.Within.TheVariants as within;
+ghost use Rattle.camel_script.specs.Mistake.{at_field, at_part, expected_behind, field_count, mistake_at, part_count};
+ghost use Rattle.camel_script.specs.Reading.{record_fault_of};
+ghost use Rattle.camel_script.specs.Record.{refused_or_fault};
 
-pub(crate) mod call;
-pub(crate) mod check;
-pub(crate) mod delete;
-pub(crate) mod insert;
-pub(crate) mod list;
-pub(crate) mod place;
-pub(crate) mod table;
-
-use crate::mistake::call::check_call;
-use crate::mistake::delete::check_delete;
-use crate::mistake::insert::check_insert;
-use crate::mistake::place::{Finding, Within, mistake_in};
-use crate::mistake::table::check_table;
-use crate::record::field::field;
-use crate::record::{RecordKind, parse_kind};
+use crate::record::Record;
+use crate::script_fault::ScriptFault;
 use crate::text::record_fault::RecordFault;
+use camel_criteria::Refusal;
 use csv::ByteRecord;
-use std::alloc::{AllocError, Global};
+use std::alloc::{AllocError, AllocFailed};
 
 /// The texts of a record, by the names of docs/SCRIPT.md.
 #[derive(Clone, Copy, Debug, PartialEq, Eq)]
@@ -67,7 +54,24 @@ pub enum Expected {
     Nothing,
 }
 
-/// Where a record has its first mistake.
+impl Expected {
+    /// The words of which one has to stand there; none if other texts may stand there too.
+    pub fn words(self) -> &'static [&'static str] {
+        match self {
+            Expected::Word => &[
+                "register", "insert", "delete", "cancel", "clear", "publish", "call",
+            ],
+            Expected::Withdrawal => &["o", "vt", "all"],
+            Expected::CallDetectionPoint => &["2", "4", "12", "13", "14"],
+            Expected::Forwarded | Expected::ItemCallType => &["f", "n"],
+            Expected::ItemName => &["o", "oc", "t", "tc"],
+            _ => &[],
+        }
+    }
+}
+
+/// Where a record has its first mistake: the place of the first check that fails, in the order of checks of
+/// docs/SCRIPT.md.
 #[derive(Clone, Copy, Debug, PartialEq, Eq)]
 pub struct Mistake {
     /// The number of the field, from 1. It is one more than there are fields if one is missing.
@@ -77,52 +81,150 @@ pub struct Mistake {
     pub part: usize,
     /// The text that is expected there.
     pub expected: Expected,
-    /// Which check fails: a fault of the text, or the refusal of the data. It is never `OutOfMemory`.
+    /// Which check fails: a fault of the text, or the refusal of the data. If memory was refused it is `OutOfMemory`,
+    /// and the others say nothing.
     pub fault: RecordFault,
 }
 
-/// The first mistake of a record: where the first check that fails is made, in the order of checks of docs/SCRIPT.md.
-/// None if the record has neither a fault nor data that are refused.
-///
-/// It reads no more than the texts up to the mistake, a few times each, and keeps nothing. Fails out of memory.
-pub fn first_mistake(alloc: Global, fields: &ByteRecord) -> Result<Option<Mistake>, AllocError>
-    ensures first { IfOk result (λ mistake. mistake ≡ mistake_of (fields_of fields.now)) }
-    ensures fault { IfOk result (λ mistake. Agrees mistake (reading_of (fields_of fields.now))) }
-{
-    match check_record(alloc, fields) {
-        Ok(()) => Ok(None),
-        Err(Finding::Mistake(mistake)) => Ok(Some(mistake)),
-        Err(Finding::OutOfMemory) => Err(AllocError),
+impl Mistake {
+    /// What a script has in the place of a record with this mistake: the record of its refusal, with `DataMissing` (35) or
+    /// `UnexpectedDataValue` (36), if only its data are refused, and else the fault that ends the script.
+    pub fn into_record(self) -> Result<Record, ScriptFault>
+        ensures { result ≡ refused_or_fault self.fault }
+    {
+        match self.fault {
+            RecordFault::Refused(refusal) => Ok(Record::Refused(refusal)),
+            RecordFault::OutOfMemory => Err(ScriptFault::OutOfMemory),
+            RecordFault::Word => Err(ScriptFault::Word),
+            RecordFault::FieldCount => Err(ScriptFault::FieldCount),
+            RecordFault::Hexadecimal => Err(ScriptFault::Hexadecimal),
+            RecordFault::Number => Err(ScriptFault::Number),
+        }
     }
 }
 
-/// Checks a record by its word, the first field.
-#[tactic(auto, unfolding(crate::specs::Mistake::mistake_of))]
-fn check_record(alloc: Global, fields: &ByteRecord) -> Result<(), Finding>
-    ensures { Finds result (mistake_of (fields_of fields.now)) }
-{
-    match parse_kind(field(fields, 0)) {
-        Ok(RecordKind::Register) => check_imsi_only(alloc, fields),
-        Ok(RecordKind::Insert) => check_insert(alloc, fields),
-        Ok(RecordKind::Delete) => check_delete(alloc, fields),
-        Ok(RecordKind::Cancel) => check_imsi_only(alloc, fields),
-        Ok(RecordKind::Clear) => check_word_only(alloc, fields),
-        Ok(RecordKind::Publish) => check_word_only(alloc, fields),
-        Ok(RecordKind::Call) => check_call(alloc, fields),
-        Err(fault) => Err(Finding::Mistake(mistake_in(Within::Record, 1, Expected::Word, fault))),
+impl From<AllocError> for Mistake {
+    ghost use Rattle.std.specs.Prelude.{◌≡◌};
+    ghost use Rattle.camel_script.specs.declared.text.record_fault.RecordFault.{RecordFault};
+
+    ghost from_gives = { λ _ mistake. mistake.fault ≡ RecordFault.OutOfMemory };
+
+    fn from(_error: AllocError) -> Mistake {
+        mistake_at(0, 0, Expected::Nothing, RecordFault::OutOfMemory)
     }
 }
 
-/// Checks the fields of a record that has only a word and an IMSI.
-fn check_imsi_only(alloc: Global, fields: &ByteRecord) -> Result<(), Finding>
-    ensures { Finds result (table_mistake within.Record (fields_of fields.now) 1 (Imsi ∷ []) []) }
-{
-    check_table(alloc, Within::Record, fields, 1, &[Expected::Imsi], &[])
+impl<T: Drop> From<AllocFailed<T>> for Mistake {
+    ghost use Rattle.std.specs.Prelude.{◌≡◌};
+    ghost use Rattle.camel_script.specs.declared.text.record_fault.RecordFault.{RecordFault};
+
+    ghost from_gives = { λ _ mistake. mistake.fault ≡ RecordFault.OutOfMemory };
+
+    fn from(_error: AllocFailed<T>) -> Mistake {
+        mistake_at(0, 0, Expected::Nothing, RecordFault::OutOfMemory)
+    }
 }
 
-/// Checks the fields of a record that has only a word.
-fn check_word_only(alloc: Global, fields: &ByteRecord) -> Result<(), Finding>
-    ensures { Finds result (table_mistake within.Record (fields_of fields.now) 1 [] []) }
+/// A mistake in the part of an item, or in a whole field if the part is 0.
+pub(crate) fn mistake_at(
+    field: usize,
+    part: usize,
+    expected: Expected,
+    fault: RecordFault,
+) -> Mistake
+    ensures { result ≡ mistake_at field part expected fault }
 {
-    check_table(alloc, Within::Record, fields, 1, &[], &[])
+    Mistake {
+        field,
+        part,
+        expected,
+        fault,
+    }
+}
+
+/// What a check of a part of an item reads, whose fault is a mistake there.
+pub(crate) fn at_part<T: Drop>(
+    field: usize,
+    part: usize,
+    expected: Expected,
+    reading: Result<T, RecordFault>,
+) -> Result<T, Mistake>
+    ensures part { result ≡ at_part field part expected reading }
+    ensures read { IfOk result (λ value. reading ≡ Ok value) }
+    ensures fails { IfErr result (λ mistake. (reading ≡ Err mistake.fault)
+        × (mistake ≡ mistake_at field part expected mistake.fault)) }
+{
+    match reading {
+        Ok(value) => Ok(value),
+        Err(fault) => Err(mistake_at(field, part, expected, fault)),
+    }
+}
+
+/// What a check of a whole field reads, whose fault is a mistake there.
+pub(crate) fn at_field<T: Drop>(
+    field: usize,
+    expected: Expected,
+    reading: Result<T, RecordFault>,
+) -> Result<T, Mistake>
+    ensures field { result ≡ at_field field expected reading }
+    ensures read { IfOk result (λ value. reading ≡ Ok value) }
+    ensures fails { IfErr result (λ mistake. (reading ≡ Err mistake.fault)
+        × (mistake ≡ mistake_at field 0 expected mistake.fault)) }
+{
+    at_part(field, 0, expected, reading)
+}
+
+/// What a part of an item makes, whose refusal is a mistake there.
+pub(crate) fn refused_at<T: Drop>(
+    field: usize,
+    part: usize,
+    expected: Expected,
+    made: Result<T, Refusal>,
+) -> Result<T, Mistake>
+    ensures made { IfOk result (λ value. made ≡ Ok value) }
+    ensures fails { IfErr result (λ mistake. IsErrAnd made (λ refusal.
+        mistake ≡ mistake_at field part expected (record_fault_of refusal))) }
+{
+    match made {
+        Ok(value) => Ok(value),
+        Err(refusal) => Err(mistake_at(field, part, expected, refusal.into())),
+    }
+}
+
+/// The text that is expected behind so many.
+fn expected_behind(texts: &[Expected], count: usize) -> Expected
+    ensures { result ≡ expected_behind texts.now count }
+{
+    texts.get(count).copied().unwrap_or(Expected::Nothing)
+}
+
+/// The mistake of a record of so many fields, which are too few or too many: the first that is missing, or the one behind
+/// the last that is expected.
+pub(crate) fn field_count(texts: &[Expected], count: usize) -> Mistake
+    ensures { result ≡ field_count texts.now count }
+{
+    let present = count.min(texts.len());
+    let expected = expected_behind(texts, present);
+    mistake_at(present + 1, 0, expected, RecordFault::FieldCount)
+}
+
+/// The mistake of an item of so many parts, which are too few or too many.
+pub(crate) fn part_count(field: usize, texts: &[Expected], count: usize) -> Mistake
+    ensures { result ≡ part_count field texts.now count }
+{
+    let present = count.min(texts.len());
+    let expected = expected_behind(texts, present);
+    mistake_at(field, present + 1, expected, RecordFault::FieldCount)
+}
+
+/// Counts the fields of a record, of which these are expected.
+pub(crate) fn check_fields(texts: &[Expected], fields: &ByteRecord) -> Result<(), Mistake>
+    ensures counted { OnOk result (length (fields_of fields.now) ≡ length texts.now) }
+    ensures fails { IfErr result (λ mistake. (length (fields_of fields.now) ≢ length texts.now)
+        × (mistake ≡ field_count texts.now (length (fields_of fields.now)))) }
+{
+    if fields.len() != texts.len() {
+        return Err(field_count(texts, fields.len()));
+    }
+    Ok(())
 }

@@ -1,17 +1,19 @@
 //! The records of a script.
 
-ghost use Rattle.std.specs.Prelude.{◌≡◌, ◌≢◌, ◌⊎◌, IfErr, OnOk, length};
+ghost use Rattle.std.specs.Prelude.{◌≡◌, ◌⊎◌, Err, IfErr, Ok, OnOk};
 ghost use Rattle.csv.specs.Records.{fields_of};
 ghost use Rattle.camel_script.specs.Reading.{ReadsInto};
-ghost use Rattle.camel_script.specs.Record.{cancel_of, clear_of, imsi_alone_of, kind_of_word, publish_of, reading_of, record_of, register_of};
+ghost use Rattle.camel_script.specs.Record.{cancel_of, clear_of, imsi_alone_of, imsi_of, kind_of_word, publish_of, reading_of, record_of, register_of};
 ghost use Rattle.camel_script.specs.ScriptFault.{IsRecordFault};
 
 pub(crate) mod call;
 pub(crate) mod delete;
 pub(crate) mod field;
 pub(crate) mod insert;
+pub(crate) mod refused_item;
 
 use crate::boxed_update::BoxedUpdate;
+use crate::mistake::{Expected, Mistake, at_field, check_fields};
 use crate::record::call::parse_call;
 use crate::record::delete::parse_delete;
 use crate::record::field::field;
@@ -54,6 +56,10 @@ pub(crate) enum RecordKind {
     Call,
 }
 
+const WORD: [Expected; 1] = [Expected::Word];
+
+pub(crate) const WORD_AND_IMSI: [Expected; 2] = [Expected::Word, Expected::Imsi];
+
 /// Reads the record that the fields of a CSV record stand for into its place, in the form that docs/SCRIPT.md states. A
 /// record whose texts can be read and whose data are refused is read as [`Record::Refused`].
 ///
@@ -71,26 +77,19 @@ pub fn parse_record(
         (fault ≡ ScriptFault.OutOfMemory) ⊎ (record_of (fields_of fields.now) ≡ Err fault)) }
     ensures of_record { IfErr result IsRecordFault }
 {
-    match parse_fields(alloc, fields, read) {
-        Ok(()) => Ok(()),
-        Err(RecordFault::Refused(refusal)) => {
-            *read = Record::Refused(refusal);
-            Ok(())
-        }
-        Err(RecordFault::OutOfMemory) => Err(ScriptFault::OutOfMemory),
-        Err(RecordFault::Word) => Err(ScriptFault::Word),
-        Err(RecordFault::FieldCount) => Err(ScriptFault::FieldCount),
-        Err(RecordFault::Hexadecimal) => Err(ScriptFault::Hexadecimal),
-        Err(RecordFault::Number) => Err(ScriptFault::Number),
+    if let Err(mistake) = parse_fields(alloc, fields, read) {
+        *read = mistake.into_record()?;
     }
+    Ok(())
 }
 
-/// Reads a record by its word, the first field.
+/// Reads the record as [`parse_record`] does, and fails also if its data are refused: with its first mistake, which
+/// [`Mistake::into_record`] makes what `parse_record` gives, or out of memory. No clause says what the place holds then.
 #[tactic(auto, unfolding(crate::specs::Record::reading_of))]
-fn parse_fields(alloc: Global, fields: &ByteRecord, read: &mut Record) -> Result<(), RecordFault>
+pub fn parse_fields(alloc: Global, fields: &ByteRecord, read: &mut Record) -> Result<(), Mistake>
     ensures { ReadsInto result read.new (reading_of (fields_of fields.now)) }
 {
-    match parse_kind(field(fields, 0))? {
+    match at_field(1, Expected::Word, parse_kind(field(fields, 0)))? {
         RecordKind::Register => parse_register(alloc, fields, read),
         RecordKind::Insert => parse_insert(alloc, fields, read),
         RecordKind::Delete => parse_delete(alloc, fields, read),
@@ -103,7 +102,7 @@ fn parse_fields(alloc: Global, fields: &ByteRecord, read: &mut Record) -> Result
 
 /// Reads the word of a record.
 #[tactic(auto, unfolding(crate::specs::Record::kind_of_word))]
-pub(crate) fn parse_kind(word: &[u8]) -> Result<RecordKind, RecordFault>
+fn parse_kind(word: &[u8]) -> Result<RecordKind, RecordFault>
     ensures { result ≡ kind_of_word word.now }
 {
     match word {
@@ -118,19 +117,24 @@ pub(crate) fn parse_kind(word: &[u8]) -> Result<RecordKind, RecordFault>
     }
 }
 
+/// Reads the IMSI of an update, its second field.
+pub(crate) fn read_imsi(fields: &ByteRecord) -> Result<Imsi, Mistake>
+    ensures { result ≡ imsi_of (fields_of fields.now) }
+{
+    at_field(2, Expected::Imsi, parse_imsi(field(fields, 1)))
+}
+
 /// Reads the IMSI of a record that has only a word and an IMSI.
 #[tactic(auto, unfolding(crate::specs::Record::imsi_alone_of))]
-fn parse_imsi_alone(fields: &ByteRecord) -> Result<Imsi, RecordFault>
+fn parse_imsi_alone(fields: &ByteRecord) -> Result<Imsi, Mistake>
     ensures { result ≡ imsi_alone_of (fields_of fields.now) }
 {
-    if fields.len() != 2 {
-        return Err(RecordFault::FieldCount);
-    }
-    parse_imsi(field(fields, 1))
+    check_fields(&WORD_AND_IMSI, fields)?;
+    read_imsi(fields)
 }
 
 #[inline(never)]
-fn parse_register(alloc: Global, fields: &ByteRecord, read: &mut Record) -> Result<(), RecordFault>
+fn parse_register(alloc: Global, fields: &ByteRecord, read: &mut Record) -> Result<(), Mistake>
     ensures { ReadsInto result read.new (register_of (fields_of fields.now)) }
 {
     let imsi = parse_imsi_alone(fields)?;
@@ -139,7 +143,7 @@ fn parse_register(alloc: Global, fields: &ByteRecord, read: &mut Record) -> Resu
 }
 
 #[inline(never)]
-fn parse_cancel(alloc: Global, fields: &ByteRecord, read: &mut Record) -> Result<(), RecordFault>
+fn parse_cancel(alloc: Global, fields: &ByteRecord, read: &mut Record) -> Result<(), Mistake>
     ensures { ReadsInto result read.new (cancel_of (fields_of fields.now)) }
 {
     let imsi = parse_imsi_alone(fields)?;
@@ -149,31 +153,20 @@ fn parse_cancel(alloc: Global, fields: &ByteRecord, read: &mut Record) -> Result
 
 #[inline(never)]
 #[tactic(auto, unfolding(crate::specs::Record::word_alone_of))]
-fn parse_clear(alloc: Global, fields: &ByteRecord, read: &mut Record) -> Result<(), RecordFault>
+fn parse_clear(alloc: Global, fields: &ByteRecord, read: &mut Record) -> Result<(), Mistake>
     ensures { ReadsInto result read.new (clear_of (fields_of fields.now)) }
 {
-    check_word_alone(fields)?;
+    check_fields(&WORD, fields)?;
     *read = Record::Update(BoxedUpdate::new(alloc, Update::ClearAll)?);
     Ok(())
 }
 
 #[inline(never)]
 #[tactic(auto, unfolding(crate::specs::Record::word_alone_of))]
-fn parse_publish(fields: &ByteRecord, read: &mut Record) -> Result<(), RecordFault>
+fn parse_publish(fields: &ByteRecord, read: &mut Record) -> Result<(), Mistake>
     ensures { ReadsInto result read.new (publish_of (fields_of fields.now)) }
 {
-    check_word_alone(fields)?;
+    check_fields(&WORD, fields)?;
     *read = Record::Publish;
-    Ok(())
-}
-
-/// Counts the fields of a record that has only a word, and so no texts.
-fn check_word_alone(fields: &ByteRecord) -> Result<(), RecordFault>
-    ensures alone { OnOk result (length (fields_of fields.now) ≡ 1) }
-    ensures more { IfErr result (λ fault. (fault ≡ RecordFault.FieldCount) × (length (fields_of fields.now) ≢ 1)) }
-{
-    if fields.len() != 1 {
-        return Err(RecordFault::FieldCount);
-    }
     Ok(())
 }

@@ -18,7 +18,7 @@ use std::alloc::Global;
 use std::marker::Model;
 
 /// The greatest number of digits of a decimal, leading zeros among them.
-pub(crate) const MAX_DECIMAL_DIGITS: usize = 10;
+pub const MAX_DECIMAL_DIGITS: usize = 10;
 
 /// The letter of a teleservice.
 pub(crate) const TELESERVICE: u8 = b't';

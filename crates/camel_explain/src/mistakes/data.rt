@@ -1,6 +1,6 @@
 //! What is wrong with data that are refused, whose texts can be read.
 
-use crate::flaw::decimal;
+use crate::mistakes::decimal;
 use crate::shown::Shown;
 use camel_criteria::{
     MAX_BASIC_SERVICES, MAX_CAUSE, MAX_CAUSES, MAX_LENGTHS, MAX_NUMBERS, Refusal,

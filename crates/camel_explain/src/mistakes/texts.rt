@@ -1,28 +1,13 @@
 //! What is wrong with a text that can't be read.
 
-use crate::flaw::{Flaw, decimal_flaw, hexadecimal_flaw, imsi_flaw, service_flaw};
+use crate::mistakes::decimal;
 use crate::shown::Shown;
-use camel_script::Expected;
+use camel_script::{Expected, MAX_DECIMAL_DIGITS};
+use camel_tbcd::{MAX_IMSI_DIGITS, MIN_IMSI_DIGITS};
 use std::alloc::AllocError;
 
-/// The words of records, and the one that shows what is stored.
-const WORDS: [&str; 8] = [
-    "register", "insert", "delete", "cancel", "clear", "publish", "call", "show",
-];
-
-const WORDS_TEXT: &str = "register, insert, delete, cancel, clear, publish, call and show";
-
-/// What a delete names.
-const WHATS: [&str; 3] = ["o", "vt", "all"];
-
-/// The letters of a call type.
-const TYPES: [&str; 2] = ["f", "n"];
-
-/// The names of items.
-const NAMES: [&str; 4] = ["o", "oc", "t", "tc"];
-
-/// The greatest value of a detection point, a length or a cause in a text.
-const MAX_OCTET: u64 = 255;
+/// The word that shows what is stored. No record begins with it.
+const SHOW: &str = "show";
 
 /// Appends what is wrong with a text of a kind.
 pub(crate) fn say_unreadable(
@@ -31,7 +16,7 @@ pub(crate) fn say_unreadable(
     text: &[u8],
 ) -> Result<(), AllocError> {
     match expected {
-        Expected::Word if text == b"show".as_slice() => {
+        Expected::Word if text == SHOW.as_bytes() => {
             write!(out, "the IMSI of a show stands behind a space")
         }
         Expected::Word if is_utf_16(text) => {
@@ -40,42 +25,21 @@ pub(crate) fn say_unreadable(
                 "the script seems to be in UTF-16, and is read as UTF-8"
             )
         }
-        Expected::Word => say_not_one_of(out, text, &WORDS, WORDS_TEXT),
-        Expected::Imsi => write!(out, "{}", imsi_flaw(text)),
-        Expected::Withdrawal => say_not_one_of(out, text, &WHATS, "o, vt and all"),
-        Expected::CallDetectionPoint => {
-            write!(
-                out,
-                "not one of 2, 4, 12, 13 and 14, where calls are decided"
-            )
-        }
-        Expected::BasicService => say_flaw(out, service_flaw(text)),
-        Expected::Destination | Expected::GsmScfAddress => say_flaw(out, hexadecimal_flaw(text)),
-        Expected::Forwarded => {
-            say_not_one_of(out, text, &TYPES, "f (forwarded) and n (not forwarded)")
-        }
-        Expected::ItemCallType => say_not_one_of(
-            out,
-            text,
-            &TYPES,
-            "f (forwarded) and n (not forwarded), nor empty",
-        ),
-        Expected::ItemName => say_not_one_of(out, text, &NAMES, "o, oc, t and tc"),
-        Expected::Cause | Expected::DetectionPoint => say_flaw(out, decimal_flaw(text, MAX_OCTET)),
-        Expected::ServiceKey | Expected::Handling => {
-            say_flaw(out, decimal_flaw(text, u64::from(u32::MAX)))
-        }
+        Expected::Imsi => say_imsi(out, text),
+        Expected::Word
+        | Expected::Withdrawal
+        | Expected::CallDetectionPoint
+        | Expected::Forwarded
+        | Expected::ItemCallType
+        | Expected::ItemName => say_not_one_of(out, expected, text),
         Expected::NumberCriterion => say_number(out, text),
-        Expected::BasicServices => say_list(out, Element::Code, text),
-        Expected::Causes => say_list(out, Element::Cause, text),
+        Expected::BasicServices => say_list(out, Kind::Code, text),
+        Expected::Causes => say_list(out, Kind::Cause, text),
+        Expected::BasicService => say_flaw(out, Kind::Code, text),
+        Expected::Destination | Expected::GsmScfAddress => say_flaw(out, Kind::ListedNumber, text),
+        Expected::Cause | Expected::DetectionPoint => say_flaw(out, Kind::Cause, text),
+        Expected::ServiceKey | Expected::Handling => say_flaw(out, Kind::Integer, text),
         Expected::Nothing => Ok(()),
-    }
-}
-
-fn say_flaw(out: &mut String, flaw: Option<Flaw<'_>>) -> Result<(), AllocError> {
-    match flaw {
-        Some(flaw) => write!(out, "{flaw}"),
-        None => Ok(()),
     }
 }
 
@@ -84,25 +48,59 @@ fn is_utf_16(text: &[u8]) -> bool {
     text.starts_with(b"\xff\xfe") || text.starts_with(b"\xfe\xff") || text.contains(&0)
 }
 
-/// Appends that a text is none of a few words, or one of them in upper case or with spaces around it.
-fn say_not_one_of(
-    out: &mut String,
-    text: &[u8],
-    words: &[&str],
-    words_text: &str,
-) -> Result<(), AllocError> {
-    let inner = without_spaces(text);
+/// Appends that a text is none of the words that are read there, or one of them in upper case or with spaces around it.
+fn say_not_one_of(out: &mut String, expected: Expected, text: &[u8]) -> Result<(), AllocError> {
+    let words = expected.words();
     for word in words {
-        if inner.eq_ignore_ascii_case(word.as_bytes()) {
-            let how = match (inner.len() < text.len(), inner == word.as_bytes()) {
-                (false, _) => "in lower case",
-                (true, true) => "without spaces around it",
-                (true, false) => "in lower case and without spaces around it",
-            };
-            return write!(out, "it has to be {how}, {word}");
+        if say_written_otherwise(out, text, word)? {
+            return Ok(());
         }
     }
-    write!(out, "not one of {words_text}")
+    if expected == Expected::Word && say_written_otherwise(out, text, SHOW)? {
+        return Ok(());
+    }
+    write!(out, "not one of ")?;
+    match expected {
+        Expected::Word => {
+            say_words(out, words, ", ")?;
+            write!(out, " and {SHOW}")
+        }
+        Expected::Forwarded => write!(out, "f (forwarded) and n (not forwarded)"),
+        Expected::ItemCallType => write!(out, "f (forwarded) and n (not forwarded), nor empty"),
+        Expected::CallDetectionPoint => {
+            say_words(out, words, " and ")?;
+            write!(out, ", where calls are decided")
+        }
+        _ => say_words(out, words, " and "),
+    }
+}
+
+/// Appends words, before the last of which this stands.
+fn say_words(out: &mut String, words: &[&str], before_last: &str) -> Result<(), AllocError> {
+    for (at, word) in words.iter().enumerate() {
+        let before = match at {
+            0 => "",
+            _ if at < words.len() - 1 => ", ",
+            _ => before_last,
+        };
+        write!(out, "{before}{word}")?;
+    }
+    Ok(())
+}
+
+/// Appends how a text has to be written to be a word, if it differs only so. Returns whether it does.
+fn say_written_otherwise(out: &mut String, text: &[u8], word: &str) -> Result<bool, AllocError> {
+    let inner = without_spaces(text);
+    if !inner.eq_ignore_ascii_case(word.as_bytes()) {
+        return Ok(false);
+    }
+    let how = match (inner.len() < text.len(), inner == word.as_bytes()) {
+        (false, _) => "in lower case",
+        (true, true) => "without spaces around it",
+        (true, false) => "in lower case and without spaces around it",
+    };
+    write!(out, "it has to be {how}, {word}")?;
+    Ok(true)
 }
 
 /// A text without the spaces around it. One with a control character, such as a line end, stays as it is.
@@ -113,50 +111,148 @@ fn without_spaces(text: &[u8]) -> &[u8] {
     text.trim_ascii()
 }
 
-/// The kinds of elements that lists have.
+/// The kinds of texts that have a form of their own, which are elements of lists too.
 #[derive(Clone, Copy)]
-enum Element {
+enum Kind {
     Code,
     Cause,
     ListedNumber,
     Length,
+    Integer,
 }
 
-impl Element {
+impl Kind {
     fn name(self) -> &'static str {
         match self {
-            Element::Code => "code",
-            Element::Cause => "cause",
-            Element::ListedNumber => "listed number",
-            Element::Length => "length",
+            Kind::Code => "code",
+            Kind::Cause => "cause",
+            Kind::ListedNumber => "listed number",
+            Kind::Length => "length",
+            Kind::Integer => "number",
         }
     }
 
-    /// Why a text is no element of this kind.
-    fn flaw<'a>(self, text: &'a [u8]) -> Option<Flaw<'a>> {
+    /// Appends why a text is none of this kind. Returns whether it is none.
+    fn say_why_not(self, out: &mut String, text: &[u8]) -> Result<bool, AllocError> {
         match self {
-            Element::Code => service_flaw(text),
-            Element::ListedNumber => hexadecimal_flaw(text),
-            Element::Cause | Element::Length => decimal_flaw(text, MAX_OCTET),
+            Kind::Code => say_no_service(out, text),
+            Kind::ListedNumber => say_no_octets(out, text),
+            Kind::Cause | Kind::Length => say_no_decimal(out, text, u64::from(u8::MAX)),
+            Kind::Integer => say_no_decimal(out, text, u64::from(u32::MAX)),
         }
     }
+}
+
+fn say_flaw(out: &mut String, kind: Kind, text: &[u8]) -> Result<(), AllocError> {
+    kind.say_why_not(out, text)?;
+    Ok(())
+}
+
+fn say_no_decimal(out: &mut String, text: &[u8], greatest: u64) -> Result<bool, AllocError> {
+    if text.is_empty() {
+        write!(out, "a decimal number is expected")?;
+    } else if !say_no_digits(out, text)? {
+        match (text.len() > MAX_DECIMAL_DIGITS, decimal(text)) {
+            (false, Some(value)) if value <= greatest => return Ok(false),
+            (false, _) => write!(out, "over {greatest}")?,
+            (true, _) => write!(
+                out,
+                "{} digits, and at most {MAX_DECIMAL_DIGITS} are read",
+                text.len()
+            )?,
+        }
+    }
+    Ok(true)
+}
+
+/// Appends which character is no decimal digit, if one isn't.
+fn say_no_digits(out: &mut String, text: &[u8]) -> Result<bool, AllocError> {
+    let Some(at) = text.iter().position(|octet| !octet.is_ascii_digit()) else {
+        return Ok(false);
+    };
+    write!(
+        out,
+        "\"{}\" is no decimal digit",
+        Shown(character_at(text, at))
+    )?;
+    Ok(true)
+}
+
+fn say_imsi(out: &mut String, text: &[u8]) -> Result<(), AllocError> {
+    let is_in_range = (MIN_IMSI_DIGITS..=MAX_IMSI_DIGITS).contains(&text.len());
+    if is_in_range && say_no_digits(out, text)? {
+        return Ok(());
+    }
+    write!(
+        out,
+        "{} characters, and an IMSI has {MIN_IMSI_DIGITS} to {MAX_IMSI_DIGITS} digits",
+        text.len()
+    )
+}
+
+/// Appends why a text is not pairs of hexadecimal digits.
+fn say_no_octets(out: &mut String, text: &[u8]) -> Result<bool, AllocError> {
+    if let Some(at) = text.iter().position(|octet| !octet.is_ascii_hexdigit()) {
+        write!(
+            out,
+            "\"{}\" is no hexadecimal digit",
+            Shown(character_at(text, at))
+        )?;
+        return Ok(true);
+    }
+    if text.len() % 2 == 1 {
+        write!(
+            out,
+            "{} hexadecimal digits, which is an odd number",
+            text.len()
+        )?;
+    }
+    Ok(text.len() % 2 == 1)
+}
+
+/// Appends why a text is no basic service.
+fn say_no_service(out: &mut String, text: &[u8]) -> Result<bool, AllocError> {
+    match text.split_first() {
+        Some((b't' | b'b', [first, second]))
+            if first.is_ascii_hexdigit() && second.is_ascii_hexdigit() => return Ok(false),
+        Some((b't' | b'b', code)) => write!(
+            out,
+            "two hexadecimal digits have to follow the letter, not \"{}\"",
+            Shown(code)
+        )?,
+        Some((b'T' | b'B', [_, _])) => write!(out, "its letter has to be in lower case")?,
+        _ => write!(out, "a letter t or b is missing")?,
+    }
+    Ok(true)
+}
+
+/// The character that begins at a place: more octets than one if it is UTF-8.
+fn character_at(text: &[u8], at: usize) -> &[u8] {
+    let behind = &text[at.min(text.len())..];
+    let more = behind
+        .iter()
+        .skip(1)
+        .take_while(|octet| (**octet & 0xc0) == 0x80)
+        .count();
+    &behind[..more.saturating_add(1).min(behind.len())]
 }
 
 /// Appends which element of a list is wrong, and why: the first one. Returns whether one is.
-fn say_element(out: &mut String, kind: Element, text: &[u8]) -> Result<bool, AllocError> {
+fn say_element(out: &mut String, kind: Kind, text: &[u8]) -> Result<bool, AllocError> {
     for (at, element) in text.split(|octet| *octet == b'+').enumerate() {
-        if let Some(flaw) = kind.flaw(element) {
-            let name = kind.name();
-            let number = at.saturating_add(1);
-            write!(out, "{name} {number} \"{}\": {flaw}", Shown(element))?;
+        let before = out.len();
+        let number = at.saturating_add(1);
+        write!(out, "{} {number} \"{}\": ", kind.name(), Shown(element))?;
+        if kind.say_why_not(out, element)? {
             return Ok(true);
         }
+        out.truncate(before);
     }
     Ok(false)
 }
 
 /// Appends which element of a list is wrong, if one is.
-fn say_list(out: &mut String, kind: Element, text: &[u8]) -> Result<(), AllocError> {
+fn say_list(out: &mut String, kind: Kind, text: &[u8]) -> Result<(), AllocError> {
     say_element(out, kind, text)?;
     Ok(())
 }
@@ -183,8 +279,8 @@ fn say_number(out: &mut String, text: &[u8]) -> Result<(), AllocError> {
             Shown(match_type)
         );
     }
-    if !numbers.is_empty() && say_element(out, Element::ListedNumber, numbers)? {
+    if !numbers.is_empty() && say_element(out, Kind::ListedNumber, numbers)? {
         return Ok(());
     }
-    say_list(out, Element::Length, lengths)
+    say_list(out, Kind::Length, lengths)
 }

@@ -4,7 +4,7 @@ ghost use Rattle.camel_script.specs.Item.{number_criterion_from, number_texts_of
 ghost use Rattle.camel_script.specs.Reading.{ReadsAs};
 
 use crate::text::lists::{make_isdn_addresses, parse_octets_list, parse_small_decimals};
-use crate::text::parts::{NUMBER_SEPARATOR, cut_part, part_count};
+use crate::text::parts::{NUMBER_SEPARATOR, count_parts, cut_part};
 use crate::text::record_fault::RecordFault;
 use crate::text::{Octets, parse_match_type};
 use camel_criteria::{MatchType, NumberCriterion};
@@ -45,7 +45,7 @@ pub(crate) fn parse_number_texts(
 fn parse_number_parts(alloc: Global, text: &[u8]) -> Result<NumberTexts, RecordFault>
     ensures { ReadsAs result (number_texts_of_parts text.now) }
 {
-    if part_count(text, NUMBER_SEPARATOR) != 3 {
+    if count_parts(text, NUMBER_SEPARATOR) != 3 {
         return Err(RecordFault::FieldCount);
     }
     let (match_type, rest) = cut_part(text, NUMBER_SEPARATOR);

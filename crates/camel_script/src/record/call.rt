@@ -1,8 +1,10 @@
 ghost use Rattle.std.specs.Prelude.{◌≡◌};
 ghost use Rattle.csv.specs.Records.{fields_of};
-ghost use Rattle.camel_script.specs.Call.{busy_of, call_of, collected_info_of, no_answer_of, route_select_failure_of, terminating_attempt_of, with_fields};
+ghost use Rattle.camel_script.specs.Call.{busy_of, call_of, collected_info_of, collected_info_texts, no_answer_of, not_reached_texts, release_cause_of, route_select_failure_of, route_select_failure_texts, subscriber_of, terminating_attempt_of, terminating_attempt_texts};
+ghost use Rattle.camel_script.specs.Mistake.{with_fields};
 ghost use Rattle.camel_script.specs.Reading.{ReadsInto};
 
+use crate::mistake::{Expected, Mistake, at_field, check_fields, field_count, mistake_at};
 use crate::record::Record;
 use crate::record::field::field;
 use crate::text::record_fault::RecordFault;
@@ -10,9 +12,47 @@ use crate::text::{
     make_call_address, make_cause, parse_basic_service, parse_forwarded, parse_imsi, parse_octets,
     parse_small_decimal,
 };
+use camel_criteria::{BasicService, Cause};
 use camel_rows::CallEvent;
+use camel_tbcd::Imsi;
 use csv::ByteRecord;
 use std::alloc::Global;
+
+const CALL: [Expected; 2] = [Expected::Word, Expected::CallDetectionPoint];
+
+const COLLECTED_INFO: [Expected; 6] = [
+    Expected::Word,
+    Expected::CallDetectionPoint,
+    Expected::Imsi,
+    Expected::BasicService,
+    Expected::Destination,
+    Expected::Forwarded,
+];
+
+const ROUTE_SELECT_FAILURE: [Expected; 7] = [
+    Expected::Word,
+    Expected::CallDetectionPoint,
+    Expected::Imsi,
+    Expected::BasicService,
+    Expected::Destination,
+    Expected::Forwarded,
+    Expected::Cause,
+];
+
+const TERMINATING_ATTEMPT: [Expected; 4] = [
+    Expected::Word,
+    Expected::CallDetectionPoint,
+    Expected::Imsi,
+    Expected::BasicService,
+];
+
+const NOT_REACHED: [Expected; 5] = [
+    Expected::Word,
+    Expected::CallDetectionPoint,
+    Expected::Imsi,
+    Expected::BasicService,
+    Expected::Cause,
+];
 
 /// Reads a call at a trigger detection point, which says how many fields there are. A call is put right into its place:
 /// one that is moved is read while it is still being written, which takes longer than the move.
@@ -21,11 +61,11 @@ pub(crate) fn parse_call(
     alloc: Global,
     fields: &ByteRecord,
     read: &mut Record,
-) -> Result<(), RecordFault>
+) -> Result<(), Mistake>
     ensures { ReadsInto result read.new (call_of (fields_of fields.now)) }
 {
     if fields.len() < 2 {
-        return Err(RecordFault::FieldCount);
+        return Err(field_count(&CALL, fields.len()));
     }
     match field(fields, 1) {
         b"2" => parse_collected_info(alloc, fields, read),
@@ -33,8 +73,22 @@ pub(crate) fn parse_call(
         b"12" => parse_terminating_attempt(fields, read),
         b"13" => parse_busy(fields, read),
         b"14" => parse_no_answer(fields, read),
-        _ => Err(RecordFault::Word),
+        _ => Err(mistake_at(2, 0, Expected::CallDetectionPoint, RecordFault::Word)),
     }
+}
+
+/// Reads the IMSI and the basic service of a call.
+#[tactic(auto, unfolding(crate::specs::Call::subscriber_of))]
+fn parse_subscriber(fields: &ByteRecord) -> Result<(Imsi, BasicService), Mistake>
+    ensures { result ≡ subscriber_of (fields_of fields.now) }
+{
+    let imsi = at_field(3, Expected::Imsi, parse_imsi(field(fields, 2)))?;
+    let basic = at_field(
+        4,
+        Expected::BasicService,
+        parse_basic_service(field(fields, 3)),
+    )?;
+    Ok((imsi, basic))
 }
 
 #[tactic(auto, unfolding(crate::specs::Call::collected_info_of))]
@@ -42,17 +96,19 @@ fn parse_collected_info(
     alloc: Global,
     fields: &ByteRecord,
     read: &mut Record,
-) -> Result<(), RecordFault>
-    ensures { ReadsInto result read.new (with_fields 6 collected_info_of (fields_of fields.now)) }
+) -> Result<(), Mistake>
+    ensures { ReadsInto result read.new
+        (with_fields collected_info_texts (fields_of fields.now) (collected_info_of (fields_of fields.now))) }
 {
-    if fields.len() != 6 {
-        return Err(RecordFault::FieldCount);
-    }
-    let imsi = parse_imsi(field(fields, 2))?;
-    let basic = parse_basic_service(field(fields, 3))?;
-    let octets = parse_octets(alloc, field(fields, 4))?;
-    let forwarded = parse_forwarded(field(fields, 5))?;
-    let destination = make_call_address(&octets)?;
+    check_fields(&COLLECTED_INFO, fields)?;
+    let (imsi, basic) = parse_subscriber(fields)?;
+    let octets = at_field(
+        5,
+        Expected::Destination,
+        parse_octets(alloc, field(fields, 4)),
+    )?;
+    let forwarded = at_field(6, Expected::Forwarded, parse_forwarded(field(fields, 5)))?;
+    let destination = at_field(5, Expected::Destination, make_call_address(&octets))?;
     *read = Record::Call(CallEvent::CollectedInfo {
         imsi,
         destination,
@@ -67,19 +123,21 @@ fn parse_route_select_failure(
     alloc: Global,
     fields: &ByteRecord,
     read: &mut Record,
-) -> Result<(), RecordFault>
-    ensures { ReadsInto result read.new (with_fields 7 route_select_failure_of (fields_of fields.now)) }
+) -> Result<(), Mistake>
+    ensures { ReadsInto result read.new
+        (with_fields route_select_failure_texts (fields_of fields.now) (route_select_failure_of (fields_of fields.now))) }
 {
-    if fields.len() != 7 {
-        return Err(RecordFault::FieldCount);
-    }
-    let imsi = parse_imsi(field(fields, 2))?;
-    let basic = parse_basic_service(field(fields, 3))?;
-    let octets = parse_octets(alloc, field(fields, 4))?;
-    let forwarded = parse_forwarded(field(fields, 5))?;
-    let value = parse_small_decimal(field(fields, 6))?;
-    let destination = make_call_address(&octets)?;
-    let cause = make_cause(value)?;
+    check_fields(&ROUTE_SELECT_FAILURE, fields)?;
+    let (imsi, basic) = parse_subscriber(fields)?;
+    let octets = at_field(
+        5,
+        Expected::Destination,
+        parse_octets(alloc, field(fields, 4)),
+    )?;
+    let forwarded = at_field(6, Expected::Forwarded, parse_forwarded(field(fields, 5)))?;
+    let value = at_field(7, Expected::Cause, parse_small_decimal(field(fields, 6)))?;
+    let destination = at_field(5, Expected::Destination, make_call_address(&octets))?;
+    let cause = at_field(7, Expected::Cause, make_cause(value))?;
     *read = Record::Call(CallEvent::RouteSelectFailure {
         imsi,
         destination,
@@ -91,44 +149,45 @@ fn parse_route_select_failure(
 }
 
 #[tactic(auto, unfolding(crate::specs::Call::terminating_attempt_of))]
-fn parse_terminating_attempt(fields: &ByteRecord, read: &mut Record) -> Result<(), RecordFault>
-    ensures { ReadsInto result read.new (with_fields 4 terminating_attempt_of (fields_of fields.now)) }
+fn parse_terminating_attempt(fields: &ByteRecord, read: &mut Record) -> Result<(), Mistake>
+    ensures { ReadsInto result read.new
+        (with_fields terminating_attempt_texts (fields_of fields.now) (terminating_attempt_of (fields_of fields.now))) }
 {
-    if fields.len() != 4 {
-        return Err(RecordFault::FieldCount);
-    }
-    let imsi = parse_imsi(field(fields, 2))?;
-    let basic = parse_basic_service(field(fields, 3))?;
+    check_fields(&TERMINATING_ATTEMPT, fields)?;
+    let (imsi, basic) = parse_subscriber(fields)?;
     *read = Record::Call(CallEvent::TerminatingAttempt { imsi, basic });
     Ok(())
 }
 
-#[tactic(auto, unfolding(crate::specs::Call::busy_of))]
-fn parse_busy(fields: &ByteRecord, read: &mut Record) -> Result<(), RecordFault>
-    ensures { ReadsInto result read.new (with_fields 5 busy_of (fields_of fields.now)) }
+/// Reads the cause of a call that was not reached.
+#[tactic(auto, unfolding(crate::specs::Call::release_cause_of))]
+fn parse_release_cause(fields: &ByteRecord) -> Result<Cause, Mistake>
+    ensures { result ≡ release_cause_of (fields_of fields.now) }
 {
-    if fields.len() != 5 {
-        return Err(RecordFault::FieldCount);
-    }
-    let imsi = parse_imsi(field(fields, 2))?;
-    let basic = parse_basic_service(field(fields, 3))?;
-    let value = parse_small_decimal(field(fields, 4))?;
-    let cause = make_cause(value)?;
+    let value = at_field(5, Expected::Cause, parse_small_decimal(field(fields, 4)))?;
+    at_field(5, Expected::Cause, make_cause(value))
+}
+
+#[tactic(auto, unfolding(crate::specs::Call::busy_of))]
+fn parse_busy(fields: &ByteRecord, read: &mut Record) -> Result<(), Mistake>
+    ensures { ReadsInto result read.new
+        (with_fields not_reached_texts (fields_of fields.now) (busy_of (fields_of fields.now))) }
+{
+    check_fields(&NOT_REACHED, fields)?;
+    let (imsi, basic) = parse_subscriber(fields)?;
+    let cause = parse_release_cause(fields)?;
     *read = Record::Call(CallEvent::Busy { imsi, basic, cause });
     Ok(())
 }
 
 #[tactic(auto, unfolding(crate::specs::Call::no_answer_of))]
-fn parse_no_answer(fields: &ByteRecord, read: &mut Record) -> Result<(), RecordFault>
-    ensures { ReadsInto result read.new (with_fields 5 no_answer_of (fields_of fields.now)) }
+fn parse_no_answer(fields: &ByteRecord, read: &mut Record) -> Result<(), Mistake>
+    ensures { ReadsInto result read.new
+        (with_fields not_reached_texts (fields_of fields.now) (no_answer_of (fields_of fields.now))) }
 {
-    if fields.len() != 5 {
-        return Err(RecordFault::FieldCount);
-    }
-    let imsi = parse_imsi(field(fields, 2))?;
-    let basic = parse_basic_service(field(fields, 3))?;
-    let value = parse_small_decimal(field(fields, 4))?;
-    let cause = make_cause(value)?;
+    check_fields(&NOT_REACHED, fields)?;
+    let (imsi, basic) = parse_subscriber(fields)?;
+    let cause = parse_release_cause(fields)?;
     *read = Record::Call(CallEvent::NoAnswer { imsi, basic, cause });
     Ok(())
 }

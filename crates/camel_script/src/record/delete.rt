@@ -1,16 +1,18 @@
 ghost use Rattle.std.specs.Prelude.{◌≡◌, drop};
 ghost use Rattle.csv.specs.Records.{fields_of};
-ghost use Rattle.camel_script.specs.Reading.{ReadsInto, in_turn};
+ghost use Rattle.camel_script.specs.Reading.{ReadsInto, in_turn, numbered};
 ghost use Rattle.camel_script.specs.Record.{delete_of, no_withdrawal, withdrawal_with};
 
 use crate::boxed_update::BoxedUpdate;
-use crate::record::Record;
+use crate::mistake::{Expected, Mistake, field_count, mistake_at};
 use crate::record::field::field;
-use crate::text::parse_imsi;
+use crate::record::{Record, read_imsi};
 use crate::text::record_fault::RecordFault;
 use camel_rows::{Update, Withdrawal};
 use csv::ByteRecord;
 use std::alloc::Global;
+
+const DELETE: [Expected; 3] = [Expected::Word, Expected::Imsi, Expected::Withdrawal];
 
 /// Reads a delete with what it names.
 #[tactic(auto, unfolding(crate::specs::Record::delete_of))]
@@ -19,21 +21,21 @@ pub(crate) fn parse_delete(
     alloc: Global,
     fields: &ByteRecord,
     read: &mut Record,
-) -> Result<(), RecordFault>
+) -> Result<(), Mistake>
     ensures { ReadsInto result read.new (delete_of (fields_of fields.now)) }
 {
     if fields.len() < 3 {
-        return Err(RecordFault::FieldCount);
+        return Err(field_count(&DELETE, fields.len()));
     }
-    let imsi = parse_imsi(field(fields, 1))?;
+    let imsi = read_imsi(fields)?;
     let what = parse_withdrawal(fields)?;
     *read = Record::Update(BoxedUpdate::new(alloc, Update::Delete { imsi, what })?);
     Ok(())
 }
 
 /// Reads what a delete names, from its third field on.
-fn parse_withdrawal(fields: &ByteRecord) -> Result<Withdrawal, RecordFault>
-    ensures { result ≡ in_turn withdrawal_with no_withdrawal (drop 2 (fields_of fields.now)) }
+fn parse_withdrawal(fields: &ByteRecord) -> Result<Withdrawal, Mistake>
+    ensures { result ≡ in_turn withdrawal_with no_withdrawal (numbered 3 (drop 2 (fields_of fields.now))) }
 {
     let mut what = Withdrawal {
         o: false,
@@ -41,14 +43,14 @@ fn parse_withdrawal(fields: &ByteRecord) -> Result<Withdrawal, RecordFault>
         everything: false,
     };
     for at in 2..fields.len() {
-        what = withdraw_named(what, field(fields, at))?;
+        what = withdraw_named(what, at + 1, field(fields, at))?;
     }
     Ok(what)
 }
 
 #[tactic(auto, unfolding(crate::specs::Record::withdrawal_with))]
-pub(crate) fn withdraw_named(what: Withdrawal, text: &[u8]) -> Result<Withdrawal, RecordFault>
-    ensures { result ≡ withdrawal_with what text.now }
+fn withdraw_named(what: Withdrawal, number: usize, text: &[u8]) -> Result<Withdrawal, Mistake>
+    ensures { result ≡ withdrawal_with what (number, text.now) }
 {
     match text {
         b"o" => Ok(Withdrawal { o: true, ..what }),
@@ -57,6 +59,6 @@ pub(crate) fn withdraw_named(what: Withdrawal, text: &[u8]) -> Result<Withdrawal
             everything: true,
             ..what
         }),
-        _ => Err(RecordFault::Word),
+        _ => Err(mistake_at(number, 0, Expected::Withdrawal, RecordFault::Word)),
     }
 }

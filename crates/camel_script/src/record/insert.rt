@@ -1,17 +1,18 @@
-ghost use Rattle.std.specs.Prelude.{◌≡◌, drop};
+ghost use Rattle.std.specs.Prelude.{codes, drop};
 ghost use Rattle.csv.specs.Records.{fields_of};
 ghost use Rattle.camel_rows.specs.Received.{o_criteria_set_of, o_csi_of, t_criteria_set_of, vt_csi_of};
+ghost use Rattle.camel_criteria.specs.DetectionPoint.{o_detection_points, vt_detection_points};
 ghost use Rattle.camel_script.specs.Item.{items_of};
-ghost use Rattle.camel_script.specs.Reading.{ReadsAs, ReadsInto};
+ghost use Rattle.camel_script.specs.Reading.{ReadsAt, ReadsInto};
 ghost use Rattle.camel_script.specs.Record.{insert_of, insert_of_items, received_list};
 
 use crate::boxed_update::BoxedUpdate;
 use crate::item::Items;
-use crate::record::Record;
+use crate::mistake::{Mistake, field_count};
 use crate::record::field::field;
-use crate::text::parse_imsi;
-use crate::text::record_fault::RecordFault;
-use camel_criteria::{OCriteria, TCriteria};
+use crate::record::refused_item::refused_item;
+use crate::record::{Record, WORD_AND_IMSI, read_imsi};
+use camel_criteria::{O_DETECTION_POINTS, OCriteria, TCriteria, VT_DETECTION_POINTS};
 use camel_rows::{OCriteriaSet, OCsi, TCriteriaSet, TdpRow, Update, VtCsi};
 use camel_tbcd::Imsi;
 use csv::ByteRecord;
@@ -24,23 +25,23 @@ pub(crate) fn parse_insert(
     alloc: Global,
     fields: &ByteRecord,
     read: &mut Record,
-) -> Result<(), RecordFault>
+) -> Result<(), Mistake>
     ensures { ReadsInto result read.new (insert_of (fields_of fields.now)) }
 {
     if fields.len() < 2 {
-        return Err(RecordFault::FieldCount);
+        return Err(field_count(&WORD_AND_IMSI, fields.len()));
     }
-    let imsi = parse_imsi(field(fields, 1))?;
-    make_insert(alloc, imsi, parse_items(alloc, fields)?, read)
+    let imsi = read_imsi(fields)?;
+    make_insert(alloc, fields, imsi, parse_items(alloc, fields)?, read)
 }
 
 /// Reads the items of an insert, from its third field on.
-fn parse_items(alloc: Global, fields: &ByteRecord) -> Result<Items, RecordFault>
-    ensures { ReadsAs result (items_of (drop 2 (fields_of fields.now))) }
+fn parse_items(alloc: Global, fields: &ByteRecord) -> Result<Items, Mistake>
+    ensures { ReadsAt result (items_of (drop 2 (fields_of fields.now))) }
 {
     let mut items = Items::new(alloc);
     for at in 2..fields.len() {
-        items.push(alloc, field(fields, at))?;
+        items.push(alloc, at + 1, field(fields, at))?;
     }
     Ok(items)
 }
@@ -48,16 +49,17 @@ fn parse_items(alloc: Global, fields: &ByteRecord) -> Result<Items, RecordFault>
 #[tactic(auto, unfolding(crate::specs::Record::insert_of_items))]
 fn make_insert(
     alloc: Global,
+    fields: &ByteRecord,
     imsi: Imsi,
     items: Items,
     read: &mut Record,
-) -> Result<(), RecordFault>
-    ensures { ReadsInto result read.new (insert_of_items imsi items) }
+) -> Result<(), Mistake>
+    ensures { ReadsInto result read.new (insert_of_items (fields_of fields.now) imsi items) }
 {
-    let o = make_o_csi(&items.o)?;
-    let o_criteria = make_o_criteria_set(items.o_criteria)?;
-    let vt = make_vt_csi(&items.vt)?;
-    let t_criteria = make_t_criteria_set(items.t_criteria)?;
+    let o = make_o_csi(fields, &items.o)?;
+    let o_criteria = make_o_criteria_set(fields, items.o_criteria)?;
+    let vt = make_vt_csi(fields, &items.vt)?;
+    let t_criteria = make_t_criteria_set(fields, items.t_criteria)?;
     let update = Update::Insert {
         imsi,
         o,
@@ -69,38 +71,60 @@ fn make_insert(
     Ok(())
 }
 
-fn make_o_csi(rows: &[TdpRow]) -> Result<Option<OCsi>, RecordFault>
-    ensures { ReadsAs result (received_list o_csi_of rows.now) }
+fn make_o_csi(fields: &ByteRecord, rows: &[TdpRow]) -> Result<Option<OCsi>, Mistake>
+    ensures { ReadsAt result
+        (received_list (codes "o") o_detection_points (fields_of fields.now) o_csi_of rows.now) }
 {
     if rows.is_empty() {
         return Ok(None);
     }
-    Ok(Some(OCsi::new(rows)?))
+    match OCsi::new(rows) {
+        Ok(kept) => Ok(Some(kept)),
+        Err(refusal) => Err(refused_item(fields, b"o", &O_DETECTION_POINTS, refusal)),
+    }
 }
 
-fn make_o_criteria_set(entries: Vec<OCriteria>) -> Result<Option<OCriteriaSet>, RecordFault>
-    ensures { ReadsAs result (received_list o_criteria_set_of entries.items) }
+fn make_o_criteria_set(
+    fields: &ByteRecord,
+    entries: Vec<OCriteria>,
+) -> Result<Option<OCriteriaSet>, Mistake>
+    ensures { ReadsAt result
+        (received_list (codes "oc") o_detection_points (fields_of fields.now) o_criteria_set_of entries.items) }
 {
     if entries.is_empty() {
         return Ok(None);
     }
-    Ok(Some(OCriteriaSet::new(entries)?))
+    match OCriteriaSet::new(entries) {
+        Ok(kept) => Ok(Some(kept)),
+        Err(refusal) => Err(refused_item(fields, b"oc", &O_DETECTION_POINTS, refusal)),
+    }
 }
 
-fn make_vt_csi(rows: &[TdpRow]) -> Result<Option<VtCsi>, RecordFault>
-    ensures { ReadsAs result (received_list vt_csi_of rows.now) }
+fn make_vt_csi(fields: &ByteRecord, rows: &[TdpRow]) -> Result<Option<VtCsi>, Mistake>
+    ensures { ReadsAt result
+        (received_list (codes "t") vt_detection_points (fields_of fields.now) vt_csi_of rows.now) }
 {
     if rows.is_empty() {
         return Ok(None);
     }
-    Ok(Some(VtCsi::new(rows)?))
+    match VtCsi::new(rows) {
+        Ok(kept) => Ok(Some(kept)),
+        Err(refusal) => Err(refused_item(fields, b"t", &VT_DETECTION_POINTS, refusal)),
+    }
 }
 
-fn make_t_criteria_set(entries: Vec<TCriteria>) -> Result<Option<TCriteriaSet>, RecordFault>
-    ensures { ReadsAs result (received_list t_criteria_set_of entries.items) }
+fn make_t_criteria_set(
+    fields: &ByteRecord,
+    entries: Vec<TCriteria>,
+) -> Result<Option<TCriteriaSet>, Mistake>
+    ensures { ReadsAt result
+        (received_list (codes "tc") vt_detection_points (fields_of fields.now) t_criteria_set_of entries.items) }
 {
     if entries.is_empty() {
         return Ok(None);
     }
-    Ok(Some(TCriteriaSet::new(entries)?))
+    match TCriteriaSet::new(entries) {
+        Ok(kept) => Ok(Some(kept)),
+        Err(refusal) => Err(refused_item(fields, b"tc", &VT_DETECTION_POINTS, refusal)),
+    }
 }

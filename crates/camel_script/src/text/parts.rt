@@ -12,7 +12,7 @@ pub(crate) const NUMBER_SEPARATOR: u8 = b'/';
 pub(crate) const ELEMENT_SEPARATOR: u8 = b'+';
 
 /// How many parts a text has, at least one.
-pub(crate) fn part_count(text: &[u8], separator: u8) -> usize
+pub(crate) fn count_parts(text: &[u8], separator: u8) -> usize
     ensures { result ≡ length (parts_of separator text.now) }
 {
     let mut separators = 0;

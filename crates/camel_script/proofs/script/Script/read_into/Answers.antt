@@ -22,7 +22,8 @@ returns-then-self-eq0-clause-faults g c =
     let set_up = rw c.in-Reading.is at c.self.invariant in
     let reads = rw c.if-not-found.false at (c.in-Ok.ensures.reads set_up.trim set_up.ready) in
     rw (← c.self.view_is, c.in-Reading.is)
-    (too_many (source_of remaining old) (source_of remaining new) old.state new.state fields c.self.inside.records_left c.if-self-eq0.true (read_one remaining old new fields set_up reads))
+    (too_many (source_of remaining old) (source_of remaining new) old.state new.state fields c.self.inside.records_left c.if-self-eq0.true
+    (read_one remaining old new fields set_up reads))
 
 pub returns-in-Ok-parse_record-clause-gives : goal.returns-in-Ok-parse_record-clause-gives
 returns-in-Ok-parse_record-clause-gives g c =
@@ -34,7 +35,8 @@ returns-in-Ok-parse_record-clause-gives g c =
     let set_up = rw c.in-Reading.is at c.self.invariant in
     let reads = rw c.if-not-found.false at (c.in-Ok.ensures.reads set_up.trim set_up.ready) in
     rw (← c.self.view_is, c.in-Reading.is)
-    (gives_record (source_of remaining old) (source_of remaining new) old.state new.state fields most (most - 1) c.parse_record.new.read (omega arith) c.in-Ok-parse_record.ensures.record (read_one remaining old new fields set_up reads))
+    (gives_record (source_of remaining old) (source_of remaining new) old.state new.state fields most (most - 1) c.parse_record.new.read
+    (omega arith) c.in-Ok-parse_record.ensures.record (read_one remaining old new fields set_up reads))
 
 pub returns-in-Err-parse_record-clause-faults : goal.returns-in-Err-parse_record-clause-faults
 returns-in-Err-parse_record-clause-faults g c =
@@ -45,4 +47,5 @@ returns-in-Err-parse_record-clause-faults g c =
     let set_up = rw c.in-Reading.is at c.self.invariant in
     let reads = rw c.if-not-found.false at (c.in-Ok.ensures.reads set_up.trim set_up.ready) in
     rw (← c.self.view_is, c.in-Reading.is)
-    (fault_in_record (source_of remaining old) (source_of remaining new) old.state new.state fields c.self.inside.records_left c.in-Err-parse_record.fault (omega arith) c.in-Err-parse_record.ensures.fault (read_one remaining old new fields set_up reads))
+    (fault_in_record (source_of remaining old) (source_of remaining new) old.state new.state fields c.self.inside.records_left
+    c.in-Err-parse_record.fault (omega arith) c.in-Err-parse_record.ensures.fault (read_one remaining old new fields set_up reads))

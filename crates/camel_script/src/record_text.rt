@@ -1,0 +1,158 @@
+//! Updates as the records that they are read from. They are tested, and not proved: the contracts say only that no call
+//! fails but out of memory.
+
+pub(crate) mod lists;
+
+use crate::append::{append_decimal, append_text};
+use crate::record_text::lists::{append_decimals, append_number, append_octets, append_services};
+use camel_criteria::{CallType, Handling, OCriteria, TCriteria};
+use camel_rows::{Csi, OCriteriaSet, TCriteriaSet, TdpRow, Update, Withdrawal};
+use camel_tbcd::Imsi;
+use std::alloc::AllocError;
+
+/// Appends the record of an update, without the end of its line.
+///
+/// A list of which each item was ignored gives one item of detection point 255, which is ignored too. A delete that names
+/// nothing gives an insert of nothing, which changes as little. Out of memory, a part may be appended.
+pub fn append_update(out: &mut Vec<u8>, update: &Update) -> Result<(), AllocError> {
+    match update {
+        Update::Insert {
+            imsi,
+            o,
+            o_criteria,
+            vt,
+            t_criteria,
+        } => {
+            append_imsi(out, "insert,", imsi)?;
+            append_csi(out, ",o:", o.as_ref())?;
+            append_o_criteria(out, o_criteria.as_ref())?;
+            append_csi(out, ",t:", vt.as_ref())?;
+            append_t_criteria(out, t_criteria.as_ref())?;
+        }
+        Update::Delete { imsi, what } => append_delete(out, imsi, *what)?,
+        Update::Cancel { imsi } => append_imsi(out, "cancel,", imsi)?,
+        Update::Register { imsi } => append_imsi(out, "register,", imsi)?,
+        Update::ClearAll => append_text(out, "clear")?,
+    }
+    Ok(())
+}
+
+/// Appends a word and an IMSI.
+fn append_imsi(out: &mut Vec<u8>, word: &str, imsi: &Imsi) -> Result<(), AllocError> {
+    append_text(out, word)?;
+    let digits = imsi.digits();
+    for digit in digits.as_slice() {
+        append_decimal(out, u64::from(*digit))?;
+    }
+    Ok(())
+}
+
+/// Appends a delete of what is named, or an insert of nothing if nothing is.
+fn append_delete(out: &mut Vec<u8>, imsi: &Imsi, what: Withdrawal) -> Result<(), AllocError> {
+    let names_any = what.o || what.vt || what.everything;
+    append_imsi(out, if names_any { "delete," } else { "insert," }, imsi)?;
+    if what.o {
+        append_text(out, ",o")?;
+    }
+    if what.vt {
+        append_text(out, ",vt")?;
+    }
+    if what.everything {
+        append_text(out, ",all")?;
+    }
+    Ok(())
+}
+
+/// Appends the rows of a CSI, if it is there, each behind this name.
+fn append_csi<const MOST: usize>(
+    out: &mut Vec<u8>,
+    name: &str,
+    csi: Option<&Csi<MOST>>,
+) -> Result<(), AllocError> {
+    let Some(csi) = csi else {
+        return Ok(());
+    };
+    if csi.is_empty() {
+        append_text(out, name)?;
+        append_text(out, "255:0:00:0")?;
+    }
+    for at in 0..csi.len() {
+        if let Some(row) = csi.get(at) {
+            append_text(out, name)?;
+            append_row(out, row)?;
+        }
+    }
+    Ok(())
+}
+
+fn append_row(out: &mut Vec<u8>, row: &TdpRow) -> Result<(), AllocError> {
+    append_decimal(out, u64::from(row.dp()))?;
+    append_text(out, ":")?;
+    append_decimal(out, u64::from(row.key()))?;
+    append_text(out, ":")?;
+    append_octets(out, row.scf().bytes())?;
+    let handling = match row.handling() {
+        Handling::Continue => ":0",
+        Handling::Release => ":1",
+    };
+    append_text(out, handling)
+}
+
+/// Appends the criteria of the O-CSI, if they are there.
+fn append_o_criteria(out: &mut Vec<u8>, set: Option<&OCriteriaSet>) -> Result<(), AllocError> {
+    let Some(set) = set else {
+        return Ok(());
+    };
+    if set.is_empty() {
+        append_text(out, ",oc:255::::")?;
+    }
+    for at in 0..set.len() {
+        if let Some(entry) = set.get(at) {
+            append_o_entry(out, entry)?;
+        }
+    }
+    Ok(())
+}
+
+fn append_o_entry(out: &mut Vec<u8>, entry: &OCriteria) -> Result<(), AllocError> {
+    append_text(out, ",oc:")?;
+    append_decimal(out, u64::from(entry.dp()))?;
+    append_text(out, ":")?;
+    if let Some(number) = entry.number() {
+        append_number(out, number)?;
+    }
+    append_text(out, ":")?;
+    append_services(out, entry.basic())?;
+    let call_type = match entry.call_type() {
+        Some(CallType::Forwarded) => ":f:",
+        Some(CallType::NotForwarded) => ":n:",
+        None => "::",
+    };
+    append_text(out, call_type)?;
+    append_decimals(out, entry.causes())
+}
+
+/// Appends the criteria of the VT-CSI, if they are there.
+fn append_t_criteria(out: &mut Vec<u8>, set: Option<&TCriteriaSet>) -> Result<(), AllocError> {
+    let Some(set) = set else {
+        return Ok(());
+    };
+    if set.is_empty() {
+        append_text(out, ",tc:255::")?;
+    }
+    for at in 0..set.len() {
+        if let Some(entry) = set.get(at) {
+            append_t_entry(out, entry)?;
+        }
+    }
+    Ok(())
+}
+
+fn append_t_entry(out: &mut Vec<u8>, entry: &TCriteria) -> Result<(), AllocError> {
+    append_text(out, ",tc:")?;
+    append_decimal(out, u64::from(entry.dp()))?;
+    append_text(out, ":")?;
+    append_services(out, entry.basic())?;
+    append_text(out, ":")?;
+    append_decimals(out, entry.causes())
+}
