@@ -1,23 +1,16 @@
 -- A bucket more changes the place of no hash but those of the bucket that is divided.
-use Rattle.std.proofs.Common.{◌≡◌, ◌⊎◌, ◌∙◌, ℕ, zero, suc, ◌+◌, ◌*◌, ◌/◌, ◌%◌, ◌-◌, ◌<◌, ◌≤◌, ◌^◌, true, false, cond, nat_lt, inl, inr, sym, ap, subst, arith}
+use Rattle.std.proofs.Common.{◌≡◌, ◌⊎◌, ◌∙◌, ℕ, zero, suc, ◌+◌, ◌*◌, ◌/◌, ◌%◌, ◌-◌, ◌<◌, ◌≤◌, ◌^◌, cond, inl, inr, sym, ap, subst, arith}
 use Rattle.std.proofs.Math.Nat.{mod-eq_of_lt, mod-lt, pow-le-pow_right, pow-succ'}
-use Rattle.std.proofs.lemmas.Bool.{cases_lt}
-use Rattle.std.proofs.lemmas.Bool.Decides.{nat_tests}
+use Rattle.std.proofs.lemmas.Bool.{cases_lt, le-ltb, lt-ltb}
 use Rattle.std.proofs.lemmas.Nat.{mod-pow-add, pow_pos}
 use Rattle.camel_table.specs.Addressing.{bucket_in}
 
-below : (a b : ℕ) → a < b → nat_lt a b ≡ true
-below a b lt = grind (arith, nat_tests)
-
-not_below : (a b : ℕ) → b ≤ a → nat_lt a b ≡ false
-not_below a b le = grind (arith, nat_tests)
-
 -- the place of a hash by whether there is its bucket of the next round
 pub place_wide : (level count hash : ℕ) → hash % 2 ^ (1 + level) < count → bucket_in level count hash ≡ hash % 2 ^ (1 + level)
-place_wide level count hash lt = ap (λ b. cond b (hash % 2 ^ (1 + level)) (hash % 2 ^ level)) (below _ _ lt)
+place_wide level count hash lt = ap (λ b. cond b (hash % 2 ^ (1 + level)) (hash % 2 ^ level)) (lt-ltb _ _ lt)
 
 pub place_narrow : (level count hash : ℕ) → count ≤ hash % 2 ^ (1 + level) → bucket_in level count hash ≡ hash % 2 ^ level
-place_narrow level count hash le = ap (λ b. cond b (hash % 2 ^ (1 + level)) (hash % 2 ^ level)) (not_below _ _ le)
+place_narrow level count hash le = ap (λ b. cond b (hash % 2 ^ (1 + level)) (hash % 2 ^ level)) (le-ltb _ _ le)
 
 pub double : (level : ℕ) → 2 ^ (1 + level) ≡ 2 * 2 ^ level
 double level = ap (λ n. 2 ^ n) (omega arith) ∙ pow-succ' 2 level

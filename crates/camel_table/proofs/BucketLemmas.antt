@@ -1,6 +1,6 @@
 -- The finite map of the entries of a bucket, after each change of them.
 use Rattle.std.proofs.Common.{◌≡◌, ◌∙◌, ℕ, zero, suc, ◌+◌, ◌<◌, ◌≤◌, Bool, true, false, not, cond, T, List, [], ◌∷◌, ◌++◌, Option, Some, None, length, filter}
-use Rattle.std.proofs.Common.{position, nat_lt, slice_index_or, slice_set, refl, sym, ap, ap₂, subst, arith}
+use Rattle.std.proofs.Common.{inl, inr, true≢false, position, slice_index_or, slice_set, refl, sym, ap, ap₂, subst, arith}
 use Rattle.std.specs.Prelude.{find}
 use Rattle.std.specs.Cmp.{eq_by_cmp_equiv, tied_itself}
 use Rattle.std.specs.Cmp.Lexicographic.{slice_cmp, nat_list_cmp_total}
@@ -11,7 +11,7 @@ use Rattle.std.specs.Option.{option_map, option_or, is_some, unwrap_or}
 use Rattle.std.specs.Ordering.{is_eq, nat_cmp}
 use Rattle.std.specs.declared.cmp.Ordering.{Ordering}
 use Rattle.std.specs.declared.cmp.Ordering.TheVariants.{Less, Equal, Greater}
-use Rattle.std.proofs.lemmas.Bool.{ltb-false, ltb-true}
+use Rattle.std.proofs.lemmas.Bool.{cases_lt, le-ltb, lt-ltb}
 use Rattle.std.proofs.lemmas.List.Elements.{filter-append}
 use Rattle.std.proofs.lemmas.Map.Lookups.{exact_bytes}
 use Rattle.camel_table.specs.ByImsi.{ByImsi, is_same, map_of}
@@ -100,30 +100,18 @@ module _ {V : Type 0} where
 
   -- what a position says
   pub first_of_position : (key : List ℕ) (es : Entries V) (at : ℕ) → position (λ e. is_same key e.0) es ≡ Some at → (at < length es) × IsFirst key at es
-  first_of_position key es at is =
-      elim (nat_lt (place key es) (length es)) as
-      (λ b. nat_lt (place key es) (length es) ≡ b → cond b (Some (place key es)) None ≡ Some at → (at < length es) × IsFirst key at es) [
-        | true ↦ λ p e.
-            let here : place key es ≡ at = ap (λ o. unwrap_or o 0) e in
-            let lt = ltb-true (place key es) (length es) p in
-            subst (λ n. (n < length es) × IsFirst key n es) here (lt, first_at key es lt)
-        | false ↦ λ p e. absurd (subst (λ o. T (is_some o)) (sym e) tt)
-      ] refl is
-
-  pub none_of_position : (key : List ℕ) (es : Entries V) → position (λ e. is_same key e.0) es ≡ None → map.get (map_of es) key ≡ None
-  none_of_position key es is =
-      elim (nat_lt (place key es) (length es)) as
-      (λ b. nat_lt (place key es) (length es) ≡ b → cond b (Some (place key es)) None ≡ None → map.get (map_of es) key ≡ None) [
-        | true ↦ λ p e. absurd (subst (λ o. T (is_some o)) e tt)
-        | false ↦ λ p e. get-is es key ∙ none_at key es (ltb-false (place key es) (length es) p)
-      ] refl is
+  first_of_position key es at is = elim (cases_lt (place key es) (length es)) [
+    | inl lt ↦
+        let here : place key es ≡ at = ap (λ o. unwrap_or o 0) (rw (lt-ltb _ _ lt) at is) in
+        subst (λ n. (n < length es) × IsFirst key n es) here (lt, first_at key es lt)
+    | inr le ↦ absurd (subst (λ o. T (is_some o)) (sym (rw (le-ltb _ _ le) at is)) tt)
+  ]
 
   pub some_position : (key : List ℕ) (es : Entries V) → is_some (map.get (map_of es) key) ≡ true → is_some (position (λ e. is_same key e.0) es) ≡ true
-  some_position key es some =
-      elim (position (λ e. is_same key e.0) es) as (λ o. position (λ e. is_same key e.0) es ≡ o → is_some o ≡ true) [
-        | None ↦ λ none. absurd (subst T (sym (sym (ap is_some (none_of_position key es none)) ∙ some)) tt)
-        | Some at ↦ λ is. refl
-      ] refl
+  some_position key es some = elim (cases_lt (place key es) (length es)) [
+    | inl lt ↦ rw (lt-ltb _ _ lt) refl
+    | inr le ↦ absurd (true≢false (sym some ∙ ap is_some (get-is es key ∙ none_at key es le)))
+  ]
 
   found-first : (key : List ℕ) (es : Entries V) (at : ℕ) (d : List ℕ × V) → IsFirst key at es → found key es ≡ Some (slice_index_or es at d).1
   found-first key [] at d first = absurd first

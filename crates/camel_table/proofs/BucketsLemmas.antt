@@ -6,6 +6,7 @@ use Rattle.std.specs.FinMap.{empty, entries, get, get-empty, get-entries, get-fr
 use Rattle.std.specs.FinMap.{len-entries, remove, retain_keys, same_map}
 use Rattle.std.specs.Option.{option_or}
 use Rattle.std.specs.Ordering.{nat_cmp}
+use Rattle.std.proofs.lemmas.Bool.{eq-eqb, false_from_ne_true, ne_eqb}
 use Rattle.std.proofs.lemmas.Bool.Decides.{eqb_tells}
 use Rattle.std.proofs.lemmas.List.{get_or-set_other, get_or-set_same, length-set}
 use Rattle.std.proofs.lemmas.Map.Lookups.{exact_bytes}
@@ -17,10 +18,6 @@ use Rattle.camel_table.proofs.BucketLemmas.{Entries, found, found-append, same_a
 no_value : {V : Type 0} (o : Option V) → (IsSome o → ⊥) → o ≡ None
 no_value None none = refl
 no_value (Some value) none = absurd (none refl)
-
-not_same : (q key : List ℕ) → (q ≡ key → ⊥) → is_same q key ≡ false
-not_same q key differ =
-    elim (is_same q key) as (λ b. is_same q key ≡ b → b ≡ false) [ true ↦ λ e. absurd (differ (same_are_equal q key e)) | false ↦ λ e. refl ] refl
 
 none_listed : {A : Type 0} (es : List A) → length es ≡ 0 → es ≡ []
 none_listed [] none = refl
@@ -96,12 +93,10 @@ module _ {V : Type 0} where
             | inl here ↦ ap (λ bucket. get bucket q) (changed (place q) here.1) ∙ differs q
                 ∙ ap (λ n. cond (is_same q key) value (get (bucket_at buckets n) q)) (sym here.1)
             | inr there ↦ ap (λ bucket. get bucket q) (other (place q) there.1)
-                ∙ sym (ap (λ b. cond b value (get (bucket_at buckets (place q)) q)) (unlike q (λ same. there.1 (ap place same))))
+                ∙ sym (ap (λ b. cond b value (get (bucket_at buckets (place q)) q))
+                (false_from_ne_true _ (λ same. there.1 (ap place (same_are_equal q key same)))))
           ]
           ∙ ap (cond (is_same q key) value) (sym (get-table buckets placed q))
-        where
-          unlike : (q : List ℕ) → (q ≡ key → ⊥) → is_same q key ≡ false
-          unlike q differ = not_same q key differ
 
       pub table-after : (m : ByImsi V) → ((q : List ℕ) → get m q ≡ cond (is_same q key) value (get (table_map buckets) q))
           → table_map (slice_set buckets (place key) new) ≡ m
@@ -136,26 +131,20 @@ module _ {V : Type 0} where
     the_others : (i : ℕ) → (i ≡ at → ⊥) → (i ≡ new → ⊥) → bucket_at divided i ≡ bucket_at buckets i
     the_others i not_at not_new = get_or-set_other (slice_set buckets at stay) new i leave empty not_new ∙ get_or-set_other buckets at i stay empty not_at
 
-    staying : (q : List ℕ) → next q ≡ at → stays q ≡ true
-    staying q e = elim (eqb_tells (next q) at) [ inl same ↦ same.0 | inr other ↦ absurd (other.1 e) ]
-
-    leaving : (q : List ℕ) → (next q ≡ at → ⊥) → stays q ≡ false
-    leaving q n = elim (eqb_tells (next q) at) [ inl e ↦ absurd (n e.1) | inr e ↦ e.0 ]
-
     -- an IMSI is found where it was, or in the new bucket
     its_new_bucket : (q : List ℕ) → get (bucket_at divided (next q)) q ≡ get (bucket_at buckets (place q)) q
     its_new_bucket q =
         elim (moves q) [
           | inl same ↦ elim (eqb_tells (next q) at) [
             | inl here ↦ ap (λ n. get (bucket_at divided n) q) here.1 ∙ ap (λ bucket. get bucket q) the_old ∙ get-retain stays q
-                ∙ ap (λ b. cond b (get (bucket_at buckets at) q) None) (staying q here.1)
+                ∙ ap (λ b. cond b (get (bucket_at buckets at) q) None) here.0
                 ∙ ap (λ n. get (bucket_at buckets n) q) (sym (sym same ∙ here.1))
             | inr there ↦
                 let lt = below q in
                 ap (λ bucket. get bucket q) (the_others (next q) there.1 (λ e. omega (arith, e, same, lt))) ∙ ap (λ n. get (bucket_at buckets n) q) same
           ]
           | inr moved ↦ ap (λ n. get (bucket_at divided n) q) moved.1 ∙ ap (λ bucket. get bucket q) the_new ∙ get-retain (λ x. not (stays x)) q
-              ∙ ap (λ b. cond (not b) (get (bucket_at buckets at) q) None) (leaving q (λ e. omega (arith, e, moved.1, apart)))
+              ∙ ap (λ b. cond (not b) (get (bucket_at buckets at) q) None) (ne_eqb _ _ (λ e. omega (arith, e, moved.1, apart)))
               ∙ ap (λ n. get (bucket_at buckets n) q) (sym moved.0)
         ]
 
@@ -172,7 +161,7 @@ module _ {V : Type 0} where
           | inl is_new ↦
               let kept = kept_some (λ x. not (stays x)) q (subst (λ bucket. IsSome (get bucket q)) (ap (bucket_at divided) is_new.1 ∙ the_new) some) in
               elim (moves q) [
-                | inl same ↦ absurd (subst T (sym (sym (ap not (staying q (same ∙ kept.1))) ∙ kept.0)) tt)
+                | inl same ↦ absurd (subst T (sym (sym (ap not (eq-eqb _ _ (same ∙ kept.1))) ∙ kept.0)) tt)
                 | inr moved ↦ moved.1 ∙ sym is_new.1
               ]
           | inr not_new ↦ elim (eqb_tells i at) [

@@ -15,13 +15,6 @@ use Rattle.camel_table.proofs.BucketLemmas.{Entries, found, get-is}
 use Rattle.camel_table.proofs.BucketsLemmas.{get-table}
 use Rattle.camel_table.proofs.TableLemmas.{whole_after}
 
--- lists that are the same place by place are the same
-pub same_list : {A : Type 0} (R : A → A → Type 0) → ((x y : A) → R x y → y ≡ x) → (xs ys : List A) → AllZip R xs ys → ys ≡ xs
-same_list R exact [] [] all = refl
-same_list R exact [] (y ∷ ys) all = absurd all
-same_list R exact (x ∷ xs) [] all = absurd all
-same_list R exact (x ∷ xs) (y ∷ ys) all = ap (λ v. v ∷ ys) (exact x y all.0) ∙ ap (λ vs. x ∷ vs) (same_list R exact xs ys all.1)
-
 pub both_lists : {A : Type 0} (R : A → A → Type 0) (xs ys more others : List A) → AllZip R xs ys → AllZip R more others → AllZip R (xs ++ more) (ys ++ others)
 both_lists R [] [] more others all rest = rest
 both_lists R [] (y ∷ ys) more others all rest = absurd all

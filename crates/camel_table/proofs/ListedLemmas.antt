@@ -6,7 +6,7 @@ use Rattle.std.specs.FinMap.{empty, get, get-empty}
 use Rattle.std.specs.Option.{is_some, option_copied}
 use Rattle.std.specs.Ordering.{nat_cmp}
 use Rattle.std.proofs.Math.Nat.{add-zero, add_assoc, zero-add}
-use Rattle.std.proofs.lemmas.Bool.{cases_lt}
+use Rattle.std.proofs.lemmas.Bool.{cases_lt, false_from_ne_true}
 use Rattle.std.proofs.lemmas.Bool.Decides.{eqb_tells}
 use Rattle.std.proofs.lemmas.List.{get_or-take}
 use Rattle.std.proofs.lemmas.List.Sums.{sum_by-append}
@@ -96,10 +96,7 @@ module _ {V : Type 0} where
     stored_first n q = ap is_some (get-table place (take n buckets) (placed_first n) q)
 
     elsewhere : (at : ℕ) (q : List ℕ) → (place q ≡ at → ⊥) → is_some (get (bucket_at buckets at) q) ≡ false
-    elsewhere at q differ = elim (is_some (get (bucket_at buckets at) q)) as (λ b. is_some (get (bucket_at buckets at) q) ≡ b → b ≡ false) [
-      | true ↦ λ some. absurd (differ (placed at q some))
-      | false ↦ λ none. refl
-    ] refl
+    elsewhere at q differ = false_from_ne_true _ (λ some. differ (placed at q some))
 
     same_bucket : (at i : ℕ) → (i ≡ at → ⊥) → bucket_at (take at buckets) i ≡ bucket_at (take (at + 1) buckets) i
     same_bucket at i differ = elim (cases_lt i at) [

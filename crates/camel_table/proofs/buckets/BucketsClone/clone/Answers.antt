@@ -1,8 +1,9 @@
 use Rattle.std.proofs.Common.{◌∙◌, ap}
 use Rattle.std.specs.FinMap as map
 use Rattle.std.specs.Option.{is_some}
+use Rattle.std.proofs.lemmas.List.Elements.{same_from_all_zip}
 use Rattle.camel_table.specs.Buckets.{table_map}
-use Rattle.camel_table.proofs.CloneLemmas.{same_list, table_keys, whole_clone}
+use Rattle.camel_table.proofs.CloneLemmas.{table_keys, whole_clone}
 use Rattle.camel_table.proofs.buckets.BucketsClone.clone.Goals as goal
 
 pub invariant_of-result : goal.invariant_of-result
@@ -14,6 +15,6 @@ returns g c =
     record {
       cases = (
         λ imsi. table_keys (λ m n both. both.0) _ all c.self.invariant imsi ∙ ap (λ m. is_some (map.get m imsi)) c.self.view_is,
-        λ exact. ap table_map (same_list _ (λ m n both. both.1 exact) _ _ all) ∙ c.self.view_is,
+        λ exact. ap table_map (same_from_all_zip _ _ _ all (λ m n both. both.1 exact)) ∙ c.self.view_is,
       );
     }
