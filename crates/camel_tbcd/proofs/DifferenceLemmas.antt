@@ -1,5 +1,5 @@
 -- Where two numbers of digits do not differ, the first digits are the same.
-use Rattle.std.proofs.Common.{◌≡◌, ◌∙◌, ℕ, ◌+◌, ◌*◌, ◌<◌, ◌≤◌, ◌↔◌, List, length, take, All, get_or, bit_xor, sym, ap, arith, ⊎_elim}
+use Rattle.std.proofs.Common.{◌≡◌, ◌∙◌, ℕ, ◌+◌, ◌*◌, ◌≤◌, ◌↔◌, List, length, take, All, get_or, bit_xor, sym, ap, arith, inl, inr}
 use Rattle.std.proofs.lemmas.Bool.{cases_lt}
 use Rattle.std.proofs.lemmas.List.{get_or-take, length-take, take_all}
 use Rattle.camel_tbcd.specs.Digits.{digits}
@@ -21,12 +21,11 @@ same_if_none_differs all others half count small smaller few is =
 as_many : (all front : List ℕ) → length (digits front) ≤ 16 → take (length (digits front)) (first_nibbles all) ≡ digits front
     → length (digits front) ≤ length (digits all)
 as_many all front few same =
-    ⊎_elim
-    (λ (fewer : length (digits all) < length (digits front)). absurd (no_filler front (length (digits all)) fewer
-    (ap (λ items. get_or items (length (digits all)) 0) (sym same)
-    ∙ get_or-take (length (digits front)) (first_nibbles all) (length (digits all)) 0 fewer ∙ filler_behind all (omega arith))))
-    (λ (enough : length (digits front) ≤ length (digits all)). enough)
-    (cases_lt (length (digits all)) (length (digits front)))
+    elim (cases_lt (length (digits all)) (length (digits front))) [
+      | inl fewer ↦ absurd (no_filler front _ fewer (ap (λ items. get_or items (length (digits all)) 0) (sym same)
+          ∙ get_or-take _ (first_nibbles all) (length (digits all)) 0 fewer ∙ filler_behind all (omega (arith, fewer, few))))
+      | inr enough ↦ enough
+    ]
 
 -- at most 16 digits are the first ones of others exactly if no bit of them differs
 pub first_if_none_differs : (all front : List ℕ) (half : ℕ) → All IsOctet all → All IsOctet front → length (digits front) ≤ 16
