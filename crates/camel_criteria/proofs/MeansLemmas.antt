@@ -1,5 +1,6 @@
 -- What the tests of criteria mean.
-use Rattle.std.proofs.Common.{◌≡◌, ◌↔◌, ◌⊎◌, ℕ, Bool, ◌==◌, IsTrue, List, [], ◌∷◌, Option, Some, None, Any, Contains, length, slice_index_or, refl, subst, inl, inr, ⊎_elim}
+use Rattle.std.proofs.Common.{◌≡◌, ◌↔◌, ◌⊎◌, ℕ, Bool, ◌==◌, IsTrue, List, [], ◌∷◌, Option, Some, None, Any, Contains, length, slice_index_or, refl, subst, inl}
+use Rattle.std.proofs.Common.{inr, ⊎_elim}
 use Rattle.std.proofs.lemmas.Bool.{eq-eqb, eqb-true}
 use Rattle.std.proofs.lemmas.Bool.Decides.{Decides-and, Decides-not, Decides-or}
 use Rattle.std.proofs.lemmas.List.Folds.{Any-from_list_any, list_any-from_Any}
@@ -25,7 +26,8 @@ Any-weaker : {X : Type 0} (P Q : X → Type 0) → ((x : X) → P x → Q x) →
 Any-weaker P Q weaker xs some = (some.0, some.1, some.2, some.3, weaker some.1 some.4)
 
 any_decides : {X : Type 0} (test : X → Bool) (P : X → Type 0) → ((x : X) → Decides (test x) (P x)) → (xs : List X) → Decides (list_any test xs) (Any P xs)
-any_decides test P each xs = (λ e. Any-weaker _ P (λ x. (each x).0) xs (Any-from_list_any test xs e), λ some. list_any-from_Any test xs (Any-weaker P _ (λ x. (each x).1) xs some))
+any_decides test P each xs =
+    (λ e. Any-weaker _ P (λ x. (each x).0) xs (Any-from_list_any test xs e), λ some. list_any-from_Any test xs (Any-weaker P _ (λ x. (each x).1) xs some))
 
 -- a test of each item against a number tells whether the number is among them
 contains_decides : (xs : List ℕ) (n : ℕ) → Decides (list_any (λ x. x == n) xs) (Contains xs n)
@@ -34,7 +36,8 @@ contains_decides xs n = (
   λ here. list_any-from_Any (λ x. x == n) xs (here.0, n, here.1, here.2, eq-eqb n n refl),
 )
 
-number_decides : (profile : Profile) (destination listed : List ℕ) → Decides (number_matches profile listed destination) (NumberMatches profile destination listed)
+number_decides : (profile : Profile) (destination listed : List ℕ)
+    → Decides (number_matches profile listed destination) (NumberMatches profile destination listed)
 number_decides profile destination listed =
     Decides-and _ _ (agrees_decides profile listed destination) (starts_with-IsPrefix (digits destination) (digits listed))
 
@@ -42,10 +45,12 @@ number_decides profile destination listed =
 abbrev IsListed : Profile → NumberCriterionData → List ℕ → Type 0
 IsListed profile criterion destination = Any (NumberMatches profile destination) criterion.numbers ⊎ Contains criterion.lengths (length (digits destination))
 
-listed_decides : (profile : Profile) (criterion : NumberCriterionData) (destination : List ℕ) → Decides (is_listed profile criterion destination) (IsListed profile criterion destination)
+listed_decides : (profile : Profile) (criterion : NumberCriterionData) (destination : List ℕ)
+    → Decides (is_listed profile criterion destination) (IsListed profile criterion destination)
 listed_decides profile criterion destination =
     Decides-or _ _
-    (any_decides (λ listed. number_matches profile listed destination) (NumberMatches profile destination) (number_decides profile destination) criterion.numbers)
+    (any_decides (λ listed. number_matches profile listed destination) (NumberMatches profile destination)
+    (number_decides profile destination) criterion.numbers)
     (contains_decides criterion.lengths (length (digits destination)))
 
 number_met_by : (profile : Profile) (match_type : MatchType) (criterion : NumberCriterionData) (destination : List ℕ)
@@ -70,7 +75,7 @@ basic_means : (listed : List BasicService) (call : BasicService) → IsTrue (bas
 basic_means [] call = (λ _. inl refl, λ _. refl)
 basic_means (first ∷ more) call = (
   λ e. inr (Any-from_list_any (λ code. covers code call) (first ∷ more) e),
-  λ met. elim met as (λ _. IsTrue (basic_met (first ∷ more) call)) [ inl none ↦ absurd (let wrong = none in cc) | inr some ↦ list_any-from_Any (λ code. covers code call) (first ∷ more) some ],
+  λ met. elim met [ inl none ↦ absurd (let wrong = none in cc) | inr some ↦ list_any-from_Any _ (first ∷ more) some ],
 )
 
 type_means : (call_type : Option CallType) (forwarded : Bool) → IsTrue (type_met call_type forwarded) ↔ TypeMet call_type forwarded
@@ -82,7 +87,7 @@ cause_means : (listed : List ℕ) (cause : Option ℕ) → IsTrue (cause_met lis
 cause_means [] cause = (λ _. inl refl, λ _. refl)
 cause_means (first ∷ more) None = (
   λ e. absurd (cc),
-  λ met. elim met as (λ _. IsTrue (cause_met (first ∷ more) None)) [ inl none ↦ absurd (let wrong = none in cc) | inr some ↦ absurd (let wrong = some.1 in cc) ],
+  λ met. absurd (elim met [ inl none ↦ let wrong = none in cc | inr some ↦ let wrong = some.1 in cc ]),
 )
 cause_means (first ∷ more) (Some cause) =
     let told = contains_decides (first ∷ more) cause in (
@@ -96,7 +101,8 @@ cause_means (first ∷ more) (Some cause) =
 pub o_means : (profile : Profile) (entry : OCriteriaData) (event : OEventData) → IsTrue (o_met profile entry event) ↔ OMet profile entry event
 o_means profile entry event =
     let type_and_cause = Decides-and _ _ (type_means entry.call_type event.forwarded) (cause_means entry.causes event.cause) in
-    let told = Decides-and _ _ (held_number_means profile entry.number event.destination) (Decides-and _ _ (basic_means entry.basic event.basic) type_and_cause) in (
+    let told =
+    Decides-and _ _ (held_number_means profile entry.number event.destination) (Decides-and _ _ (basic_means entry.basic event.basic) type_and_cause) in (
       λ e. let parts = told.0 e in record { number = parts.0; basic = parts.1.0; call_type = parts.1.1.0; cause = parts.1.1.1 },
       λ met. told.1 (met.number, (met.basic, (met.call_type, met.cause))),
     )

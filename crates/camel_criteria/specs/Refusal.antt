@@ -1,7 +1,8 @@
 -- The numbers of the refusals: those of TS 29.002's user errors, and from 101 on the product's own.
 use Rattle.std.specs.Prelude.{◌≡◌, ◌⊎◌, ℕ, Result, Ok, Err}
 use Rattle.camel_criteria.specs.declared.refusal.Refusal.{Refusal}
-use Rattle.camel_criteria.specs.declared.refusal.Refusal.TheVariants.{UnidentifiedSubscriber, DataMissing, UnexpectedDataValue, HistoryFull, OutOfMemory, NoPlace, NoGuard}
+use Rattle.camel_criteria.specs.declared.refusal.Refusal.TheVariants.{UnidentifiedSubscriber, DataMissing, UnexpectedDataValue, HistoryFull, OutOfMemory}
+use Rattle.camel_criteria.specs.declared.refusal.Refusal.TheVariants.{NoPlace, NoGuard}
 
 abbrev pub refusal_code : Refusal → ℕ
 refusal_code UnidentifiedSubscriber = 5

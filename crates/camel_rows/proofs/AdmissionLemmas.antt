@@ -18,7 +18,8 @@ admission-refusal admission limit count m update is =
 
 pub IsAdmissionOf-after : (admission : AdmissionData) (limit count : ℕ) (m : RecordsData) (update : Update) → IsAdmissionOf admission limit count m
     → refusal m update ≡ None
-    → IsAdmissionOf (with_admission admission (update_imsi update) (csis_after (value_of admission.directory (update_imsi update)) update)) limit (count + 1) (records_after m update)
+    → IsAdmissionOf (with_admission admission (update_imsi update) (csis_after (value_of admission.directory (update_imsi update)) update)) limit (count + 1)
+    (records_after m update)
 IsAdmissionOf-after admission limit count m update is accepted = record {
   same_limit = is.same_limit;
   same_count = ap (λ n. n + 1) is.same_count;

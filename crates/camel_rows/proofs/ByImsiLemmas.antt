@@ -15,8 +15,10 @@ use Rattle.camel_rows.specs.ByImsi.{ByImsi, concerns, value_of, with_value, with
 same_test : (key imsi : List ℕ) → eq_by_cmp (slice_cmp nat_cmp) imsi key ≡ bytes_eq key imsi
 same_test key imsi =
     let same = bytes_eq-Decides key imsi in
-    same_from_decides _ _
-    (λ e. sym (tells_apart exact_bytes imsi key e), λ is. subst (λ other. eq_by_cmp (slice_cmp nat_cmp) other key ≡ true) is ((eq_by_cmp_equiv nat_list_cmp_total).refl key))
+    same_from_decides _ _ (
+      λ e. sym (tells_apart exact_bytes imsi key e),
+      λ is. subst (λ other. eq_by_cmp (slice_cmp nat_cmp) other key ≡ true) is ((eq_by_cmp_equiv nat_list_cmp_total).refl key),
+    )
     same
 
 module _ {X : Type 0} where

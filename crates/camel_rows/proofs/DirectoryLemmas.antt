@@ -47,7 +47,8 @@ csis_after-none old (Delete imsi what) all = absurd (cc all)
 csis_after-none old (Cancel imsi) all = absurd (cc all)
 csis_after-none old ClearAll all = refl
 
-csi_stays : {Entry : Type 0} (csi : Option (StoredCsiData Entry)) (rows : Option (List TdpRowData)) (entries : Option (List Entry)) → (is_some csi || is_some rows) ≡ is_some (csi_after csi rows entries)
+csi_stays : {Entry : Type 0} (csi : Option (StoredCsiData Entry)) (rows : Option (List TdpRowData)) (entries : Option (List Entry))
+    → (is_some csi || is_some rows) ≡ is_some (csi_after csi rows entries)
 csi_stays None None None = refl
 csi_stays None None (Some entries) = refl
 csi_stays None (Some rows) None = refl
@@ -64,14 +65,15 @@ csi_goes false csi = refl
 csis_after-csis_of : (old : Option SubscriberData) (update : Update) → csis_after (option_map csis_of old) update ≡ option_map csis_of (record_after old update)
 csis_after-csis_of old (Register imsi) = refl
 csis_after-csis_of None (Insert imsi o o_criteria vt t_criteria) = refl
-csis_after-csis_of (Some subscriber) (Insert imsi o o_criteria vt t_criteria) = rw (csi_stays subscriber.o o o_criteria, csi_stays subscriber.vt vt t_criteria) refl
+csis_after-csis_of (Some subscriber) (Insert imsi o o_criteria vt t_criteria) =
+    rw (csi_stays subscriber.o o o_criteria, csi_stays subscriber.vt vt t_criteria) refl
 csis_after-csis_of None (Delete imsi what) = refl
 csis_after-csis_of (Some subscriber) (Delete imsi what) = rw (csi_goes (removes_o what) subscriber.o, csi_goes (removes_vt what) subscriber.vt) refl
 csis_after-csis_of old (Cancel imsi) = refl
 csis_after-csis_of old ClearAll = refl
 
-at_either : (is_there : Bool) (new old : Option SubscriberData) (new_csis old_csis : Option CsisPresent) → new_csis ≡ option_map csis_of new → old_csis ≡ option_map csis_of old
-    → cond is_there new_csis old_csis ≡ option_map csis_of (cond is_there new old)
+at_either : (is_there : Bool) (new old : Option SubscriberData) (new_csis old_csis : Option CsisPresent) → new_csis ≡ option_map csis_of new
+    → old_csis ≡ option_map csis_of old → cond is_there new_csis old_csis ≡ option_map csis_of (cond is_there new old)
 at_either true new old new_csis old_csis there elsewhere = there
 at_either false new old new_csis old_csis there elsewhere = elsewhere
 

@@ -1,5 +1,6 @@
 -- The rows that are kept are few enough for the room of a CSI.
-use Rattle.std.proofs.Common.{◌≡◌, ◌≤◌, ◌<◌, ◌+◌, ◌==◌, ℕ, zero, suc, Bool, true, false, List, [], ◌∷◌, length, take, slice_get, count_by, Some, None, refl, arith}
+use Rattle.std.proofs.Common.{◌≡◌, ◌≤◌, ◌<◌, ◌+◌, ◌==◌, ℕ, zero, suc, Bool, true, false, List, [], ◌∷◌, length, take, slice_get, count_by, Some, None, refl}
+use Rattle.std.proofs.Common.{arith}
 use Rattle.camel_criteria.specs.DetectionPoint.{is_among}
 use Rattle.std.proofs.lemmas.Bool.Decides.{nat_tests}
 use Rattle.std.proofs.lemmas.Grind.{common_steps}

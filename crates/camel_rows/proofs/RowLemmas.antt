@@ -11,4 +11,5 @@ module _ {Row : Type 0} (is : Row → Bool) where
       first : (b : Bool) → slice_get (take len room) (position_or_len is room) ≡ find is (take len room)
           → slice_get (row ∷ take len room) (cond (not b) (1 + position_or_len is room) 0) ≡ cond b (Some row) (find is (take len room))
       first true further = refl
-      first false further = let next : 1 + position_or_len is room ≡ suc (position_or_len is room) = omega arith in ap (slice_get (row ∷ take len room)) next ∙ further
+      first false further =
+          let next : 1 + position_or_len is room ≡ suc (position_or_len is room) = omega arith in ap (slice_get (row ∷ take len room)) next ∙ further

@@ -1,5 +1,6 @@
 -- What the trigger rules mean.
-use Rattle.std.proofs.Common.{◌≡◌, ◌∙◌, ◌↔◌, ℕ, Bool, true, false, IsTrue, IsSome, IsNone, IfSome, List, Option, Some, None, if◌then◌else◌, refl, sym, subst, ap}
+use Rattle.std.proofs.Common.{◌≡◌, ◌∙◌, ◌↔◌, ℕ, Bool, true, false, IsTrue, IsSome, IsNone, IfSome, List, Option, Some, None, if◌then◌else◌, refl, sym, subst}
+use Rattle.std.proofs.Common.{ap}
 use Rattle.std.proofs.lemmas.Bool.{both_ways, false_from_ne_true}
 use Rattle.std.proofs.lemmas.Option.{option_and_then_some}
 use Rattle.std.specs.FinMap as map
@@ -62,14 +63,16 @@ module _ (profile : Profile) where
 
     same_csi : (event : EventData) (csi : Option (StoredCsiData Entry))
         → by_csi dp_of (λ held. is_met (entry_as held)) entry_as event csi
-        ≡ at_csi is_met (is_emergency (event_basic event)) (option_map rows_of csi) (option_and_then (item_among (λ row. row.dp) (event_dp event)) (option_map rows_of csi))
+        ≡ at_csi is_met (is_emergency (event_basic event)) (option_map rows_of csi)
+        (option_and_then (item_among (λ row. row.dp) (event_dp event)) (option_map rows_of csi))
         (option_map entry_as (option_and_then (entry_of dp_of (event_dp event)) csi))
     same_csi event None = refl
     same_csi event (Some csi) = same_row event (item_among (λ row. row.dp) (event_dp event) csi.rows) (entry_of dp_of (event_dp event) csi)
 
   same_parts : (event : EventData) (subscriber : SubscriberData) → by_shown profile event subscriber (shown_of event) ≡ at_parts event subscriber
   same_parts (CollectedInfo imsi destination basic forwarded) subscriber =
-      same_csi (λ entry. entry.dp) O (meets (shown_of (CollectedInfo imsi destination basic forwarded))) (CollectedInfo imsi destination basic forwarded) subscriber.o
+      same_csi (λ entry. entry.dp) O (meets (shown_of (CollectedInfo imsi destination basic forwarded)))
+      (CollectedInfo imsi destination basic forwarded) subscriber.o
   same_parts (RouteSelectFailure imsi destination basic forwarded cause) subscriber =
       same_csi (λ entry. entry.dp) O (meets (shown_of (RouteSelectFailure imsi destination basic forwarded cause)))
       (RouteSelectFailure imsi destination basic forwarded cause) subscriber.o
@@ -213,7 +216,8 @@ module _ (profile : Profile) where
   not_armed_enough m event unarmed =
       let rows = some_of _ unarmed.stored in
       at_registered m event unarmed.subscriber unarmed.registered
-      ∙ parts_at event unarmed.subscriber rows.0 None (is_emergency (event_basic event)) (entry_at (event_dp event) unarmed.subscriber) rows.1 unarmed.not_armed refl refl
+      ∙ parts_at event unarmed.subscriber rows.0 None (is_emergency (event_basic event))
+      (entry_at (event_dp event) unarmed.subscriber) rows.1 unarmed.not_armed refl refl
 
   emergency_enough : (m : RecordsData) (event : EventData) → IsEmergencyCall m event → decision profile m event ≡ TriggersNothing Emergency
   emergency_enough m event call =

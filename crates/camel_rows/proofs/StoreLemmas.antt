@@ -1,5 +1,6 @@
 -- The accepted updates of a store are a front, and stay one.
-use Rattle.std.proofs.Common.{◌≡◌, ◌∙◌, ℕ, ◌+◌, ◌≤◌, ◌==◌, Bool, true, false, List, [], ◌∷◌, ◌++◌, length, Option, Some, None, refl, sym, ap, arith, append_assoc}
+use Rattle.std.proofs.Common.{◌≡◌, ◌∙◌, ℕ, ◌+◌, ◌≤◌, ◌==◌, Bool, true, false, List, [], ◌∷◌, ◌++◌, length, Option, Some, None, refl, sym, ap, arith}
+use Rattle.std.proofs.Common.{append_assoc}
 use Rattle.std.proofs.lemmas.Bool.Decides.{nat_tests}
 use Rattle.std.proofs.lemmas.List.{length-append}
 use Rattle.camel_criteria.specs.declared.refusal.Refusal.{Refusal}
@@ -59,7 +60,8 @@ IsFront-published limit updates front =
 pub admits : (admission : AdmissionData) (limit : ℕ) (updates : Updates) (update : Update)
     → IsAdmissionOfUpdates admission limit updates
     → admission_refusal admission update ≡ store_refusal limit updates update
-admits admission limit updates update is = admission-refusal admission limit (length (accepted_updates updates)) (records_of (accepted_updates updates)) update is
+admits admission limit updates update is =
+    admission-refusal admission limit (length (accepted_updates updates)) (records_of (accepted_updates updates)) update is
 
 -- an admission of the accepted updates, with one accepted update more, is that of the updates with it
 pub IsAdmissionOf-with_update : (admission : AdmissionData) (limit : ℕ) (updates : Updates) (update : Update)

@@ -37,8 +37,9 @@ pub own_record : (m : RecordsData) (update : Update) (imsi : List ℕ) → is_of
 own_record m update imsi own accepted = rw accepted (left_by m update imsi ∙ rw own refl)
 
 -- the data after an update that concerns one subscriber, who has a record: only that may have changed
-pub with_record_after : (m : RecordsData) (update : Update) (imsi : List ℕ) (old new : SubscriberData) → update_imsi update ≡ Some imsi → map.get m imsi ≡ Some old
-    → (IsSome (csis_refusal (Some (csis_of old)) update) → new ≡ old) → (csis_refusal (Some (csis_of old)) update ≡ None → Some new ≡ record_after (Some old) update)
+pub with_record_after : (m : RecordsData) (update : Update) (imsi : List ℕ) (old new : SubscriberData) → update_imsi update ≡ Some imsi
+    → map.get m imsi ≡ Some old → (IsSome (csis_refusal (Some (csis_of old)) update) → new ≡ old)
+    → (csis_refusal (Some (csis_of old)) update ≡ None → Some new ≡ record_after (Some old) update)
     → map.insert m imsi new ≡ records_after m update
 with_record_after m update imsi old new whom held kept changed = rw (whom, held) (either (csis_refusal (Some (csis_of old)) update) refl)
   where
@@ -47,15 +48,16 @@ with_record_after m update imsi old new whom held kept changed = rw (whom, held)
     either None is = ap (with_value m imsi) (changed is)
     either (Some why) is = ap (map.insert m imsi) (kept (ap is_some is)) ∙ insert_same m imsi old held
 
-inserted : (m : RecordsData) (imsi : List ℕ) (o : Option (List TdpRowData)) (o_criteria : Option (List OCriteriaData)) (vt : Option (List TdpRowData)) (t_criteria : Option (List TCriteriaData))
-    → refusal (records_after m (Register imsi)) (Insert imsi o o_criteria vt t_criteria) ≡ None
-    → map.get (records_after (records_after m (Register imsi)) (Insert imsi o o_criteria vt t_criteria)) imsi ≡ Some (record_with_insert o o_criteria vt t_criteria empty_record)
+inserted : (m : RecordsData) (imsi : List ℕ) (o : Option (List TdpRowData)) (o_criteria : Option (List OCriteriaData)) (vt : Option (List TdpRowData))
+    (t_criteria : Option (List TCriteriaData)) → refusal (records_after m (Register imsi)) (Insert imsi o o_criteria vt t_criteria) ≡ None
+    → map.get (records_after (records_after m (Register imsi)) (Insert imsi o o_criteria vt t_criteria)) imsi
+    ≡ Some (record_with_insert o o_criteria vt t_criteria empty_record)
 inserted m imsi o o_criteria vt t_criteria accepted =
     own_record (records_after m (Register imsi)) (Insert imsi o o_criteria vt t_criteria) imsi ((bytes_eq-Decides imsi imsi).1 refl) accepted
     ∙ ap (λ old. record_after old (Insert imsi o o_criteria vt t_criteria)) (get-with_value_there m imsi (Some empty_record))
 
-pub o_stands : (m : RecordsData) (imsi : List ℕ) (rows : List TdpRowData) (o_criteria : Option (List OCriteriaData)) (vt : Option (List TdpRowData)) (t_criteria : Option (List TCriteriaData))
-    → refusal (records_after m (Register imsi)) (Insert imsi (Some rows) o_criteria vt t_criteria) ≡ None
+pub o_stands : (m : RecordsData) (imsi : List ℕ) (rows : List TdpRowData) (o_criteria : Option (List OCriteriaData)) (vt : Option (List TdpRowData))
+    (t_criteria : Option (List TCriteriaData)) → refusal (records_after m (Register imsi)) (Insert imsi (Some rows) o_criteria vt t_criteria) ≡ None
     → HasO (records_after (records_after m (Register imsi)) (Insert imsi (Some rows) o_criteria vt t_criteria)) imsi (csi_with rows o_criteria)
 o_stands m imsi rows o_criteria vt t_criteria accepted = record {
   subscriber = record_with_insert (Some rows) o_criteria vt t_criteria empty_record;
@@ -63,8 +65,8 @@ o_stands m imsi rows o_criteria vt t_criteria accepted = record {
   stored = refl;
 }
 
-pub vt_stands : (m : RecordsData) (imsi : List ℕ) (rows : List TdpRowData) (t_criteria : Option (List TCriteriaData)) (o : Option (List TdpRowData)) (o_criteria : Option (List OCriteriaData))
-    → refusal (records_after m (Register imsi)) (Insert imsi o o_criteria (Some rows) t_criteria) ≡ None
+pub vt_stands : (m : RecordsData) (imsi : List ℕ) (rows : List TdpRowData) (t_criteria : Option (List TCriteriaData)) (o : Option (List TdpRowData))
+    (o_criteria : Option (List OCriteriaData)) → refusal (records_after m (Register imsi)) (Insert imsi o o_criteria (Some rows) t_criteria) ≡ None
     → HasVt (records_after (records_after m (Register imsi)) (Insert imsi o o_criteria (Some rows) t_criteria)) imsi (csi_with rows t_criteria)
 vt_stands m imsi rows t_criteria o o_criteria accepted = record {
   subscriber = record_with_insert o o_criteria (Some rows) t_criteria empty_record;

@@ -12,6 +12,7 @@ pub use csi::tdp_row::{MAX_SERVICE_KEY, TdpRow};
 pub use csi::{Csi, OCsi, VtCsi};
 pub use subscriber::Subscriber;
 pub use subscriber::admission::Admission;
+pub use subscriber::boxed::Boxed;
 pub use subscriber::csis_present::{CsisChange, CsisPresent};
 pub use subscriber::laws::{inserted_csi_stands, updates_change_own_records};
 pub use subscriber::lent::Lent;

@@ -9,10 +9,10 @@ ghost use Rattle.camel_rows.specs.Subscriber.{empty_record, entry_at, entry_data
 ghost use Rattle.camel_rows.specs.Update.{is_insert, record_after, record_with_insert, record_without, update_imsi};
 
 pub(crate) mod admission;
+pub(crate) mod boxed;
 pub(crate) mod csis_present;
 pub(crate) mod laws;
 pub(crate) mod lent;
-pub(crate) mod one_block;
 pub(crate) mod records;
 pub(crate) mod stored_csi;
 pub(crate) mod update;
@@ -20,9 +20,9 @@ pub(crate) mod update;
 use crate::csi::criteria_set::{OCriteriaSet, TCriteriaSet};
 use crate::csi::tdp_row::TdpRow;
 use crate::csi::{OCsi, VtCsi};
+use crate::subscriber::boxed::Boxed;
 use crate::subscriber::csis_present::{CsisPresent, check_insert, check_update};
 use crate::subscriber::lent::Lent;
-use crate::subscriber::one_block::OneBlock;
 use crate::subscriber::stored_csi::StoredCsi;
 use crate::subscriber::update::{Update, Withdrawal};
 use camel_criteria::{OCriteria, Refusal, TCriteria, is_o_detection_point, is_vt_detection_point};
@@ -46,7 +46,7 @@ pub struct Subscriber {
     // In place, so that a decision at detection point 2 or 4 reads it where it finds the subscriber.
     o: StoredOCsi,
     // In a block of its own, so that it takes little room if it is not stored.
-    vt: Option<OneBlock<StoredVtCsi>>,
+    vt: Option<Boxed<StoredVtCsi>>,
 }
 
 const _: () = prove!(size_of::<Subscriber>() == 96);
@@ -232,7 +232,7 @@ impl Subscriber {
         &self,
         alloc: Global,
         update: &Update,
-    ) -> Result<Option<OneBlock<StoredVtCsi>>, AllocError>
+    ) -> Result<Option<Boxed<StoredVtCsi>>, AllocError>
         ensures { IfOk result (λ room. IsRoomForUpdate update.now self.now room) }
     {
         match update {
@@ -246,19 +246,19 @@ impl Subscriber {
         &self,
         alloc: Global,
         vt: &Option<VtCsi>,
-    ) -> Result<Option<OneBlock<StoredVtCsi>>, AllocError>
+    ) -> Result<Option<Boxed<StoredVtCsi>>, AllocError>
         ensures { IfOk result (λ room. IsRoomFor vt.now self.now.vt room) }
     {
         if self.vt().is_some() || vt.is_none() {
             return Ok(None);
         }
-        Ok(Some(OneBlock::new(alloc, StoredCsi::NotStored)?))
+        Ok(Some(Boxed::new(alloc, StoredCsi::NotStored)?))
     }
 
     /// Stores what an Insert brings, with a block for the VT-CSI if there is to be one. It takes no memory.
     fn put(
         &mut self,
-        room: Option<OneBlock<StoredVtCsi>>,
+        room: Option<Boxed<StoredVtCsi>>,
         o: &Option<OCsi>,
         o_criteria: Option<OCriteriaSet>,
         vt: &Option<VtCsi>,

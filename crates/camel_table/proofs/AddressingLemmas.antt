@@ -1,23 +1,16 @@
 -- A bucket more changes the place of no hash but those of the bucket that is divided.
-use Rattle.std.proofs.Common.{◌≡◌, ◌⊎◌, ◌∙◌, ℕ, zero, suc, ◌+◌, ◌*◌, ◌/◌, ◌%◌, ◌-◌, ◌<◌, ◌≤◌, ◌^◌, Bool, true, false, cond, nat_lt, inl, inr, refl, sym, ap, subst, arith}
+use Rattle.std.proofs.Common.{◌≡◌, ◌⊎◌, ◌∙◌, ℕ, zero, suc, ◌+◌, ◌*◌, ◌/◌, ◌%◌, ◌-◌, ◌<◌, ◌≤◌, ◌^◌, cond, inl, inr, sym, ap, subst, arith}
 use Rattle.std.proofs.Math.Nat.{mod-eq_of_lt, mod-lt, pow-le-pow_right, pow-succ'}
-use Rattle.std.proofs.lemmas.Bool.{ltb-false, ltb-true}
-use Rattle.std.proofs.lemmas.Bool.Decides.{nat_tests}
+use Rattle.std.proofs.lemmas.Bool.{cases_lt, le-ltb, lt-ltb}
 use Rattle.std.proofs.lemmas.Nat.{mod-pow-add, pow_pos}
 use Rattle.camel_table.specs.Addressing.{bucket_in}
 
-below : (a b : ℕ) → a < b → nat_lt a b ≡ true
-below a b lt = grind (arith, nat_tests)
-
-not_below : (a b : ℕ) → b ≤ a → nat_lt a b ≡ false
-not_below a b le = grind (arith, nat_tests)
-
 -- the place of a hash by whether there is its bucket of the next round
 pub place_wide : (level count hash : ℕ) → hash % 2 ^ (1 + level) < count → bucket_in level count hash ≡ hash % 2 ^ (1 + level)
-place_wide level count hash lt = ap (λ b. cond b (hash % 2 ^ (1 + level)) (hash % 2 ^ level)) (below _ _ lt)
+place_wide level count hash lt = ap (λ b. cond b (hash % 2 ^ (1 + level)) (hash % 2 ^ level)) (lt-ltb _ _ lt)
 
 pub place_narrow : (level count hash : ℕ) → count ≤ hash % 2 ^ (1 + level) → bucket_in level count hash ≡ hash % 2 ^ level
-place_narrow level count hash le = ap (λ b. cond b (hash % 2 ^ (1 + level)) (hash % 2 ^ level)) (not_below _ _ le)
+place_narrow level count hash le = ap (λ b. cond b (hash % 2 ^ (1 + level)) (hash % 2 ^ level)) (le-ltb _ _ le)
 
 pub double : (level : ℕ) → 2 ^ (1 + level) ≡ 2 * 2 ^ level
 double level = ap (λ n. 2 ^ n) (omega arith) ∙ pow-succ' 2 level
@@ -50,39 +43,28 @@ narrow_below level hash = mod-lt hash (pow_pos level)
 
 -- each place is that of a bucket
 pub place_below : (level count hash : ℕ) → 2 ^ level ≤ count → bucket_in level count hash < count
-place_below level count hash began =
-    let narrow = narrow_below level hash in
-    elim (nat_lt (hash % 2 ^ (1 + level)) count) as (λ b. nat_lt (hash % 2 ^ (1 + level)) count ≡ b → cond b (hash % 2 ^ (1 + level)) (hash % 2 ^ level) < count) [
-      | true ↦ λ p. ltb-true _ _ p
-      | false ↦ λ p. omega (arith, narrow, began)
-    ] refl
+place_below level count hash began = elim (cases_lt (hash % 2 ^ (1 + level)) count) [
+  | inl lt ↦ rw (place_wide level count hash lt) lt
+  | inr le ↦ let narrow = narrow_below level hash in rw (place_narrow level count hash le) (omega (arith, narrow, began))
+]
 
 -- with a bucket more, a hash keeps its place, or it had that of the bucket that is divided and has that of the new one
-pub place_next : (level count hash : ℕ) → 2 ^ level ≤ count
-    → (bucket_in level (count + 1) hash ≡ bucket_in level count hash) ⊎ ((bucket_in level count hash ≡ count - 2 ^ level) × (bucket_in level (count + 1) hash ≡ count))
-place_next level count hash began = by_new (nat_lt wide count) refl
-  where
-    wide : ℕ
-    wide = hash % 2 ^ (1 + level)
+abbrev pub Moves : (divided new before after : ℕ) → Type 0
+Moves divided new before after = (after ≡ before) ⊎ ((before ≡ divided) × (after ≡ new))
 
-    by_next : (b : Bool) → nat_lt count wide ≡ b → count ≤ wide
-        → (bucket_in level (count + 1) hash ≡ bucket_in level count hash) ⊎ ((bucket_in level count hash ≡ count - 2 ^ level) × (bucket_in level (count + 1) hash ≡ count))
-    by_next true p le =
-        let more = ltb-true count wide p in
-        inl (place_narrow level (count + 1) hash (omega (arith, more)) ∙ sym (place_narrow level count hash le))
-    by_next false p le =
-        let same : wide ≡ count = omega (arith, le, ltb-false count wide p) in
+place_next : (level count hash : ℕ) → 2 ^ level ≤ count → Moves (count - 2 ^ level) count (bucket_in level count hash) (bucket_in level (count + 1) hash)
+place_next level count hash began = elim (cases_lt (hash % 2 ^ (1 + level)) count) [
+  | inl lt ↦ inl (place_wide level (count + 1) hash (omega (arith, lt)) ∙ sym (place_wide level count hash lt))
+  | inr le ↦ elim (cases_lt count (hash % 2 ^ (1 + level))) [
+    | inl more ↦ inl (place_narrow level (count + 1) hash (omega (arith, more)) ∙ sym (place_narrow level count hash le))
+    | inr least ↦
+        let same : hash % 2 ^ (1 + level) ≡ count = omega (arith, le, least) in
         let narrow = narrow_below level hash in
         let old : hash % 2 ^ level ≡ count - 2 ^ level =
         elim (wide_or_narrow level hash) [ inl is ↦ omega (arith, is, same, narrow, began) | inr is ↦ omega (arith, is, same) ] in
         inr (place_narrow level count hash le ∙ old, place_wide level (count + 1) hash (omega (arith, same)) ∙ same)
-
-    by_new : (b : Bool) → nat_lt wide count ≡ b
-        → (bucket_in level (count + 1) hash ≡ bucket_in level count hash) ⊎ ((bucket_in level count hash ≡ count - 2 ^ level) × (bucket_in level (count + 1) hash ≡ count))
-    by_new true p =
-        let lt = ltb-true wide count p in
-        inl (place_wide level (count + 1) hash (omega (arith, lt)) ∙ sym (place_wide level count hash lt))
-    by_new false p = by_next (nat_lt count wide) refl (ltb-false wide count p)
+  ]
+]
 
 -- if each bucket of the round is divided, the next round has the same addressing
 pub place_round : (level count hash : ℕ) → count ≡ 2 ^ (1 + level) → bucket_in (1 + level) count hash ≡ bucket_in level count hash
@@ -95,21 +77,19 @@ place_round level count hash whole =
 
 -- with a bucket more, in this round or at the beginning of the next one
 pub place_more : (level next count hash : ℕ) → (next ≡ level) ⊎ ((next ≡ 1 + level) × (count ≡ 2 ^ (1 + level))) → 2 ^ next ≤ count
-    → (bucket_in next (count + 1) hash ≡ bucket_in level count hash) ⊎ ((bucket_in level count hash ≡ count - 2 ^ next) × (bucket_in next (count + 1) hash ≡ count))
+    → Moves (count - 2 ^ next) count (bucket_in level count hash) (bucket_in next (count + 1) hash)
 place_more level next count hash (inl same) began =
-    subst (λ n. (bucket_in next (count + 1) hash ≡ bucket_in n count hash) ⊎ ((bucket_in n count hash ≡ count - 2 ^ next) × (bucket_in next (count + 1) hash ≡ count)))
-    same (place_next next count hash began)
+    subst (λ n. Moves (count - 2 ^ next) count (bucket_in n count hash) (bucket_in next (count + 1) hash)) same (place_next next count hash began)
 place_more level next count hash (inr whole) began =
-    let round : bucket_in next count hash ≡ bucket_in level count hash = ap (λ n. bucket_in n count hash) whole.0 ∙ place_round level count hash whole.1 in
-    subst (λ n. (bucket_in next (count + 1) hash ≡ n) ⊎ ((n ≡ count - 2 ^ next) × (bucket_in next (count + 1) hash ≡ count)))
-    round (place_next next count hash began)
+    subst (λ n. Moves (count - 2 ^ next) count n (bucket_in next (count + 1) hash))
+    (ap (λ n. bucket_in n count hash) whole.0 ∙ place_round level count hash whole.1)
+    (place_next next count hash began)
 
 pub some_power : (level : ℕ) → 0 < 2 ^ level
 some_power level = pow_pos level
 
 pub less_than : (count most same : ℕ) → count ≤ most → (count ≡ most → ⊥) → same ≡ most → count + 1 ≤ same
-less_than count most same le other is =
-    elim (nat_lt count most) as (λ b. nat_lt count most ≡ b → count + 1 ≤ same) [
-      | true ↦ λ p. let lt = ltb-true count most p in omega (arith, lt, is)
-      | false ↦ λ p. let ge = ltb-false count most p in absurd (other (omega (arith, le, ge)))
-    ] refl
+less_than count most same le other is = elim (cases_lt count most) [
+  | inl lt ↦ omega (arith, lt, is)
+  | inr ge ↦ absurd (other (omega (arith, le, ge)))
+]

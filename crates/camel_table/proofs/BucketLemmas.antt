@@ -1,5 +1,6 @@
 -- The finite map of the entries of a bucket, after each change of them.
-use Rattle.std.proofs.Common.{◌≡◌, ◌∙◌, ℕ, zero, suc, ◌+◌, ◌<◌, ◌≤◌, Bool, true, false, not, cond, T, List, [], ◌∷◌, ◌++◌, Option, Some, None, length, filter, position, nat_lt, slice_index_or, slice_set, refl, sym, ap, ap₂, subst, arith}
+use Rattle.std.proofs.Common.{◌≡◌, ◌∙◌, ℕ, zero, suc, ◌+◌, ◌<◌, ◌≤◌, Bool, true, false, not, cond, T, List, [], ◌∷◌, ◌++◌, Option, Some, None, length, filter}
+use Rattle.std.proofs.Common.{inl, inr, true≢false, position, slice_index_or, slice_set, refl, sym, ap, ap₂, subst, arith}
 use Rattle.std.specs.Prelude.{find}
 use Rattle.std.specs.Cmp.{eq_by_cmp_equiv, tied_itself}
 use Rattle.std.specs.Cmp.Lexicographic.{slice_cmp, nat_list_cmp_total}
@@ -10,7 +11,8 @@ use Rattle.std.specs.Option.{option_map, option_or, is_some, unwrap_or}
 use Rattle.std.specs.Ordering.{is_eq, nat_cmp}
 use Rattle.std.specs.declared.cmp.Ordering.{Ordering}
 use Rattle.std.specs.declared.cmp.Ordering.TheVariants.{Less, Equal, Greater}
-use Rattle.std.proofs.lemmas.Bool.{ltb-false, ltb-true}
+use Rattle.std.proofs.lemmas.Bool.{cases_lt, le-ltb, lt-ltb}
+use Rattle.std.proofs.lemmas.List.Elements.{filter-append}
 use Rattle.std.proofs.lemmas.Map.Lookups.{exact_bytes}
 use Rattle.camel_table.specs.ByImsi.{ByImsi, is_same, map_of}
 use Rattle.camel_table.specs.Lending.{with_value_of}
@@ -41,25 +43,26 @@ pub apart : (q key other : List ℕ) → is_same key other ≡ false → is_same
 apart q key other unlike here there =
     subst T (sym (ap (λ k. is_same k other) (sym (same_are_equal q key there)) ∙ here) ∙ unlike) tt
 
-abbrev Entries : Type 0 → Type 0
+abbrev pub Entries : Type 0 → Type 0
 Entries V = List (List ℕ × V)
 
 module _ {V : Type 0} where
-  abbrev found : List ℕ → Entries V → Option V
+  abbrev pub found : List ℕ → Entries V → Option V
   found key es = map.find (slice_cmp nat_cmp) key es
 
   -- two lists of entries that find the same make the same map
   same_when : (es : Entries V) (m : ByImsi V) → ((q : List ℕ) → found q es ≡ map.get m q) → map_of es ≡ m
   same_when es m finds = map.same_map nat_list_cmp_total exact_bytes _ _ (λ q. map.get-from_entries nat_list_cmp_total es q ∙ finds q)
 
-  get-is : (es : Entries V) (key : List ℕ) → map.get (map_of es) key ≡ found key es
+  pub get-is : (es : Entries V) (key : List ℕ) → map.get (map_of es) key ≡ found key es
   get-is es key = map.get-from_entries nat_list_cmp_total es key
 
   -- what a search of the entries gives
   found-find : (key : List ℕ) (es : Entries V) → option_map (λ e. e.1) (find (λ e. is_same key e.0) es) ≡ found key es
   found-find key [] = refl
   found-find key (e ∷ es) =
-      elim (is_same key e.0) as (λ b. option_map (λ (x : List ℕ × V). x.1) (cond b (Some e) (find (λ x. is_same key x.0) es)) ≡ cond b (Some e.1) (found key es)) [
+      elim (is_same key e.0) as
+      (λ b. option_map (λ (x : List ℕ × V). x.1) (cond b (Some e) (find (λ x. is_same key x.0) es)) ≡ cond b (Some e.1) (found key es)) [
         | true ↦ refl
         | false ↦ found-find key es
       ]
@@ -79,7 +82,8 @@ module _ {V : Type 0} where
   first_at : (key : List ℕ) (es : Entries V) → place key es < length es → IsFirst key (place key es) es
   first_at key [] lt = absurd (omega (arith, lt))
   first_at key (e ∷ es) lt =
-      elim (is_same key e.0) as (λ b. is_same key e.0 ≡ b → cond (not b) (1 + place key es) 0 < length (e ∷ es) → IsFirst key (cond (not b) (1 + place key es) 0) (e ∷ es)) [
+      elim (is_same key e.0) as
+      (λ b. is_same key e.0 ≡ b → cond (not b) (1 + place key es) 0 < length (e ∷ es) → IsFirst key (cond (not b) (1 + place key es) 0) (e ∷ es)) [
         | true ↦ λ p lt. p
         | false ↦ λ p lt.
             let next : 1 + place key es ≡ suc (place key es) = omega arith in
@@ -96,35 +100,26 @@ module _ {V : Type 0} where
 
   -- what a position says
   pub first_of_position : (key : List ℕ) (es : Entries V) (at : ℕ) → position (λ e. is_same key e.0) es ≡ Some at → (at < length es) × IsFirst key at es
-  first_of_position key es at is =
-      elim (nat_lt (place key es) (length es)) as (λ b. nat_lt (place key es) (length es) ≡ b → cond b (Some (place key es)) None ≡ Some at → (at < length es) × IsFirst key at es) [
-        | true ↦ λ p e.
-            let here : place key es ≡ at = ap (λ o. unwrap_or o 0) e in
-            let lt = ltb-true (place key es) (length es) p in
-            subst (λ n. (n < length es) × IsFirst key n es) here (lt, first_at key es lt)
-        | false ↦ λ p e. absurd (subst (λ o. T (is_some o)) (sym e) tt)
-      ] refl is
-
-  pub none_of_position : (key : List ℕ) (es : Entries V) → position (λ e. is_same key e.0) es ≡ None → map.get (map_of es) key ≡ None
-  none_of_position key es is =
-      elim (nat_lt (place key es) (length es)) as (λ b. nat_lt (place key es) (length es) ≡ b → cond b (Some (place key es)) None ≡ None → map.get (map_of es) key ≡ None) [
-        | true ↦ λ p e. absurd (subst (λ o. T (is_some o)) e tt)
-        | false ↦ λ p e. get-is es key ∙ none_at key es (ltb-false (place key es) (length es) p)
-      ] refl is
+  first_of_position key es at is = elim (cases_lt (place key es) (length es)) [
+    | inl lt ↦
+        let here : place key es ≡ at = ap (λ o. unwrap_or o 0) (rw (lt-ltb _ _ lt) at is) in
+        subst (λ n. (n < length es) × IsFirst key n es) here (lt, first_at key es lt)
+    | inr le ↦ absurd (subst (λ o. T (is_some o)) (sym (rw (le-ltb _ _ le) at is)) tt)
+  ]
 
   pub some_position : (key : List ℕ) (es : Entries V) → is_some (map.get (map_of es) key) ≡ true → is_some (position (λ e. is_same key e.0) es) ≡ true
-  some_position key es some =
-      elim (position (λ e. is_same key e.0) es) as (λ o. position (λ e. is_same key e.0) es ≡ o → is_some o ≡ true) [
-        | None ↦ λ none. absurd (subst T (sym (sym (ap is_some (none_of_position key es none)) ∙ some)) tt)
-        | Some at ↦ λ is. refl
-      ] refl
+  some_position key es some = elim (cases_lt (place key es) (length es)) [
+    | inl lt ↦ rw (lt-ltb _ _ lt) refl
+    | inr le ↦ absurd (true≢false (sym some ∙ ap is_some (get-is es key ∙ none_at key es le)))
+  ]
 
   found-first : (key : List ℕ) (es : Entries V) (at : ℕ) (d : List ℕ × V) → IsFirst key at es → found key es ≡ Some (slice_index_or es at d).1
   found-first key [] at d first = absurd first
   found-first key (e ∷ es) zero d first = ap (λ b. cond b (Some e.1) (found key es)) first
   found-first key (e ∷ es) (suc at) d first = ap (λ b. cond b (Some e.1) (found key es)) first.0 ∙ found-first key es at d first.1
 
-  pub get-first : (key : List ℕ) (es : Entries V) (at : ℕ) (e : List ℕ × V) → IsFirst key at es → e ≡ slice_index_or es at e → map.get (map_of es) key ≡ Some e.1
+  pub get-first : (key : List ℕ) (es : Entries V) (at : ℕ) (e : List ℕ × V) → IsFirst key at es → e ≡ slice_index_or es at e
+      → map.get (map_of es) key ≡ Some e.1
   get-first key es at e first is = get-is es key ∙ found-first key es at e first ∙ ap (λ (x : List ℕ × V). Some x.1) (sym is)
 
   -- an entry more
@@ -133,12 +128,18 @@ module _ {V : Type 0} where
   added key value es none = map.from_entries_push nat_list_cmp_total exact_bytes es key value (sym (get-is es key) ∙ none)
 
   -- the entries of some keys
-  pub kept : (test : List ℕ → Bool) (es : Entries V) → map_of (filter (λ e. test e.0) es) ≡ map.retain_keys (map_of es) test
+  kept : (test : List ℕ → Bool) (es : Entries V) → map_of (filter (λ e. test e.0) es) ≡ map.retain_keys (map_of es) test
   kept test es = same_when _ _ (λ q.
       let alike = λ (x : List ℕ) (tied : slice_cmp nat_cmp q x ≡ Equal). ap test (sym (exact_bytes q x tied)) in
       entries.find-where_key (slice_cmp nat_cmp) test q alike es
       ∙ ap (λ o. cond (test q) o None) (sym (get-is es q))
       ∙ sym (map.get-retain_keys (map_of es) test q alike))
+
+  -- the entries of some keys in two lists
+  pub kept_in_both : (test : List ℕ → Bool) (xs ys : Entries V) {m : ByImsi V} → map_of (xs ++ ys) ≡ m → {es : Entries V}
+      → es ≡ filter (λ e. test e.0) xs ++ filter (λ e. test e.0) ys → map_of es ≡ map.retain_keys m test
+  kept_in_both test xs ys view is =
+      ap map_of (is ∙ sym (filter-append (λ e. test e.0) xs ys)) ∙ kept test (xs ++ ys) ∙ ap (λ m. map.retain_keys m test) view
 
   without : (b : Bool) (o : Option V) → cond (not b) o None ≡ cond b None o
   without true o = refl
@@ -155,7 +156,7 @@ module _ {V : Type 0} where
       ∙ sym (map.get-remove nat_list_cmp_total (map_of es) key q))
 
   -- entries in two lists, of which one is searched after the other
-  found-append : (q : List ℕ) (xs ys : Entries V) → found q (xs ++ ys) ≡ option_or (found q xs) (found q ys)
+  pub found-append : (q : List ℕ) (xs ys : Entries V) → found q (xs ++ ys) ≡ option_or (found q xs) (found q ys)
   found-append q [] ys = refl
   found-append q (e ∷ es) ys =
       elim (is_same q e.0) as (λ b. cond b (Some e.1) (found q (es ++ ys)) ≡ option_or (cond b (Some e.1) (found q es)) (found q ys)) [
@@ -204,7 +205,8 @@ module _ {V : Type 0} where
 
   -- another value in the first entry of a key that is there
   module _ (key : List ℕ) (value : V) where
-    found-with : (q : List ℕ) (es : Entries V) → is_some (found key es) ≡ true → found q (with_value_of key value es) ≡ cond (is_same q key) (Some value) (found q es)
+    found-with : (q : List ℕ) (es : Entries V) → is_some (found key es) ≡ true
+        → found q (with_value_of key value es) ≡ cond (is_same q key) (Some value) (found q es)
     found-with q [] some = absurd (subst T (sym some) tt)
     found-with q (e ∷ es) some =
         elim (is_same key e.0) as (λ b. is_same key e.0 ≡ b → is_some (cond b (Some e.1) (found key es)) ≡ true
@@ -245,10 +247,12 @@ module _ {V : Type 0} where
     pub with_second : (xs ys : Entries V) → is_some (map.get (map_of xs) key) ≡ false → with_value_of key value (xs ++ ys) ≡ xs ++ with_value_of key value ys
     with_second xs ys none = within-second xs ys (ap is_some (sym (get-is xs key)) ∙ none)
 
-    pub with_set : (es : Entries V) (at : ℕ) (e : List ℕ × V) → IsFirst key at es → e ≡ slice_index_or es at e → slice_set es at (e.0, value) ≡ with_value_of key value es
+    pub with_set : (es : Entries V) (at : ℕ) (e : List ℕ × V) → IsFirst key at es → e ≡ slice_index_or es at e
+        → slice_set es at (e.0, value) ≡ with_value_of key value es
     with_set es at e first is = ap (λ (x : List ℕ × V). slice_set es at (x.0, value)) is ∙ set_first es at e first
       where
-        set_first : (es : Entries V) (at : ℕ) (d : List ℕ × V) → IsFirst key at es → slice_set es at ((slice_index_or es at d).0, value) ≡ with_value_of key value es
+        set_first : (es : Entries V) (at : ℕ) (d : List ℕ × V) → IsFirst key at es
+            → slice_set es at ((slice_index_or es at d).0, value) ≡ with_value_of key value es
         set_first [] at d first = absurd first
         set_first (e ∷ es) zero d first = sym (ap (λ b. cond b ((e.0, value) ∷ es) (e ∷ with_value_of key value es)) first)
         set_first (e ∷ es) (suc at) d first =

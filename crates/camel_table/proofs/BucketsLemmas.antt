@@ -1,44 +1,35 @@
 -- The map of the buckets of a table: an IMSI is found in the bucket of its place, and a bucket more changes nothing.
-use Rattle.std.proofs.Common.{◌≡◌, ◌⊎◌, ◌∙◌, ℕ, zero, suc, ◌<◌, ◌==◌, Bool, true, false, not, cond, T, List, [], ◌∷◌, ◌++◌, Option, Some, None, IsSome, length, slice_index_or, slice_set, inl, inr, refl, sym, ap, subst, arith}
+use Rattle.std.proofs.Common.{◌≡◌, ◌∙◌, ℕ, zero, suc, ◌<◌, ◌==◌, Bool, true, false, not, cond, T, List, [], ◌∷◌, ◌++◌, Option, Some, None, IsSome, length}
+use Rattle.std.proofs.Common.{slice_index_or, slice_set, inl, inr, refl, sym, ap, subst, arith}
 use Rattle.std.specs.Cmp.Lexicographic.{slice_cmp, nat_list_cmp_total}
-use Rattle.std.specs.FinMap.{empty, entries, find, get, get-empty, get-entries, get-from_entries, get-insert, get-remove, get-retain_keys, insert, len-empty, len-entries, remove, retain_keys, same_map}
+use Rattle.std.specs.FinMap.{empty, entries, get, get-empty, get-entries, get-from_entries, get-insert, get-remove, get-retain_keys, insert, len-empty}
+use Rattle.std.specs.FinMap.{len-entries, remove, retain_keys, same_map}
+use Rattle.std.specs.Option.{option_or}
 use Rattle.std.specs.Ordering.{nat_cmp}
+use Rattle.std.proofs.lemmas.Bool.{eq-eqb, false_from_ne_true, ne_eqb}
 use Rattle.std.proofs.lemmas.Bool.Decides.{eqb_tells}
 use Rattle.std.proofs.lemmas.List.{get_or-set_other, get_or-set_same, length-set}
 use Rattle.std.proofs.lemmas.Map.Lookups.{exact_bytes}
 use Rattle.camel_table.specs.ByImsi.{ByImsi, is_same, map_of}
 use Rattle.camel_table.specs.Buckets.{ArePlaced, all_entries, table_map}
-use Rattle.camel_table.proofs.BucketLemmas.{same_are_equal}
-
-abbrev Entries : Type 0 → Type 0
-Entries V = List (List ℕ × V)
+use Rattle.camel_table.proofs.AddressingLemmas.{Moves}
+use Rattle.camel_table.proofs.BucketLemmas.{Entries, found, found-append, same_are_equal}
 
 no_value : {V : Type 0} (o : Option V) → (IsSome o → ⊥) → o ≡ None
 no_value None none = refl
 no_value (Some value) none = absurd (none refl)
-
-not_same : (q key : List ℕ) → (q ≡ key → ⊥) → is_same q key ≡ false
-not_same q key differ = elim (is_same q key) as (λ b. is_same q key ≡ b → b ≡ false) [ true ↦ λ e. absurd (differ (same_are_equal q key e)) | false ↦ λ e. refl ] refl
 
 none_listed : {A : Type 0} (es : List A) → length es ≡ 0 → es ≡ []
 none_listed [] none = refl
 none_listed (e ∷ es) none = absurd (omega (arith, none))
 
 module _ {V : Type 0} where
-  abbrev found : List ℕ → Entries V → Option V
-  found key es = find (slice_cmp nat_cmp) key es
-
   found-before : (q : List ℕ) (es fs : Entries V) → found q fs ≡ None → found q (es ++ fs) ≡ found q es
   found-before q [] fs none = none
   found-before q (e ∷ es) fs none = ap (cond (is_same q e.0) (Some e.1)) (found-before q es fs none)
 
   found-after : (q : List ℕ) (es fs : Entries V) → found q es ≡ None → found q (es ++ fs) ≡ found q fs
-  found-after q [] fs none = refl
-  found-after q (e ∷ es) fs none =
-      elim (is_same q e.0) as (λ b. cond b (Some e.1) (found q es) ≡ None → cond b (Some e.1) (found q (es ++ fs)) ≡ found q fs) [
-        | true ↦ λ none. absurd (subst T (sym (subst IsSome none refl)) tt)
-        | false ↦ λ none. found-after q es fs none
-      ] none
+  found-after q es fs none = found-append q es fs ∙ ap (λ o. option_or o (found q fs)) none
 
   -- the bucket of a number
   abbrev pub bucket_at : List (ByImsi V) → ℕ → ByImsi V
@@ -69,7 +60,8 @@ module _ {V : Type 0} where
     get-table buckets placed q = get-from_entries nat_list_cmp_total (all_entries buckets) q ∙ in_its_bucket q (place q) buckets (alone buckets placed q)
 
     -- a bucket that changes at one IMSI of its own
-    module _ (buckets : List (ByImsi V)) (placed : ArePlaced place buckets) (key : List ℕ) (inside : place key < length buckets) (new : ByImsi V) (value : Option V)
+    module _ (buckets : List (ByImsi V)) (placed : ArePlaced place buckets) (key : List ℕ) (inside : place key < length buckets) (new : ByImsi V)
+        (value : Option V)
         (differs : (q : List ℕ) → get new q ≡ cond (is_same q key) value (get (bucket_at buckets (place key)) q)) where
       abbrev after : List (ByImsi V)
       after = slice_set buckets (place key) new
@@ -101,19 +93,19 @@ module _ {V : Type 0} where
             | inl here ↦ ap (λ bucket. get bucket q) (changed (place q) here.1) ∙ differs q
                 ∙ ap (λ n. cond (is_same q key) value (get (bucket_at buckets n) q)) (sym here.1)
             | inr there ↦ ap (λ bucket. get bucket q) (other (place q) there.1)
-                ∙ sym (ap (λ b. cond b value (get (bucket_at buckets (place q)) q)) (unlike q (λ same. there.1 (ap place same))))
+                ∙ sym (ap (λ b. cond b value (get (bucket_at buckets (place q)) q))
+                (false_from_ne_true _ (λ same. there.1 (ap place (same_are_equal q key same)))))
           ]
           ∙ ap (cond (is_same q key) value) (sym (get-table buckets placed q))
-        where
-          unlike : (q : List ℕ) → (q ≡ key → ⊥) → is_same q key ≡ false
-          unlike q differ = not_same q key differ
 
-      pub table-after : (m : ByImsi V) → ((q : List ℕ) → get m q ≡ cond (is_same q key) value (get (table_map buckets) q)) → table_map (slice_set buckets (place key) new) ≡ m
+      pub table-after : (m : ByImsi V) → ((q : List ℕ) → get m q ≡ cond (is_same q key) value (get (table_map buckets) q))
+          → table_map (slice_set buckets (place key) new) ≡ m
       table-after m is = same_map nat_list_cmp_total exact_bytes _ _ (λ q. get-after q ∙ sym (is q))
 
   -- a bucket more: the entries of one bucket are divided between it and the new one
-  module _ (place next : List ℕ → ℕ) (buckets : List (ByImsi V)) (placed : ArePlaced place buckets) (at new : ℕ) (apart : at < new) (inside : new < length buckets)
-      (below : (q : List ℕ) → place q < new) (moves : (q : List ℕ) → (next q ≡ place q) ⊎ ((place q ≡ at) × (next q ≡ new))) where
+  module _ (place next : List ℕ → ℕ) (buckets : List (ByImsi V)) (placed : ArePlaced place buckets) (at new : ℕ) (apart : at < new)
+      (inside : new < length buckets)
+      (below : (q : List ℕ) → place q < new) (moves : (q : List ℕ) → Moves at new (place q) (next q)) where
     abbrev stays : List ℕ → Bool
     stays q = next q == at
 
@@ -133,16 +125,11 @@ module _ {V : Type 0} where
     the_new = get_or-set_same (slice_set buckets at stay) new leave empty (subst (λ n. new < n) (sym (length-set buckets at stay)) inside)
 
     the_old : bucket_at divided at ≡ stay
-    the_old = get_or-set_other (slice_set buckets at stay) new at leave empty (λ e. omega (arith, e, apart)) ∙ get_or-set_same buckets at stay empty (omega (arith, apart, inside))
+    the_old = get_or-set_other (slice_set buckets at stay) new at leave empty (λ e. omega (arith, e, apart))
+        ∙ get_or-set_same buckets at stay empty (omega (arith, apart, inside))
 
     the_others : (i : ℕ) → (i ≡ at → ⊥) → (i ≡ new → ⊥) → bucket_at divided i ≡ bucket_at buckets i
     the_others i not_at not_new = get_or-set_other (slice_set buckets at stay) new i leave empty not_new ∙ get_or-set_other buckets at i stay empty not_at
-
-    staying : (q : List ℕ) → next q ≡ at → stays q ≡ true
-    staying q e = elim (eqb_tells (next q) at) [ inl same ↦ same.0 | inr other ↦ absurd (other.1 e) ]
-
-    leaving : (q : List ℕ) → (next q ≡ at → ⊥) → stays q ≡ false
-    leaving q n = elim (eqb_tells (next q) at) [ inl e ↦ absurd (n e.1) | inr e ↦ e.0 ]
 
     -- an IMSI is found where it was, or in the new bucket
     its_new_bucket : (q : List ℕ) → get (bucket_at divided (next q)) q ≡ get (bucket_at buckets (place q)) q
@@ -150,14 +137,14 @@ module _ {V : Type 0} where
         elim (moves q) [
           | inl same ↦ elim (eqb_tells (next q) at) [
             | inl here ↦ ap (λ n. get (bucket_at divided n) q) here.1 ∙ ap (λ bucket. get bucket q) the_old ∙ get-retain stays q
-                ∙ ap (λ b. cond b (get (bucket_at buckets at) q) None) (staying q here.1)
+                ∙ ap (λ b. cond b (get (bucket_at buckets at) q) None) here.0
                 ∙ ap (λ n. get (bucket_at buckets n) q) (sym (sym same ∙ here.1))
             | inr there ↦
                 let lt = below q in
                 ap (λ bucket. get bucket q) (the_others (next q) there.1 (λ e. omega (arith, e, same, lt))) ∙ ap (λ n. get (bucket_at buckets n) q) same
           ]
           | inr moved ↦ ap (λ n. get (bucket_at divided n) q) moved.1 ∙ ap (λ bucket. get bucket q) the_new ∙ get-retain (λ x. not (stays x)) q
-              ∙ ap (λ b. cond (not b) (get (bucket_at buckets at) q) None) (leaving q (λ e. omega (arith, e, moved.1, apart)))
+              ∙ ap (λ b. cond (not b) (get (bucket_at buckets at) q) None) (ne_eqb _ _ (λ e. omega (arith, e, moved.1, apart)))
               ∙ ap (λ n. get (bucket_at buckets n) q) (sym moved.0)
         ]
 
@@ -174,7 +161,7 @@ module _ {V : Type 0} where
           | inl is_new ↦
               let kept = kept_some (λ x. not (stays x)) q (subst (λ bucket. IsSome (get bucket q)) (ap (bucket_at divided) is_new.1 ∙ the_new) some) in
               elim (moves q) [
-                | inl same ↦ absurd (subst T (sym (sym (ap not (staying q (same ∙ kept.1))) ∙ kept.0)) tt)
+                | inl same ↦ absurd (subst T (sym (sym (ap not (eq-eqb _ _ (same ∙ kept.1))) ∙ kept.0)) tt)
                 | inr moved ↦ moved.1 ∙ sym is_new.1
               ]
           | inr not_new ↦ elim (eqb_tells i at) [
@@ -201,13 +188,15 @@ module _ {V : Type 0} where
 
     pub insert-table : (value : V) → table_map (slice_set buckets (place key) (insert own key value)) ≡ insert (table_map buckets) key value
     insert-table value =
-        table-after place buckets placed key inside _ (Some value) (get-insert nat_list_cmp_total own key value) _ (get-insert nat_list_cmp_total (table_map buckets) key value)
+        table-after place buckets placed key inside _ (Some value) (get-insert nat_list_cmp_total own key value) _
+        (get-insert nat_list_cmp_total (table_map buckets) key value)
 
     pub remove-placed : ArePlaced place (slice_set buckets (place key) (remove own key))
     remove-placed = placed-after place buckets placed key inside _ None (get-remove nat_list_cmp_total own key)
 
     pub remove-table : table_map (slice_set buckets (place key) (remove own key)) ≡ remove (table_map buckets) key
-    remove-table = table-after place buckets placed key inside _ None (get-remove nat_list_cmp_total own key) _ (get-remove nat_list_cmp_total (table_map buckets) key)
+    remove-table =
+        table-after place buckets placed key inside _ None (get-remove nat_list_cmp_total own key) _ (get-remove nat_list_cmp_total (table_map buckets) key)
 
   -- no buckets
   pub none-placed : (place : List ℕ → ℕ) (buckets : List (ByImsi V)) → buckets ≡ [] → ArePlaced place buckets
@@ -231,7 +220,8 @@ module _ {V : Type 0} where
       entries-more [] bucket none = ap (λ l. entries l ++ []) none ∙ ap (λ es. es ++ []) (entries-empty)
       entries-more (first ∷ rest) bucket none = ap (λ es. entries first ++ es) (entries-more rest bucket none)
 
-  pub placed-more : (place : List ℕ → ℕ) (buckets : List (ByImsi V)) (bucket : ByImsi V) → bucket ≡ empty → ArePlaced place buckets → ArePlaced place (buckets ++ bucket ∷ [])
+  pub placed-more : (place : List ℕ → ℕ) (buckets : List (ByImsi V)) (bucket : ByImsi V) → bucket ≡ empty → ArePlaced place buckets
+      → ArePlaced place (buckets ++ bucket ∷ [])
   placed-more place buckets bucket none placed at imsi some =
       placed at imsi (subst (λ l. IsSome (get l imsi)) (at-more buckets at) some)
     where

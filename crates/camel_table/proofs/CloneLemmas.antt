@@ -1,24 +1,19 @@
 -- What a clone of entries, segments or buckets keeps.
-use Rattle.std.proofs.Common.{◌≡◌, ◌∙◌, ℕ, zero, suc, ◌≤◌, ◌^◌, Bool, true, false, cond, List, [], ◌∷◌, ◌++◌, Option, Some, None, length, slice_index_or, inl, inr, refl, sym, ap, subst, arith}
-use Rattle.std.specs.Cmp.Lexicographic.{slice_cmp, nat_list_cmp_total}
-use Rattle.std.specs.FinMap.{empty, find, get-from_entries}
+use Rattle.std.proofs.Common.{◌≡◌, ◌∙◌, ℕ, zero, suc, Bool, true, false, cond, List, [], ◌∷◌, ◌++◌, Option, Some, None, slice_index_or}
+use Rattle.std.proofs.Common.{refl, sym, ap, subst, arith}
+use Rattle.std.specs.FinMap.{empty}
 use Rattle.std.specs.Global.{Vec}
 use Rattle.std.specs.List.{AllZip}
 use Rattle.std.specs.Option.{is_some}
-use Rattle.std.specs.Ordering.{nat_cmp}
 use Rattle.std.proofs.lemmas.Slice.Zip.{AllZip-long}
+use Rattle.camel_table.specs.Addressing.{place_of}
 use Rattle.camel_table.specs.ByImsi.{ByImsi, HasSameKeys, is_same, map_of}
-use Rattle.camel_table.specs.Buckets.{ArePlaced, IsTable, table_map}
+use Rattle.camel_table.specs.Buckets.{IsTable, table_map}
 use Rattle.camel_table.specs.Segments.{AreFull, joined}
 use Rattle.camel_table.specs.Slots.{in_slot}
+use Rattle.camel_table.proofs.BucketLemmas.{Entries, found, get-is}
 use Rattle.camel_table.proofs.BucketsLemmas.{get-table}
-
--- lists that are the same place by place are the same
-pub same_list : {A : Type 0} (R : A → A → Type 0) → ((x y : A) → R x y → y ≡ x) → (xs ys : List A) → AllZip R xs ys → ys ≡ xs
-same_list R exact [] [] all = refl
-same_list R exact [] (y ∷ ys) all = absurd all
-same_list R exact (x ∷ xs) [] all = absurd all
-same_list R exact (x ∷ xs) (y ∷ ys) all = ap (λ v. v ∷ ys) (exact x y all.0) ∙ ap (λ vs. x ∷ vs) (same_list R exact xs ys all.1)
+use Rattle.camel_table.proofs.TableLemmas.{whole_after}
 
 pub both_lists : {A : Type 0} (R : A → A → Type 0) (xs ys more others : List A) → AllZip R xs ys → AllZip R more others → AllZip R (xs ++ more) (ys ++ others)
 both_lists R [] [] more others all rest = rest
@@ -27,8 +22,9 @@ both_lists R (x ∷ xs) [] more others all rest = absurd all
 both_lists R (x ∷ xs) (y ∷ ys) more others all rest = (all.0, both_lists R xs ys more others all.1 rest)
 
 -- a slot with the same key, and a clone of its value
-pub slot_clone : {V : Type 0} (C : V → V → Type 0) (key copied : Option (List ℕ)) (x y : V) → copied ≡ key → C x y → AllZip (λ e f. (f.0 ≡ e.0) × C e.1 f.1) (in_slot key x) (in_slot copied y)
-slot_clone C key copied x y is same = subst (λ k. AllZip (λ e f. (f.0 ≡ e.0) × C e.1 f.1) (in_slot key x) (in_slot k y)) (sym is) (of_key key)
+pub slot_clone : {V : Type 0} (C : V → V → Type 0) {key copied : Option (List ℕ)} {x y : V} → copied ≡ key → C x y
+    → AllZip (λ e f. (f.0 ≡ e.0) × C e.1 f.1) (in_slot key x) (in_slot copied y)
+slot_clone C {key} {copied} {x} {y} is same = subst (λ k. AllZip (λ e f. (f.0 ≡ e.0) × C e.1 f.1) (in_slot key x) (in_slot k y)) (sym is) (of_key key)
   where
     of_key : (k : Option (List ℕ)) → AllZip (λ e f. (f.0 ≡ e.0) × C e.1 f.1) (in_slot k x) (in_slot k y)
     of_key None = tt
@@ -54,20 +50,19 @@ module _ {A : Type 0} (R : A → A → Type 0) (C : Vec A → Vec A → Type 0) 
 
 module _ {V : Type 0} where
   -- entries with the same keys
-  pub same_keys : (R : (List ℕ × V) → (List ℕ × V) → Type 0) → ((x y : List ℕ × V) → R x y → y.0 ≡ x.0) → (es fs : List (List ℕ × V)) → AllZip R es fs → HasSameKeys (map_of es) (map_of fs)
-  same_keys R keys es fs all imsi =
-      ap is_some (get-from_entries nat_list_cmp_total fs imsi) ∙ found es fs all ∙ ap is_some (sym (get-from_entries nat_list_cmp_total es imsi))
+  pub same_keys : (R : (List ℕ × V) → (List ℕ × V) → Type 0) → ((x y : List ℕ × V) → R x y → y.0 ≡ x.0) → (es fs : Entries V) → AllZip R es fs
+      → HasSameKeys (map_of es) (map_of fs)
+  same_keys R keys es fs all imsi = ap is_some (get-is fs imsi) ∙ same es fs all ∙ ap is_some (sym (get-is es imsi))
     where
-      found : (es fs : List (List ℕ × V)) → AllZip R es fs → is_some (find (slice_cmp nat_cmp) imsi fs) ≡ is_some (find (slice_cmp nat_cmp) imsi es)
-      found [] [] all = refl
-      found [] (f ∷ fs) all = absurd all
-      found (e ∷ es) [] all = absurd all
-      found (e ∷ es) (f ∷ fs) all =
-          ap (λ k. is_some (cond (is_same imsi k) (Some f.1) (find (slice_cmp nat_cmp) imsi fs))) (keys e f all.0)
-          ∙ either (is_same imsi e.0) (found es fs all.1)
+      same : (es fs : Entries V) → AllZip R es fs → is_some (found imsi fs) ≡ is_some (found imsi es)
+      same [] [] all = refl
+      same [] (f ∷ fs) all = absurd all
+      same (e ∷ es) [] all = absurd all
+      same (e ∷ es) (f ∷ fs) all =
+          ap (λ k. is_some (cond (is_same imsi k) (Some f.1) (found imsi fs))) (keys e f all.0) ∙ either (is_same imsi e.0) (same es fs all.1)
         where
-          either : (b : Bool) → is_some (find (slice_cmp nat_cmp) imsi fs) ≡ is_some (find (slice_cmp nat_cmp) imsi es)
-              → is_some (cond b (Some f.1) (find (slice_cmp nat_cmp) imsi fs)) ≡ is_some (cond b (Some e.1) (find (slice_cmp nat_cmp) imsi es))
+          either : (b : Bool) → is_some (found imsi fs) ≡ is_some (found imsi es)
+              → is_some (cond b (Some f.1) (found imsi fs)) ≡ is_some (cond b (Some e.1) (found imsi es))
           either true rest = refl
           either false rest = rest
 
@@ -79,22 +74,15 @@ module _ {V : Type 0} where
   same_keys_at R keys (m ∷ ms) (n ∷ ns) all zero imsi = keys m n all.0 imsi
   same_keys_at R keys (m ∷ ms) (n ∷ ns) all (suc at) imsi = same_keys_at R keys ms ns all.1 at imsi
 
-  -- a clone of the buckets of a table has the same keys
-  pub table_keys : (R : ByImsi V → ByImsi V → Type 0) → ((m n : ByImsi V) → R m n → HasSameKeys m n) → (place : List ℕ → ℕ) (buckets clones : List (ByImsi V))
-      → AllZip R buckets clones → ArePlaced place buckets → ArePlaced place clones → HasSameKeys (table_map buckets) (table_map clones)
-  table_keys R keys place buckets clones all placed copied imsi =
-      ap is_some (get-table place clones copied imsi)
-      ∙ same_keys_at R keys buckets clones all (place imsi) imsi
-      ∙ ap is_some (sym (get-table place buckets placed imsi))
+  -- a clone of the buckets of a table has the same keys, and is whole
+  module _ {R : ByImsi V → ByImsi V → Type 0} (keys : (m n : ByImsi V) → R m n → HasSameKeys m n) {hash : ℕ → ℕ} {level count : ℕ} {buckets : List (ByImsi V)}
+      (clones : List (ByImsi V)) (all : AllZip R buckets clones) (whole : IsTable hash level count buckets) where
+    pub whole_clone : IsTable hash level count clones
+    whole_clone = whole_after whole (AllZip-long R buckets clones all) (λ at imsi some.
+        whole.placed at imsi (sym (same_keys_at R keys buckets clones all at imsi) ∙ some))
 
-  -- a clone of a table is whole
-  pub whole_clone : (R : ByImsi V → ByImsi V → Type 0) → ((m n : ByImsi V) → R m n → HasSameKeys m n) → (place : ℕ → ℕ → List ℕ → ℕ) (level count : ℕ) (buckets clones : List (ByImsi V))
-      → AllZip R buckets clones → IsTable place level count buckets → IsTable place level count clones
-  whole_clone R keys place level count buckets clones all whole =
-      let same : length clones ≡ length buckets = AllZip-long R buckets clones all in
-      record {
-        low = whole.low;
-        round = elim whole.round [ inl none ↦ inl (none.0, same ∙ none.1) | inr round ↦ inr (round.0, (round.1.0, subst (λ n. count ≤ n) (sym same) round.1.1)) ];
-        few = subst (λ n. n ≤ 2 ^ 32) (sym same) whole.few;
-        placed = λ at imsi some. whole.placed at imsi (sym (same_keys_at R keys buckets clones all at imsi) ∙ some);
-      }
+    pub table_keys : HasSameKeys (table_map buckets) (table_map clones)
+    table_keys imsi =
+        ap is_some (get-table (place_of hash level count) clones whole_clone.placed imsi)
+        ∙ same_keys_at R keys buckets clones all (place_of hash level count imsi) imsi
+        ∙ ap is_some (sym (get-table (place_of hash level count) buckets whole.placed imsi))

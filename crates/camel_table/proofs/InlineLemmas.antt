@@ -38,11 +38,6 @@ module _ {V : Type 0} (imsi : List ℕ) where
       either true = refl
       either false = refl
 
-  pub get_of_three : (a b c : Option (List ℕ)) (x y z : V)
-      → map.get (map_of (in_slot a x ++ (in_slot b y ++ in_slot c z))) imsi
-      ≡ cond (is_in_slot imsi a) (Some x) (cond (is_in_slot imsi b) (Some y) (cond (is_in_slot imsi c) (Some z) None))
-  get_of_three a b c x y z = get_or a x _ _ (get_or b y _ _ (get_slot c z))
-
   some_here : (b : Bool) (value : V) → is_some (cond b (Some value) None) ≡ b
   some_here true value = refl
   some_here false value = refl
@@ -50,7 +45,8 @@ module _ {V : Type 0} (imsi : List ℕ) where
   pub is_slot : (key : Option (List ℕ)) (value : V) → is_some (map.get (map_of (in_slot key value)) imsi) ≡ is_in_slot imsi key
   is_slot key value = ap is_some (get_slot key value) ∙ some_here (is_in_slot imsi key) value
 
-  pub is_either_slot : (a b : Option (List ℕ)) (x y : V) → is_some (map.get (map_of (in_slot a x ++ in_slot b y)) imsi) ≡ cond (is_in_slot imsi a) true (is_in_slot imsi b)
+  pub is_either_slot : (a b : Option (List ℕ)) (x y : V)
+      → is_some (map.get (map_of (in_slot a x ++ in_slot b y)) imsi) ≡ cond (is_in_slot imsi a) true (is_in_slot imsi b)
   is_either_slot a b x y = ap is_some (get_or a x _ _ (get_slot b y)) ∙ either (is_in_slot imsi a) (is_in_slot imsi b)
     where
       either : (first second : Bool) → is_some (cond first (Some x) (cond second (Some y) None)) ≡ cond first true second
@@ -62,19 +58,43 @@ module _ {V : Type 0} (imsi : List ℕ) where
   IsLent write old entries = ((new : V) → write new ≡ with_value_of imsi new entries) × (Some old ≡ map.get (map_of entries) imsi)
 
   -- the value of a slot that has the IMSI, and another one there
-  pub slot_lent : (key : Option (List ℕ)) (old : V) → is_in_slot imsi key ≡ true → IsLent (in_slot key) old (in_slot key old)
-  slot_lent None old here = absurd (subst T (sym here) tt)
+  slot_lent : (key : Option (List ℕ)) (old : V) → true ≡ is_in_slot imsi key → IsLent (in_slot key) old (in_slot key old)
+  slot_lent None old here = absurd (subst T here tt)
   slot_lent (Some key) old here = (
-    (λ new. sym (ap (λ b. cond b ((key, new) ∷ []) ((key, old) ∷ [])) here)),
-    sym (get_slot (Some key) old ∙ ap (λ b. cond b (Some old) None) here),
+    (λ new. ap (λ b. cond b ((key, new) ∷ []) ((key, old) ∷ [])) here),
+    ap (λ b. cond b (Some old) None) here ∙ sym (get_slot (Some key) old),
   )
 
-  pub first_lent : (xs ys : List (List ℕ × V)) (write : V → List (List ℕ × V)) (old : V) → is_some (map.get (map_of xs) imsi) ≡ true → IsLent write old xs
-      → IsLent (λ new. write new ++ ys) old (xs ++ ys)
-  first_lent xs ys write old some lent =
-      ((λ new. ap (λ es. es ++ ys) (lent.0 new) ∙ sym (with_first imsi new xs ys some)), get_of_first imsi xs ys old lent.1)
+  here_lent : (key : Option (List ℕ)) (old : V) (ys : List (List ℕ × V)) → true ≡ is_in_slot imsi key
+      → IsLent (λ new. in_slot key new ++ ys) old (in_slot key old ++ ys)
+  here_lent key old ys here =
+      let some = is_slot key old ∙ sym here in
+      let lent = slot_lent key old here in
+      ((λ new. ap (λ es. es ++ ys) (lent.0 new) ∙ sym (with_first imsi new _ ys some)), get_of_first imsi (in_slot key old) ys old lent.1)
 
-  pub second_lent : (xs ys : List (List ℕ × V)) (write : V → List (List ℕ × V)) (old : V) → is_some (map.get (map_of xs) imsi) ≡ false → IsLent write old ys
-      → IsLent (λ new. xs ++ write new) old (xs ++ ys)
-  second_lent xs ys write old none lent =
-      ((λ new. ap (λ es. xs ++ es) (lent.0 new) ∙ sym (with_second imsi new xs ys none)), lent.1 ∙ sym (get_of_second imsi xs ys none))
+  later_lent : (key : Option (List ℕ)) (value : V) (ys : List (List ℕ × V)) {write : V → List (List ℕ × V)} {old : V} → false ≡ is_in_slot imsi key
+      → IsLent write old ys → IsLent (λ new. in_slot key value ++ write new) old (in_slot key value ++ ys)
+  later_lent key value ys there lent =
+      let none = is_slot key value ∙ sym there in
+      ((λ new. ap (λ es. in_slot key value ++ es) (lent.0 new) ∙ sym (with_second imsi new _ ys none)), lent.1 ∙ sym (get_of_second imsi _ ys none))
+
+  -- of three slots, the first with the IMSI has its value
+  module _ (a b c : Option (List ℕ)) (x y z : V) {es : List (List ℕ × V)} (view : in_slot a x ++ (in_slot b y ++ in_slot c z) ≡ es) where
+    pub get_of_three : {first second third : Bool} → first ≡ is_in_slot imsi a → second ≡ is_in_slot imsi b → third ≡ is_in_slot imsi c
+        → cond first (Some x) (cond second (Some y) (cond third (Some z) None)) ≡ map.get (map_of es) imsi
+    get_of_three in_a in_b in_c = simp (in_a, in_b, in_c) (sym (get_or a x _ _ (get_or b y _ _ (get_slot c z))) ∙ ap (λ es. map.get (map_of es) imsi) view)
+
+    viewed : {write : V → List (List ℕ × V)} {old : V} → IsLent write old (in_slot a x ++ (in_slot b y ++ in_slot c z)) → IsLent write old es
+    viewed {write} {old} = subst (IsLent write old) view
+
+    pub first_lent : true ≡ is_in_slot imsi a → IsLent (λ new. in_slot a new ++ (in_slot b y ++ in_slot c z)) x es
+    first_lent here = viewed (here_lent a x _ here)
+
+    pub second_lent : false ≡ is_in_slot imsi a → true ≡ is_in_slot imsi b → IsLent (λ new. in_slot a x ++ (in_slot b new ++ in_slot c z)) y es
+    second_lent not_a here = viewed (later_lent a x _ not_a (here_lent b y _ here))
+
+    pub third_lent : false ≡ is_in_slot imsi a → false ≡ is_in_slot imsi b → is_some (map.get (map_of es) imsi) ≡ true
+        → IsLent (λ new. in_slot a x ++ (in_slot b y ++ in_slot c new)) z es
+    third_lent not_a not_b some =
+        let here = sym some ∙ ap is_some (sym (get_of_three not_a not_b refl)) ∙ some_here (is_in_slot imsi c) z in
+        viewed (later_lent a x _ not_a (later_lent b y _ not_b (slot_lent c z here)))

@@ -1,16 +1,15 @@
 -- Maps with values of the same IMSIs have as many values.
-use Rattle.std.proofs.Common.{◌≡◌, ◌∙◌, ◌&&◌, ℕ, true, false, cond, T, List, [], ◌∷◌, Option, Some, None, length, map, refl, sym, ap, ap₂, subst}
+use Rattle.std.proofs.Common.{◌≡◌, ◌∙◌, ◌&&◌, ℕ, true, false, cond, T, List, [], ◌∷◌, Some, None, length, map, refl, sym, ap, ap₂, subst}
 use Rattle.std.proofs.lemmas.List.{length-map}
 use Rattle.std.proofs.lemmas.Map.Lookups.{exact_bytes}
 use Rattle.std.specs.Cmp.Lexicographic.{slice_cmp, nat_list_cmp_total}
-use Rattle.std.specs.FinMap.{entries, entries_sorted, entries-from_sorted, find, from_sorted, get, get-entries, get-from_sorted, is_sorted, len, len-entries, same_map}
+use Rattle.std.specs.FinMap.{entries, entries_sorted, entries-from_sorted, from_sorted, get, get-entries, get-from_sorted, is_sorted, len, len-entries}
+use Rattle.std.specs.FinMap.{same_map}
 use Rattle.std.specs.FinMap.Entries.{below_all}
 use Rattle.std.specs.Option.{is_some}
 use Rattle.std.specs.Ordering.{eq_by_cmp, is_lt, nat_cmp}
 use Rattle.camel_table.specs.ByImsi.{ByImsi, HasSameKeys}
-
-abbrev found : {X : Type 0} → List ℕ → List (List ℕ × X) → Option X
-found key es = find (slice_cmp nat_cmp) key es
+use Rattle.camel_table.proofs.BucketLemmas.{found}
 
 module _ {V : Type 0} where
   -- the entries of a map with no values

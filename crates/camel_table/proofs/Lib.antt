@@ -3,7 +3,6 @@ pub mod BucketLemmas
 pub mod BucketsLemmas
 pub mod CloneLemmas
 pub mod CountLemmas
-pub mod Hashing
 pub mod InlineLemmas
 pub mod KeyCountLemmas
 pub mod ListedLemmas

@@ -1,5 +1,6 @@
 -- An item of a list in segments is found by the number of its segment and its place there.
-use Rattle.std.proofs.Common.{◌≡◌, ◌∙◌, ℕ, zero, suc, ◌+◌, ◌*◌, ◌/◌, ◌%◌, ◌-◌, ◌<◌, ◌≤◌, List, [], ◌∷◌, ◌++◌, length, slice_index_or, slice_set, refl, sym, ap, subst, arith, length-append}
+use Rattle.std.proofs.Common.{◌≡◌, ◌∙◌, ℕ, zero, suc, ◌+◌, ◌*◌, ◌/◌, ◌%◌, ◌-◌, ◌<◌, ◌≤◌, List, [], ◌∷◌, ◌++◌, length, slice_index_or, slice_set}
+use Rattle.std.proofs.Common.{refl, sym, ap, subst, arith, length-append}
 use Rattle.std.specs.Global.{Vec}
 use Rattle.std.proofs.lemmas.List.{append-nil, append_assoc, get_or_append_left, get_or-append_right, length-set, set-append_left, set-append_right}
 use Rattle.std.proofs.lemmas.Nat.{div-add-mod'}
@@ -7,32 +8,32 @@ use Rattle.std.proofs.Math.Nat.{mod-lt}
 use Rattle.camel_table.specs.Segments.{AreFull, HasRoom, joined}
 
 module _ {A : Type 0} where
-  first_full : (first : Vec A) (rest : List (Vec A)) → AreFull (first ∷ rest) → length first.items ≤ 128
-  first_full first [] full = full
-  first_full first (next ∷ rest) full = omega (arith, full.0)
+  -- the list goes on at a place of a segment
+  abbrev IsPlace : List (Vec A) → ℕ → ℕ → Type 0
+  IsPlace segments number place = number * 128 + place < length (joined segments)
 
   rest_full : (first : Vec A) (rest : List (Vec A)) → AreFull (first ∷ rest) → AreFull rest
   rest_full first [] full = tt
   rest_full first (next ∷ rest) full = full.1
 
   -- a segment that others follow is full
-  before_others : (first : Vec A) (rest : List (Vec A)) (number place : ℕ) → AreFull (first ∷ rest)
-      → suc number * 128 + place < length (first.items ++ joined rest) → length first.items ≡ 128
+  before_others : (first : Vec A) (rest : List (Vec A)) (number place : ℕ) → AreFull (first ∷ rest) → IsPlace (first ∷ rest) (suc number) place
+      → length first.items ≡ 128
   before_others first [] number place full inside =
       let none : length (first.items ++ []) ≡ length first.items = ap length (append-nil first.items) in
       absurd (omega (arith, full, inside, none))
   before_others first (next ∷ rest) number place full inside = full.0
 
-  in_rest : (first : Vec A) (rest : List (Vec A)) (number place : ℕ) → AreFull (first ∷ rest)
-      → suc number * 128 + place < length (first.items ++ joined rest) → number * 128 + place < length (joined rest)
+  in_rest : (first : Vec A) (rest : List (Vec A)) (number place : ℕ) → AreFull (first ∷ rest) → IsPlace (first ∷ rest) (suc number) place
+      → IsPlace rest number place
   in_rest first rest number place full inside =
       let whole = before_others first rest number place full inside in
       let both : length (first.items ++ joined rest) ≡ length first.items + length (joined rest) = length-append first.items (joined rest) in
       omega (arith, inside, whole, both)
 
   -- a place of the first segment lies in it
-  in_first : (first : Vec A) (rest : List (Vec A)) (place : ℕ) → AreFull (first ∷ rest) → place < 128
-      → 0 * 128 + place < length (first.items ++ joined rest) → place < length first.items
+  in_first : (first : Vec A) (rest : List (Vec A)) (place : ℕ) → AreFull (first ∷ rest) → place < 128 → IsPlace (first ∷ rest) 0 place
+      → place < length first.items
   in_first first [] place full small inside =
       let none : length (first.items ++ []) ≡ length first.items = ap length (append-nil first.items) in
       omega (arith, inside, none)
@@ -40,21 +41,21 @@ module _ {A : Type 0} where
       let whole = full.0 in
       omega (arith, small, whole)
 
-  pub segment_inside : (segments : List (Vec A)) (number place : ℕ) → AreFull segments → number * 128 + place < length (joined segments) → number < length segments
+  pub segment_inside : (segments : List (Vec A)) (number place : ℕ) → AreFull segments → IsPlace segments number place → number < length segments
   segment_inside [] number place full inside = absurd (omega (arith, inside))
   segment_inside (first ∷ rest) zero place full inside = omega arith
   segment_inside (first ∷ rest) (suc number) place full inside =
       let deeper = segment_inside rest number place (rest_full first rest full) (in_rest first rest number place full inside) in
       omega (arith, deeper)
 
-  pub bucket_inside : (segments : List (Vec A)) (number place : ℕ) (d : Vec A) → AreFull segments → place < 128 → number * 128 + place < length (joined segments)
+  pub bucket_inside : (segments : List (Vec A)) (number place : ℕ) (d : Vec A) → AreFull segments → place < 128 → IsPlace segments number place
       → place < length (slice_index_or segments number d).items
   bucket_inside [] number place d full small inside = absurd (omega (arith, inside))
   bucket_inside (first ∷ rest) zero place d full small inside = in_first first rest place full small inside
   bucket_inside (first ∷ rest) (suc number) place d full small inside =
       bucket_inside rest number place d (rest_full first rest full) small (in_rest first rest number place full inside)
 
-  pub item_at : (segments : List (Vec A)) (number place : ℕ) (d : Vec A) (x : A) → AreFull segments → place < 128 → number * 128 + place < length (joined segments)
+  pub item_at : (segments : List (Vec A)) (number place : ℕ) (d : Vec A) (x : A) → AreFull segments → place < 128 → IsPlace segments number place
       → slice_index_or (joined segments) (number * 128 + place) x ≡ slice_index_or (slice_index_or segments number d).items place x
   item_at [] number place d x full small inside = absurd (omega (arith, inside))
   item_at (first ∷ rest) zero place d x full small inside =
@@ -65,7 +66,7 @@ module _ {A : Type 0} where
       ∙ ap (λ n. slice_index_or (joined rest) n x) (omega arith)
       ∙ item_at rest number place d x (rest_full first rest full) small (in_rest first rest number place full inside)
 
-  pub item_set : (segments : List (Vec A)) (number place : ℕ) (d new : Vec A) (x : A) → AreFull segments → place < 128 → number * 128 + place < length (joined segments)
+  pub item_set : (segments : List (Vec A)) (number place : ℕ) (d new : Vec A) (x : A) → AreFull segments → place < 128 → IsPlace segments number place
       → new.items ≡ slice_set (slice_index_or segments number d).items place x
       → joined (slice_set segments number new) ≡ slice_set (joined segments) (number * 128 + place) x
   item_set [] number place d new x full small inside is = absurd (omega (arith, inside))
@@ -79,7 +80,8 @@ module _ {A : Type 0} where
       ∙ sym (set-append_right first.items (joined rest) 128 (suc number * 128 + place) x (before_others first rest number place full inside) (omega arith))
 
   -- segments stay full if one has as many items as before
-  pub full_after : (segments : List (Vec A)) (number : ℕ) (d new : Vec A) → AreFull segments → length new.items ≡ length (slice_index_or segments number d).items
+  pub full_after : (segments : List (Vec A)) (number : ℕ) (d new : Vec A) → AreFull segments
+      → length new.items ≡ length (slice_index_or segments number d).items
       → AreFull (slice_set segments number new)
   full_after [] number d new full same = tt
   full_after (last ∷ []) zero d new full same = omega (arith, full, same)
@@ -89,38 +91,40 @@ module _ {A : Type 0} where
   full_after (first ∷ next ∷ rest) (suc (suc number)) d new full same = (full.0, full_after (next ∷ rest) (suc number) d new full.1 same)
 
   -- a place by its number from the first segment on
-  module _ (segments : List (Vec A)) (full : AreFull segments) (at : ℕ) (inside : at < length (joined segments)) where
+  module _ (segments : List (Vec A)) (full : AreFull segments) (at : ℕ) {list : List A} (view : joined segments ≡ list) (bound : at < length list) where
     parts : at / 128 * 128 + at % 128 ≡ at
     parts = div-add-mod' at 128
 
     small : at % 128 < 128
     small = mod-lt at (omega arith)
 
-    within : at / 128 * 128 + at % 128 < length (joined segments)
-    within = subst (λ n. n < length (joined segments)) (sym parts) inside
+    within : IsPlace segments (at / 128) (at % 128)
+    within = rw parts (rw view bound)
 
     pub its_number : at / 128 < length segments
     its_number = segment_inside segments (at / 128) (at % 128) full within
 
-    module _ (own : Vec A) (is : own ≡ slice_index_or segments (at / 128) own) where
+    module _ {own : Vec A} (is : own ≡ slice_index_or segments (at / 128) own) where
       pub its_place : at % 128 < length own.items
       its_place = subst (λ (v : Vec A). at % 128 < length v.items) (sym is) (bucket_inside segments (at / 128) (at % 128) own full small within)
 
-      pub its_item : (x : A) → slice_index_or own.items (at % 128) x ≡ slice_index_or (joined segments) at x
+      pub its_item : (x : A) → slice_index_or own.items (at % 128) x ≡ slice_index_or list at x
       its_item x =
           ap (λ (v : Vec A). slice_index_or v.items (at % 128) x) is
           ∙ sym (item_at segments (at / 128) (at % 128) own x full small within)
-          ∙ ap (λ n. slice_index_or (joined segments) n x) parts
+          ∙ ap (λ n. slice_index_or (joined segments) n x) parts ∙ ap (λ l. slice_index_or l at x) view
 
-      pub its_set : (new : Vec A) (x : A) → new.items ≡ slice_set own.items (at % 128) x → joined (slice_set segments (at / 128) new) ≡ slice_set (joined segments) at x
-      its_set new x set =
-          item_set segments (at / 128) (at % 128) own new x full small within (set ∙ ap (λ (v : Vec A). slice_set v.items (at % 128) x) is)
-          ∙ ap (λ n. slice_set (joined segments) n x) parts
+      module _ (new : Vec A) (x : A) (set : new.items ≡ slice_set own.items (at % 128) x) where
+        pub its_set : joined (slice_set segments (at / 128) new) ≡ slice_set list at x
+        its_set =
+            item_set segments (at / 128) (at % 128) own new x full small within (set ∙ ap (λ (v : Vec A). slice_set v.items (at % 128) x) is)
+            ∙ ap (λ n. slice_set (joined segments) n x) parts ∙ ap (λ l. slice_set l at x) view
 
-      pub full_set : (new : Vec A) (x : A) → new.items ≡ slice_set own.items (at % 128) x → AreFull (slice_set segments (at / 128) new)
-      full_set new x set =
-          full_after segments (at / 128) own new full
-          (ap length set ∙ length-set own.items (at % 128) x ∙ ap (λ (v : Vec A). length v.items) is)
+        pub full_set : AreFull (slice_set segments (at / 128) new)
+        full_set = full_after segments (at / 128) own new full (ap length set ∙ length-set own.items (at % 128) x ∙ ap (λ (v : Vec A). length v.items) is)
+
+        pub same_length : length (joined segments) ≡ length (joined (slice_set segments (at / 128) new))
+        same_length = ap length view ∙ sym (ap length its_set ∙ length-set list at x)
 
   -- a segment more
   pub joined_more : (segments : List (Vec A)) (new : Vec A) → new.items ≡ [] → joined (segments ++ new ∷ []) ≡ joined segments
@@ -148,16 +152,18 @@ module _ {A : Type 0} where
   room_by_length (last ∷ []) few = few
   room_by_length (first ∷ next ∷ rest) few = room_by_length (next ∷ rest) few
 
-  pub last_length_is : (segments : List (Vec A)) (d : Vec A) → 0 < length segments → length (slice_index_or segments (length segments - 1) d).items ≡ last_length segments
+  pub last_length_is : (segments : List (Vec A)) (d : Vec A) → 0 < length segments
+      → length (slice_index_or segments (length segments - 1) d).items ≡ last_length segments
   last_length_is [] d some = absurd (omega (arith, some))
   last_length_is (last ∷ []) d some = refl
   last_length_is (first ∷ next ∷ rest) d some =
       let before : length (first ∷ next ∷ rest) - 1 ≡ suc (length (next ∷ rest) - 1) = omega arith in
       ap (λ n. length (slice_index_or (first ∷ next ∷ rest) n d).items) before ∙ last_length_is (next ∷ rest) d (omega arith)
 
-  pub last_measured : (segments : List (Vec A)) (count : ℕ) → count ≡ length segments → 0 < count → (last : Vec A) → last ≡ slice_index_or segments (count - 1) last
+  pub last_measured : (segments : List (Vec A)) {count : ℕ} → count ≡ length segments → 0 < count → {last : Vec A}
+      → last ≡ slice_index_or segments (count - 1) last
       → length last.items ≡ last_length segments
-  last_measured segments count is some last own =
+  last_measured segments is some {last} own =
       ap (λ (v : Vec A). length v.items) (own ∙ ap (λ n. slice_index_or segments (n - 1) last) is) ∙ last_length_is segments last (subst (λ n. 0 < n) is some)
 
   pub none_measured : (segments : List (Vec A)) → length segments ≤ 0 → last_length segments ≡ 128
@@ -175,17 +181,20 @@ module _ {A : Type 0} where
   length_of_room (first ∷ next ∷ rest) room = length_of_room (next ∷ rest) room
 
   pub joined_last : (segments : List (Vec A)) (new d : Vec A) (added : List A) → 0 < length segments
-      → new.items ≡ (slice_index_or segments (length segments - 1) d).items ++ added → joined (slice_set segments (length segments - 1) new) ≡ joined segments ++ added
+      → new.items ≡ (slice_index_or segments (length segments - 1) d).items ++ added
+      → joined (slice_set segments (length segments - 1) new) ≡ joined segments ++ added
   joined_last [] new d added some is = absurd (omega (arith, some))
   joined_last (last ∷ []) new d added some is =
       append-nil new.items ∙ is ∙ ap (λ items. items ++ added) (sym (append-nil last.items))
   joined_last (first ∷ next ∷ rest) new d added some is =
       let before : length (first ∷ next ∷ rest) - 1 ≡ suc (length (next ∷ rest) - 1) = omega arith in
       ap (λ n. joined (slice_set (first ∷ next ∷ rest) n new)) before
-      ∙ ap (λ items. first.items ++ items) (joined_last (next ∷ rest) new d added (omega arith) (is ∙ ap (λ n. (slice_index_or (first ∷ next ∷ rest) n d).items ++ added) before))
+      ∙ ap (λ items. first.items ++ items)
+      (joined_last (next ∷ rest) new d added (omega arith) (is ∙ ap (λ n. (slice_index_or (first ∷ next ∷ rest) n d).items ++ added) before))
       ∙ sym (append_assoc first.items (joined (next ∷ rest)) added)
 
-  pub full_last : (segments : List (Vec A)) (new : Vec A) → AreFull segments → 0 < length segments → length new.items ≤ 128 → AreFull (slice_set segments (length segments - 1) new)
+  pub full_last : (segments : List (Vec A)) (new : Vec A) → AreFull segments → 0 < length segments → length new.items ≤ 128
+      → AreFull (slice_set segments (length segments - 1) new)
   full_last [] new full some few = tt
   full_last (last ∷ []) new full some few = few
   full_last (first ∷ next ∷ []) new full some few = (full.0, few)
@@ -197,7 +206,8 @@ module _ {A : Type 0} where
       (full.0, subst (λ n. AreFull (slice_set (next ∷ third ∷ rest) n new)) inner deeper)
 
   -- the last segment with what a push has made of it
-  module _ (segments : List (Vec A)) (room : HasRoom segments) (count : ℕ) (is : count ≡ length segments) (last : Vec A) (own : last ≡ slice_index_or segments (count - 1) last) where
+  module _ (segments : List (Vec A)) (room : HasRoom segments) {count : ℕ} (is : count ≡ length segments) {last : Vec A}
+      (own : last ≡ slice_index_or segments (count - 1) last) where
     last_is : last ≡ slice_index_or segments (length segments - 1) last
     last_is = own ∙ ap (λ n. slice_index_or segments (n - 1) last) is
 

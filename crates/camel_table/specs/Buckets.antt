@@ -1,6 +1,7 @@
 -- The map of the buckets of a table.
 use Rattle.std.specs.Prelude.{◌≡◌, ◌⊎◌, ℕ, ◌+◌, ◌≤◌, ◌^◌, List, [], ◌∷◌, ◌++◌, IsSome, length, slice_index_or}
 use Rattle.std.specs.FinMap.{empty, entries, get}
+use Rattle.camel_table.specs.Addressing.{place_of}
 use Rattle.camel_table.specs.ByImsi.{ByImsi, map_of}
 
 module _ {V : Type 0} where
@@ -19,8 +20,8 @@ module _ {V : Type 0} where
 
 -- A table is whole: it has no buckets yet, or as many as the round of divisions that began with 2 ^ level has made, and
 -- perhaps spare ones; and each IMSI is in the bucket of its place.
-pub record IsTable {V : Type 0} (place : ℕ → ℕ → List ℕ → ℕ) (level count : ℕ) (buckets : List (ByImsi V)) : Type 0 where
+pub record IsTable {V : Type 0} (hash : ℕ → ℕ) (level count : ℕ) (buckets : List (ByImsi V)) : Type 0 where
   pub low : level ≤ 32
   pub round : ((count ≡ 0) × (length buckets ≡ 0)) ⊎ ((2 ^ level ≤ count) × ((count ≤ 2 ^ (1 + level)) × (count ≤ length buckets)))
   pub few : length buckets ≤ 2 ^ 32
-  pub placed : ArePlaced (place level count) buckets
+  pub placed : ArePlaced (place_of hash level count) buckets

@@ -1,5 +1,4 @@
 ghost use Rattle.std.specs.Prelude.{◌≡◌, ◌⊎◌, ◌+◌, ◌-◌, ◌≤◌, ◌<◌, ◌^◌};
-ghost use Rattle.camel_table.specs.Addressing.{hash_of, bucket_in};
 
 use std::hash::BuildHasher;
 
@@ -35,6 +34,8 @@ impl<S> Addressing<S> {
 }
 
 impl<S: BuildHasher> Addressing<S> {
+    ghost use Rattle.camel_table.specs.Addressing.{hash_of, bucket_in};
+
     /// The number of its bucket, from 0.
     pub(crate) fn bucket(&self, number: u64) -> usize
         requires { self.now.level ≤ 32 }

@@ -1,9 +1,9 @@
-ghost use Rattle.std.specs.Prelude.{◌≡◌, ◌≤◌, ◌==◌, ◌++◌, [], not, filter, find, vec_capacity, vec_len, IfOk, position, OnErr, OnOk, IsSome, None, Some};
+ghost use Rattle.std.specs.Prelude.{◌≡◌, ◌≤◌, ◌++◌, [], not, filter, find, vec_capacity, vec_len, IfOk, position, OnErr, OnOk, IsSome, None, Some};
 ghost use Rattle.std.specs.Borrow.{sem};
 ghost use Rattle.std.specs.FinMap as map;
 ghost use Rattle.std.specs.Option.{is_some, option_copied, option_map};
 ghost use Rattle.camel_table.specs.ByImsi.{ListsEachOnceMore, is_same, map_of};
-ghost use Rattle.camel_table.specs.Addressing.{bucket_of};
+ghost use Rattle.camel_table.specs.Addressing.{is_at};
 ghost use Rattle.camel_table.specs.Lending.{lends_value};
 
 use crate::addressing::Addressing;
@@ -158,9 +158,9 @@ impl<V: Default + Drop> Bucket<V> {
     ) -> Result<Bucket<V>, AllocError>
         requires { addressing.now.level ≤ 32 }
         ensures stay { OnOk result (self.new ≡ map.retain_keys self.old (λ key.
-            bucket_of S.Hasher.finish S.Hasher.write (S.build_hasher addressing.now.hashes) addressing.now.level addressing.now.count key == at)) }
+            is_at S.Hasher.finish S.Hasher.write S.build_hasher addressing.now at key)) }
         ensures leave { IfOk result (λ bucket. bucket ≡ map.retain_keys self.old (λ key.
-            not (bucket_of S.Hasher.finish S.Hasher.write (S.build_hasher addressing.now.hashes) addressing.now.level addressing.now.count key == at))) }
+            not (is_at S.Hasher.finish S.Hasher.write S.build_hasher addressing.now at key))) }
         ensures unchanged { OnErr result (self.new ≡ self.old) }
     {
         let mut stay = Vec::with_capacity(alloc, self.more.len())?;
@@ -215,9 +215,9 @@ fn split<V: Drop, S: BuildHasher>(
     requires stay { (stay.old.items ≡ []) × (vec_len entries ≤ vec_capacity stay.old) }
     requires leave { (leave.old.items ≡ []) × (vec_len entries ≤ vec_capacity leave.old) }
     ensures stay { stay.new.items ≡ filter (λ entry.
-        bucket_of S.Hasher.finish S.Hasher.write (S.build_hasher addressing.now.hashes) addressing.now.level addressing.now.count entry.0 == at) entries.items }
+        is_at S.Hasher.finish S.Hasher.write S.build_hasher addressing.now at entry.0) entries.items }
     ensures leave { leave.new.items ≡ filter (λ entry.
-        not (bucket_of S.Hasher.finish S.Hasher.write (S.build_hasher addressing.now.hashes) addressing.now.level addressing.now.count entry.0 == at)) entries.items }
+        not (is_at S.Hasher.finish S.Hasher.write S.build_hasher addressing.now at entry.0)) entries.items }
 {
     for entry in entries {
         if entry.is_at(addressing, at) {

@@ -36,7 +36,7 @@ impl<V, S: BuildHasher> Model for Buckets<V, S> {
     ghost use Rattle.std.specs.Coded.{coded_ℕ, coded_list};
     ghost use Rattle.camel_table.specs.ByImsi.{ByImsi};
     ghost use Rattle.camel_table.specs.Buckets.{IsTable, table_map};
-    ghost use Rattle.camel_table.specs.Addressing.{bucket_of};
+    ghost use Rattle.camel_table.specs.Addressing.{hash_of};
 
     ghost Value = { ByImsi V };
 
@@ -44,7 +44,7 @@ impl<V, S: BuildHasher> Model for Buckets<V, S> {
 
     ghost view = { λ a. table_map a.buckets };
 
-    ghost invariant = { λ a. IsTable (bucket_of S.Hasher.finish S.Hasher.write (S.build_hasher a.addressing.hashes)) a.addressing.level a.addressing.count a.buckets };
+    ghost invariant = { λ a. IsTable (hash_of S.Hasher.finish S.Hasher.write (S.build_hasher a.addressing.hashes)) a.addressing.level a.addressing.count a.buckets };
 }
 
 impl<V, S: BuildHasher + Copy> Buckets<V, S> {

@@ -1,6 +1,6 @@
-ghost use Rattle.std.specs.Prelude.{◌≡◌, ◌≤◌, ◌==◌};
+ghost use Rattle.std.specs.Prelude.{◌≡◌, ◌≤◌};
 ghost use Rattle.camel_table.specs.ByImsi.{is_same};
-ghost use Rattle.camel_table.specs.Addressing.{bucket_of};
+ghost use Rattle.camel_table.specs.Addressing.{is_at};
 
 use crate::addressing::Addressing;
 use camel_tbcd::Imsi;
@@ -44,7 +44,7 @@ impl<V> Entry<V> {
 
     pub(crate) fn is_at<S: BuildHasher>(&self, addressing: &Addressing<S>, at: usize) -> bool
         requires { addressing.now.level ≤ 32 }
-        ensures { result ≡ (bucket_of S.Hasher.finish S.Hasher.write (S.build_hasher addressing.now.hashes) addressing.now.level addressing.now.count self.now.0 == at) }
+        ensures { result ≡ is_at S.Hasher.finish S.Hasher.write S.build_hasher addressing.now at self.now.0 }
     {
         addressing.bucket(self.key.number()) == at
     }

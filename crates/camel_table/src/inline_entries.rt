@@ -1,8 +1,8 @@
-ghost use Rattle.std.specs.Prelude.{◌≡◌, ◌≤◌, ◌<◌, ◌==◌, ◌++◌, [], ◌∷◌, if◌then◌else◌, not, filter, length, nat_lt, option_to_list, IsSome, OnOk, Some};
+ghost use Rattle.std.specs.Prelude.{◌≡◌, ◌≤◌, ◌<◌, ◌++◌, [], ◌∷◌, if◌then◌else◌, not, filter, length, nat_lt, option_to_list, IsSome, OnOk, Some};
 ghost use Rattle.std.specs.Borrow.{sem};
 ghost use Rattle.std.specs.FinMap as map;
 ghost use Rattle.std.specs.Option.{option_copied};
-ghost use Rattle.camel_table.specs.Addressing.{bucket_of};
+ghost use Rattle.camel_table.specs.Addressing.{is_at};
 ghost use Rattle.camel_table.specs.ByImsi.{ListsEachOnceMore, is_same, map_of};
 ghost use Rattle.camel_table.specs.Lending.{lends_inline};
 
@@ -163,9 +163,9 @@ impl<V: Default + Drop> InlineEntries<V> {
     ) -> InlineEntries<V>
         requires { addressing.now.level ≤ 32 }
         ensures stay { self.new ≡ filter (λ entry.
-            bucket_of S.Hasher.finish S.Hasher.write (S.build_hasher addressing.now.hashes) addressing.now.level addressing.now.count entry.0 == at) self.old }
+            is_at S.Hasher.finish S.Hasher.write S.build_hasher addressing.now at entry.0) self.old }
         ensures leave { result ≡ filter (λ entry.
-            not (bucket_of S.Hasher.finish S.Hasher.write (S.build_hasher addressing.now.hashes) addressing.now.level addressing.now.count entry.0 == at)) self.old }
+            not (is_at S.Hasher.finish S.Hasher.write S.build_hasher addressing.now at entry.0)) self.old }
     {
         let (first_key, first) = slot::split(&mut self.first_key, &mut self.first, addressing, at);
         let (second_key, second) = slot::split(

@@ -1,9 +1,9 @@
 //! A slot is a place for one entry, which may be free. Its key lies beside the keys of other slots, and its value
 //! beside their values.
 
-ghost use Rattle.std.specs.Prelude.{◌≡◌, ◌≤◌, ◌==◌, not, filter};
+ghost use Rattle.std.specs.Prelude.{◌≡◌, ◌≤◌, not, filter};
 ghost use Rattle.std.specs.Option.{is_none};
-ghost use Rattle.camel_table.specs.Addressing.{bucket_of};
+ghost use Rattle.camel_table.specs.Addressing.{is_at};
 ghost use Rattle.camel_table.specs.ByImsi.{is_same};
 ghost use Rattle.camel_table.specs.Slots.{has_imsi_of, in_slot};
 
@@ -49,9 +49,9 @@ pub(crate) fn split<V: Default + Drop, S: BuildHasher>(
 ) -> (ImsiSlot, V)
     requires { addressing.now.level ≤ 32 }
     ensures stay { in_slot key.new value.new ≡ filter (λ entry.
-        bucket_of S.Hasher.finish S.Hasher.write (S.build_hasher addressing.now.hashes) addressing.now.level addressing.now.count entry.0 == at) (in_slot key.old value.old) }
+        is_at S.Hasher.finish S.Hasher.write S.build_hasher addressing.now at entry.0) (in_slot key.old value.old) }
     ensures leave { in_slot result.0 result.1 ≡ filter (λ entry.
-        not (bucket_of S.Hasher.finish S.Hasher.write (S.build_hasher addressing.now.hashes) addressing.now.level addressing.now.count entry.0 == at)) (in_slot key.old value.old) }
+        not (is_at S.Hasher.finish S.Hasher.write S.build_hasher addressing.now at entry.0)) (in_slot key.old value.old) }
 {
     let leaves = match key.imsi() {
         Some(imsi) => addressing.bucket(imsi.number()) != at,

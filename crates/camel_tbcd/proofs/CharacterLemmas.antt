@@ -22,22 +22,28 @@ IsImsi-digit_values text least most digits =
     record {
       least = omega arith;
       most = omega arith;
-      decimal = All-map (λ digit. digit ≤ 9) (λ character. character - 48) text (All-weaker (λ character. is_ascii_digit character ≡ true) (λ character. character - 48 ≤ 9) digit_value text (AllPass-from_list_all is_ascii_digit text digits));
+      decimal = All-map (λ digit. digit ≤ 9) (λ character. character - 48) text
+          (All-weaker _ (λ character. character - 48 ≤ 9) digit_value text (AllPass-from_list_all is_ascii_digit text digits));
     }
 
 -- each of the first characters is a digit
-digit_before : (text : List ℕ) (count k : ℕ) → k < count → count ≤ length text → list_all is_ascii_digit (take count text) ≡ true → is_ascii_digit (get_or text k 0) ≡ true
+digit_before : (text : List ℕ) (count k : ℕ) → k < count → count ≤ length text → list_all is_ascii_digit (take count text) ≡ true
+    → is_ascii_digit (get_or text k 0) ≡ true
 digit_before text count k before within digits =
     let size : length (take count text) ≡ count = length-take-le count text within in
-    true_from_ne_false (is_ascii_digit (get_or text k 0)) (λ is. true≢false (sym digits ∙ list_all_at is_ascii_digit (take count text) k 0 (omega arith) (ap is_ascii_digit (get_or-take count text k 0 before) ∙ is)))
+    true_from_ne_false (is_ascii_digit (get_or text k 0)) (λ is. true≢false (
+    sym digits ∙ list_all_at is_ascii_digit (take count text) k 0 (omega arith) (ap is_ascii_digit (get_or-take count text k 0 before) ∙ is)))
 
 -- the first characters, if they are digits, end where the first one stands that is none
-end : (text : List ℕ) (at : ℕ) → at ≤ length text → list_all is_ascii_digit (take at text) ≡ true → (at < length text → is_ascii_digit (get_or text at 0) ≡ false)
+end : (text : List ℕ) (at : ℕ) → at ≤ length text → list_all is_ascii_digit (take at text) ≡ true
+    → (at < length text → is_ascii_digit (get_or text at 0) ≡ false)
     → position_or_len (λ character. not (is_ascii_digit character)) text ≡ at
 end text at within digits is =
-    position_or_len_is (λ character. not (is_ascii_digit character)) text at 0 within (λ k before. ap not (digit_before text at k before within digits)) (λ more. ap not (is more))
+    position_or_len_is (λ character. not (is_ascii_digit character)) text at 0 within (λ k before. ap not (digit_before text at k before within digits))
+    (λ more. ap not (is more))
 
-pub refused : (text : List ℕ) (at : ℕ) → 5 ≤ length text → length text ≤ 15 → at < length text → list_all is_ascii_digit (take at text) ≡ true → is_ascii_digit (get_or text at 0) ≡ false
+pub refused : (text : List ℕ) (at : ℕ) → 5 ≤ length text → length text ≤ 15 → at < length text → list_all is_ascii_digit (take at text) ≡ true
+    → is_ascii_digit (get_or text at 0) ≡ false
     → imsi_of_ascii text ≡ Err (NotDigit at)
 refused text at least most within digits is =
     let few : nat_le 5 (length text) ≡ true = grind (arith, nat_tests) in

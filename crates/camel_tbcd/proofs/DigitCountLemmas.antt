@@ -1,5 +1,6 @@
 -- The first filler of the first nibbles of an address ends its digits.
-use Rattle.std.proofs.Common.{◌≡◌, ◌∙◌, ℕ, zero, suc, ◌+◌, ◌*◌, ◌/◌, ◌%◌, ◌==◌, ◌<◌, ◌≤◌, ◌^◌, false, List, [], ◌∷◌, All, drop, length, get_or, min, slice_index, sym, ap, arith, ⊎_elim}
+use Rattle.std.proofs.Common.{◌≡◌, ◌∙◌, ℕ, zero, suc, ◌+◌, ◌*◌, ◌/◌, ◌%◌, ◌==◌, ◌<◌, ◌^◌, false, List, [], ◌∷◌, All, drop, length, get_or, min}
+use Rattle.std.proofs.Common.{slice_index, sym, ap, arith, inl, inr}
 use Rattle.std.proofs.Math.Nat.{div-div-eq-div-mul, div-one, pow-succ'}
 use Rattle.std.proofs.lemmas.Bool.{cases_lt, ne_eqb}
 use Rattle.std.proofs.lemmas.List.Elements.{All-head, All-tail}
@@ -25,14 +26,10 @@ nibble_packed (nibble ∷ all) (suc k) few =
 pub count_by_filler : (octets : List ℕ) (number place : ℕ) → All IsOctet octets → number ≡ packed_digits octets → IsFirstFiller number place
     → place ≡ min 16 (length (digits octets))
 count_by_filler octets number place small is first =
-    ⊎_elim
-    (λ (fewer : place < min 16 (length (digits octets))). absurd (among fewer))
-    (λ (enough : min 16 (length (digits octets)) ≤ place).
-    ⊎_elim
-    (λ (more : min 16 (length (digits octets)) < place). absurd (behind more))
-    (λ (all : place ≤ min 16 (length (digits octets))). omega (arith, all, enough))
-    (cases_lt (min 16 (length (digits octets))) place))
-    (cases_lt place (min 16 (length (digits octets))))
+    elim (cases_lt place (min 16 (length (digits octets)))) [
+      | inl fewer ↦ absurd (among fewer)
+      | inr enough ↦ elim (cases_lt (min 16 (length (digits octets))) place) [ inl more ↦ absurd (behind more) | inr all ↦ omega (arith, all, enough) ]
+    ]
   where
     nibble : (k : ℕ) → nibble_at number k ≡ get_or (first_nibbles octets) k 0
     nibble k = ap (λ n. nibble_at n k) is ∙ nibble_packed (first_nibbles octets) k (first_small octets small)

@@ -1,5 +1,6 @@
 -- Where the nibbles of octets are.
-use Rattle.std.proofs.Common.{◌≡◌, ◌≤◌, ◌<◌, ℕ, zero, suc, ◌+◌, ◌-◌, ◌*◌, ◌/◌, ◌%◌, ◌==◌, false, true, ◌↔◌, IsTrue, List, [], ◌∷◌, ◌++◌, length, take, drop, get_or, slice_index, min, nat_eq, refl, sym, ap, ◌∙◌, arith, below_more}
+use Rattle.std.proofs.Common.{◌≡◌, ◌≤◌, ◌<◌, ℕ, zero, suc, ◌+◌, ◌-◌, ◌*◌, ◌/◌, ◌%◌, ◌==◌, false, true, ◌↔◌, IsTrue, List, [], ◌∷◌, ◌++◌, length, take, drop}
+use Rattle.std.proofs.Common.{get_or, slice_index, min, nat_eq, refl, sym, ap, ◌∙◌, arith, below_more}
 use Rattle.std.proofs.lemmas.Bool.{eq-eqb, ne_eqb}
 use Rattle.std.proofs.lemmas.Grind.{get_or_after_one}
 use Rattle.std.proofs.lemmas.List.{get_or-take, length-drop, length-take, length-take-le, take-append-drop}
@@ -16,7 +17,7 @@ length-nibbles [] = refl
 length-nibbles (octet ∷ octets) = omega (arith, length-nibbles octets)
 
 -- an even place holds a low nibble
-pub low_nibble : (octets : List ℕ) (i at : ℕ) → at ≡ i + i → i < length octets → get_or (nibbles octets) at 0 ≡ get_or octets i 0 % 16
+low_nibble : (octets : List ℕ) (i at : ℕ) → at ≡ i + i → i < length octets → get_or (nibbles octets) at 0 ≡ get_or octets i 0 % 16
 low_nibble [] i at even within = absurd (omega arith)
 low_nibble (octet ∷ octets) zero at even within = let first : at ≡ 0 = omega arith in rw first refl
 low_nibble (octet ∷ octets) (suc i) at even within =
@@ -24,7 +25,7 @@ low_nibble (octet ∷ octets) (suc i) at even within =
     rw later (low_nibble octets i (i + i) refl (omega arith))
 
 -- an odd place holds a high nibble
-pub high_nibble : (octets : List ℕ) (i at : ℕ) → at ≡ i + i + 1 → i < length octets → get_or (nibbles octets) at 0 ≡ get_or octets i 0 / 16
+high_nibble : (octets : List ℕ) (i at : ℕ) → at ≡ i + i + 1 → i < length octets → get_or (nibbles octets) at 0 ≡ get_or octets i 0 / 16
 high_nibble [] i at odd within = absurd (omega arith)
 high_nibble (octet ∷ octets) zero at odd within = let first : at ≡ 1 = omega arith in rw first refl
 high_nibble (octet ∷ octets) (suc i) at odd within =
@@ -34,11 +35,15 @@ high_nibble (octet ∷ octets) (suc i) at odd within =
 pub length-nibbles-drop : (octets : List ℕ) → length (nibbles (drop 1 octets)) ≡ 2 * (length octets - 1)
 length-nibbles-drop octets = length-nibbles (drop 1 octets) ∙ ap (λ n. 2 * n) (length-drop 1 octets)
 
+-- no nibble of so many is the filler
+abbrev NoFiller : List ℕ → ℕ → Type 0
+NoFiller octets count = (k : ℕ) → k < count → (slice_index (nibbles (drop 1 octets)) k == 15) ≡ false
+
 -- the first filler ends the digits
-pub length-digits : (octets : List ℕ) (at : ℕ) → at ≤ length (nibbles (drop 1 octets)) → ((k : ℕ) → k < at → (slice_index (nibbles (drop 1 octets)) k == 15) ≡ false)
+pub length-digits : (octets : List ℕ) (at : ℕ) → at ≤ length (nibbles (drop 1 octets)) → NoFiller octets at
     → (at < length (nibbles (drop 1 octets)) → (slice_index (nibbles (drop 1 octets)) at == 15) ≡ true) → at ≡ length (digits octets)
 length-digits octets at within none here =
-    let first : position_or_len (λ nibble. nibble == 15) (nibbles (drop 1 octets)) ≡ at = position_or_len_is (λ nibble. nibble == 15) (nibbles (drop 1 octets)) at 0 within none here in
+    let first = position_or_len_is (λ nibble. nibble == 15) (nibbles (drop 1 octets)) at 0 within none here in
     sym (length-take-le _ (nibbles (drop 1 octets)) (rw first within) ∙ first)
 
 -- an octet holds two digits at most
@@ -49,42 +54,37 @@ length-digits-le octets =
     let room : length (take end all) ≡ min end (length all) = length-take end all in
     omega (arith, length-nibbles-drop octets)
 
--- no nibble of so many is the filler
-abbrev NoFiller : List ℕ → ℕ → Type 0
-NoFiller octets count = (k : ℕ) → k < count → (slice_index (nibbles (drop 1 octets)) k == 15) ≡ false
+-- the two nibbles of an octet after octet 1
+module _ (octets : List ℕ) (at : ℕ) (within : at < length octets - 1) where
+  pub low_after_one : (place : ℕ) → place ≡ at + at → get_or (nibbles (drop 1 octets)) place 0 ≡ get_or octets (1 + at) 0 % 16
+  low_after_one place is = low_nibble (drop 1 octets) at place is (omega (arith, length-drop 1 octets)) ∙ ap (λ n. n % 16) (get_or_after_one octets at 0)
 
--- the low nibble of an octet after octet 1
-low_after_one : (octets : List ℕ) (at : ℕ) → at < length octets - 1 → get_or (nibbles (drop 1 octets)) (2 * at) 0 ≡ get_or octets (1 + at) 0 % 16
-low_after_one octets at within =
-    low_nibble (drop 1 octets) at (2 * at) (omega arith) (omega (arith, length-drop 1 octets)) ∙ ap (λ n. n % 16) (get_or_after_one octets at 0)
+  pub high_after_one : (place : ℕ) → place ≡ at + at + 1 → get_or (nibbles (drop 1 octets)) place 0 ≡ get_or octets (1 + at) 0 / 16
+  high_after_one place is = high_nibble (drop 1 octets) at place is (omega (arith, length-drop 1 octets)) ∙ ap (λ n. n / 16) (get_or_after_one octets at 0)
 
--- the high nibble of an octet after octet 1
-high_after_one : (octets : List ℕ) (at : ℕ) → at < length octets - 1 → get_or (nibbles (drop 1 octets)) (2 * at + 1) 0 ≡ get_or octets (1 + at) 0 / 16
-high_after_one octets at within =
-    high_nibble (drop 1 octets) at (2 * at + 1) (omega arith) (omega (arith, length-drop 1 octets)) ∙ ap (λ n. n / 16) (get_or_after_one octets at 0)
+  -- one nibble more, the low one
+  low_more : (get_or octets (1 + at) 0 % 16 ≡ 15 → ⊥) → NoFiller octets (2 * at) → NoFiller octets (2 * at + 1)
+  low_more low so_far = below_more (λ (k : ℕ). (slice_index (nibbles (drop 1 octets)) k == 15) ≡ false) (2 * at) so_far
+      (ne_eqb _ _ (λ is. low (sym (low_after_one (2 * at) (omega arith)) ∙ is)))
 
--- one nibble more, the low one of the next octet
-low_more : (octets : List ℕ) (at : ℕ) → at < length octets - 1 → (get_or octets (1 + at) 0 % 16 ≡ 15 → ⊥) → NoFiller octets (2 * at) → NoFiller octets (2 * at + 1)
-low_more octets at within low so_far =
-    below_more (λ (k : ℕ). (slice_index (nibbles (drop 1 octets)) k == 15) ≡ false) (2 * at) so_far (ne_eqb _ _ (λ is. low (sym (low_after_one octets at within) ∙ is)))
+  -- both nibbles more
+  pub octet_more : (get_or octets (1 + at) 0 % 16 ≡ 15 → ⊥) → (get_or octets (1 + at) 0 / 16 ≡ 15 → ⊥) → NoFiller octets (2 * at)
+      → NoFiller octets (2 * (at + 1))
+  octet_more low high so_far k below =
+      below_more (λ (k : ℕ). (slice_index (nibbles (drop 1 octets)) k == 15) ≡ false) (2 * at + 1) (low_more low so_far)
+      (ne_eqb _ _ (λ is. high (sym (high_after_one (2 * at + 1) (omega arith)) ∙ is))) k (omega arith)
 
--- two nibbles more, of the next octet
-pub octet_more : (octets : List ℕ) (at : ℕ) → at < length octets - 1 → (get_or octets (1 + at) 0 % 16 ≡ 15 → ⊥) → (get_or octets (1 + at) 0 / 16 ≡ 15 → ⊥)
-    → NoFiller octets (2 * at) → NoFiller octets (2 * (at + 1))
-octet_more octets at within low high so_far k below =
-    below_more (λ (k : ℕ). (slice_index (nibbles (drop 1 octets)) k == 15) ≡ false) (2 * at + 1) (low_more octets at within low so_far)
-    (ne_eqb _ _ (λ is. high (sym (high_after_one octets at within) ∙ is))) k (omega arith)
+  -- a low nibble that is the filler ends the digits
+  pub low_filler : get_or octets (1 + at) 0 % 16 ≡ 15 → NoFiller octets (2 * at) → 2 * at ≡ length (digits octets)
+  low_filler is none =
+      length-digits octets (2 * at) (omega (arith, length-nibbles-drop octets)) none (λ _. eq-eqb _ _ (low_after_one (2 * at) (omega arith) ∙ is))
 
--- a low nibble that is the filler ends the digits
-pub low_filler : (octets : List ℕ) (at : ℕ) → at < length octets - 1 → get_or octets (1 + at) 0 % 16 ≡ 15 → NoFiller octets (2 * at) → 2 * at ≡ length (digits octets)
-low_filler octets at within is none =
-    length-digits octets (2 * at) (omega (arith, length-nibbles-drop octets)) none (λ _. eq-eqb _ _ (low_after_one octets at within ∙ is))
-
--- a high nibble that is the filler ends the digits
-pub high_filler : (octets : List ℕ) (at : ℕ) → at < length octets - 1 → (get_or octets (1 + at) 0 % 16 ≡ 15 → ⊥) → get_or octets (1 + at) 0 / 16 ≡ 15 → NoFiller octets (2 * at)
-    → 2 * at + 1 ≡ length (digits octets)
-high_filler octets at within low is none =
-    length-digits octets (2 * at + 1) (omega (arith, length-nibbles-drop octets)) (low_more octets at within low none) (λ _. eq-eqb _ _ (high_after_one octets at within ∙ is))
+  -- a high nibble that is the filler ends the digits
+  pub high_filler : (get_or octets (1 + at) 0 % 16 ≡ 15 → ⊥) → get_or octets (1 + at) 0 / 16 ≡ 15 → NoFiller octets (2 * at)
+      → 2 * at + 1 ≡ length (digits octets)
+  high_filler low is none =
+      length-digits octets (2 * at + 1) (omega (arith, length-nibbles-drop octets)) (low_more low none)
+      (λ _. eq-eqb _ _ (high_after_one (2 * at + 1) (omega arith) ∙ is))
 
 -- a digit is the nibble at its place
 pub get-digits : (octets : List ℕ) (at : ℕ) → at < length (digits octets) → get_or (digits octets) at 0 ≡ get_or (nibbles (drop 1 octets)) at 0
@@ -101,7 +101,7 @@ same_in_fronts all front count k same below = sym (get_or-take count all k 0 bel
 -- std's test of a prefix tells mathlib's fact
 pub starts_with-IsPrefix : (all front : List ℕ) → IsTrue (starts_with nat_eq all front) ↔ IsPrefix front all
 starts_with-IsPrefix all front = (
-  λ e. (drop (length front) all, ap (λ first. first ++ drop (length front) all) ((bytes_decides front (take (length front) all)).0 e) ∙ take-append-drop (length front) all),
+  λ e. (drop (length front) all, ap (λ first. first ++ drop (length front) all) ((bytes_decides front _).0 e) ∙ take-append-drop (length front) all),
   λ is. (bytes_decides front (take (length front) all)).1 (sym (take-append_seam front is.0) ∙ ap (take (length front)) is.1),
 )
 
@@ -109,12 +109,15 @@ nibbles-push : (octets : List ℕ) (octet : ℕ) → nibbles (octets ++ octet �
 nibbles-push [] octet = refl
 nibbles-push (first ∷ octets) octet = ap (λ more. first % 16 ∷ first / 16 ∷ more) (nibbles-push octets octet)
 
-take-two_sets : (room : List ℕ) (at low high : ℕ) → suc at < length room → take (suc (suc at)) (set (set room at low) (suc at) high) ≡ (take at room ++ low ∷ []) ++ high ∷ []
+take-two_sets : (room : List ℕ) (at low high : ℕ) → suc at < length room
+    → take (suc (suc at)) (set (set room at low) (suc at) high) ≡ (take at room ++ low ∷ []) ++ high ∷ []
 take-two_sets room at low high within =
-    take-suc-set (set room at low) (suc at) high (rw (length-set room at low) within) ∙ ap (λ front. front ++ high ∷ []) (take-suc-set room at low (omega arith))
+    take-suc-set (set room at low) (suc at) high (rw (length-set room at low) within)
+    ∙ ap (λ front. front ++ high ∷ []) (take-suc-set room at low (omega arith))
 
 -- one octet more gives two nibbles more
-pub take-nibbles : (room octets : List ℕ) (i at next end more : ℕ) → at ≡ 2 * i → next ≡ suc at → end ≡ suc next → more ≡ suc i → next < length room → i < length octets
+pub take-nibbles : (room octets : List ℕ) (i at next end more : ℕ) → at ≡ 2 * i → next ≡ suc at → end ≡ suc next → more ≡ suc i
+    → next < length room → i < length octets
     → take at room ≡ nibbles (take i octets) → take end (set (set room at (get_or octets i 0 % 16)) next (get_or octets i 0 / 16)) ≡ nibbles (take more octets)
 take-nibbles room octets i at next end more at_is next_is end_is more_is fits within so_far =
     rw (end_is, more_is, next_is)

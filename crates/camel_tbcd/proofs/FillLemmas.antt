@@ -23,7 +23,8 @@ nibbles-fill (suc count) twice is =
     rw more (ap (λ rest. 15 ∷ 15 ∷ rest) (nibbles-fill count (count + count) refl))
 
 -- it does not matter how many of the same follow, if there are enough
-pub take-fill : (value count : ℕ) (items : List ℕ) (j k : ℕ) → count ≤ length items + j → count ≤ length items + k → take count (items ++ replicate j value) ≡ take count (items ++ replicate k value)
+pub take-fill : (value count : ℕ) (items : List ℕ) (j k : ℕ) → count ≤ length items + j → count ≤ length items + k
+    → take count (items ++ replicate j value) ≡ take count (items ++ replicate k value)
 take-fill value zero items j k enough more = refl
 take-fill value (suc count) (item ∷ items) j k enough more = ap (λ rest. item ∷ rest) (take-fill value count items j k (omega arith) (omega arith))
 take-fill value (suc count) [] (suc j) (suc k) enough more = ap (λ rest. value ∷ rest) (take-fill value count [] j k (omega arith) (omega arith))

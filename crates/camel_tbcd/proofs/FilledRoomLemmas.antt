@@ -1,5 +1,5 @@
 -- The room of an ISDN-AddressString, by its first octet and the number of its digits.
-use Rattle.std.proofs.Common.{◌≡◌, ◌∙◌, ℕ, ◌<◌, ◌≤◌, List, [], ◌∷◌, length, take, drop, replicate, All, get_or, refl, sym, ap, ap₂, arith, ⊎_elim}
+use Rattle.std.proofs.Common.{◌≡◌, ◌∙◌, ℕ, ◌<◌, ◌≤◌, List, [], ◌∷◌, length, take, drop, replicate, All, get_or, refl, sym, ap, ap₂, arith, inl, inr}
 use Rattle.std.proofs.lemmas.Bool.{cases_lt}
 use Rattle.std.proofs.lemmas.List.{drop_more, get_or-take, get_or_append_left, get_or_past, length-drop, length-take-le, take_all}
 use Rattle.std.proofs.lemmas.List.Elements.{All-append, All-drop, All-get_or, All-replicate, All-take}
@@ -20,10 +20,7 @@ one_by_one octets full = absurd (omega arith)
 
 octet_at : (octets : List ℕ) → All IsOctet octets → (i : ℕ) → get_or octets i 0 < 256
 octet_at octets small i =
-    ⊎_elim
-    (λ (within : i < length octets). All-get_or IsOctet octets i 0 within small)
-    (λ (behind : length octets ≤ i). omega (arith, get_or_past octets i 0 behind))
-    (cases_lt i (length octets))
+    elim (cases_lt i (length octets)) [ inl within ↦ All-get_or IsOctet octets i 0 within small | inr behind ↦ omega (arith, get_or_past octets i 0 behind) ]
 
 octets-room : (most : ℕ) (octets : List ℕ) → All IsOctet octets → All IsOctet (room_with most octets)
 octets-room most octets small =

@@ -1,5 +1,5 @@
 -- The first filler of a number of nibbles, by its lowest bit.
-use Rattle.std.proofs.Common.{◌≡◌, ◌∙◌, ℕ, ◌*◌, ◌/◌, ◌%◌, ◌<◌, ◌≤◌, ◌^◌, refl, sym, ap, arith, ⊎_elim}
+use Rattle.std.proofs.Common.{◌≡◌, ◌∙◌, ℕ, ◌*◌, ◌/◌, ◌%◌, ◌<◌, ◌^◌, refl, sym, ap, arith, inl, inr}
 use Rattle.std.proofs.lemmas.Bool.{cases_lt}
 use Rattle.std.proofs.lemmas.Nat.{and_le_r}
 use Rattle.std.proofs.lemmas.Nat.Bits.{bit_at-trailing_zeros, bit_at-zero, bit_at_and}
@@ -32,8 +32,7 @@ some_bit number i is =
     )
 
 pub first_filler : (number : ℕ) → IsFirstFiller number (trailing_zeros w64 (filler_bits number) / 4)
-first_filler number =
-    ⊎_elim (λ (some : 0 < filler_bits number). lowest some) (λ (none : filler_bits number ≤ 0). nowhere (omega (arith, none))) (cases_lt 0 (filler_bits number))
+first_filler number = elim (cases_lt 0 (filler_bits number)) [ inl some ↦ lowest some | inr none ↦ nowhere (omega (arith, none)) ]
   where
     place : ℕ
     place = trailing_zeros w64 (filler_bits number)

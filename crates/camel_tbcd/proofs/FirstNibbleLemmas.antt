@@ -27,7 +27,8 @@ filler_behind octets few =
     get_or-take 16 (all ++ replicate 16 15) (length (digits octets)) 0 few
     ∙ ⊎_elim
     (λ (before : end < length all). let at : length (digits octets) ≡ end = omega arith in
-    ap (λ k. get_or (all ++ replicate 16 15) k 0) at ∙ get_or_append_left all (replicate 16 15) 0 end before ∙ eqb-true _ _ (passes_at_first (λ nibble. nibble == 15) all 0 before))
+    ap (λ k. get_or (all ++ replicate 16 15) k 0) at ∙ get_or_append_left all (replicate 16 15) 0 end before
+    ∙ eqb-true _ _ (passes_at_first (λ nibble. nibble == 15) all 0 before))
     (λ (behind : length all ≤ end). let at : length (digits octets) ≡ length all + 0 = omega arith in
     ap (λ k. get_or (all ++ replicate 16 15) k 0) at ∙ get_or-append-add all (replicate 16 15) 0 0)
     (cases_lt end (length all))

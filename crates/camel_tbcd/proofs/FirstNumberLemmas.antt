@@ -14,8 +14,7 @@ length-first octets = length-take-le 16 _ (omega (arith, length-append (nibbles 
 pub first_small : (octets : List ℕ) → All IsOctet octets → All IsNibble (first_nibbles octets)
 unfolding first_nibbles
 first_small octets small =
-    All-take IsNibble 16 _
-    (All-append IsNibble (nibbles (drop 1 octets)) (replicate 16 15) (All-nibbles (drop 1 octets) (All-drop IsOctet 1 octets small)) (All-replicate IsNibble 16 15 (omega arith)))
+    All-take IsNibble 16 _ (All-append IsNibble _ _ (All-nibbles _ (All-drop IsOctet 1 octets small)) (All-replicate IsNibble 16 15 (omega arith)))
 
 -- the lowest digits of the numbers of two addresses are the same exactly if their first nibbles are
 pub same_first : (all others : List ℕ) (count : ℕ) → All IsOctet all → All IsOctet others → count ≤ 16
@@ -23,7 +22,9 @@ pub same_first : (all others : List ℕ) (count : ℕ) → All IsOctet all → A
 same_first all others count small smaller few =
     let mine = packed-mod (first_nibbles all) count (first_small all small) in
     let theirs = packed-mod (first_nibbles others) count (first_small others smaller) in
-    let lengths = length-take-le count (first_nibbles all) (omega (arith, length-first all)) ∙ sym (length-take-le count (first_nibbles others) (omega (arith, length-first others))) in (
-      λ same. same_from_packed _ _ lengths (All-take IsNibble count _ (first_small all small)) (All-take IsNibble count _ (first_small others smaller)) (sym mine ∙ same ∙ theirs),
+    let lengths = length-take-le count (first_nibbles all) (omega (arith, length-first all))
+    ∙ sym (length-take-le count (first_nibbles others) (omega (arith, length-first others))) in (
+      λ same. same_from_packed _ _ lengths (All-take IsNibble count _ (first_small all small)) (All-take IsNibble count _ (first_small others smaller))
+          (sym mine ∙ same ∙ theirs),
       λ same. mine ∙ ap packed same ∙ sym theirs,
     )

@@ -1,5 +1,5 @@
 -- When a destination begins with a listed number.
-use Rattle.std.proofs.Common.{◌≡◌, ◌∙◌, ℕ, ◌+◌, ◌*◌, ◌%◌, ◌==◌, ◌^◌, ◌↔◌, ◌&&◌, List, length, take, All, bit_or, bit_xor, nat_eq, sym, ap, ap₂, arith}
+use Rattle.std.proofs.Common.{◌≡◌, ◌∙◌, ℕ, ◌+◌, ◌*◌, ◌==◌, ◌↔◌, ◌&&◌, List, length, take, All, bit_or, bit_xor, nat_eq, sym, ap, ap₂, arith}
 use Rattle.std.proofs.lemmas.Bool.Decides.{Decides-and, Decides-eqb, Decides-like, same_from_decides}
 use Rattle.std.proofs.lemmas.Nat.{le_or_l, le_or_r}
 use Rattle.std.specs.Cmp.Lexicographic.{bytes_decides}
@@ -8,6 +8,7 @@ use Rattle.camel_tbcd.specs.Digits.{digits}
 use Rattle.camel_tbcd.specs.PackedDigits.{packed_digits}
 use Rattle.camel_tbcd.specs.Profile.{Agree, agrees}
 use Rattle.camel_tbcd.specs.declared.profile.Profile.{Profile}
+use Rattle.camel_tbcd.proofs.BitDifferenceLemmas.{twice_shifted}
 use Rattle.camel_tbcd.proofs.DifferenceLemmas.{first_if_none_differs}
 use Rattle.camel_tbcd.proofs.NibbleLemmas.{IsOctet}
 use Rattle.camel_tbcd.proofs.ProfileLemmas.{agrees_decides}
@@ -23,14 +24,13 @@ no_bit_of_both a b = (
 pub front_told : (profile : Profile) (listed destination called : List ℕ) (fewer differing : ℕ)
     → All IsOctet listed → All IsOctet called → digits called ≡ digits destination
     → fewer + length (digits listed) ≡ 16 → ((differing ≡ 0) ↔ Agree profile listed destination)
-    → (bit_or (bit_xor (packed_digits called) (packed_digits listed) * 2 ^ (2 * fewer) % 2 ^ 64 * 2 ^ (2 * fewer) % 2 ^ 64) differing == 0)
+    → (bit_or (twice_shifted (bit_xor (packed_digits called) (packed_digits listed)) (2 * fewer)) differing == 0)
     ≡ (agrees profile listed destination && starts_with nat_eq (digits destination) (digits listed))
 front_told profile listed destination called fewer differing small smaller same fewer_is agree =
     let count : ℕ = length (digits listed) in
-    let shifted : ℕ = bit_xor (packed_digits called) (packed_digits listed) * 2 ^ (2 * fewer) % 2 ^ 64 * 2 ^ (2 * fewer) % 2 ^ 64 in
     let told = first_if_none_differs called listed (2 * fewer) smaller small (omega arith) (omega arith) in
     let front : take count (digits called) ≡ take count (digits destination) = ap (take count) same in
-    let none = no_bit_of_both shifted differing in
+    let none = no_bit_of_both (twice_shifted (bit_xor (packed_digits called) (packed_digits listed)) (2 * fewer)) differing in
     same_from_decides _ _
     (Decides-like _
     (λ no_bit. let apart = none.0 no_bit in (agree.0 apart.1, told.0 apart.0 ∙ front))

@@ -5,8 +5,7 @@ use Rattle.camel_tbcd.specs.Imsi.{IsImsi}
 use Rattle.camel_tbcd.specs.ImsiNumber.{imsi_number}
 use Rattle.camel_tbcd.specs.ImsiSlot.{imsi_of_number, is_in_slot}
 use Rattle.camel_tbcd.specs.ImsiNumber.{digits_of_number}
-use Rattle.camel_tbcd.proofs.ImsiNumberLemmas.{same_by_order}
-use Rattle.camel_tbcd.proofs.ImsiNumberLemmas.{digits_of_imsi}
+use Rattle.camel_tbcd.proofs.ImsiNumberLemmas.{same_by_order, digits_of_imsi}
 
 some_number : (imsi : List ℕ) → IsImsi imsi → imsi_number imsi ≡ 0 → ⊥
 some_number imsi is zero =
@@ -14,10 +13,12 @@ some_number imsi is zero =
     let least = subst (λ digits. 5 ≤ length digits) (sym none) is.least in
     omega (arith, least)
 
-pub in_slot : (imsi : List ℕ) (own number : ℕ) → own ≡ imsi_number imsi → IsImsi imsi → IfSome (imsi_of_number number) (λ digits. IsImsi digits × (number ≡ imsi_number digits))
+pub in_slot : (imsi : List ℕ) (own number : ℕ) → own ≡ imsi_number imsi → IsImsi imsi
+    → IfSome (imsi_of_number number) (λ digits. IsImsi digits × (number ≡ imsi_number digits))
     → nat_eq own number ≡ is_in_slot imsi (imsi_of_number number)
 in_slot imsi own number its is slot =
-    elim (nat_eq number 0) as (λ b. nat_eq number 0 ≡ b → IfSome (cond b None (Some (digits_of_number number))) (λ digits. IsImsi digits × (number ≡ imsi_number digits))
+    elim (nat_eq number 0) as
+    (λ b. nat_eq number 0 ≡ b → IfSome (cond b None (Some (digits_of_number number))) (λ digits. IsImsi digits × (number ≡ imsi_number digits))
     → nat_eq own number ≡ is_in_slot imsi (cond b None (Some (digits_of_number number)))) [
       | true ↦ λ none free.
           let zero = eqb-true number 0 none in

@@ -37,10 +37,12 @@ packed-mod all zero few = omega arith
 packed-mod [] (suc count) few = omega arith
 packed-mod (nibble ∷ all) (suc count) few =
     let small = All-head IsNibble nibble all few in
-    rw pow-succ' (low_digit nibble (packed all) (16 ^ count) small (one-le-pow count 16 (omega arith)) ∙ ap (λ rest. nibble + 16 * rest) (packed-mod all count (All-tail IsNibble nibble all few)))
+    rw pow-succ' (low_digit nibble (packed all) (16 ^ count) small (one-le-pow count 16 (omega arith))
+    ∙ ap (λ rest. nibble + 16 * rest) (packed-mod all count (All-tail IsNibble nibble all few)))
 
 -- as many nibbles with the same number are the same
-pub same_from_packed : (some others : List ℕ) → length some ≡ length others → All IsNibble some → All IsNibble others → packed some ≡ packed others → some ≡ others
+pub same_from_packed : (some others : List ℕ) → length some ≡ length others → All IsNibble some → All IsNibble others → packed some ≡ packed others
+    → some ≡ others
 same_from_packed [] [] counts few fewer same = refl
 same_from_packed [] (other ∷ others) counts few fewer same = absurd (omega arith)
 same_from_packed (one ∷ some) [] counts few fewer same = absurd (omega arith)

@@ -23,10 +23,12 @@ agrees_decides profile first second =
     )
 
 -- octets 1 that differ in none of the bits that the profile compares are those of addresses that agree
-pub agree_by_bits : (profile : Profile) (first other : ℕ) → (bit_and (bit_xor first other) (compared_bits profile) ≡ 0) ↔ Agree profile (first ∷ []) (other ∷ [])
+pub agree_by_bits : (profile : Profile) (first other : ℕ)
+    → (bit_and (bit_xor first other) (compared_bits profile) ≡ 0) ↔ Agree profile (first ∷ []) (other ∷ [])
 agree_by_bits One first other =
     let masked : bit_and (bit_xor first other) 0x70 ≡ bit_xor first other / 16 % 8 * 16 = and_high (bit_xor first other) 3 4 in
-    let apart : bit_xor first other / 16 % 8 ≡ bit_xor (first / 16 % 8) (other / 16 % 8) = ap (λ n. n % 8) (xor_shr first other 4) ∙ xor_mod (first / 16) (other / 16) 3 in
+    let apart : bit_xor first other / 16 % 8 ≡ bit_xor (first / 16 % 8) (other / 16 % 8) =
+    ap (λ n. n % 8) (xor_shr first other 4) ∙ xor_mod (first / 16) (other / 16) 3 in
     let told = no_bit_differs (first / 16 % 8) (other / 16 % 8) in (
       λ none. record { nature = told.0 (omega (arith, none)); plan = λ two. absurd (cc two) },
       λ are. omega (arith, told.1 are.nature),

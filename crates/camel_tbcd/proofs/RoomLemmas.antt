@@ -22,20 +22,23 @@ from_le_bytes-8 room full = absurd (omega arith)
 
 -- the number that std makes of octets 2 to 9 of a room is that of their nibbles
 pub from_le_bytes-room : (room : List ℕ) → 9 ≤ length room
-    → from_le_bytes w64 (get_or room 1 0 ∷ get_or room 2 0 ∷ get_or room 3 0 ∷ get_or room 4 0 ∷ get_or room 5 0 ∷ get_or room 6 0 ∷ get_or room 7 0 ∷ get_or room 8 0 ∷ [])
+    → from_le_bytes w64
+    (get_or room 1 0 ∷ get_or room 2 0 ∷ get_or room 3 0 ∷ get_or room 4 0 ∷ get_or room 5 0 ∷ get_or room 6 0 ∷ get_or room 7 0 ∷ get_or room 8 0 ∷ [])
     ≡ packed (nibbles (take 8 (drop 1 room)))
 from_le_bytes-room (o ∷ a ∷ b ∷ c ∷ d ∷ e ∷ f ∷ g ∷ h ∷ rest) full = from_le_bytes-8 (a ∷ b ∷ c ∷ d ∷ e ∷ f ∷ g ∷ h ∷ []) refl
 from_le_bytes-room room full = absurd (omega arith)
 
 -- the nibbles of octets 2 to 9, with the fill
-room_nibbles : (octets : List ℕ) (count : ℕ) → 8 ≤ length octets + count → nibbles (take 8 (octets ++ replicate count 255)) ≡ take 16 (nibbles octets ++ replicate 16 15)
+room_nibbles : (octets : List ℕ) (count : ℕ) → 8 ≤ length octets + count
+    → nibbles (take 8 (octets ++ replicate count 255)) ≡ take 16 (nibbles octets ++ replicate 16 15)
 room_nibbles octets count enough =
     nibbles-take 8 16 (octets ++ replicate count 255) refl
     ∙ ap (take 16) (nibbles-append octets (replicate count 255) ∙ ap (λ more. nibbles octets ++ more) (nibbles-fill count (count + count) refl))
     ∙ take-fill 15 16 (nibbles octets) (count + count) 16 (omega (arith, length-nibbles octets)) (omega arith)
 
 -- octets 2 to 9 of a room have the number of the digits of its octets
-pub packed_digits-room : (most : ℕ) (octets : List ℕ) → 9 ≤ most → 1 ≤ length octets → length octets ≤ most → packed (nibbles (take 8 (drop 1 (room_with most octets)))) ≡ packed_digits octets
+pub packed_digits-room : (most : ℕ) (octets : List ℕ) → 9 ≤ most → 1 ≤ length octets → length octets ≤ most
+    → packed (nibbles (take 8 (drop 1 (room_with most octets)))) ≡ packed_digits octets
 unfolding first_nibbles
 packed_digits-room most [] least some fits = absurd (omega arith)
 packed_digits-room most (first ∷ octets) least some fits =

@@ -25,4 +25,5 @@ shifted number count few =
     let places : 64 ≡ 4 * count + (64 - 4 * count) = omega arith in
     let whole : 2 ^ 64 ≡ 16 ^ count * 2 ^ (64 - 4 * count) =
     ap (λ n. 2 ^ n) places ∙ pow-add 2 (4 * count) (64 - 4 * count) ∙ ap (λ n. n * 2 ^ (64 - 4 * count)) (pow-16 count) in
-    ap (λ n. number * 2 ^ (64 - 4 * count) % n) whole ∙ product-mod number (16 ^ count) (2 ^ (64 - 4 * count)) (one-le-pow count 16 (omega arith)) (one-le-pow (64 - 4 * count) 2 (omega arith))
+    ap (λ n. number * 2 ^ (64 - 4 * count) % n) whole
+    ∙ product-mod number (16 ^ count) (2 ^ (64 - 4 * count)) (one-le-pow count 16 (omega arith)) (one-le-pow (64 - 4 * count) 2 (omega arith))

@@ -1,6 +1,7 @@
 -- An IMSI, as the list of its digits (TS 23.003; the least number of digits is that of 3 octets with a
 -- filler, the least size that TS 29.002 gives an IMSI).
-use Rattle.std.specs.Prelude.{ℕ, ◌≤◌, ◌-◌, ◌==◌, ◌&&◌, not, nat_le, nat_lt, List, length, map, position, slice_index, take, All, Option, Some, None, Result, Ok, Err, if◌then◌else◌}
+use Rattle.std.specs.Prelude.{ℕ, ◌≤◌, ◌-◌, ◌==◌, ◌&&◌, not, nat_le, nat_lt, List, length, map, position, slice_index, take, All, Option, Some, None, Result}
+use Rattle.std.specs.Prelude.{Ok, Err, if◌then◌else◌}
 use Rattle.std.specs.Char.{is_ascii_digit}
 use Rattle.camel_tbcd.specs.Digits.{filler, nibbles}
 use Rattle.camel_tbcd.specs.declared.imsi.ImsiFault.{ImsiFault}

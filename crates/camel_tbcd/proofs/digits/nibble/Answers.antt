@@ -1,6 +1,5 @@
-use Rattle.std.proofs.Common.{◌/◌, ◌%◌, ◌∙◌, ap, arith, drop, length-drop, sym}
-use Rattle.std.proofs.lemmas.Grind.{get_or_after_one}
-use Rattle.camel_tbcd.proofs.DigitLemmas.{high_nibble, length-nibbles-drop, low_nibble}
+use Rattle.std.proofs.Common.{◌/◌, arith, sym}
+use Rattle.camel_tbcd.proofs.DigitLemmas.{high_after_one, length-nibbles-drop, low_after_one}
 use Rattle.camel_tbcd.proofs.digits.nibble.Goals as goal
 
 pub bounds-bytes-at : goal.bounds-bytes-at
@@ -8,12 +7,10 @@ bounds-bytes-at c = omega (arith, length-nibbles-drop c.args.bytes.now)
 
 pub returns-then-at-eq0 : goal.returns-then-at-eq0
 returns-then-at-eq0 c =
-    let bytes = c.args.bytes.now in
-    let all = length-nibbles-drop bytes in
-    sym (low_nibble (drop 1 bytes) (c.args.at / 2) c.args.at (omega arith) (omega (arith, length-drop 1 bytes)) ∙ ap (λ n. n % 16) (get_or_after_one bytes (c.args.at / 2) 0))
+    let all = length-nibbles-drop c.args.bytes.now in
+    sym (low_after_one c.args.bytes.now (c.args.at / 2) (omega arith) c.args.at (omega arith))
 
 pub returns-else-at-eq0 : goal.returns-else-at-eq0
 returns-else-at-eq0 c =
-    let bytes = c.args.bytes.now in
-    let all = length-nibbles-drop bytes in
-    sym (high_nibble (drop 1 bytes) (c.args.at / 2) c.args.at (omega arith) (omega (arith, length-drop 1 bytes)) ∙ ap (λ n. n / 16) (get_or_after_one bytes (c.args.at / 2) 0))
+    let all = length-nibbles-drop c.args.bytes.now in
+    sym (high_after_one c.args.bytes.now (c.args.at / 2) (omega arith) c.args.at (omega arith))

@@ -8,5 +8,6 @@ loop-at-preserved c =
     let at = c.loop-at.at in
     record {
       room = grind (arith, common_steps);
-      so_far = take-nibbles c.loop-at.nibbles c.args.octets.now at (2 * at) (2 * at + 1) (2 * (at + 1)) (at + 1) refl (omega arith) (omega arith) (omega arith) (omega arith) c.loop-at-test.true c.loop-at.invariant.so_far;
+      so_far = take-nibbles c.loop-at.nibbles c.args.octets.now at (2 * at) (2 * at + 1) (2 * (at + 1)) (at + 1)
+          refl (omega arith) (omega arith) (omega arith) (omega arith) c.loop-at-test.true c.loop-at.invariant.so_far;
     }

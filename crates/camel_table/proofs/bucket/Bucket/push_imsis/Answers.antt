@@ -25,12 +25,14 @@ loop-at-preserved g c =
     let inside : at < length items = subst (λ n. at < n) (c.len-at-end.ensures ∙ c.self.inside.more.ok.0) c.loop-at-test.true in
     let value : option_copied c.or-before.result ≡ get (map_of es) entry.0 =
     ap option_copied c.or-before.ensures ∙ copied_or c.get.result c.find_value.result
-    ∙ ap₂ option_or c.get.ensures (c.find_value.ensures ∙ get-find key (take at c.deref.result.now) ∙ ap (λ xs. get (map_of (take at xs)) key) c.deref.ensures.value)
+    ∙ ap₂ option_or c.get.ensures
+    (c.find_value.ensures ∙ get-find key (take at c.deref.result.now) ∙ ap (λ xs. get (map_of (take at xs)) key) c.deref.ensures.value)
     ∙ sym (get-append key inline (take at items)) ∙ ap (get (map_of es)) c.imsi-imsi.ensures in
     let stored : is_some (get (map_of es) entry.0) ≡ not c.is_none.result =
     sym (ap is_some value) ∙ copied_some c.or-before.result ∙ c.is_none.ensures in
     let more : es ++ entry ∷ [] ≡ inline ++ take (at + 1) items =
-    append_assoc inline (take at items) (entry ∷ []) ∙ ap (λ e. inline ++ (take at items ++ e ∷ [])) c.index.ensures ∙ ap (λ xs. inline ++ xs) (sym (take_more items at entry inside)) in
+    append_assoc inline (take at items) (entry ∷ []) ∙ ap (λ e. inline ++ (take at items ++ e ∷ [])) c.index.ensures
+    ∙ ap (λ xs. inline ++ xs) (sym (take_more items at entry inside)) in
     let before = c.args.imsis.now.items in
     elim c.if-is_none.branch [
       | then-is_none+in_ok-push w ↦

@@ -2,7 +2,8 @@ use Rattle.std.proofs.Common.{◌∙◌, ◌++◌, Some, position, slice_set, re
 use Rattle.std.specs.FinMap as map
 use Rattle.std.specs.Option.{is_some}
 use Rattle.camel_table.specs.ByImsi.{is_same, map_of}
-use Rattle.camel_table.proofs.BucketLemmas.{first_of_position, get-first, get_of_first, get_of_second, some_position, with_first, with_second, with_set, with_value}
+use Rattle.camel_table.proofs.BucketLemmas.{first_of_position, get-first, get_of_first, get_of_second, some_position, with_first, with_second, with_set}
+use Rattle.camel_table.proofs.BucketLemmas.{with_value}
 use Rattle.camel_table.proofs.ListedLemmas.{copied_some}
 use Rattle.camel_table.proofs.bucket.Bucket.value_mut.Goals as goal
 
@@ -24,7 +25,11 @@ returns-then-is_some g c =
     let there = ap (λ m. is_some (map.get m imsi)) c.self.view_is ∙ c.requires in
     let some = ap is_some (sym c.get.ensures) ∙ copied_some c.get.result ∙ sym c.is_some.ensures ∙ c.if-is_some.true in
     let old = c.value_mut.result.now in (
-      (refl, λ new. ap map_of (sym (with_first imsi new inline more some)) ∙ with_value imsi new (inline ++ more) there ∙ ap (λ m. map.insert m imsi new) c.self.view_is),
+      (
+        refl,
+        λ new. ap map_of (sym (with_first imsi new inline more some)) ∙ with_value imsi new (inline ++ more) there
+            ∙ ap (λ m. map.insert m imsi new) c.self.view_is,
+      ),
       record { writes_back = tt; value = get_of_first imsi inline more old c.value_mut.ensures.value ∙ ap (λ m. map.get m imsi) c.self.view_is },
     )
 
@@ -37,7 +42,8 @@ returns-else-is_some g c =
     let there = ap (λ m. is_some (map.get m imsi)) c.self.view_is ∙ c.requires in
     let at = c.unwrap-at.result in
     let entry = c.index_mut-entry.result.now in
-    let first = (first_of_position imsi more at (ap (position (λ e. is_same imsi e.0)) (sym c.deref.ensures.value) ∙ sym c.position.ensures ∙ c.unwrap-at.ensures)).1 in (
+    let first =
+    (first_of_position imsi more at (ap (position (λ e. is_same imsi e.0)) (sym c.deref.ensures.value) ∙ sym c.position.ensures ∙ c.unwrap-at.ensures)).1 in (
       (
         refl,
         λ new. ap (λ k. map_of (inline ++ slice_set more at (k, new))) (ap (λ e. e.0) c.entry.view_is)

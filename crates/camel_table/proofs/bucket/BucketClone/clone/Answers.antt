@@ -1,8 +1,9 @@
 use Rattle.std.proofs.Common.{◌∙◌, ◌++◌, ap, ap₂}
 use Rattle.std.specs.FinMap as map
 use Rattle.std.specs.Option.{is_some}
+use Rattle.std.proofs.lemmas.List.Elements.{same_from_all_zip}
 use Rattle.camel_table.specs.ByImsi.{map_of}
-use Rattle.camel_table.proofs.CloneLemmas.{both_lists, same_keys, same_list}
+use Rattle.camel_table.proofs.CloneLemmas.{both_lists, same_keys}
 use Rattle.camel_table.proofs.bucket.BucketClone.clone.Goals as goal
 
 pub returns : goal.returns
@@ -15,6 +16,6 @@ returns g c =
     record {
       cases = (
         λ imsi. same_keys _ (λ x y both. both.0) old new all imsi ∙ ap (λ m. is_some (map.get m imsi)) c.self.view_is,
-        λ exact. ap map_of (same_list _ (λ x y both. ap₂ (λ k v. (k, v)) both.0 (exact x.1 y.1 both.1)) old new all) ∙ c.self.view_is,
+        λ exact. ap map_of (same_from_all_zip _ old new all (λ x y both. ap₂ (λ k v. (k, v)) both.0 (exact x.1 y.1 both.1))) ∙ c.self.view_is,
       );
     }

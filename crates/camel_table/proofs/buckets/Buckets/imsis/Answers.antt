@@ -1,9 +1,8 @@
-use Rattle.std.proofs.Common.{◌∙◌, ◌<◌, List, ℕ, length, sym, ap, subst, refl, arith}
+use Rattle.std.proofs.Common.{◌∙◌, ◌<◌, length, sym, ap, subst, refl, arith}
 use Rattle.std.specs.FinMap.{empty}
 use Rattle.std.proofs.lemmas.List.{get_or_default, take_all}
 use Rattle.camel_table.specs.ByImsi.{ByImsi, ListsEachOnce, ListsEachOnceMore}
 use Rattle.camel_table.specs.Buckets.{table_map}
-use Rattle.camel_table.specs.Addressing.{bucket_of}
 use Rattle.camel_table.proofs.ListedLemmas.{bucket_listed, none_listed}
 use Rattle.camel_table.proofs.buckets.Buckets.imsis.Goals as goal
 
@@ -12,13 +11,11 @@ loop-at-init g c = subst (λ imsis. ListsEachOnce imsis (empty {X = g.row.V.Deno
 
 pub loop-at-preserved : goal.loop-at-preserved
 loop-at-preserved g c =
-    let addressing = c.self.inside.addressing in
-    let place : List ℕ → ℕ = bucket_of g.S.Hasher.Hasher.finish g.S.Hasher.Hasher.write (g.S.BuildHasher.build_hasher addressing.hashes) addressing.level addressing.count in
     let buckets = c.self.inside.buckets in
     let at = c.loop-at.at in
     let inside : at < length buckets = subst (λ n. at < n) c.len-at-end.ensures c.loop-at-test.true in
     let bucket = c.get.ensures ∙ get_or_default buckets at c.get.result.now empty inside in
-    bucket_listed place buckets c.self.invariant.placed at inside c.loop-at.imsis.items c.push_imsis.new.imsis.items c.loop-at.invariant
+    bucket_listed _ buckets c.self.invariant.placed at inside c.loop-at.imsis.items c.push_imsis.new.imsis.items c.loop-at.invariant
     (subst (λ (m : ByImsi g.row.V.Denot). ListsEachOnceMore c.loop-at.imsis.items c.push_imsis.new.imsis.items m) bucket c.in_ok-push_imsis.ensures)
 
 pub returns : goal.returns

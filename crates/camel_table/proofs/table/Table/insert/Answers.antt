@@ -9,5 +9,6 @@ invariant_of-self g c = c.self.invariant ∙ sym (ap map.len c.in_err-insert.ens
 
 pub invariant_of-self-2 : goal.invariant_of-self-2
 invariant_of-self-2 g c =
-    inserted_counted c.self.inside.buckets c.args.imsi.now c.args.value c.from.result (c.from.ensures ∙ ap from_bool c.in_ok-insert.ensures.is_new) c.self.inside.count c.self.invariant
+    inserted_counted c.self.inside.buckets c.args.imsi.now c.args.value c.from.result
+    (c.from.ensures ∙ ap from_bool c.in_ok-insert.ensures.is_new) c.self.inside.count c.self.invariant
     ∙ sym (ap map.len c.in_ok-insert.ensures.put)

@@ -12,7 +12,8 @@ loop-at-preserved c =
     let all = c.args.self.now in
     let front = c.args.front.now in
     below_more (λ (k : ℕ). k < length (digit_list front) → get_or (digit_list all) k 0 ≡ get_or (digit_list front) k 0) _ c.loop-at.invariant (λ within.
-    get-digits all.bytes.now c.loop-at.at (omega arith) ∙ sym c.nibble.ensures ∙ c.if-nibble.false ∙ c.nibble-in-loop-at.ensures ∙ sym (get-digits front.bytes.now c.loop-at.at within))
+    get-digits all.bytes.now c.loop-at.at (omega arith) ∙ sym c.nibble.ensures ∙ c.if-nibble.false ∙ c.nibble-in-loop-at.ensures
+    ∙ sym (get-digits front.bytes.now c.loop-at.at within))
 
 pub returns : goal.returns
 returns c =

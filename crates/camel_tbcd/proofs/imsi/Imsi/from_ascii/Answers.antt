@@ -3,10 +3,10 @@ use Rattle.std.proofs.lemmas.Grind.{common_steps}
 use Rattle.camel_tbcd.proofs.CharacterLemmas.{IsImsi-digit_values, accepted, refused}
 use Rattle.camel_tbcd.proofs.imsi.Imsi.from_ascii.Goals as goal
 
-pub returns-then-not-is_ascii_digit-clause-answer :
-    goal.returns-then-not-is_ascii_digit-clause-answer
+pub returns-then-not-is_ascii_digit-clause-answer : goal.returns-then-not-is_ascii_digit-clause-answer
 returns-then-not-is_ascii_digit-clause-answer c =
-    sym (refused c.args.characters.now c.loop-at.at (omega arith) (omega arith) c.loop-at-test.true c.loop-at.invariant.digits (sym c.is_ascii_digit.ensures.value ∙ c.if-not-is_ascii_digit.true))
+    sym (refused c.args.characters.now c.loop-at.at (omega arith) (omega arith) c.loop-at-test.true c.loop-at.invariant.digits
+    (sym c.is_ascii_digit.ensures.value ∙ c.if-not-is_ascii_digit.true))
 
 pub of_first-requires : goal.of_first-requires
 of_first-requires c =

@@ -4,18 +4,15 @@ use Rattle.camel_tbcd.specs.ImsiNumber.{digits_of_number, imsi_number}
 use Rattle.camel_tbcd.proofs.NumberOfImsiLemmas.{is_imsi, none_counted, none_valued, number_back}
 use Rattle.camel_tbcd.proofs.imsi.Imsi.from_number.Goals as goal
 
-pub returns-then-count-lt-MIN_IMSI_DIGITS-clause-none :
-    goal.returns-then-count-lt-MIN_IMSI_DIGITS-clause-none
+pub returns-then-count-lt-MIN_IMSI_DIGITS-clause-none : goal.returns-then-count-lt-MIN_IMSI_DIGITS-clause-none
 returns-then-count-lt-MIN_IMSI_DIGITS-clause-none c none =
     none_counted c.args.number (λ least most. omega (arith, least, c.digit_count-count.ensures, c.if-count-lt-MIN_IMSI_DIGITS.true))
 
-pub returns-then-count-gt-MAX_IMSI_DIGITS-clause-none :
-    goal.returns-then-count-gt-MAX_IMSI_DIGITS-clause-none
+pub returns-then-count-gt-MAX_IMSI_DIGITS-clause-none : goal.returns-then-count-gt-MAX_IMSI_DIGITS-clause-none
 returns-then-count-gt-MAX_IMSI_DIGITS-clause-none c none =
     none_counted c.args.number (λ least most. omega (arith, most, c.digit_count-count.ensures, c.if-count-gt-MAX_IMSI_DIGITS.true))
 
-pub returns-then-decimal_value-power_of_ten-clause-none :
-    goal.returns-then-decimal_value-power_of_ten-clause-none
+pub returns-then-decimal_value-power_of_ten-clause-none : goal.returns-then-decimal_value-power_of_ten-clause-none
 returns-then-decimal_value-power_of_ten-clause-none c none =
     none_valued c.args.number
     (rw (sym c.digit_count-count.ensures, sym c.decimal_value.ensures, sym c.power_of_ten.ensures) c.if-decimal_value-power_of_ten.true)

@@ -3,33 +3,35 @@ ghost use Rattle.std.specs.Prelude.{◌≡◌, IfOk};
 use std::alloc::{AllocError, Global};
 use std::marker::Model;
 
-/// A value that lies in a block of memory of its own. Contracts see the value.
-#[derive(Drop)]
-pub(crate) struct OneBlock<T> {
+/// A value in a block of memory of its own, so that what holds it stays small. Contracts see the value.
+#[derive(Debug, Drop)]
+pub struct Boxed<T> {
     block: Box<T>,
 }
 
-impl<T> Model for OneBlock<T> {
+impl<T> Model for Boxed<T> {
     ghost Value = { T };
 
     ghost view = { λ a. a.block.value };
 }
 
-impl<T: Drop> OneBlock<T> {
-    pub(crate) fn new(alloc: Global, value: T) -> Result<OneBlock<T>, AllocError>
+impl<T: Drop> Boxed<T> {
+    /// Fails if memory is refused.
+    pub fn new(alloc: Global, value: T) -> Result<Boxed<T>, AllocError>
         ensures { IfOk result (λ made. made ≡ value) }
     {
-        Ok(OneBlock {
+        Ok(Boxed {
             block: Box::new(alloc, value)?,
         })
     }
 }
 
-impl<T> OneBlock<T> {
+impl<T> Boxed<T> {
     ghost use Rattle.std.specs.Borrow.{Lends, sem};
-    ghost use Rattle.camel_rows.specs.contracts.subscriber.one_block.OneBlock.{the_row};
+    ghost use Rattle.camel_rows.specs.contracts.subscriber.boxed.Boxed.{the_row};
 
-    pub(crate) fn get(&self) -> &T
+    /// The value, where it is.
+    pub fn get(&self) -> &T
         ensures { result.now ≡ self.now }
     {
         &self.block
@@ -42,13 +44,20 @@ impl<T> OneBlock<T> {
     {
         &mut self.block
     }
+
+    /// The value, out of its block.
+    pub fn into_inner(self) -> T
+        ensures { result ≡ self }
+    {
+        Box::into_inner(self.block)
+    }
 }
 
-impl<T: Clone> Clone for OneBlock<T> {
+impl<T: Clone> Clone for Boxed<T> {
     ghost is_clone = { λ old new. T.is_clone old new };
 
-    fn clone(&self) -> Result<OneBlock<T>, AllocError> {
-        Ok(OneBlock {
+    fn clone(&self) -> Result<Boxed<T>, AllocError> {
+        Ok(Boxed {
             block: self.block.clone()?,
         })
     }
