@@ -1,6 +1,5 @@
 use Rattle.std.proofs.Common.{rules, arith, ap, length, not, ◌≤◌, ◌<◌, ◌+◌, ◌*◌, ◌^◌}
 use Rattle.two_copies.specs.Place.{number}
-use Rattle.two_copies.specs.WriterEnd.{ShowsAt}
 use Rattle.two_copies.proofs.HeldLemmas.{has_room, held_with}
 use Rattle.two_copies.proofs.PlacesLemmas.{all_show}
 use Rattle.two_copies.proofs.places.reclaim_each.Given.{Over}
@@ -27,10 +26,8 @@ loop-next-preserved-then-not-reclaim g c =
       len = search rules;
       held = omega (arith, bit, c.loop-next.invariant.held, with);
       keeps = λ before. let all = c.loop-next.invariant.keeps before in search rules;
-      shown = λ shown before.
-          let all = c.loop-next.invariant.shown shown before in
-          let here : ShowsAt shown c.index_mut.result.now = search rules in
-          all_show shown _ _ c.index_mut.result.now _ c.if-not-reclaim.ensures.shown here all;
+      shown = λ shown before. let all = c.loop-next.invariant.shown shown before in
+          all_show shown _ _ c.index_mut.result.now _ c.if-not-reclaim.ensures.shown (search rules) all;
     }
 
 pub loop-next-preserved : goal.loop-next-preserved
@@ -41,8 +38,6 @@ loop-next-preserved g c =
       len = search rules;
       held = omega (arith, bit, c.loop-next.invariant.held, with);
       keeps = λ before. let all = c.loop-next.invariant.keeps before in search rules;
-      shown = λ shown before.
-          let all = c.loop-next.invariant.shown shown before in
-          let here : ShowsAt shown c.index_mut.result.now = search rules in
-          all_show shown _ _ c.index_mut.result.now _ c.if-not-reclaim.ensures.shown here all;
+      shown = λ shown before. let all = c.loop-next.invariant.shown shown before in
+          all_show shown _ _ c.index_mut.result.now _ c.if-not-reclaim.ensures.shown (search rules) all;
     }
