@@ -48,11 +48,10 @@ module _ {F T : Type 0} (rule : Ghosts F T) where
       → Moves (state_of stage) id (Leaving seen, slots) (plus 4) (Settles t)
   Owes stage id (Refused seen) = (slots : List (ℕ × Copy T)) (t : Step (Copy T))
       → Moves (state_of stage) id (Refused seen, slots) (plus (2 ^ 64 - 2)) (Settles t)
-  Owes stage id (HasOther newest shown) = (t : Step (Copy T))
-      → ((next : Copy T) → Holds rule.holds next → Follows rule.follows shown next
+  Owes stage id (HasOther newest shown) = ((t : Step (Copy T)) (next : Copy T) → Holds rule.holds next → Follows rule.follows shown next
       → Moves (state_of stage) id (HasOther newest shown, (index_of (not newest), next) ∷ []) (λ word. bit_xor word 1) (Shows t))
-      × Moves (state_of stage) id (writing newest true shown) (plus 8) (ClosesWithOther t)
-  Owes stage id (HasNone newest shown) = (t : Step (Copy T))
-      → Moves (state_of stage) id (HasNone newest shown, []) (λ word. bit_and word 3) (Reclaims t)
-      × Moves (state_of stage) id (HasNone newest shown, []) (plus 8) (ClosesWithNone t)
+      × ((t : Step (Copy T)) → Moves (state_of stage) id (writing newest true shown) (plus 8) (ClosesWithOther t))
+  Owes stage id (HasNone newest shown) =
+      ((t : Step (Copy T)) → Moves (state_of stage) id (HasNone newest shown, []) (λ word. bit_and word 3) (Reclaims t))
+      × ((t : Step (Copy T)) → Moves (state_of stage) id (HasNone newest shown, []) (plus 8) (ClosesWithNone t))
   Owes stage id (Closed shown) = Unit {0}

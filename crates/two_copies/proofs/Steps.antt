@@ -56,20 +56,20 @@ module _ {F T : Type 0} (rule : Ghosts F T) where
 
   pub reclaims : (slots id : ℕ) (me : Seat) (newest : Bool) (t : Step (Copy T)) → me ≡ writing newest false (known_of me.0)
       → Allows (IsKept rule) slots id me 16 (λ word. bit_and word 3) (Reclaims t me)
-  reclaims slots id me newest t is = allows slots id me _ (λ word. bit_and word 3) (Reclaims t) is (λ stage owes. (owes t).0)
+  reclaims slots id me newest t is = allows slots id me _ (λ word. bit_and word 3) (Reclaims t) is (λ stage owes. owes.0 t)
 
   pub shows : (slots id : ℕ) (me : Seat) (newest : Bool) (shown next : Copy T) (t : Step (Copy T))
       → me ≡ (HasOther newest shown, (index_of (not newest), next) ∷ []) → Holds rule.holds next → Follows rule.follows shown next
       → Allows (IsKept rule) slots id me 16 (λ word. bit_xor word 1) (Shows t me)
-  shows slots id me newest shown next t is held after = allows slots id me _ (λ word. bit_xor word 1) (Shows t) is (λ stage owes. (owes t).0 next held after)
+  shows slots id me newest shown next t is held after = allows slots id me _ (λ word. bit_xor word 1) (Shows t) is (λ stage owes. owes.0 t next held after)
 
   pub closes_with_other : (t : Step (Copy T)) (slots id : ℕ) (me : Seat) (newest : Bool) (y : Copy T) → me ≡ writing newest true y
       → Allows (IsKept rule) slots id me 16 (plus 8) (ClosesWithOther t me)
-  closes_with_other t slots id me newest y is = allows slots id me _ (plus 8) (ClosesWithOther t) is (λ stage owes. (owes t).1)
+  closes_with_other t slots id me newest y is = allows slots id me _ (plus 8) (ClosesWithOther t) is (λ stage owes. owes.1 t)
 
   pub closes_with_none : (t : Step (Copy T)) (slots id : ℕ) (me : Seat) (newest : Bool) (y : Copy T) → me ≡ writing newest false y
       → Allows (IsKept rule) slots id me 16 (plus 8) (ClosesWithNone t me)
-  closes_with_none t slots id me newest y is = allows slots id me _ (plus 8) (ClosesWithNone t) is (λ stage owes. (owes t).1)
+  closes_with_none t slots id me newest y is = allows slots id me _ (plus 8) (ClosesWithNone t) is (λ stage owes. owes.1 t)
 
   pub begins : (words : List ℕ) (slots : List (Copy T)) (first shown : Copy T) → words ≡ replicate 33 0 → slots ≡ amid 8 None (first ∷ None ∷ [])
       → shown ≡ first → Holds rule.holds first → IsKept rule (opening words slots (Whole shown))
