@@ -3,7 +3,6 @@ pub mod LogLemmas
 pub mod Owed
 pub mod PlacesLemmas
 pub mod Plays
-pub mod Refusing
 pub mod SlotLemmas
 pub mod Steps
 pub mod Views

@@ -1,5 +1,5 @@
 -- What each seat of a place owes by its next step, by what it knows.
-use Rattle.std.proofs.Common.{ℕ, ◌+◌, ◌-◌, ◌%◌, ◌^◌, true, false, not, List, [], ◌∷◌, ◌++◌}
+use Rattle.std.proofs.Common.{ℕ, ◌+◌, ◌-◌, ◌%◌, ◌^◌, ◌≤◌, true, false, not, List, [], ◌∷◌, ◌++◌}
 use Rattle.std.specs.Prelude.{bit_and, bit_xor, slice_index, slice_set}
 use Rattle.std.specs.declared.option.Option.{Option}
 use Rattle.std.specs.declared.alloc.Global.{Global}
@@ -54,4 +54,4 @@ module _ {F T : Type 0} (rule : Ghosts F T) where
   Owes stage id (HasNone newest shown) =
       ((t : Step (Copy T)) → Moves (state_of stage) id (HasNone newest shown, []) (λ word. bit_and word 3) (Reclaims t))
       × ((t : Step (Copy T)) → Moves (state_of stage) id (HasNone newest shown, []) (plus 8) (ClosesWithNone t))
-  Owes stage id (Closed shown) = Unit {0}
+  Owes stage id (Closed shown) = 8 ≤ slice_index (state_of stage).words 16

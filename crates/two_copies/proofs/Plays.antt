@@ -104,10 +104,11 @@ module _ {F T : Type 0} (rule : Ghosts F T) where
       (λ t. (Closed y, takes 8 z, refl, (closed 15 y (Looking true y), omega arith, refl), closes_ahead t true 7 y z (omega arith) (omega arith)))
       (λ own t. (Idle y, gives, tt, (back true y z y, (good, itself y), refl), record { gives_back = λ _. refl; keeps_it = λ n. absurd (omega arith) }))
   plays (closed word y (Idle seen)) good =
-      (tt, (λ own t. (Refused None, keeps, tt, (closed (plus 2 word) y (Refused None), omega arith, refl), finds_end t word seen own good.0), tt))
+      (omega arith, (λ own t. (Refused None, keeps, tt, (closed (plus 2 word) y (Refused None), omega arith, refl), finds_end t word seen own good.0), tt))
   plays (closed word y (Looking slot seen)) good =
-      (tt, (λ own t. (Idle seen, keeps, tt, (closed (plus (2 ^ 64 - 2) word) y (Idle seen), omega arith, refl), leaves_end t word slot seen _ good.0), tt))
-  plays (closed word y (Leaving seen)) good = (tt, (λ own t. (Idle seen, keeps, tt, (closed (plus 4 word) y (Idle seen), omega arith, refl), refl), tt))
+      (omega arith, (λ own t. (Idle seen, keeps, tt, (closed (plus (2 ^ 64 - 2) word) y (Idle seen), omega arith, refl), leaves_end t word _ _ _ good.0), tt))
+  plays (closed word y (Leaving seen)) good =
+      (omega arith, (λ own t. (Idle seen, keeps, tt, (closed (plus 4 word) y (Idle seen), omega arith, refl), refl), tt))
   plays (closed word y (Refused seen)) good =
-      (tt, (λ own t. (Idle seen, keeps, tt, (closed (plus (2 ^ 64 - 2) word) y (Idle seen), omega arith, refl), refl), tt))
+      (omega arith, (λ own t. (Idle seen, keeps, tt, (closed (plus (2 ^ 64 - 2) word) y (Idle seen), omega arith, refl), refl), tt))
   plays (closed word y part) good = absurd good

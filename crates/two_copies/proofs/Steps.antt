@@ -1,16 +1,16 @@
 -- The steps of the two seats at a place keep its rule.
-use Rattle.std.proofs.Common.{◌≡◌, ℕ, ◌-◌, ◌^◌, Bool, true, false, not, None, List, [], ◌∷◌, ◌++◌, refl, replicate, sym, subst}
-use Rattle.std.specs.Prelude.{bit_and, bit_xor, slice_set}
+use Rattle.std.proofs.Common.{◌≡◌, ℕ, ◌-◌, ◌^◌, ◌≤◌, Bool, true, false, not, None, List, [], ◌∷◌, ◌++◌, refl, replicate, sym, subst}
+use Rattle.std.specs.Prelude.{bit_and, bit_xor, slice_index, slice_set}
 use Rattle.std.specs.declared.alloc.Global.{Global}
 use Rattle.std.specs.declared.sync.Arc.{Arc}
 use mathlib.Core.Option as home
 use lib.ListN.{get_elem?}
 use Rattle.atomic_table.specs.Table.{Allows, opening, Splits, Step, step}
 use Rattle.two_copies.specs.declared.place.Part.{Part}
-use Rattle.two_copies.specs.declared.place.Part.TheVariants.{Whole, Idle, Looking, Leaving, Refused, HasOther, HasNone}
+use Rattle.two_copies.specs.declared.place.Part.TheVariants.{Whole, Idle, Looking, Leaving, Refused, HasOther, HasNone, Closed}
 use Rattle.two_copies.specs.declared.rule.CopyRule.{Ghosts}
-use Rattle.two_copies.specs.Place.{amid, ClosesWithNone, ClosesWithOther, Enters, fresh, index_of, known_of, Leaves, PlaceData, Reclaims, SeatData, Settles}
-use Rattle.two_copies.specs.Place.{Shows, Stage, state_of, writing}
+use Rattle.two_copies.specs.Place.{amid, ClosesWithNone, ClosesWithOther, Enters, fresh, index_of, known_of, Leaves, PlaceData, Reclaims}
+use Rattle.two_copies.specs.Place.{RefusesLooks, SeatData, Settles, Shows, Stage, state_of, writing}
 use Rattle.two_copies.specs.Slot.{Follows, Holds}
 use Rattle.two_copies.proofs.Owed.{Copy, IsKept, Moves, Owes, plus}
 use Rattle.two_copies.proofs.Plays.{plays}
@@ -70,6 +70,13 @@ module _ {F T : Type 0} (rule : Ghosts F T) where
   pub closes_with_none : (t : Step (Copy T)) (slots id : ℕ) (me : Seat) (newest : Bool) (y : Copy T) → me ≡ writing newest false y
       → Allows (IsKept rule) slots id me 16 (plus 8) (ClosesWithNone t me)
   closes_with_none t slots id me newest y is = allows slots id me _ (plus 8) (ClosesWithNone t) is (λ stage owes. owes.1 t)
+
+  -- a closed place refuses each look that begins
+  pub refuses_looks : (y : Copy T) (view : Part (Copy T)) → view ≡ Closed y → RefusesLooks (Holds rule.holds) (Follows rule.follows) view
+  refuses_looks y view is = record {
+    refuses = λ id state kept at.
+        owed state kept id view at (λ s. 8 ≤ slice_index s.words 16) (λ stage owes. subst (Owes rule stage id) is owes);
+  }
 
   pub begins : (words : List ℕ) (slots : List (Copy T)) (first shown : Copy T) → words ≡ replicate 33 0 → slots ≡ amid 8 None (first ∷ None ∷ [])
       → shown ≡ first → Holds rule.holds first → IsKept rule (opening words slots (Whole shown))
