@@ -8,7 +8,7 @@ use Rattle.two_copies.specs.Place.{number}
 use Rattle.two_copies.specs.WriterEnd.{IsFreeAt, held_in}
 use Rattle.two_copies.specs.declared.place.writer_end.WriterEnd.{WriterEnd}
 
-number_small : (b : Bool) → number b ≤ 1
+pub number_small : (b : Bool) → number b ≤ 1
 number_small false = omega arith
 number_small true = omega arith
 

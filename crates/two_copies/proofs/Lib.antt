@@ -1,13 +1,8 @@
-pub mod Closing
-pub mod Dividing
-pub mod Entering
-pub mod Leaving
 pub mod HeldLemmas
 pub mod LogLemmas
+pub mod Owed
 pub mod PlacesLemmas
-pub mod Reclaiming
-pub mod Refusing
-pub mod Settling
-pub mod Showing
+pub mod Plays
 pub mod SlotLemmas
+pub mod Steps
 pub mod Views

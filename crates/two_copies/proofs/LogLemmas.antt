@@ -14,7 +14,8 @@ module _ {S O : Type 0} (applied : S → O → S) (restored : S → O → S → 
   are_alike code spare shown log h = ∥∥₁_elim h (Coded-set code _ _) (λ x. x)
 
   -- a copy that is brought up has all that is pending
-  pub spare_is_next : Coded S → (spare shown : S) (log : Log O) → IsBroughtUp log → ∥ IsAlike applied restored spare shown log ∥₁ → spare ≡ fold applied shown log.pending.items
+  pub spare_is_next : Coded S → (spare shown : S) (log : Log O) → IsBroughtUp log → ∥ IsAlike applied restored spare shown log ∥₁
+      → spare ≡ fold applied shown log.pending.items
   spare_is_next code spare shown log up alike =
       ap (λ last. fold applied (restored_from restored shown spare []) last) (sym up.last)
       ∙ ap (λ dropped. fold applied (restored_from restored shown spare dropped) log.last.items) (sym up.dropped)

@@ -13,7 +13,8 @@ module _ {T : Type 0} (follows : T → T → Type 0) where
   follows_itself itself (Some copy) = itself (arc_value copy)
   follows_itself itself None = tt
 
-  pub follows_through : ((x y z : T) → follows x y → follows y z → follows x z) → (a b c : Option (Arc T Global)) → Follows follows a b → Follows follows b c → Follows follows a c
+  pub follows_through : ((x y z : T) → follows x y → follows y z → follows x z) → (a b c : Option (Arc T Global))
+      → Follows follows a b → Follows follows b c → Follows follows a c
   follows_through through a b None first second = tt
   follows_through through (Some a) (Some b) (Some c) first second = through (arc_value a) (arc_value b) (arc_value c) first second
   follows_through through None (Some b) (Some c) first second = first
@@ -25,5 +26,7 @@ module _ {X : Type 0} where
   AreEmpty-rest (slot ∷ slots) empty = λ k d inside. empty (suc k) d (omega (arith, inside))
 
   -- a seat that fills a slot and then gives it back has empty ones, if it had such
-  pub gives_full_slot : (me filled after : SeatData X) (slot : ℕ × Option X) (view : Part (Option X)) → AreEmpty me.1 → filled ≡ (me.0, slot ∷ rest me.1) → after ≡ (view, rest filled.1) → AreEmpty after.1
-  gives_full_slot me filled after slot view empty fills gives = subst (λ (m : SeatData X). AreEmpty m.1) (sym (gives ∙ (λ j. (view, rest (fills j).1)))) (AreEmpty-rest me.1 empty)
+  pub gives_full_slot : (me filled after : SeatData X) (slot : ℕ × Option X) (view : Part (Option X)) → AreEmpty me.1
+      → filled ≡ (me.0, slot ∷ rest me.1) → after ≡ (view, rest filled.1) → AreEmpty after.1
+  gives_full_slot me filled after slot view empty fills gives =
+      subst (λ (m : SeatData X). AreEmpty m.1) (sym (gives ∙ (λ j. (view, rest (fills j).1)))) (AreEmpty-rest me.1 empty)

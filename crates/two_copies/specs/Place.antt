@@ -114,17 +114,19 @@ module _ {X : Type 0} where
   shared word slots writer reader = record { words = amid 16 0 (word ∷ []); homes = amid 8 (home.some None) slots; views = writer ∷ reader ∷ [] }
 
   abbrev pub state_of : Stage (Option X) → PlaceData X
-  state_of (fresh shown other) = record { words = amid 16 0 (0 ∷ []); homes = amid 8 (home.some None) (home.some shown ∷ home.some other ∷ []); views = Whole shown ∷ [] }
-  state_of (apart newest shown seen) = shared (number newest) (slots_at newest (home.some shown) home.none) (HasOther newest shown) (Idle seen)
-  state_of (looked newest shown) = shared (2 + number newest) (home.none ∷ home.none ∷ []) (HasOther newest shown) (Looking newest shown)
-  state_of (behind newest shown other) = shared (2 + number newest) (slots_at newest (home.some shown) home.none) (HasNone newest shown) (Looking (not newest) other)
-  state_of (leaving newest shown other seen) = shared (number newest) (slots_at newest (home.some shown) (home.some other)) (HasNone newest shown) (Leaving seen)
-  state_of (back newest shown other seen) = shared (4 + number newest) (slots_at newest (home.some shown) (home.some other)) (HasNone newest shown) (Idle seen)
-  state_of (ahead newest shown other) = shared (6 + number newest) (slots_at newest home.none (home.some other)) (HasNone newest shown) (Looking newest shown)
+  state_of (fresh shown other) =
+      record { words = amid 16 0 (0 ∷ []); homes = amid 8 (home.some None) (home.some shown ∷ home.some other ∷ []); views = Whole shown ∷ [] }
+  state_of (apart slot shown seen) = shared (number slot) (slots_at slot (home.some shown) home.none) (HasOther slot shown) (Idle seen)
+  state_of (looked slot shown) = shared (2 + number slot) (home.none ∷ home.none ∷ []) (HasOther slot shown) (Looking slot shown)
+  state_of (behind slot shown other) = shared (2 + number slot) (slots_at slot (home.some shown) home.none) (HasNone slot shown) (Looking (not slot) other)
+  state_of (leaving slot shown other seen) = shared (number slot) (slots_at slot (home.some shown) (home.some other)) (HasNone slot shown) (Leaving seen)
+  state_of (back slot shown other seen) = shared (4 + number slot) (slots_at slot (home.some shown) (home.some other)) (HasNone slot shown) (Idle seen)
+  state_of (ahead slot shown other) = shared (6 + number slot) (slots_at slot home.none (home.some other)) (HasNone slot shown) (Looking slot shown)
   state_of (closed word shown reader) = shared word (home.none ∷ home.none ∷ []) (Closed shown) reader
 
   -- the reader has the newest slot, of which the rule is true; at a closed place it takes nothing
-  pub record Enters (holds : Option X → Type 0) (follows : Option X → Option X → Type 0) (step : Step (Option X)) (before : SeatData X) (found : ℕ) (after : SeatData X) : Type 0 where
+  pub record Enters (holds : Option X → Type 0) (follows : Option X → Option X → Type 0)
+      (step : Step (Option X)) (before : SeatData X) (found : ℕ) (after : SeatData X) : Type 0 where
     pub takes_it : found < 8 → (shown : Option X) × holds shown × follows (known_of before.0) shown
         × (after ≡ (Looking (found % 2 == 1) shown, (index_of (found % 2 == 1), shown) ∷ before.1))
     pub takes_none : 8 ≤ found → after ≡ (Refused None, before.1)
@@ -140,7 +142,8 @@ module _ {X : Type 0} where
 
   -- the writer has the other slot, if that lay there
   pub record Reclaims (step : Step (Option X)) (before : SeatData X) (found : ℕ) (after : SeatData X) : Type 0 where
-    pub lay_there : 4 ≤ found → (other : Option X) × (after ≡ (HasOther (newest_of before.0) (known_of before.0), (index_of (not (newest_of before.0)), other) ∷ []))
+    pub lay_there : 4 ≤ found → (other : Option X)
+        × (after ≡ (HasOther (newest_of before.0) (known_of before.0), (index_of (not (newest_of before.0)), other) ∷ []))
     pub was_out : found < 4 → after ≡ before
 
   -- the writer's slot is the newest, and the writer has the one that was, if the reader did not look

@@ -42,19 +42,15 @@ impl<T: Drop, F: CopyRule<T>> Ending<T, F> {
         ensures value { MatchResult result (λ value. value ≡ value_of self) (λ ending. value_of ending ≡ value_of self) }
         ensures closed { IfErr result (λ ending. closed_count ending ≡ closed_count self) }
     {
+        // Each place is closed, so only a look that is held has a further share, and no new look gets one.
+        if Arc::strong_count(&self.spare) != 1 {
+            return Err(self);
+        }
         let Ending {
             shown,
             spare,
             places,
         } = self;
-        // Each place is closed, so only a look that is held has a further share, and no new look gets one.
-        if Arc::strong_count(&spare) != 1 {
-            return Err(Ending {
-                shown,
-                spare,
-                places,
-            });
-        }
         match Arc::try_unwrap(shown) {
             Ok(value) => Ok(value),
             Err(shown) => Err(Ending {

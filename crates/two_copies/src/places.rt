@@ -1,6 +1,7 @@
 //! What the writer does at each place in turn.
 ghost use Rattle.std.specs.Prelude.{◌≡◌, ◌<◌, ◌≤◌, ◌↔◌, ℕ, true, length, All, IsTrue, OnOk};
 ghost use Rattle.std.specs.Arc.{arc_value};
+ghost use Rattle.two_copies.specs.Place.{number};
 ghost use Rattle.two_copies.specs.WriterEnd.{IsClosedAt, IsFreeAt, IsNextAt, ShowsAt, held_in};
 ghost use Rattle.two_copies.specs.declared.copies.TheConstants.{MAX_READERS};
 
@@ -71,12 +72,16 @@ pub(crate) fn reclaim_each<T: Drop, F: CopyRule<T>>(places: &mut Places<T, F>) -
     let mut next = places.len();
     while next > 0 {
         next -= 1;
-        held *= 2;
-        if !places[next].reclaim() {
-            held += 1;
-        }
+        held = 2 * held + bit(!places[next].reclaim());
     }
     held
+}
+
+/// The lowest bit for a place that is held or not.
+fn bit(is_held: bool) -> u64
+    ensures { result ≡ number is_held }
+{
+    if is_held { 1 } else { 0 }
 }
 
 /// Makes a share of this copy for each place, to be shown there next.

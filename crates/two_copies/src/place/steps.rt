@@ -183,7 +183,7 @@ pub(crate) fn close<T: Drop, F: CopyRule<T>>(
 }
 
 /// The newest slot lies there unless the reader looks.
-#[tactic(auto, using(crate::proofs::Refusing::refuses_looks))]
+#[tactic(auto, using(crate::proofs::Steps::refuses_looks))]
 fn close_with_other<T: Drop, F: CopyRule<T>>(
     board: &Board<T, F>,
     seat: &mut PlaceSeat<T>,
@@ -203,7 +203,7 @@ fn close_with_other<T: Drop, F: CopyRule<T>>(
 
 /// Both slots lie there unless the reader looks. If it does, the other one lies there if it was returned, since the
 /// look then has the newest one; else the look has the other one.
-#[tactic(auto, using(crate::proofs::Refusing::refuses_looks))]
+#[tactic(auto, using(crate::proofs::Steps::refuses_looks))]
 fn close_with_none<T: Drop, F: CopyRule<T>>(
     board: &Board<T, F>,
     seat: &mut PlaceSeat<T>,

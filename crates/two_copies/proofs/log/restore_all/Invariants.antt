@@ -4,7 +4,8 @@ use Rattle.two_copies.proofs.log.restore_all.Given as goal
 
 abbrev pub invariant-loop-operation : goal.invariant-loop-operation
 invariant-loop-operation g l = record {
-  alike : restored_from g.T.Apply.restored (g.T.Apply.state l.shown) (g.T.Apply.state l.copy) l.operations.items ≡ restored_from g.T.Apply.restored (g.T.Apply.state l.shown) (g.T.Apply.state l.fn.copy) l.fn.operations.items;
+  alike : restored_from g.T.Apply.restored (g.T.Apply.state l.shown) (g.T.Apply.state l.copy) l.operations.items
+      ≡ restored_from g.T.Apply.restored (g.T.Apply.state l.shown) (g.T.Apply.state l.fn.copy) l.fn.operations.items;
   fewer : length l.operations.items ≤ length l.fn.operations.items;
 }
 

@@ -1,5 +1,4 @@
 use Rattle.std.proofs.Common.{rules}
-use Rattle.two_copies.specs.WriterEnd.{ShowsAt}
 use Rattle.two_copies.proofs.PlacesLemmas.{all_show}
 use Rattle.two_copies.proofs.places.prepare_all.Goals as goal
 
@@ -9,8 +8,6 @@ loop-next-preserved g c = record {
   len = search rules;
   free = search rules;
   ready = search rules;
-  shown = λ shown before.
-      let all = c.loop-next.invariant.shown shown before in
-      let here : ShowsAt shown c.index_mut.result.now = search rules in
-      all_show shown _ _ c.index_mut.result.now _ c.prepare.ensures.shown here all;
+  shown = λ shown before. let all = c.loop-next.invariant.shown shown before in
+      all_show shown _ _ c.index_mut.result.now _ c.prepare.ensures.shown (search rules) all;
 }

@@ -1,6 +1,5 @@
 use Rattle.std.proofs.Common.{rules, ◌<◌, length, sym, ap, ◌∙◌}
 use Rattle.std.proofs.lemmas.List.{get_or-set_same, length-set}
-use Rattle.two_copies.specs.WriterEnd.{ShowsAt}
 use Rattle.two_copies.proofs.PlacesLemmas.{all_show}
 use Rattle.two_copies.proofs.places.reclaim_all.Goals as goal
 
@@ -10,10 +9,8 @@ loop-next-preserved g c = record {
   len = search rules;
   free = search rules;
   keeps = λ before. let all = c.loop-next.invariant.keeps before in search rules;
-  shown = λ shown before.
-      let all = c.loop-next.invariant.shown shown before in
-      let here : ShowsAt shown c.index_mut.result.now = search rules in
-      all_show shown _ _ c.index_mut.result.now _ c.if-not-reclaim.ensures.shown here all;
+  shown = λ shown before. let all = c.loop-next.invariant.shown shown before in
+      all_show shown _ _ c.index_mut.result.now _ c.if-not-reclaim.ensures.shown (search rules) all;
 }
 
 pub returns-then-not-reclaim-clause-free : goal.returns-then-not-reclaim-clause-free
@@ -29,6 +26,4 @@ returns-then-not-reclaim-clause-free g c =
 
 pub returns-then-not-reclaim-clause-shown : goal.returns-then-not-reclaim-clause-shown
 returns-then-not-reclaim-clause-shown g c shown before =
-    let all = c.loop-next.invariant.shown shown before in
-    let here : ShowsAt shown c.index_mut.result.now = search rules in
-    all_show shown _ _ c.index_mut.result.now _ c.if-not-reclaim.ensures.shown here all
+    let all = c.loop-next.invariant.shown shown before in all_show shown _ _ c.index_mut.result.now _ c.if-not-reclaim.ensures.shown (search rules) all

@@ -1,7 +1,6 @@
 use Rattle.std.proofs.Common.{rules, arith, ap, length, not, ◌≤◌, ◌<◌, ◌+◌, ◌*◌, ◌^◌}
 use Rattle.two_copies.specs.Place.{number}
-use Rattle.two_copies.specs.WriterEnd.{ShowsAt}
-use Rattle.two_copies.proofs.HeldLemmas.{has_room, held_with}
+use Rattle.two_copies.proofs.HeldLemmas.{has_room, held_with, number_small}
 use Rattle.two_copies.proofs.PlacesLemmas.{all_show}
 use Rattle.two_copies.proofs.places.reclaim_each.Given.{Over}
 use Rattle.two_copies.proofs.places.reclaim_each.Goals.{In-loop-next}
@@ -17,32 +16,16 @@ pub overflow_mul-held : goal.overflow_mul-held
 overflow_mul-held g c = omega (arith, room g c)
 
 pub overflow_add-held : goal.overflow_add-held
-overflow_add-held g c = omega (arith, room g (goal.at.overflow_add-held g c).In-loop-next)
-
-pub loop-next-preserved-then-not-reclaim : goal.loop-next-preserved-then-not-reclaim
-loop-next-preserved-then-not-reclaim g c =
-    let bit = ap (λ has. number (not has)) c.if-not-reclaim.ensures.has in
-    let with = held_with c.loop-next.places.items c.loop-next.next c.reclaim.new.self (search rules) c.loop-next.invariant.bound in record {
-      bound = search rules;
-      len = search rules;
-      held = omega (arith, bit, c.loop-next.invariant.held, with);
-      keeps = λ before. let all = c.loop-next.invariant.keeps before in search rules;
-      shown = λ shown before.
-          let all = c.loop-next.invariant.shown shown before in
-          let here : ShowsAt shown c.index_mut.result.now = search rules in
-          all_show shown _ _ c.index_mut.result.now _ c.if-not-reclaim.ensures.shown here all;
-    }
+overflow_add-held g c = omega (arith, room g (goal.at.overflow_add-held g c).In-loop-next, c.bit.ensures, number_small (not c.reclaim.result))
 
 pub loop-next-preserved : goal.loop-next-preserved
 loop-next-preserved g c =
-    let bit = ap (λ has. number (not has)) c.if-not-reclaim.ensures.has in
+    let has = ap (λ has. number (not has)) c.reclaim.ensures.has in
     let with = held_with c.loop-next.places.items c.loop-next.next c.reclaim.new.self (search rules) c.loop-next.invariant.bound in record {
       bound = search rules;
       len = search rules;
-      held = omega (arith, bit, c.loop-next.invariant.held, with);
+      held = omega (arith, has, c.bit.ensures, c.loop-next.invariant.held, with);
       keeps = λ before. let all = c.loop-next.invariant.keeps before in search rules;
-      shown = λ shown before.
-          let all = c.loop-next.invariant.shown shown before in
-          let here : ShowsAt shown c.index_mut.result.now = search rules in
-          all_show shown _ _ c.index_mut.result.now _ c.if-not-reclaim.ensures.shown here all;
+      shown = λ shown before. let all = c.loop-next.invariant.shown shown before in
+          all_show shown _ _ c.index_mut.result.now _ c.reclaim.ensures.shown (search rules) all;
     }

@@ -9,4 +9,5 @@ invariant_of-self-2-clause-alike g c =
     let copy = sym c.in-Some.ensures.value in let shown = c.deref.ensures in
     ∥∥₁_map c.args.self.now.alike (λ alike.
     subst (λ (fact : Type 0). fact) (λ k. IsAlike applied restored (state c.bring_up.new.copy) (state (shown k)) c.bring_up.new.self)
-    (c.bring_up.ensures.alike (subst (λ (fact : Type 0). fact) (λ k. IsAlike applied restored (state (copy k)) (state (sym shown k)) c.args.self.now.log) alike)))
+    (c.bring_up.ensures.alike
+    (subst (λ (fact : Type 0). fact) (λ k. IsAlike applied restored (state (copy k)) (state (sym shown k)) c.args.self.now.log) alike)))

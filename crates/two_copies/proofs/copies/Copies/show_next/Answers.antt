@@ -14,7 +14,8 @@ invariant_of-self-clause-alike g c =
     let spare = g.T.Apply.state (arc_value old.spare) in
     let shown = g.T.Apply.state (arc_value old.shown) in
     let next = spare_is_next applied g.T.Apply.restored g.row.T-State.coded spare shown old.log c.requires.ready old.alike in
-    let turned = alike-turned applied g.T.Apply.restored spare shown old.log c.turn.new.self c.turn.ensures.dropped c.turn.ensures.last c.turn.ensures.done next in
+    let turn = c.turn.ensures in
+    let turned = alike-turned applied g.T.Apply.restored spare shown old.log c.turn.new.self turn.dropped turn.last turn.done next in
     let x = sym c.swap.ensures.x_after in let y = sym c.swap.ensures.y_after in
     ∣ subst (λ (fact : Type 0). fact)
     (λ k. IsAlike applied g.T.Apply.restored (g.T.Apply.state (arc_value (y k))) (g.T.Apply.state (arc_value (x k))) c.turn.new.self) turned ∣₁

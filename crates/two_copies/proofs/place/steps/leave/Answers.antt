@@ -1,19 +1,17 @@
 use Rattle.std.proofs.Common.{arith, rules, ap, subst, sym, ◌∙◌}
 use Rattle.two_copies.specs.Place.{AreEmpty, is_second, known_of}
-use Rattle.two_copies.specs.Slot.{Follows, Holds}
 use Rattle.two_copies.specs.declared.place.Part.TheVariants.{Idle}
-use Rattle.two_copies.proofs.Leaving.{leaves}
-use Rattle.two_copies.proofs.SlotLemmas.{follows_itself, gives_full_slot}
+use Rattle.two_copies.proofs.Steps.{leaves}
+use Rattle.two_copies.proofs.SlotLemmas.{gives_full_slot}
 use Rattle.two_copies.proofs.Views.{fills_slot, has_slot}
 use Rattle.two_copies.proofs.place.steps.leave.Goals as goal
 
 pub fetch_sub-found-requires : goal.fetch_sub-found-requires
 fetch_sub-found-requires g c =
-    let e = c.exchange-emptied.ensures in
-    let rule = g.F.CopyRule in (
+    let e = c.exchange-emptied.ensures in (
       e.0 ∙ c.requires.seated.same,
       omega (arith, c.requires.seated.sized),
-      leaves (Holds rule.holds) (Follows rule.follows) (follows_itself rule.follows rule.follows_itself) _ _ _ _ (is_second c.args.slot) _ _ (fills_slot _ _ _ _ _ _ _ _ c.requires.looks c.requires.slot e.3),
+      leaves g.F.CopyRule _ _ _ _ (is_second c.args.slot) _ _ (fills_slot _ _ _ _ _ _ _ _ c.requires.looks c.requires.slot e.3),
     )
 
 pub exchange-requires : goal.exchange-requires
