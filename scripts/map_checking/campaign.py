@@ -1,22 +1,19 @@
 """A run over many arguments, side by side on the cores of the machine."""
 
 import argparse
-import os
 import random
 import re
 import shutil
 import sys
 from collections import Counter
-from concurrent.futures import ProcessPoolExecutor
 from functools import partial
-from multiprocessing import get_context
 
 from map_arguments.lines import drawn_line, mutated_line
 from map_arguments.styles import STYLES
 from map_arguments.trees import TsharkFailed
 from map_arguments.updates import text_of
 
-from checking import Difference
+from checking import Difference, side_by_side
 
 from . import dissection, scripts
 from .classes import classes_of
@@ -36,11 +33,6 @@ KINDS = ("written", "edited", "encoded", "dumped")
 def chunks_of(count):
     """The numbers below a count, as workers take them."""
     return [range(start, min(start + CHUNK, count)) for start in range(0, count, CHUNK)]
-
-
-def side_by_side(check, items):
-    with ProcessPoolExecutor(len(os.sched_getaffinity(0)), get_context("fork")) as pool:
-        yield from pool.map(check, items)
 
 
 def drawn_lines(seed, programs, kind, numbers):

@@ -1,5 +1,7 @@
 """Traits of an argument that its model reads: what is in it that tshark reads in another way, or calls malformed."""
 
+from contextlib import suppress
+
 from map_arguments.extensions import FIELDS
 
 from .reading import CONTEXT, UNIVERSAL, Fault, element, inner
@@ -64,16 +66,10 @@ def integer_traits(content):
 
 
 def bits_traits(content):
-    if len(content) > 1:
-        unused = content[-1] & (1 << content[0]) - 1
-        if (len(content) - 1) * 8 > NAMED_BITS:
-            yield "unnamed-bits"
-        if unused:
-            yield "unused-bits"
-        if content[0] > 7:
-            yield "unused-count"
-    if len(content) == 1:
-        yield "no-bits"
+    if (len(content) - 1) * 8 > NAMED_BITS:
+        yield "unnamed-bits"
+    if len(content) > 1 and content[-1] & (1 << content[0]) - 1:
+        yield "unused-bits"
 
 
 LEAVES = {"address": address_traits, "imsi": imsi_traits, "service": service_traits, "integer": integer_traits,
@@ -127,11 +123,9 @@ def traits_of(line):
     """The traits of a line that is read. If the elements are malformed, those that come before that place."""
     traits = set()
     type_name = OPERATION_TYPES[line.operation]
-    try:
+    with suppress(Fault):
         whole = element(line.octets, 0, len(line.octets))
-        if type_name == "cancel" and whole.tag == (UNIVERSAL, 4):
+        if type_name == "cancel" and whole.tag == OCTET_STRING:
             type_name = "imsi"
         traits.update(traits_of_element(line.octets, whole, type_name))
-    except Fault:
-        traits.add("malformed")
     return traits
