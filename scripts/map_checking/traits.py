@@ -50,19 +50,8 @@ def address_traits(content):
         yield "shared-country-code"
 
 
-def imsi_traits(content):
-    if len(content) < 4:
-        yield "short-imsi"
-
-
-def service_traits(content):
-    if len(content) > 4:
-        yield "long-service"
-
-
-def integer_traits(content):
-    if len(content) > 8:
-        yield "long-integer"
+def of_size(trait, sizes):
+    return lambda content: [trait] if len(content) in sizes else []
 
 
 def bits_traits(content):
@@ -72,8 +61,8 @@ def bits_traits(content):
         yield "unused-bits"
 
 
-LEAVES = {"address": address_traits, "imsi": imsi_traits, "service": service_traits, "integer": integer_traits,
-          "bits": bits_traits}
+LEAVES = {"address": address_traits, "bits": bits_traits, "imsi": of_size("short-imsi", range(4)),
+          "service": of_size("long-service", range(5, 2**32)), "integer": of_size("long-integer", range(9, 2**32))}
 
 
 def tag_traits(found):
