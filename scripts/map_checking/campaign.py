@@ -102,7 +102,7 @@ def run_arguments(check, chunks, name):
         kinds += some_kinds
         classes += some_classes
         differences += some
-    print(f"{kinds.total()} {name} arguments: {listed(kinds)}")
+    print(f"{kinds.total()} {name} arguments: {', '.join(f'{kinds[kind]} {kind}' for kind in sorted(kinds))}")
     for name, number in sorted(classes.items(), key=lambda item: (item[0] != "as tshark", item)):
         print(f"  {name}: {number}")
     return reported(differences)
@@ -127,10 +127,6 @@ def run_joins(seed, count, programs):
         differences += some
     print("{} joined arguments, {} of them refused, and {} as tshark".format(*totals))
     return reported(differences)
-
-
-def listed(counts):
-    return ", ".join(f"{counts[name]} {name}" for name in sorted(counts))
 
 
 def run_scripts(seed, programs):
