@@ -80,9 +80,9 @@ $(PROGRAM) $(BENCH) $(REFUSALS) $(MAP_CHECK) $(EXPLAIN): $$(call sources,$$(@F))
 
 $(EXPLAIN): BUILD_TIME = $(LONG_TIME)
 
-# The output comes at the end, and is at most 1 MiB; the program has 60 seconds. `scripts/try` ends with the program's
-# status, or with 125 if it gave none. `make` ends with status 2 if that is not 0, and names it.
-## Runs SCRIPT by the program, with nothing proved and nothing built: about a minute, each time.
+# `scripts/try` ends with the program's status, or with 125 if it gave none. `make` ends with status 2 if that is not 0,
+# and names it.
+## Runs SCRIPT by the program, with nothing proved: at once, once it is compiled, which takes a minute or two.
 try: script begin-$$@
 	@scripts/replay scripts/try camel_replay $(OPTIONS) < "$$SCRIPT"
 
@@ -91,7 +91,7 @@ try: script begin-$$@
 replay: script $(PROGRAM)
 	@scripts/replay $(PROGRAM) $(OPTIONS) < "$$SCRIPT"
 
-## Explains SCRIPT, record by record, with nothing proved and nothing built: two minutes, each time.
+## Explains SCRIPT, record by record, with nothing proved: at once, once it is compiled, which takes two minutes.
 try-explain: script begin-$$@
 	@scripts/try camel_explain --limit "$$LIMIT" $(if $(PROFILE),--profile "$$PROFILE") < "$$SCRIPT"
 

@@ -1,4 +1,8 @@
-"""What the checks share: a difference, and how it is told."""
+"""What the checks share: a difference, how it is told, and how many checks run side by side."""
+
+import os
+from concurrent.futures import ProcessPoolExecutor
+from multiprocessing import get_context
 
 
 class Difference(Exception):
@@ -14,3 +18,9 @@ def shown(value):
 def expect(what, found, expected):
     if found != expected:
         raise Difference(f"{what}: {shown(found)}, NOT {shown(expected)}")
+
+
+def side_by_side(check, items, chunksize=1):
+    """Yields what the check returns of each item, in their order. It ends with the first item that fails."""
+    with ProcessPoolExecutor(len(os.sched_getaffinity(0)), get_context("fork")) as pool:
+        yield from pool.map(check, items, chunksize=chunksize)

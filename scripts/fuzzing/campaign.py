@@ -5,14 +5,12 @@ import os
 import random
 import sys
 import tempfile
-from concurrent.futures import ProcessPoolExecutor
 from contextlib import contextmanager
 from functools import partial
 from glob import glob
-from multiprocessing import get_context
 from pathlib import Path
 
-from checking import Difference, shown
+from checking import Difference, shown, side_by_side
 
 from . import prefixes, too_long
 from .comparison import compare
@@ -38,12 +36,6 @@ def attributed_to(name, script, options):
         yield
     except Difference as difference:
         raise Failure(name, script, options, str(difference)) from None
-
-
-def side_by_side(check, items, chunksize=1):
-    """Yields what the check returns of each item, in their order. It ends with the first item that fails."""
-    with ProcessPoolExecutor(len(os.sched_getaffinity(0)), get_context("fork")) as pool:
-        yield from pool.map(check, items, chunksize=chunksize)
 
 
 def read_bases():

@@ -16,40 +16,27 @@ ONE_LINE, TWO_LINES, THREE_LINES, FOUR_LINES = (b"".join(FIRST_CALL_LINES[:count
 # What a shorter IMSI in the second record gives: no subscriber has it.
 UNKNOWN = b"accepted 1\nrefused 5\n"
 
-# How many octets of SAMPLE are read, at most; what is written then; and the fault of the next record, if there is one.
-# The shortest beginning of a row has an octet more than the longest one of the row before.
+# What is written when no more than so many octets of SAMPLE are read; and the fault of the next record then, if there
+# is one. The shortest such beginning has an octet more than the longest one before.
 BEGINNINGS = (
-    (0, NO_LINE, None),
-    (7, NO_LINE, 202),
-    (8, NO_LINE, 203),
-    (13, NO_LINE, 205),
-    (25, ONE_LINE, None),
-    (30, ONE_LINE, 202),
-    (31, ONE_LINE, 203),
-    (36, ONE_LINE, 205),
-    (46, UNKNOWN, None),
-    (47, TWO_LINES, None),
-    (48, ONE_LINE, 202),
-    (68, ONE_LINE, 203),
-    (69, ONE_LINE, 205),
-    (71, TWO_LINES, None),
-    (77, TWO_LINES, 202),
-    (79, THREE_LINES, None),
-    (82, THREE_LINES, 202),
-    (83, THREE_LINES, 203),
-    (84, THREE_LINES, 202),
-    (114, THREE_LINES, 203),
-    (115, THREE_LINES, 202),
-    (117, FOUR_LINES, None),
+    (NO_LINE, ((0, None), (7, 202), (8, 203), (13, 205))),
+    (ONE_LINE, ((25, None), (30, 202), (31, 203), (36, 205))),
+    (UNKNOWN, ((46, None),)),
+    (TWO_LINES, ((47, None),)),
+    (ONE_LINE, ((48, 202), (68, 203), (69, 205))),
+    (TWO_LINES, ((71, None), (77, 202))),
+    (THREE_LINES, ((79, None), (82, 202), (83, 203), (84, 202), (114, 203), (115, 202))),
+    (FOUR_LINES, ((117, None),)),
 )
 
 
 def expected_of_sample():
     """What one thread leaves of each beginning of SAMPLE, the shortest first."""
     expected = []
-    for longest, output, code in BEGINNINGS:
-        fault = None if code is None else Fault(output.count(b"\n") + 1, code)
-        expected += [Left(fault, output)] * (longest + 1 - len(expected))
+    for output, ends in BEGINNINGS:
+        for longest, code in ends:
+            fault = None if code is None else Fault(output.count(b"\n") + 1, code)
+            expected += [Left(fault, output)] * (longest + 1 - len(expected))
     return expected
 
 

@@ -79,9 +79,8 @@ def fault_of(status, error):
 
 def replay_with_threads(script, options):
     """Replays a script with the threads of the options, and again if the machine is busy."""
-    left = replay(script, options, options.threads)
-    for _ in range(REPEATS):
+    for _ in range(REPEATS + 1):
+        left = replay(script, options, options.threads)
         if left.fault is None or left.fault.code not in BUSY:
             break
-        left = replay(script, options, options.threads)
     return left

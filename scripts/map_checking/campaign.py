@@ -1,22 +1,19 @@
 """A run over many arguments, side by side on the cores of the machine."""
 
 import argparse
-import os
 import random
 import re
 import shutil
 import sys
 from collections import Counter
-from concurrent.futures import ProcessPoolExecutor
 from functools import partial
-from multiprocessing import get_context
 
 from map_arguments.lines import drawn_line, mutated_line
 from map_arguments.styles import STYLES
 from map_arguments.trees import TsharkFailed
 from map_arguments.updates import text_of
 
-from checking import Difference
+from checking import Difference, side_by_side
 
 from . import dissection, scripts
 from .classes import classes_of
@@ -25,7 +22,7 @@ from .encoded import encoded_lines, sent_update
 from .joined import check_pairs
 from .kept_capture import CAPTURE, check_capture
 from .model import answer
-from .programs import CHECK, REPLAY, Programs, texts_of
+from .programs import CHECK, REPLAY, texts_of
 
 # A worker takes so many arguments at a time, and so many differences are printed.
 CHUNK, SHOWN = 1000, 10
@@ -38,21 +35,16 @@ def chunks_of(count):
     return [range(start, min(start + CHUNK, count)) for start in range(0, count, CHUNK)]
 
 
-def side_by_side(check, items):
-    with ProcessPoolExecutor(len(os.sched_getaffinity(0)), get_context("fork")) as pool:
-        yield from pool.map(check, items)
-
-
-def drawn_lines(seed, programs, kind, numbers):
+def drawn_lines(seed, kind, numbers):
     """The lines of these numbers, with the texts that they were written of, or with None if they have edits."""
     if kind == "dumped":
-        return [*drawn_dump(seed, programs.check, numbers)]
+        return [*drawn_dump(seed, numbers)]
     styles, sources = [*STYLES.values()], [random.Random(f"{seed} {number}") for number in numbers]
     drawn = [drawn_line(source, styles[number % len(styles)]) for number, source in zip(numbers, sources)]
     if kind == "edited":
         return [(mutated_line(source, line), None) for source, (_, line) in zip(sources, drawn)]
     if kind == "encoded":
-        return [*zip(encoded_lines(programs.check, drawn), (text_of(sent_update(update)) for update, _ in drawn))]
+        return [*zip(encoded_lines(drawn), (text_of(sent_update(update)) for update, _ in drawn))]
     return [(line, text_of(update)) for update, line in drawn]
 
 
@@ -75,10 +67,10 @@ def compared(line, text, read, reading):
     return classes
 
 
-def check_lines(programs, kind, drawn):
+def check_lines(kind, drawn):
     """Compares lines. Returns counts of answers, of classes, and the differences."""
     lines, texts = zip(*drawn)
-    reads = restored_texts(programs, lines) if kind == "dumped" else texts_of(programs.check, lines)
+    reads = restored_texts(lines) if kind == "dumped" else texts_of(lines)
     kinds, classes, differences = Counter(), Counter(), []
     for line, text, read, reading in zip(lines, texts, reads, dissection.read(lines)):
         kinds[kind_of(read)] += 1
@@ -91,9 +83,9 @@ def check_lines(programs, kind, drawn):
     return kinds, classes, differences
 
 
-def check_chunk(seed, programs, kind, numbers):
+def check_chunk(seed, kind, numbers):
     """Compares the lines of these numbers."""
-    return check_lines(programs, kind, drawn_lines(seed, programs, kind, numbers))
+    return check_lines(kind, drawn_lines(seed, kind, numbers))
 
 
 def reported(differences):
@@ -110,40 +102,36 @@ def run_arguments(check, chunks, name):
         kinds += some_kinds
         classes += some_classes
         differences += some
-    print(f"{kinds.total()} {name} arguments: {listed(kinds)}")
+    print(f"{kinds.total()} {name} arguments: {', '.join(f'{kinds[kind]} {kind}' for kind in sorted(kinds))}")
     for name, number in sorted(classes.items(), key=lambda item: (item[0] != "as tshark", item)):
         print(f"  {name}: {number}")
     return reported(differences)
 
 
-def run_drawn(seed, count, programs, kind):
-    return run_arguments(partial(check_chunk, seed, programs, kind), chunks_of(count), kind)
+def run_drawn(seed, count, kind):
+    return run_arguments(partial(check_chunk, seed, kind), chunks_of(count), kind)
 
 
-def run_dump(path, programs):
+def run_dump(path):
     """Compares the lines of a dump in a file."""
     dump = kept_dump(path)
     chunks = [dump[numbers.start : numbers.stop] for numbers in chunks_of(len(dump))]
-    return run_arguments(partial(check_lines, programs, "dumped"), chunks, f"dumped (in {path})")
+    return run_arguments(partial(check_lines, "dumped"), chunks, f"dumped (in {path})")
 
 
-def run_joins(seed, count, programs):
+def run_joins(seed, count):
     """Compares inserts that are split over two arguments, and prints what they leave. Returns how many differ."""
     totals, differences = (0, 0, 0), []
-    for counts, some in side_by_side(partial(check_pairs, seed, programs), chunks_of(count)):
+    for counts, some in side_by_side(partial(check_pairs, seed), chunks_of(count)):
         totals = [*map(sum, zip(totals, counts))]
         differences += some
     print("{} joined arguments, {} of them refused, and {} as tshark".format(*totals))
     return reported(differences)
 
 
-def listed(counts):
-    return ", ".join(f"{counts[name]} {name}" for name in sorted(counts))
-
-
-def run_scripts(seed, programs):
+def run_scripts(seed):
     """Compares what the scripts leave."""
-    triggers = sum(side_by_side(partial(scripts.check_script, seed, programs), range(scripts.SCRIPTS)))
+    triggers = sum(side_by_side(partial(scripts.check_script, seed), range(scripts.SCRIPTS)))
     print(f"{scripts.SCRIPTS} scripts, with {triggers} triggers")
     if not triggers:
         raise Difference("no script triggers a service")
@@ -158,26 +146,23 @@ def command_line():
     parser.add_argument("seed", metavar="SEED", help="makes the arguments; the same seed makes the same ones")
     parser.add_argument("count", metavar="COUNT", type=int, help="of arguments as written, and again of edited ones")
     parser.add_argument("--dump", metavar="FILE", help="a dump of a store, whose lines are compared too")
-    parser.add_argument("--check", default=CHECK, metavar="PROGRAM", help=f"the decoder, {CHECK} if it is not given")
-    parser.add_argument("--replay", default=REPLAY, metavar="PROGRAM", help=f"{REPLAY} if it is not given")
     return parser
 
 
 def main():
     parser = command_line()
     given = parser.parse_args()
-    for program in (given.check, given.replay, "tshark"):
+    for program in (CHECK, REPLAY, "tshark"):
         if not shutil.which(program):
             parser.error(f"{program} is not there")
     if not re.fullmatch("[0-9]+", given.seed) or given.count < 1:
         parser.error("SEED and COUNT are numbers, and COUNT is at least 1")
-    programs = Programs(given.check, given.replay)
     try:
-        differing = sum(run_drawn(given.seed, given.count, programs, kind) for kind in KINDS)
-        differing += run_dump(given.dump, programs) if given.dump else 0
-        differing += run_joins(given.seed, given.count, programs)
-        run_scripts(given.seed, programs)
-        print(f"{CAPTURE}: {check_capture(programs)} messages, with the script that is kept")
+        differing = sum(run_drawn(given.seed, given.count, kind) for kind in KINDS)
+        differing += run_dump(given.dump) if given.dump else 0
+        differing += run_joins(given.seed, given.count)
+        run_scripts(given.seed)
+        print(f"{CAPTURE}: {check_capture()} messages, with the script that is kept")
     except (Difference, TsharkFailed, OSError) as fault:
         sys.exit(f"map-check: {fault}")
     print(f"{differing} differences")

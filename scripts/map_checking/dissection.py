@@ -33,7 +33,7 @@ def packet_of(number, line):
     return transactions.long_unitdata(VLR_ADDRESS, HLR_ADDRESS, message)
 
 
-def row_of(name, node):
+def row_of(node):
     point = node.first("TriggerDetectionPoint")
     endings = (".serviceKey", ".gsmSCF_Address", ".defaultCallHandling")
     key, address, handling = (node.first(ending) for ending in endings)
@@ -51,17 +51,13 @@ def number_of(node):
     )
 
 
-def service_of(node):
-    return int(node.show), node.octets()
-
-
-def entry_of(name, node):
+def entry_of(node):
     basics, causes, call_type = (node.first(ending) for ending in (
         ".basicServiceCriteria", "_CauseValueCriteria", ".callTypeCriteria"))
     return updates.Entry(
         node.first("TriggerDetectionPoint").integer(),
         number_of(node.first(".destinationNumberCriteria_element")),
-        basics and [service_of(code) for code in basics.all(".Ext_BasicServiceCode")],
+        basics and [(int(code.show), code.octets()) for code in basics.all(".Ext_BasicServiceCode")],
         call_type and call_type.integer(),
         causes and [cause.octets()[0] for cause in causes.all(".CauseValue")],
     )
@@ -69,7 +65,7 @@ def entry_of(name, node):
 
 def list_of(name, node):
     read, ending = (entry_of, "Criteria_element") if name.endswith("c") else (row_of, "TDPData_element")
-    return [read(name, item) for item in node.all(ending)]
+    return [read(item) for item in node.all(ending)]
 
 
 def insert_of(invoke, imsi):

@@ -14,7 +14,7 @@ from map_arguments.styles import STYLES
 from checking import Difference
 
 from .encoded import encoded_lines, sent_update
-from .programs import end_of, output_of, with_lists
+from .programs import CHECK, REPLAY, end_of, output_of, with_lists
 
 # Of so many lines one has its octets edited.
 EDITED = 4
@@ -30,12 +30,12 @@ def recorded(insert):
     return updates.Insert(insert.imsi, lists)
 
 
-def drawn_dump(seed, program, numbers):
+def drawn_dump(seed, numbers):
     """The lines of a dump, with the texts that they were written of, or with None if they have edits."""
     sources = [random.Random(f"{seed} dumped {number}") for number in numbers]
     inserts = [recorded(draw_insert(source)) for source in sources]
     drawn = [(insert, line_of(source, insert, STYLES["minimal"])) for source, insert in zip(sources, inserts)]
-    for number, source, insert, line in zip(numbers, sources, inserts, encoded_lines(program, drawn)):
+    for number, source, insert, line in zip(numbers, sources, inserts, encoded_lines(drawn)):
         text = updates.text_of(sent_update(insert))
         if number % EDITED == 0:
             line, text = line._replace(octets=mutated(source, line.octets)), None
@@ -63,11 +63,11 @@ def faults_of(told):
     return {int(fault[1]): fault[2] for fault in found}
 
 
-def restored_texts(programs, lines):
+def restored_texts(lines):
     """What the script that restores the lines has of each behind its Register, and what came beside it; or the fault of
     the line. The script is replayed."""
     dump = [*NO_LINES, *(f"{line.imsi},{line.octets.hex()}" for line in lines)]
-    ended = end_of((programs.check, "--restore"), "".join(f"{text}\n" for text in dump))
+    ended = end_of([CHECK, "--restore"], "".join(f"{text}\n" for text in dump))
     faults, script = faults_of(ended.stderr.decode().splitlines()), iter(ended.stdout.decode().splitlines())
     records = []
     for number, line in enumerate(lines, len(NO_LINES) + 1):
@@ -76,5 +76,5 @@ def restored_texts(programs, lines):
         records.append(faults.get(number) or next(script, "nothing"))
     if ended.returncode != 2 or [*script]:
         raise Difference(f"a dump with lines that are none is restored with status {ended.returncode}, or by more")
-    output_of(programs.replay, ended.stdout.decode())
-    return with_lists(programs.check, lines, records)
+    output_of([REPLAY], ended.stdout.decode())
+    return with_lists(lines, records)

@@ -9,7 +9,7 @@ from map_arguments.styles import STYLES
 
 from checking import Difference
 
-from .programs import answers_of
+from .programs import CHECK, answers_of
 
 # What stands for the items of a list of which all are ignored.
 IGNORED_ROW, IGNORED_ENTRY = updates.Row(255, 0, bytes(1), 0), updates.Entry(255)
@@ -57,10 +57,10 @@ def line_of(text):
     return Line(operation, imsi, bytes.fromhex(digits))
 
 
-def encoded_lines(program, drawn):
+def encoded_lines(drawn):
     """The lines that the encoder makes of the updates that lines are read as. Octet for octet they are to be those that
     the tools write of these updates in the shortest style."""
-    lines = [line_of(text) for text in answers_of((program, "--encode"), [line for _, line in drawn])]
+    lines = [line_of(text) for text in answers_of([CHECK, "--encode"], [line for _, line in drawn])]
     for (update, given), line in zip(drawn, lines):
         written = STYLES["minimal"].octets(random, sent_element(sent_update(update)))
         if (line.operation, line.octets) != (updates.OPERATIONS[type(update)], written):

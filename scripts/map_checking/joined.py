@@ -100,10 +100,10 @@ def compare(pair, read, readings):
     return True
 
 
-def check_pairs(seed, programs, numbers):
+def check_pairs(seed, numbers):
     """How many pairs there are, how many are refused, and with how many tshark was compared; and the differences."""
     pairs = [*drawn_pairs(seed, numbers)]
-    reads = texts_of(programs.check, pairs)
+    reads = texts_of(pairs)
     shown = iter(dissection.read([line for pair in pairs for line in pair[:2]]))
     counts, differences = [len(pairs), sum(read.startswith("fault") for read in reads), 0], []
     for pair, read in zip(pairs, reads):

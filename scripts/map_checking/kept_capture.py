@@ -11,7 +11,7 @@ from map_arguments.trees import trees_of
 from checking import Difference
 
 from .dissection import marks_of
-from .programs import output_of
+from .programs import CHECK, REPLAY, output_of
 
 CAPTURE, SCRIPT = "tests/map/dialogues.pcap", "tests/map/dialogues.csv"
 
@@ -30,7 +30,7 @@ def tool_output(*words):
     return ended.stdout
 
 
-def check_capture(programs):
+def check_capture():
     """Compares what the capture and its script leave with what is kept."""
     with tempfile.NamedTemporaryFile(suffix=".pcap") as file:
         tool_output("tools/mapcapture", file.name)
@@ -39,10 +39,10 @@ def check_capture(programs):
     marks = [marks_of(packet) for packet in trees_of(CAPTURE, "m3ua sccp tcap gsm_map")]
     if any(marks):
         raise Difference(f"tshark puts marks in {CAPTURE}: {marks}")
-    script = tool_output("tools/map2script", "--check", programs.check, CAPTURE)
+    script = tool_output("tools/map2script", "--check", CHECK, CAPTURE)
     if script != Path(SCRIPT).read_text():
         raise Difference(f"tools/map2script makes of {CAPTURE} another script than {SCRIPT}:\n{script}")
-    left = output_of(programs.replay, script + CALLS).splitlines()[-len(TRIGGERS) :]
+    left = output_of([REPLAY], script + CALLS).splitlines()[-len(TRIGGERS) :]
     if [line.split(" ", 2)[-1] for line in left] != TRIGGERS:
         raise Difference(f"{SCRIPT} with calls leaves {left}")
     return len(marks)

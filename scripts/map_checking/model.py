@@ -3,6 +3,8 @@
 The rules are those of "MAP arguments" in `docs/RULES.md`, written down apart from any code of the crates.
 """
 
+from functools import partial
+
 from map_arguments import updates
 
 from .reading import (CONTEXT, DATA_MISSING, LENGTH, MISSING, NO_IMSI, OTHER_IMSI, TAG, TWICE, UNEXPECTED_DATA,
@@ -19,11 +21,14 @@ def context(number):
     return CONTEXT, number
 
 
+def unless(refused, field, rule, fault=UNEXPECTED_DATA):
+    if refused:
+        raise Fault(fault, field.start, rule)
+
+
 def expect(field, tag, constructed):
-    if field.tag != tag:
-        raise Fault(TAG, field.start, "other-tag")
-    if field.constructed != constructed:
-        raise Fault(TAG, field.start, "other-form")
+    unless(field.tag != tag, field, "other-tag", TAG)
+    unless(field.constructed != constructed, field, "other-form", TAG)
 
 
 class Fields:
@@ -44,23 +49,20 @@ class Fields:
 
     def mandatory(self, tag, constructed):
         field = self.optional(tag, constructed)
-        if field is None:
-            raise Fault(MISSING, self.parent.start, "missing-field")
+        unless(field is None, self.parent, "missing-field", MISSING)
         return field
 
 
 def first(octets, parent):
     found = inner(octets, parent)
-    if not found:
-        raise Fault(MISSING, parent.start, "missing-field")
+    unless(not found, parent, "missing-field", MISSING)
     return found[0]
 
 
 def items(octets, parent):
     """The elements of a list that has at least one."""
     found = inner(octets, parent)
-    if not found:
-        raise Fault(DATA_MISSING, parent.start, "empty-list")
+    unless(not found, parent, "empty-list", DATA_MISSING)
     return found
 
 
@@ -68,15 +70,9 @@ def when_there(read, octets, field):
     return None if field is None else read(octets, field)
 
 
-def unless(refused, field, rule):
-    if refused:
-        raise Fault(UNEXPECTED_DATA, field.start, rule)
-
-
 def signed(octets, field):
     content = field.octets(octets)
-    if not content:
-        raise Fault(LENGTH, field.start, "empty-integer")
+    unless(not content, field, "empty-integer", LENGTH)
     return int.from_bytes(content, "big", signed=True)
 
 
@@ -116,8 +112,7 @@ def agreed(octets, field, given):
             raise Fault(NO_IMSI, 0, "no-imsi")
         return given
     shown = imsi(octets, field)
-    if given and shown != given:
-        raise Fault(OTHER_IMSI, field.start, "other-imsi")
+    unless(given and shown != given, field, "other-imsi", OTHER_IMSI)
     return shown
 
 
@@ -143,12 +138,15 @@ def tagged_items(octets, parent, tag, read):
     return values
 
 
-def addresses(octets, parent):
-    return tagged_items(octets, parent, OCTET_STRING, address)
+def cause(octets, field):
+    content = field.octets(octets)
+    unless(len(content) != 1, field, "octets-of-cause", LENGTH)
+    return content[0]
 
 
-def number_lengths(octets, parent):
-    return tagged_items(octets, parent, INTEGER, natural)
+addresses = partial(tagged_items, tag=OCTET_STRING, read=address)
+number_lengths = partial(tagged_items, tag=INTEGER, read=natural)
+causes = partial(tagged_items, tag=OCTET_STRING, read=cause)
 
 
 def number(octets, parent):
@@ -156,35 +154,21 @@ def number(octets, parent):
     match_type = choice(octets, fields.mandatory(context(0), PRIMITIVE))
     numbers = when_there(addresses, octets, fields.optional(context(1), CONSTRUCTED))
     lengths = when_there(number_lengths, octets, fields.optional(context(2), CONSTRUCTED))
-    if numbers is lengths is None:
-        raise Fault(DATA_MISSING, parent.start, "no-number")
+    unless(numbers is lengths is None, parent, "no-number", DATA_MISSING)
     unless(len(numbers or ()) > MAX_NUMBERS or len(lengths or ()) > MAX_LENGTHS, parent, "long-list")
     unless(not all(1 <= length <= MAX_LENGTH for length in lengths or ()), parent, "range-of-length")
     return updates.NumberCriterion(match_type, numbers, lengths)
 
 
 def service(octets, field):
-    if field.tag not in (context(2), context(3)) or field.constructed:
-        raise Fault(TAG, field.start, "other-service")
+    unless(field.tag not in (context(2), context(3)) or field.constructed, field, "other-service", TAG)
     content = field.octets(octets)
-    if not 1 <= len(content) <= 5:
-        raise Fault(LENGTH, field.start, "octets-of-service")
+    unless(not 1 <= len(content) <= 5, field, "octets-of-service", LENGTH)
     return field.tag[1], content
 
 
 def services(octets, parent):
     return [service(octets, item) for item in items(octets, parent)]
-
-
-def cause(octets, field):
-    content = field.octets(octets)
-    if len(content) != 1:
-        raise Fault(LENGTH, field.start, "octets-of-cause")
-    return content[0]
-
-
-def causes(octets, parent):
-    return tagged_items(octets, parent, OCTET_STRING, cause)
 
 
 def made_entry(entry, parent, first_point):
@@ -218,8 +202,8 @@ def t_entry(octets, parent):
 def received(octets, parent, read, name):
     """A list of rows or entries, of which no two have one detection point that counts."""
     found = [read(octets, item) for item in items(octets, parent)]
-    if rule := refusal(found, name):
-        raise Fault(UNEXPECTED_DATA, parent.start, rule)
+    rule = refusal(found, name)
+    unless(rule, parent, rule)
     return found
 
 
@@ -267,16 +251,14 @@ def insert(octets, whole, given):
 
 
 def null(octets, field):
-    if field.octets(octets):
-        raise Fault(LENGTH, field.start, "content-of-null")
+    unless(field.octets(octets), field, "content-of-null", LENGTH)
     return True
 
 
 def bits(octets, field):
     """The bits of a string, as a text of 0 and 1."""
     content = field.octets(octets)
-    if not content or content[0] > 7 or len(content) == 1 and content[0]:
-        raise Fault(LENGTH, field.start, "octets-of-bits")
+    unless(not content or content[0] > 7 or len(content) == 1 and content[0], field, "octets-of-bits", LENGTH)
     text = "".join(f"{octet:08b}" for octet in content[1:])
     return text[: len(text) - content[0]]
 

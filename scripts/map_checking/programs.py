@@ -1,7 +1,6 @@
 """The programs that are checked: camel_map_check, which reads arguments, and camel_replay."""
 
 import subprocess
-from typing import NamedTuple
 
 from checking import Difference
 
@@ -11,28 +10,20 @@ REPLAY = "crates/camel_replay/out/camel_replay"
 TIMEOUT = 120
 
 
-class Programs(NamedTuple):
-    check: str = CHECK
-    replay: str = REPLAY
-
-
 def end_of(command, text):
-    """The end of a program, or of a tuple of one and its words, that was given a text."""
-    words = [command] if isinstance(command, str) else [*command]
+    """The end of a program, which is given these words and a text."""
     try:
-        return subprocess.run(words, input=text.encode(), capture_output=True, timeout=TIMEOUT)
+        return subprocess.run(command, input=text.encode(), capture_output=True, timeout=TIMEOUT)
     except subprocess.TimeoutExpired:
-        raise Difference(f"{words[0]} does not end within {TIMEOUT} seconds") from None
+        raise Difference(f"{command[0]} does not end within {TIMEOUT} seconds") from None
 
 
 def output_of(command, text):
-    """What a program, or a tuple of one and its words, writes of a text. It is to end with status 0 and to say nothing
-    else."""
+    """What a program writes of a text. It is to end with status 0 and to say nothing else."""
     ended = end_of(command, text)
     if ended.returncode or ended.stderr:
-        program = command if isinstance(command, str) else command[0]
         said = ended.stderr[-200:].decode(errors="replace")
-        raise Difference(f"{program} ends with status {ended.returncode}: {said}")
+        raise Difference(f"{command[0]} ends with status {ended.returncode}: {said}")
     return ended.stdout.decode()
 
 
@@ -46,16 +37,16 @@ def answers_of(command, lines):
         # Each by itself, so that the line at which the program ends is named.
         return [answer for line in lines for answer in answers_of(command, [line])]
     if len(answers) != len(lines):
-        raise Difference(f"{command} answers {len(lines)} lines with {len(answers)}")
+        raise Difference(f"{command[0]} answers {len(lines)} lines with {len(answers)}")
     return answers
 
 
-def with_lists(program, lines, records):
+def with_lists(lines, records):
     """The records that lines are read as, each with what came beside it, or the faults of the lines."""
-    lists = answers_of((program, "--lists"), lines)
+    lists = answers_of([CHECK, "--lists"], lines)
     return [record if record == listed else f"{record} {listed}" for record, listed in zip(records, lists)]
 
 
-def texts_of(program, lines):
+def texts_of(lines):
     """The record that each line is read as, and what came beside it; or the fault of the line."""
-    return with_lists(program, lines, answers_of(program, lines))
+    return with_lists(lines, answers_of([CHECK], lines))

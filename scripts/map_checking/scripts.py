@@ -8,7 +8,7 @@ from map_arguments.styles import STYLES
 
 from checking import Difference
 
-from .programs import answers_of, output_of
+from .programs import CHECK, REPLAY, answers_of, output_of
 
 SCRIPTS, RECORDS, SUBSCRIBERS = 200, 40, 3
 GREATEST_POINT, GREATEST_HANDLING = 255, 2**32 - 1
@@ -83,21 +83,21 @@ def drawn_script(source):
     return records
 
 
-def both_scripts(program, source):
+def both_scripts(source):
     """A script, and the same one with the records that the program reads of the octets of its updates."""
     records = drawn_script(source)
     changes = [record for record in records if not isinstance(record, str)]
     style = source.choice([*STYLES.values()])
-    answers = iter(answers_of(program, [line_of(source, update, style) for update in changes]))
+    answers = iter(answers_of([CHECK], [line_of(source, update, style) for update in changes]))
     plain = [record if isinstance(record, str) else record_text(record) for record in records]
     through = [record if isinstance(record, str) else next(answers) for record in records]
     return "\n".join(plain) + "\n", "\n".join(through) + "\n"
 
 
-def check_script(seed, programs, number):
+def check_script(seed, number):
     """Compares what both scripts leave. Returns how many lines trigger a service."""
-    plain, through = both_scripts(programs.check, random.Random(f"{seed} script {number}"))
-    left, right = output_of(programs.replay, plain), output_of(programs.replay, through)
+    plain, through = both_scripts(random.Random(f"{seed} script {number}"))
+    left, right = output_of([REPLAY], plain), output_of([REPLAY], through)
     if left != right:
         raise Difference(f"script {number} of seed {seed} leaves other lines after its updates went through octets:\n"
                          f"{plain}-- and with the records that were read:\n{through}")

@@ -1,5 +1,7 @@
 """Traits of an argument that its model reads: what is in it that tshark reads in another way, or calls malformed."""
 
+from contextlib import suppress
+
 from map_arguments.extensions import FIELDS
 
 from .reading import CONTEXT, UNIVERSAL, Fault, element, inner
@@ -48,36 +50,19 @@ def address_traits(content):
         yield "shared-country-code"
 
 
-def imsi_traits(content):
-    if len(content) < 4:
-        yield "short-imsi"
-
-
-def service_traits(content):
-    if len(content) > 4:
-        yield "long-service"
-
-
-def integer_traits(content):
-    if len(content) > 8:
-        yield "long-integer"
+def of_size(trait, sizes):
+    return lambda content: [trait] if len(content) in sizes else []
 
 
 def bits_traits(content):
-    if len(content) > 1:
-        unused = content[-1] & (1 << content[0]) - 1
-        if (len(content) - 1) * 8 > NAMED_BITS:
-            yield "unnamed-bits"
-        if unused:
-            yield "unused-bits"
-        if content[0] > 7:
-            yield "unused-count"
-    if len(content) == 1:
-        yield "no-bits"
+    if (len(content) - 1) * 8 > NAMED_BITS:
+        yield "unnamed-bits"
+    if len(content) > 1 and content[-1] & (1 << content[0]) - 1:
+        yield "unused-bits"
 
 
-LEAVES = {"address": address_traits, "imsi": imsi_traits, "service": service_traits, "integer": integer_traits,
-          "bits": bits_traits}
+LEAVES = {"address": address_traits, "bits": bits_traits, "imsi": of_size("short-imsi", range(4)),
+          "service": of_size("long-service", range(5, 2**32)), "integer": of_size("long-integer", range(9, 2**32))}
 
 
 def tag_traits(found):
@@ -127,11 +112,9 @@ def traits_of(line):
     """The traits of a line that is read. If the elements are malformed, those that come before that place."""
     traits = set()
     type_name = OPERATION_TYPES[line.operation]
-    try:
+    with suppress(Fault):
         whole = element(line.octets, 0, len(line.octets))
-        if type_name == "cancel" and whole.tag == (UNIVERSAL, 4):
+        if type_name == "cancel" and whole.tag == OCTET_STRING:
             type_name = "imsi"
         traits.update(traits_of_element(line.octets, whole, type_name))
-    except Fault:
-        traits.add("malformed")
     return traits
