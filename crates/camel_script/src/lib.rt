@@ -2,7 +2,6 @@
 #![tactic(auto)]
 
 mod append;
-mod boxed_update;
 mod item;
 mod line;
 mod mistake;
@@ -13,7 +12,6 @@ mod script_fault;
 mod text;
 
 pub use append::{append_decimal, append_text};
-pub use boxed_update::BoxedUpdate;
 pub use line::{Line, push_line};
 pub use mistake::{Expected, Mistake};
 pub use record::{Record, parse_fields, parse_record};

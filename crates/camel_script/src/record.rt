@@ -12,7 +12,6 @@ pub(crate) mod field;
 pub(crate) mod insert;
 pub(crate) mod refused_item;
 
-use crate::boxed_update::BoxedUpdate;
 use crate::mistake::{Expected, Mistake, at_field, check_fields};
 use crate::record::call::parse_call;
 use crate::record::delete::parse_delete;
@@ -22,7 +21,7 @@ use crate::script_fault::ScriptFault;
 use crate::text::parse_imsi;
 use crate::text::record_fault::RecordFault;
 use camel_criteria::Refusal;
-use camel_rows::{CallEvent, Update};
+use camel_rows::{Boxed, CallEvent, Update};
 use camel_tbcd::Imsi;
 use csv::ByteRecord;
 use std::alloc::Global;
@@ -34,7 +33,7 @@ use std::alloc::Global;
 #[derive(Debug, Drop)]
 pub enum Record {
     /// An update of the subscriber data.
-    Update(BoxedUpdate),
+    Update(Boxed<Update>),
     /// The pending updates are published.
     Publish,
     /// A call at a trigger detection point.
@@ -138,7 +137,7 @@ fn parse_register(alloc: Global, fields: &ByteRecord, read: &mut Record) -> Resu
     ensures { ReadsInto result read.new (register_of (fields_of fields.now)) }
 {
     let imsi = parse_imsi_alone(fields)?;
-    *read = Record::Update(BoxedUpdate::new(alloc, Update::Register { imsi })?);
+    *read = Record::Update(Boxed::new(alloc, Update::Register { imsi })?);
     Ok(())
 }
 
@@ -147,7 +146,7 @@ fn parse_cancel(alloc: Global, fields: &ByteRecord, read: &mut Record) -> Result
     ensures { ReadsInto result read.new (cancel_of (fields_of fields.now)) }
 {
     let imsi = parse_imsi_alone(fields)?;
-    *read = Record::Update(BoxedUpdate::new(alloc, Update::Cancel { imsi })?);
+    *read = Record::Update(Boxed::new(alloc, Update::Cancel { imsi })?);
     Ok(())
 }
 
@@ -157,7 +156,7 @@ fn parse_clear(alloc: Global, fields: &ByteRecord, read: &mut Record) -> Result<
     ensures { ReadsInto result read.new (clear_of (fields_of fields.now)) }
 {
     check_fields(&WORD, fields)?;
-    *read = Record::Update(BoxedUpdate::new(alloc, Update::ClearAll)?);
+    *read = Record::Update(Boxed::new(alloc, Update::ClearAll)?);
     Ok(())
 }
 

@@ -60,7 +60,7 @@ pub(crate) fn check_next<R: Read>(rt: &impl Abort, script: &mut Script<R>, wante
 pub(crate) fn update_of(alloc: Global, text: &str) -> Result<Update, Fail> {
     let mut script = Script::new(alloc, text.as_bytes(), 1)?;
     match script.read_record()? {
-        Some(Record::Update(update)) => Ok(update.into_update()),
+        Some(Record::Update(update)) => Ok(update.into_inner()),
         _ => Err(Fail::new("no update")),
     }
 }

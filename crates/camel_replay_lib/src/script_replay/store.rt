@@ -100,7 +100,7 @@ impl Store {
         ensures only { IfErr result (λ why. why ≡ Refusal.OutOfMemory) }
     {
         match script_record {
-            Record::Update(update) => self.line_of_update(update.into_update()),
+            Record::Update(update) => self.line_of_update(update.into_inner()),
             Record::Publish => Ok(Line::Published(self.publish()?)),
             Record::Call(event) => Ok(Line::Decided(self.decide(&event))),
             Record::Refused(refusal) => Ok(Line::Refused(refusal.code())),

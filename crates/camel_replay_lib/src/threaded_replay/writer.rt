@@ -92,11 +92,7 @@ impl<W: Wait + Drop> Writer<W> {
     {
         match next {
             Record::Update(update) => {
-                submit(
-                    &mut self.store.vlr,
-                    &mut self.accepted,
-                    update.into_update(),
-                )
+                submit(&mut self.store.vlr, &mut self.accepted, update.into_inner())
             }
             Record::Publish => self.publish(rt, gate),
             Record::Refused(refusal) => Ok(Line::Refused(refusal.code())),

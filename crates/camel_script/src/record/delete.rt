@@ -3,12 +3,11 @@ ghost use Rattle.csv.specs.Records.{fields_of};
 ghost use Rattle.camel_script.specs.Reading.{ReadsInto, in_turn, numbered};
 ghost use Rattle.camel_script.specs.Record.{delete_of, no_withdrawal, withdrawal_with};
 
-use crate::boxed_update::BoxedUpdate;
 use crate::mistake::{Expected, Mistake, field_count, mistake_at};
 use crate::record::field::field;
 use crate::record::{Record, read_imsi};
 use crate::text::record_fault::RecordFault;
-use camel_rows::{Update, Withdrawal};
+use camel_rows::{Boxed, Update, Withdrawal};
 use csv::ByteRecord;
 use std::alloc::Global;
 
@@ -29,7 +28,7 @@ pub(crate) fn parse_delete(
     }
     let imsi = read_imsi(fields)?;
     let what = parse_withdrawal(fields)?;
-    *read = Record::Update(BoxedUpdate::new(alloc, Update::Delete { imsi, what })?);
+    *read = Record::Update(Boxed::new(alloc, Update::Delete { imsi, what })?);
     Ok(())
 }
 

@@ -6,14 +6,13 @@ ghost use Rattle.camel_script.specs.Item.{items_of};
 ghost use Rattle.camel_script.specs.Reading.{ReadsAt, ReadsInto};
 ghost use Rattle.camel_script.specs.Record.{insert_of, insert_of_items, received_list};
 
-use crate::boxed_update::BoxedUpdate;
 use crate::item::Items;
 use crate::mistake::{Mistake, field_count};
 use crate::record::field::field;
 use crate::record::refused_item::refused_item;
 use crate::record::{Record, WORD_AND_IMSI, read_imsi};
 use camel_criteria::{O_DETECTION_POINTS, OCriteria, TCriteria, VT_DETECTION_POINTS};
-use camel_rows::{OCriteriaSet, OCsi, TCriteriaSet, TdpRow, Update, VtCsi};
+use camel_rows::{Boxed, OCriteriaSet, OCsi, TCriteriaSet, TdpRow, Update, VtCsi};
 use camel_tbcd::Imsi;
 use csv::ByteRecord;
 use std::alloc::Global;
@@ -67,7 +66,7 @@ fn make_insert(
         vt,
         t_criteria,
     };
-    *read = Record::Update(BoxedUpdate::new(alloc, update)?);
+    *read = Record::Update(Boxed::new(alloc, update)?);
     Ok(())
 }
 
