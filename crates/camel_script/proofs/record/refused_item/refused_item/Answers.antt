@@ -40,17 +40,17 @@ loop-at-preserved c =
     let here = rw (numbered-field fields c.loop-at.at (omega arith)) at c.loop-at.invariant.2 in
     let count : length (take c.loop-at.count c.loop-at.dps) ≡ c.loop-at.count = length-take-le _ _ (omega arith) in
     elim c.if-eq.branch [
-      then-eq+else-count-eq-MAX_TDP_DATA+else-is_repeated w ↦
-        let named : bytes_eq (item_part (field fields c.loop-at.at) 0) c.args.name.now ≡ true = search rules in
-        let next = is_taken _ _ _ _ _ _ _ _ here named (grind (arith, nat_tests)) (search rules) in
-        rw (w.count-is, w.dps-is) (
-          omega arith,
-          length-set c.loop-at.dps c.loop-at.count _ ∙ long,
-          rw (take_more_set c.loop-at.dps c.loop-at.count w.item_dp-dp.result (omega arith), w.item_dp-dp.ensures, c.field-item.ensures) next,
-        )
-    | else-eq w ↦
-        let other : bytes_eq (item_part (field fields c.loop-at.at) 0) c.args.name.now ≡ false = search rules in
-        rw (w.count-is, w.dps-is) (few, long, passes_by _ _ _ _ _ _ _ _ here other)
+      | then-eq+else-count-eq-MAX_TDP_DATA+else-is_repeated w ↦
+          let named : bytes_eq (item_part (field fields c.loop-at.at) 0) c.args.name.now ≡ true = search rules in
+          let next = is_taken _ _ _ _ _ _ _ _ here named (grind (arith, nat_tests)) (search rules) in
+          rw (w.count-is, w.dps-is) (
+            omega arith,
+            length-set c.loop-at.dps c.loop-at.count _ ∙ long,
+            rw (take_more_set c.loop-at.dps c.loop-at.count w.item_dp-dp.result (omega arith), w.item_dp-dp.ensures, c.field-item.ensures) next,
+          )
+      | else-eq w ↦
+          let other : bytes_eq (item_part (field fields c.loop-at.at) 0) c.args.name.now ≡ false = search rules in
+          rw (w.count-is, w.dps-is) (few, long, passes_by _ _ _ _ _ _ _ _ here other)
     ]
 
 pub returns : goal.returns
