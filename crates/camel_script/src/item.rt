@@ -2,8 +2,9 @@
 
 ghost use Rattle.std.specs.Prelude.{◌≡◌, ◌≢◌, Err, IfErr, Ok, OnOk, length};
 ghost use Rattle.camel_script.specs.Item.{item_into, no_items, o_entry_of_parts, o_entry_texts, refused_part, refused_text, row_of_parts, row_texts, t_entry_of_parts, t_entry_texts, with_item};
-ghost use Rattle.camel_script.specs.Mistake.{part_count};
-ghost use Rattle.camel_script.specs.Reading.{MistakenAs, ReadsAt};
+ghost use Rattle.camel_criteria.specs.Criteria.{o_criteria_of};
+ghost use Rattle.camel_script.specs.Mistake.{at_part, part_count};
+ghost use Rattle.camel_script.specs.Reading.{MistakenAs, ReadsAt, or_refused};
 ghost use Rattle.camel_script.specs.Parts.{item_part, item_separator, parts_of};
 
 pub(crate) mod number;
@@ -20,7 +21,7 @@ use crate::text::record_fault::RecordFault;
 use crate::text::{
     make_isdn_address, parse_call_type, parse_decimal, parse_octets, parse_small_decimal,
 };
-use camel_criteria::{BasicService, Handling, MAX_BASIC_SERVICES, OCriteria, TCriteria};
+use camel_criteria::{BasicService, CallType, Handling, MAX_BASIC_SERVICES, OCriteria, TCriteria};
 use camel_rows::TdpRow;
 use std::alloc::Global;
 use std::marker::Model;
@@ -230,9 +231,25 @@ fn parse_o_entry(alloc: Global, number: usize, item: &[u8]) -> Result<OCriteria,
     let causes = at_part(number, 6, Causes, parse_small_decimals(alloc, parts.fifth))?;
     let criterion = make_number_criterion(alloc, &texts);
     let criterion = at_part(number, 3, NumberCriterion, criterion)?;
-    let entry = OCriteria::new(alloc, dp, criterion, &basic, call_type, &causes);
-    let part = refused_part(4, 6, &basic);
-    refused_at(number, part, refused_text(&basic), entry)
+    make_o_entry(alloc, number, dp, criterion, &basic, call_type, &causes)
+}
+
+/// The entry of these data. They are refused for the basic services or for the causes.
+fn make_o_entry(
+    alloc: Global,
+    number: usize,
+    dp: u8,
+    criterion: Option<camel_criteria::NumberCriterion>,
+    basic: &[BasicService],
+    call_type: Option<CallType>,
+    causes: &[u8],
+) -> Result<OCriteria, Mistake>
+    ensures { ReadsAt result (at_part number (refused_part 4 6 basic.now) (refused_text basic.now)
+        (or_refused (o_criteria_of dp criterion basic.now call_type causes.now))) }
+{
+    let entry = OCriteria::new(alloc, dp, criterion, basic, call_type, causes);
+    let part = refused_part(4, 6, basic);
+    refused_at(number, part, refused_text(basic), entry)
 }
 
 /// Reads an entry of the criteria of the VT-CSI. The texts of all its parts are read before its data are checked.
