@@ -20,7 +20,7 @@ not_refused (Some why) update e = absurd (cc)
 not_refused None update e = refl
 
 -- it refuses what the store refuses
-same_refusal : (admission : AdmissionData) (store : StoreData) (update : Update) → IsOf admission store
+pub same_refusal : (admission : AdmissionData) (store : StoreData) (update : Update) → IsOf admission store
     → admission_refusal admission update ≡ submission_refusal store update
 same_refusal admission store update is = admits admission store.store.limit store.updates update is.admits
 
@@ -60,14 +60,18 @@ rejects admission store updates at why is r = record {
   place = r.place;
   accepts = accepts admission store r.before is r.accepts;
   refused = subst (λ (own : Option Refusal). refusal_among own r.rejected ≡ Some why)
-      (same_refusal (fold admitted admission r.before) (fold with_accepted store r.before) r.rejected (with_all admission store r.before is r.accepts)) r.refused;
+      (same_refusal (fold admitted admission r.before) (fold with_accepted store r.before) r.rejected (with_all admission store r.before is r.accepts))
+      r.refused;
 }
+
+-- the store with these updates pending
+abbrev pub with_pending : StoreData → List Update → StoreData
+with_pending store pending = record store { updates = record { published = store.updates.published; pending = pending } }
 
 -- all of them are pending, behind those before them
 pub with_all-pending : (store : StoreData) (updates : List Update)
-    → fold with_accepted store updates ≡ record store { updates = record { published = store.updates.published; pending = store.updates.pending ++ updates } }
-with_all-pending store [] =
-    ap (λ (pending : List Update). record store { updates = record { published = store.updates.published; pending = pending } }) (sym (append-nil store.updates.pending))
+    → fold with_accepted store updates ≡ with_pending store (store.updates.pending ++ updates)
+with_all-pending store [] = ap (with_pending store) (sym (append-nil store.updates.pending))
 with_all-pending store (update ∷ updates) =
     with_all-pending (with_accepted store update) updates
-    ∙ ap (λ (pending : List Update). record store { updates = record { published = store.updates.published; pending = pending } }) (append_assoc store.updates.pending (update ∷ []) updates)
+    ∙ ap (with_pending store) (append_assoc store.updates.pending (update ∷ []) updates)

@@ -1,6 +1,7 @@
 -- Restoring what the published records have of all whom pending updates concern makes the admission of the published
 -- updates.
-use Rattle.std.proofs.Common.{◌≡◌, ◌∙◌, inl, inr, ℕ, Bool, true, false, cond, List, [], ◌∷◌, ◌++◌, length, append-nil, Option, Some, None, All, IsSome, refl, sym, ap, subst}
+use Rattle.std.proofs.Common.{◌≡◌, ◌∙◌, inl, inr, ℕ, Bool, true, false, cond, List, [], ◌∷◌, ◌++◌, length, append-nil, Option, Some, None}
+use Rattle.std.proofs.Common.{IsSome, refl, sym, ap, subst}
 use Rattle.std.proofs.lemmas.List.Elements.{All-append, All-cons, All-nil}
 use Rattle.std.proofs.lemmas.Slice.Eq.{bytes_eq-Decides}
 use Rattle.std.specs.FinMap as map
@@ -14,10 +15,10 @@ use Rattle.camel_rows.specs.CsisPresent.{csis_of}
 use Rattle.camel_rows.specs.Front.{IsFront}
 use Rattle.camel_rows.specs.Records.{RecordsData, no_records}
 use Rattle.camel_rows.specs.Subscriber.{SubscriberData}
-use Rattle.camel_rows.specs.Update.{AcceptedFrom, is_of, leaves_record, records_after, records_from, records_of, update_imsi}
+use Rattle.camel_rows.specs.Update.{AcceptedFrom, is_of, records_after, records_from, records_of, update_imsi}
 use Rattle.camel_rows.specs.declared.subscriber.csis_present.CsisPresent.{CsisPresent}
 use Rattle.camel_rows.specs.declared.subscriber.update.Update.{Update}
-use Rattle.camel_vlr.specs.Dropping.{HasAll, IsAdmissionOver, IsRestored, IsRestoredAt}
+use Rattle.camel_vlr.specs.Dropping.{AllLeave, HasAll, IsAdmissionOver, IsRestored, IsRestoredAt}
 use Rattle.camel_vlr.specs.PublishedCopy.{IsOfItsFront}
 use Rattle.camel_vlr.specs.declared.published_copy.PublishedCopy.{PublishedCopy}
 
@@ -35,19 +36,21 @@ pub restored-none : (records : RecordsData) (admission : AdmissionData) → IsRe
 restored-none records admission = record { limit = refl; accepted = refl; each = λ imsi. inr (refl, All-nil (λ update. is_of imsi update ≡ false)) }
 
 -- for one update, the entry of its subscriber
-pub restored-one : (records : RecordsData) (admission : AdmissionData) (update : Update) (own : List ℕ) (csis : Option CsisPresent) → update_imsi update ≡ Some own
-    → csis ≡ option_map csis_of (map.get records own) → IsRestored records (update ∷ []) admission (record admission { directory = with_value admission.directory own csis })
+pub restored-one : (records : RecordsData) (admission : AdmissionData) (update : Update) (own : List ℕ) (csis : Option CsisPresent)
+    → update_imsi update ≡ Some own → csis ≡ option_map csis_of (map.get records own)
+    → IsRestored records (update ∷ []) admission (record admission { directory = with_value admission.directory own csis })
 restored-one records admission update own csis whom is = record { limit = refl; accepted = refl; each = λ imsi. at imsi (concerns (Some own) imsi) refl }
   where
     at : (imsi : List ℕ) (concerned : Bool) → concerns (Some own) imsi ≡ concerned
         → IsRestoredAt records (update ∷ []) admission.directory (with_value admission.directory own csis) imsi
     at imsi true concerned = inl (
         get-with_value_of admission.directory (Some own) csis imsi (λ none. absurd (cc))
-        ∙ (ap (λ b. cond b csis (map.get admission.directory imsi)) concerned ∙ (is ∙ ap (λ key. option_map csis_of (map.get records key)) ((bytes_eq-Decides own imsi).0 concerned)))
+        ∙ (ap (λ b. cond b csis (map.get admission.directory imsi)) concerned
+        ∙ (is ∙ ap (λ key. option_map csis_of (map.get records key)) ((bytes_eq-Decides own imsi).0 concerned)))
         )
     at imsi false concerned = inr (
       get-with_value_of admission.directory (Some own) csis imsi (λ none. absurd (cc)) ∙ ap (λ b. cond b csis (map.get admission.directory imsi)) concerned,
-      All-cons (λ one. is_of imsi one ≡ false) update [] (ap (λ subscriber. concerns subscriber imsi) whom ∙ concerned) (All-nil (λ one. is_of imsi one ≡ false)),
+      All-cons (λ one. is_of imsi one ≡ false) update [] (ap (λ whom. concerns whom imsi) whom ∙ concerned) (All-nil (λ one. is_of imsi one ≡ false)),
     )
 
 -- for some updates, and then for others
@@ -76,27 +79,30 @@ restored-has records updates a b restored has imsi held = of (restored.each imsi
 
 -- each subscriber of the published records has an entry, if each pending update leaves a record
 pub all_there : (copy : PublishedCopy) (admission : AdmissionData) (pending : List Update) → IsOfItsFront copy → IsAdmissionOver copy.front admission pending
-    → All (λ update. leaves_record update ≡ true) pending → HasAll copy.records admission.directory
+    → AllLeave pending → HasAll copy.records admission.directory
 all_there copy admission pending is over leave imsi held =
     let published = copy.front.updates in
     let now = subst (λ (m : RecordsData). IsSome (map.get m imsi)) is.records held in
     let later = kept (records_of published) pending imsi (accepted_behind no_records published pending over.all.accepted) leave now in
-    subst (λ (csis : Option CsisPresent). IsSome csis) (sym (over.admits.directory imsi ∙ ap (λ m. option_map csis_of (map.get m imsi)) (records_from-append no_records published pending)))
+    subst (λ (csis : Option CsisPresent). IsSome csis) (sym (over.admits.directory imsi
+    ∙ ap (λ m. option_map csis_of (map.get m imsi)) (records_from-append no_records published pending)))
     (is_there (map.get (records_from (records_of published) pending) imsi) later)
 
 -- an admission over the published updates only, by its parts
-pub published_only : (copy : PublishedCopy) (admission : AdmissionData) (pending : List Update) → IsOfItsFront copy → IsFront copy.front.store.limit (copy.front.updates ++ pending)
+pub published_only : (copy : PublishedCopy) (admission : AdmissionData) (pending : List Update) → IsOfItsFront copy
+    → IsFront copy.front.store.limit (copy.front.updates ++ pending)
     → IsAdmissionOf admission copy.front.store.limit copy.count copy.records → IsAdmissionOver copy.front admission []
 published_only copy admission pending is all admits =
     let published = copy.front.updates in record {
       all = subst (IsFront copy.front.store.limit) (sym (append-nil published)) is.front;
-      admits = subst (λ (updates : List Update). IsAdmissionOf admission copy.front.store.limit (length updates) (records_of updates)) (sym (append-nil published))
-          (rw (← is.count, ← is.records) admits);
+      admits = subst (λ (updates : List Update). IsAdmissionOf admission copy.front.store.limit (length updates) (records_of updates))
+          (sym (append-nil published)) (rw (← is.count, ← is.records) admits);
     }
 
 -- the entries of all whom pending updates concern are restored, and only the published ones are counted
-pub restored_over : (copy : PublishedCopy) (before after : AdmissionData) (pending : List Update) → IsOfItsFront copy → IsAdmissionOver copy.front before pending
-    → IsRestored copy.records pending before after → IsAdmissionOver copy.front (record after { accepted = copy.count }) []
+pub restored_over : (copy : PublishedCopy) (before after : AdmissionData) (pending : List Update) → IsOfItsFront copy
+    → IsAdmissionOver copy.front before pending → IsRestored copy.records pending before after
+    → IsAdmissionOver copy.front (record after { accepted = copy.count }) []
 restored_over copy before after pending is over restored =
     published_only copy (record after { accepted = copy.count }) pending is over.all (record {
       same_limit = restored.limit ∙ over.admits.same_limit;

@@ -28,7 +28,8 @@ is_there before admission one (csis, is, was) = rw (is, get-with_value_there bef
 pub leads_back : (before admission : AdmissionData) (one : Accepted) → IsTakenBackTo before one admission
     → record admission { accepted = admission.accepted - 1; directory = with_value admission.directory one.imsi one.before } ≡ before
 leads_back before admission one (csis, is, was) =
-    let back = λ (made : AdmissionData) (value : Option CsisPresent). record made { accepted = made.accepted - 1; directory = with_value made.directory one.imsi value } in
+    let back = λ (made : AdmissionData) (value : Option CsisPresent).
+    record made { accepted = made.accepted - 1; directory = with_value made.directory one.imsi value } in
     ap (λ made. back made one.before) is ∙ (ap (back (with_admission before (Some one.imsi) (Some csis))) was ∙ taken_back before one.imsi csis)
 
 -- so it is with the first of several

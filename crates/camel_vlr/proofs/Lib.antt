@@ -1,6 +1,7 @@
 pub mod AcceptanceLemmas
 pub mod ChainLemmas
 pub mod DroppingLemmas
+pub mod FieldsLemmas
 pub mod FrontLemmas
 pub mod GroupLemmas
 pub mod OperationLemmas

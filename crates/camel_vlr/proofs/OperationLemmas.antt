@@ -1,5 +1,6 @@
 -- Operations, and the updates among them.
-use Rattle.std.proofs.Common.{◌≡◌, ◌∙◌, ◌+◌, ◌-◌, ◌^◌, ◌<◌, ◌≤◌, ℕ, List, All, take, [], ◌∷◌, ◌++◌, length, drop, fold, min, sym, refl, ap, subst, arith, add-zero, append-nil, append_assoc}
+use Rattle.std.proofs.Common.{◌≡◌, ◌∙◌, ◌+◌, ◌-◌, ◌^◌, ◌<◌, ◌≤◌, ℕ, List, All, take, [], ◌∷◌, ◌++◌, length, drop, fold, min, sym}
+use Rattle.std.proofs.Common.{refl, ap, subst, arith, add-zero, append-nil, append_assoc}
 use Prim.Native.Nat.{zero, suc}
 use Rattle.std.proofs.Math.ListN.{get_or}
 use Rattle.std.proofs.Math.Seq.{drop-append_seam}
@@ -20,12 +21,14 @@ updates_among-append (operation.Update update ∷ first) second = ap (λ updates
 updates_among-append (operation.Front front ∷ first) second = updates_among-append first second
 
 -- the front of a publication is no update
-pub updates_among-front : (operations : List Operation) (front : PrefixData) → updates_among (operations ++ operation.Front front ∷ []) ≡ updates_among operations
+pub updates_among-front : (operations : List Operation) (front : PrefixData)
+    → updates_among (operations ++ operation.Front front ∷ []) ≡ updates_among operations
 updates_among-front operations front = updates_among-append operations (operation.Front front ∷ []) ∙ append-nil (updates_among operations)
 
 -- all operations leave the data that their updates leave, and count them
 pub fold-copy_after : (copy : CopyData) (operations : List Operation) → copy.1 + length (updates_among operations) ≤ MAX_UPDATES
-    → ((fold copy_after copy operations).0 ≡ records_from copy.0 (updates_among operations)) × ((fold copy_after copy operations).1 ≡ copy.1 + length (updates_among operations))
+    → ((fold copy_after copy operations).0 ≡ records_from copy.0 (updates_among operations))
+    × ((fold copy_after copy operations).1 ≡ copy.1 + length (updates_among operations))
 fold-copy_after copy [] few = (refl, sym (add-zero copy.1))
 fold-copy_after copy (operation.Update update ∷ operations) few =
     let next : min (copy.1 + 1) (2 ^ 64 - 1) ≡ copy.1 + 1 = omega arith in
@@ -43,7 +46,8 @@ pub updates_among-more : (first before after : List Operation) (updates : List U
     → updates_among (first ++ after) ≡ updates_among (first ++ before) ++ updates
 updates_among-more first before after updates (more, order, all) =
     ap (λ list. updates_among (first ++ list)) order
-    ∙ (ap updates_among (sym (append_assoc first before more)) ∙ (updates_among-append (first ++ before) more ∙ ap (λ list. updates_among (first ++ before) ++ list) all))
+    ∙ (ap updates_among (sym (append_assoc first before more))
+    ∙ (updates_among-append (first ++ before) more ∙ ap (λ list. updates_among (first ++ before) ++ list) all))
 
 -- one operation more, in its order
 pub updates_among-next : (items : List Operation) (at : ℕ) (item : Operation) → at < length items → item ≡ get_or items at item
@@ -56,7 +60,8 @@ pub each_of : (P : Update → Type 0) (items : List Operation) (at : ℕ) (item 
     → All P (updates_among items) → All P (updates_among (item ∷ []))
 each_of P [] at item few is all = absurd (omega (arith, few))
 each_of P (operation.Update update ∷ items) zero item few is all =
-    subst (λ (o : Operation). All P (updates_among (o ∷ []))) (sym is) (All-cons P update.value [] (All-head P update.value (updates_among items) all) (All-nil P))
+    subst (λ (o : Operation). All P (updates_among (o ∷ []))) (sym is)
+    (All-cons P update.value [] (All-head P update.value (updates_among items) all) (All-nil P))
 each_of P (operation.Front front ∷ items) zero item few is all = subst (λ (o : Operation). All P (updates_among (o ∷ []))) (sym is) (All-nil P)
 each_of P (operation.Update update ∷ items) (suc at) item few is all =
     each_of P items at item (omega (arith, few)) is (All-tail P update.value (updates_among items) all)

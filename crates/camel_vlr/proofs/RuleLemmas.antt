@@ -17,9 +17,11 @@ knows_of : (copy : PublishedCopy) → IsBehind (record { front = Some copy.front
 knows_of copy = (refl, prefix_refl copy.front.updates)
 
 -- what holds of what each seat knows still holds with one of them changed, and with one more
-behind_set : (copy : PublishedCopy) (known : List Known) (seat : ℕ) (new : Known) → IsBehind new copy → AllBehind copy known → AllBehind copy (set known seat new)
+behind_set : (copy : PublishedCopy) (known : List Known) (seat : ℕ) (new : Known) → IsBehind new copy → AllBehind copy known
+    → AllBehind copy (set known seat new)
 behind_set copy known seat new is all other own at =
-    ⊎_elim (λ (t : (other ≡ seat) × (new ≡ own)). subst (λ (w : Known). IsBehind w copy) t.1 is) (λ (t : (other ≢ seat) × (get_elem? known other ≡ some own)). all other own t.1) (at_set known seat other new own at)
+    ⊎_elim (λ (t : (other ≡ seat) × (new ≡ own)). subst (λ (w : Known). IsBehind w copy) t.1 is)
+    (λ (t : (other ≢ seat) × (get_elem? known other ≡ some own)). all other own t.1) (at_set known seat other new own at)
 
 behind_push : (copy : PublishedCopy) (known : List Known) (new : Known) → IsBehind new copy → AllBehind copy known → AllBehind copy (known ++ new ∷ [])
 behind_push copy known new is all other own at =
@@ -49,14 +51,17 @@ tells seat own copy known kept at =
 pub learns : (seat : ℕ) (own : Known) (other : ℕ) (note : Known) → Merges IsKept seat own other note note newcomer
 learns seat own other note copy known kept at apart there =
     let is : IsBehind note copy =
-    ⊎_elim (λ (t : (other ≡ seat) × (note ≡ note)). absurd (apart t.0)) (λ (t : (other ≢ seat) × (get_elem? known other ≡ some note)). kept.each other note t.1) (at_set known seat other note note there) in
+    ⊎_elim (λ (t : (other ≡ seat) × (note ≡ note)). absurd (apart t.0))
+    (λ (t : (other ≢ seat) × (get_elem? known other ≡ some note)). kept.each other note t.1) (at_set known seat other note note there) in
     record { is_of_front = kept.is_of_front; each = behind_set copy (set known seat note) other newcomer tt (behind_set copy known seat note is kept.each) }
 
-behind_more : (old new : PublishedCopy) → new.front.store ≡ old.front.store → Extends new.front.updates old.front.updates → (own : Known) → IsBehind own old → IsBehind own new
+behind_more : (old new : PublishedCopy) → new.front.store ≡ old.front.store → Extends new.front.updates old.front.updates
+    → (own : Known) → IsBehind own old → IsBehind own new
 behind_more old new store more own is =
     IfSome_then own.front is (λ front is. (is.0 ∙ sym store, prefix_trans front.updates old.front.updates new.front.updates is.1 more))
 
-pub publishes : (seat : ℕ) (own : Known) (old new : PublishedCopy) → IsOfItsFront new → new.front.store ≡ old.front.store → Extends new.front.updates old.front.updates → TurnsAt IsKept seat own old new Publishes
+pub publishes : (seat : ℕ) (own : Known) (old new : PublishedCopy) → IsOfItsFront new
+    → new.front.store ≡ old.front.store → Extends new.front.updates old.front.updates → TurnsAt IsKept seat own old new Publishes
 publishes seat own old new is store more known kept at = let next : Known = record { front = Some new.front } in (
   next,
   record { is_of_front = is; each = behind_set new known seat next (knows_of new) (λ other w e. behind_more old new store more w (kept.each other w e)) },

@@ -28,8 +28,8 @@ last_seen-append seen [] later = refl
 last_seen-append seen (front ∷ fronts) later = last_seen-append front fronts later
 
 -- the second run goes on at the front that the first one saw last
-Run-append : (store : StoreId) (seen : List Update) (told : List (List Update)) (events next : List EventData) (answers more : List Answer) (fronts later : List (List Update))
-    → Run store seen told events answers fronts → Run store (last_seen seen fronts) told next more later
+Run-append : (store : StoreId) (seen : List Update) (told : List (List Update)) (events next : List EventData) (answers more : List Answer)
+    (fronts later : List (List Update)) → Run store seen told events answers fronts → Run store (last_seen seen fronts) told next more later
     → Run store seen told (events ++ next) (answers ++ more) (fronts ++ later)
 Run-append store seen told [] next [] more [] later first second = second
 Run-append store seen told (event ∷ events) next (answer ∷ answers) more (front ∷ fronts) later first second =
@@ -44,7 +44,8 @@ pub Answers-append : (before mid after : SessionData) (events next : List EventD
 Answers-append before mid after events next answers more first second =
     record {
       fronts = first.fronts ++ second.fronts;
-      run = Run-append before.store before.seen before.told events next answers more first.fronts second.fronts first.run (rw (← first.seen, ← first.told, ← first.store) second.run);
+      run = Run-append before.store before.seen before.told events next answers more first.fronts second.fronts first.run
+          (rw (← first.seen, ← first.told, ← first.store) second.run);
       seen = second.seen ∙ ap (λ seen. last_seen seen second.fronts) first.seen ∙ sym (last_seen-append before.seen first.fronts second.fronts);
       told = second.told ∙ first.told;
       store = second.store ∙ first.store;

@@ -9,8 +9,9 @@ use Rattle.camel_vlr.specs.declared.base.seat.Seat.{Ghosts}
 use Rattle.camel_vlr.specs.declared.published_copy.PublishedCopy.{PublishedCopy}
 
 pub sees : {S : Type 0} (g : Ghosts S) (before after : S) (seen front : PrefixData) (told : List (List Update)) (looked : Bool) (copy : PublishedCopy)
-    → IsSomeAnd (g.copy_of after) (Enters g.knows before after) → g.copy_of after ≡ Some copy → g.knows before seen → front ≡ copy.front → ExtendsAll front.updates told
-    → Sees (record { store = seen.store; seen = seen.updates; told = told; looks = looked }) (record { store = front.store; seen = front.updates; told = told; looks = is_some (g.copy_of after) })
+    → IsSomeAnd (g.copy_of after) (Enters g.knows before after) → g.copy_of after ≡ Some copy → g.knows before seen → front ≡ copy.front
+    → ExtendsAll front.updates told → Sees (record { store = seen.store; seen = seen.updates; told = told; looks = looked })
+    (record { store = front.store; seen = front.updates; told = told; looks = is_some (g.copy_of after) })
 sees g before after seen front told looked copy entered there knows same extends =
     let took = subst (λ (o : Option PublishedCopy). IsSomeAnd o (Enters g.knows before after)) there entered in
     let more = took.later seen knows in record {

@@ -26,7 +26,8 @@ AlikeBut operations m n = (imsi : List ℕ) → All (λ update. is_of imsi updat
 changed : (copy : CopyData) (operations : List Operation) → AlikeBut operations (fold copy_after copy operations).0 copy.0
 changed copy [] imsi others = refl
 changed copy (operation.Update update ∷ operations) imsi others =
-    changed (copy_after copy (operation.Update update)) operations imsi (All-tail (λ one. is_of imsi one ≡ false) update.value (updates_among operations) others)
+    changed (copy_after copy (operation.Update update)) operations imsi
+    (All-tail (λ one. is_of imsi one ≡ false) update.value (updates_among operations) others)
     ∙ other_record copy.0 update.value imsi (All-head (λ one. is_of imsi one ≡ false) update.value (updates_among operations) others)
 changed copy (operation.Front front ∷ operations) imsi others = changed (copy.0, copy.1, front) operations imsi others
 
@@ -35,7 +36,8 @@ restored_record : (now : RecordsData) (update : Update) (before : RecordsData) (
     → map.get (records_restored now update before) imsi ≡ cond (is_of imsi update) (map.get before imsi) (map.get now imsi)
 restored_record now update before imsi = of (update_imsi update)
   where
-    same : (own : List ℕ) (is_own : Bool) → (is_own ≡ true → own ≡ imsi) → cond is_own (map.get before own) (map.get now imsi) ≡ cond is_own (map.get before imsi) (map.get now imsi)
+    same : (own : List ℕ) (is_own : Bool) → (is_own ≡ true → own ≡ imsi)
+        → cond is_own (map.get before own) (map.get now imsi) ≡ cond is_own (map.get before imsi) (map.get now imsi)
     same own true decides = ap (map.get before) (decides refl)
     same own false decides = refl
 

@@ -10,7 +10,8 @@ use Rattle.camel_vlr.specs.Session.{ExtendsAll, SessionData}
 
 -- an event is answered over a front that extends the front that was seen before, and each front that was told, under the
 -- profile of the store
-pub record IsAnswered (store : StoreId) (seen : List Update) (told : List (List Update)) (event : EventData) (answer : Answer) (front : List Update) : Type 0 where
+pub record IsAnswered (store : StoreId) (seen : List Update) (told : List (List Update)) (event : EventData) (answer : Answer)
+    (front : List Update) : Type 0 where
   pub is_front : IsFront store.limit front
   pub later : Extends front seen
   pub reaches : ExtendsAll front told

@@ -34,6 +34,7 @@ module _ {F T : Type 0} (rule : Ghosts F T) where
       × IsKept (stepped state 16 (change (slice_index state.words 16)) id me.1 view act)
       × play me (slice_index state.words 16) (view, carried_after me.1 act)
 
+  -- the first seat is divided, each later one makes its step, and the word of a closed place refuses looks
   abbrev pub Owes : Stage (Copy T) → ℕ → Part (Copy T) → Type 0
   Owes stage id (Whole shown) = IsKept record {
     words = (state_of stage).words;

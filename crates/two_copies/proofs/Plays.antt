@@ -20,6 +20,7 @@ module _ {F T : Type 0} (rule : Ghosts F T) where
   through : (a b c : Copy T) → Follows rule.follows a b → Follows rule.follows b c → Follows rule.follows a c
   through = follows_through rule.follows rule.follows_through
 
+  -- what is true of a step, by the word that it finds
   finds : (t : Step (Copy T)) (word : ℕ) (y seen : Copy T) (own : List (ℕ × Copy T)) → word < 8 → Holds rule.holds y → Follows rule.follows seen y
       → Enters (Holds rule.holds) (Follows rule.follows) t (Idle seen, own) word (Looking (word % 2 == 1) y, (index_of (word % 2 == 1), y) ∷ own)
   finds t word y seen own few held on = record { takes_it = λ _. (y, held, on, refl); takes_none = λ found. absurd (omega arith) }

@@ -61,7 +61,8 @@ impl<T: Drop, F: CopyRule<T>> Ending<T, F> {
         }
     }
 
-    /// Leaves the copies to the looks that are held: whoever leaves the last look at a copy frees it.
+    /// Leaves the copies to the looks that are held: whoever leaves the last look at a copy frees it. It has no clause,
+    /// since it gives nothing.
     pub fn abandon(self) {
         let Ending {
             shown: _shown,

@@ -1,8 +1,7 @@
 //! Dropping what is pending.
 
-ghost use Rattle.std.specs.Prelude.{◌≡◌, [], ◌∷◌, ◌++◌, true, All, IfErr, OnErr, OnOk};
-ghost use Rattle.camel_rows.specs.Update.{leaves_record};
-ghost use Rattle.camel_vlr.specs.Dropping.{HasAll, IsAdmissionOver, IsRestored};
+ghost use Rattle.std.specs.Prelude.{◌≡◌, [], ◌∷◌, ◌++◌, true, IfErr, OnErr, OnOk};
+ghost use Rattle.camel_vlr.specs.Dropping.{AllLeave, HasAll, IsAdmissionOver, IsRestored};
 ghost use Rattle.camel_vlr.specs.Operation.{updates_among};
 ghost use Rattle.camel_vlr.specs.PublishedCopy.{IsOfItsFront};
 ghost use Rattle.camel_vlr.specs.Store.{with_none_pending};
@@ -90,7 +89,7 @@ fn restore_from(
 
 /// Whether each update of a list leaves a record.
 fn leave_records(operations: &VecDeque<Operation, Global>) -> bool
-    ensures { result ≡ true → All (λ update. leaves_record update ≡ true) (updates_among (operations.now.items)) }
+    ensures { result ≡ true → AllLeave (updates_among operations.now.items) }
 {
     let mut at = 0;
     while at < operations.len() {
@@ -109,8 +108,8 @@ fn restore_each(
     operations: &VecDeque<Operation, Global>,
 )
     requires has { HasAll records.now admission.old.directory }
-    requires leave { All (λ update. leaves_record update ≡ true) (updates_among (operations.now.items)) }
-    ensures restored { IsRestored records.now (updates_among (operations.now.items)) admission.old admission.new }
+    requires leave { AllLeave (updates_among operations.now.items) }
+    ensures restored { IsRestored records.now (updates_among operations.now.items) admission.old admission.new }
     ensures has { HasAll records.now admission.new.directory }
 {
     let mut at = 0;
@@ -123,7 +122,7 @@ fn restore_each(
 /// Restores what records have of the subscriber of an operation.
 fn restore_one(admission: &mut Admission, records: &Records, operation: &Operation)
     requires has { HasAll records.now admission.old.directory }
-    requires leaves { All (λ update. leaves_record update ≡ true) (updates_among (operation.now ∷ [])) }
+    requires leaves { AllLeave (updates_among (operation.now ∷ [])) }
     ensures { IsRestored records.now (updates_among (operation.now ∷ [])) admission.old admission.new }
 {
     if let Operation::Update(update) = operation {

@@ -142,7 +142,7 @@ impl Vlr {
     }
 
     /// Ends the store, and gives nothing. What is pending is dropped. It waits for the looks that are held; that it
-    /// returns is not proved.
+    /// returns is not proved. It has no clause, since it gives nothing.
     pub fn end<R: Wait>(self, rt: &R) {
         let Vlr {
             writer,

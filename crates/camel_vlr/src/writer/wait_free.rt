@@ -167,7 +167,7 @@ impl Vlr<TwoCopiesWriter> {
     }
 
     /// Ends the store, as [`Vlr::close`] does, and leaves the data to the looks that are held: they go on, and each copy
-    /// is freed once the last look at it is left.
+    /// is freed once the last look at it is left. It has no clause, since it gives nothing.
     pub fn abandon(self) {
         if let Err(closing) = self.close() {
             closing.abandon();
@@ -208,7 +208,8 @@ impl Closing {
         }
     }
 
-    /// Leaves the data to the looks that are held: each copy is freed once the last look at it is left.
+    /// Leaves the data to the looks that are held: each copy is freed once the last look at it is left. It has no clause,
+    /// since it gives nothing.
     pub fn abandon(self) {
         let Closing { ending } = self;
         ending.abandon();

@@ -13,7 +13,8 @@ loop-event-preserved g c =
     rw more record {
       new = so_far.new ++ answer ∷ [];
       count = omega (arith, so_far.count, length-append so_far.new (answer ∷ []));
-      appended = c.push_reserved.ensures.items ∙ ap (λ items. items ++ answer ∷ []) so_far.appended ∙ append_assoc c.args.answers.now.items so_far.new (answer ∷ []);
+      appended = c.push_reserved.ensures.items ∙ ap (λ items. items ++ answer ∷ []) so_far.appended
+          ∙ append_assoc c.args.answers.now.items so_far.new (answer ∷ []);
       run = Answers-append c.args.self.now c.loop-event.self c.answer.new.self first (event ∷ []) so_far.new (answer ∷ []) so_far.run c.in-Ok.ensures.answers;
       looks = λ _. c.in-Ok.ensures.looks;
       room = omega (arith, so_far.room, c.push_reserved.ensures.capacity);

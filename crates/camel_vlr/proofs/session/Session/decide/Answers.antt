@@ -11,4 +11,5 @@ returns-clause-own g c =
     let event = event_data c.args.event.now in
     let decided = c.decide_in.ensures ∙ ap (λ profile. decision profile c.published.result.now.records event) c.profile.ensures
     ∙ ap (λ m. decision session.store.profile m event) c.published.ensures.records in
-    subst (λ (d : DecisionData). DecidedByOwn session.store session.seen event d) (sym decided) (decided_by_own session.store session.seen event c.published.ensures.front)
+    subst (λ (d : DecisionData). DecidedByOwn session.store session.seen event d) (sym decided)
+    (decided_by_own session.store session.seen event c.published.ensures.front)

@@ -10,7 +10,8 @@ invariant_of-self g c =
     let told = c.with.ensures ∙ ap (λ (h : List (List Update)). h ++ new ∷ []) (ap (λ s. s.value) c.replace-before.ensures.value) in record {
       copy = i.copy;
       knows = i.knows;
-      told = rw told (all_push new a.told.value new (all_further new a.longest.updates a.told.value (c.if-is_prefix_of.ensures.yes refl) i.told) (prefix_refl new));
+      told = rw told (all_push new a.told.value new
+          (all_further new a.longest.updates a.told.value (c.if-is_prefix_of.ensures.yes refl) i.told) (prefix_refl new));
       store = c.requires ∙ sym (ap (λ s. s.store) (c.self.view_is ∙ c.leave.ensures));
       front = i.front;
       profile = i.profile;

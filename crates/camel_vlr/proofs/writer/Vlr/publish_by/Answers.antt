@@ -1,8 +1,9 @@
 use base.Growing.{prefix_refl}
 use Rattle.std.proofs.Common.{◌≡◌, ◌∙◌, ◌++◌, ap, refl}
+use Rattle.camel_vlr.proofs.FieldsLemmas.{fields}
 use Rattle.camel_vlr.proofs.OperationLemmas.{updates_among-front}
 use Rattle.camel_vlr.specs.Operation.{updates_among}
-use Rattle.camel_vlr.specs.StoreFields.{limit_in, operations_in, pending_in, published_in, store_of, updates_in}
+use Rattle.camel_vlr.specs.StoreFields.{limit_in, pending_in, published_in, store_of}
 use Rattle.camel_vlr.proofs.writer.Vlr.publish_by.Given.{Over}
 use Rattle.camel_vlr.proofs.writer.Vlr.publish_by.Goals.{In-Err, In-Ok-hand_over}
 use Rattle.camel_vlr.proofs.writer.Vlr.publish_by.Goals as goal
@@ -11,16 +12,19 @@ use Rattle.camel_vlr.proofs.writer.Vlr.publish_by.Goals as goal
 pending : (g : Over) (c : In-Ok-hand_over g) → updates_among (g.W.Publisher.pending c.hand_over.new.writer) ≡ pending_in g.W.Publisher c.self.inside
 pending g c =
     ap updates_among c.in-Ok-hand_over.ensures.all
-    ∙ (updates_among-front (g.W.Publisher.pending c.make_room.new.writer ++ c.make_room.new.pending.items) c.copy.result ∙ ap updates_among c.in-Ok.ensures.pending)
+    ∙ (updates_among-front (g.W.Publisher.pending c.make_room.new.writer ++ c.make_room.new.pending.items) c.copy.result
+    ∙ ap updates_among c.in-Ok.ensures.pending)
 
 -- and so it does if nothing was published
-still : (g : Over) (c : In-Err g) → updates_among (g.W.Publisher.pending c.publish_all.new.self ++ c.hand_over.new.pending.items) ≡ pending_in g.W.Publisher c.self.inside
+still : (g : Over) (c : In-Err g)
+    → updates_among (g.W.Publisher.pending c.publish_all.new.self ++ c.hand_over.new.pending.items) ≡ pending_in g.W.Publisher c.self.inside
 still g c =
     ap (λ operations. updates_among (operations ++ c.hand_over.new.pending.items)) c.in-Err.ensures.unchanged.2
     ∙ (c.in-Ok-hand_over.ensures.updates ∙ ap updates_among c.in-Ok.ensures.pending)
 
 -- the history has all that is published and pending
-history : (g : Over) (c : In-Ok-hand_over g) → c.extend_history.new.history.updates ≡ published_in g.W.Publisher c.self.inside ++ pending_in g.W.Publisher c.self.inside
+history : (g : Over) (c : In-Ok-hand_over g)
+    → c.extend_history.new.history.updates ≡ published_in g.W.Publisher c.self.inside ++ pending_in g.W.Publisher c.self.inside
 history g c =
     c.extend_history.ensures.updates ∙ (λ k. (c.in-Ok.ensures.shown k).front.updates ++ updates_among (c.in-Ok.ensures.pending k))
 
@@ -36,12 +40,12 @@ invariant_of-self-in-Err g c =
     let shown = e.0 ∙ (handed.shown ∙ room.shown) in
     let updates = history g (goal.at.invariant_of-self-in-Err g c).In-Ok-hand_over in record {
       shown = rw shown i.shown;
-      all = rw (limit_in, updates_in, published_in, pending_in, operations_in, shown, still g c) i.all;
-      admits = rw (limit_in, updates_in, published_in, pending_in, operations_in, shown, still g c) i.admits;
+      all = rw (limit_in, fields, shown, still g c) i.all;
+      admits = rw (limit_in, fields, shown, still g c) i.admits;
       greatest = rw (limit_in, shown) i.greatest;
       tells = e.1 _ (handed.tells _ (room.tells _ (rw shown i.tells)));
       store = rw shown (c.extend_history.ensures.store ∙ i.store);
-      within = rw (updates_in, published_in, pending_in, operations_in, shown, still g c, updates) (prefix_refl (published_in g.W.Publisher a ++ pending_in g.W.Publisher a));
+      within = rw (fields, shown, still g c, updates) (prefix_refl (published_in g.W.Publisher a ++ pending_in g.W.Publisher a));
       beyond = rw (published_in, shown, updates) (pending_in g.W.Publisher a, refl);
       profile = rw shown i.profile;
       ahead = λ level. absurd (cc);
@@ -51,4 +55,4 @@ invariant_of-self-in-Err g c =
 pub returns-in-Err-clause-unchanged : goal.returns-in-Err-clause-unchanged
 returns-in-Err-clause-unchanged g c =
     let shown = c.in-Err.ensures.unchanged.0 ∙ (c.in-Ok-hand_over.ensures.shown ∙ c.in-Ok.ensures.shown) in
-    rw (store_of, updates_in, published_in, pending_in, operations_in, shown, still g c) c.self.view_is
+    rw (store_of, fields, shown, still g c) c.self.view_is

@@ -1,27 +1,24 @@
-use base.Growing.{prefix_trans}
-use Rattle.std.proofs.Common.{◌≡◌, ◌∙◌, ◌++◌, inl, inr, append_assoc, fold, ap, subst, sym}
-use Rattle.camel_vlr.proofs.AcceptanceLemmas.{IsOf, accepts, rejects, with_all, with_all-pending}
+use Rattle.std.proofs.Common.{◌≡◌, ◌∙◌, ◌++◌, inl, inr, fold, refl, ap, subst, sym}
+use Rattle.camel_vlr.proofs.AcceptanceLemmas.{IsOf, accepts, rejects, with_all, with_all-pending, with_pending}
+use Rattle.camel_vlr.proofs.FieldsLemmas.{fields, own, with_more}
 use Rattle.camel_vlr.proofs.OperationLemmas.{updates_among-more}
 use Rattle.camel_vlr.specs.Operation.{updates_among}
 use Rattle.camel_vlr.specs.Store.{StoreData, with_accepted}
-use Rattle.camel_vlr.specs.StoreFields.{IsStore, limit_in, operations_in, pending_in, published_in, store_of, updates_in}
-use Rattle.camel_vlr.specs.declared.base.publisher.Publisher.{Ghosts}
-use Rattle.camel_vlr.specs.declared.writer.Vlr.TheInside.{Inside}
+use Rattle.camel_vlr.specs.StoreFields.{pending_in, store_of}
 use Rattle.camel_vlr.proofs.writer.Vlr.submit_all.Given.{Over}
 use Rattle.camel_vlr.proofs.writer.Vlr.submit_all.Goals.{In_default}
 use Rattle.camel_vlr.proofs.writer.Vlr.submit_all.Goals as goal
 
-own : {W S : Type 0} (g : Ghosts W S) (a : Inside W S) → IsStore g a → IsOf a.admission (store_of g a)
-own g a i = record { admits = i.admits; front = i.all }
-
 -- the updates stand behind what was pending
-pending : (g : Over) (c : In_default g) → updates_among (g.W.Publisher.pending c.self.inside.writer ++ c.accept_all-taken.new.pending.items) ≡ pending_in g.W.Publisher c.self.inside ++ c.args.updates.items
-pending g c = updates_among-more (g.W.Publisher.pending c.self.inside.writer) c.self.inside.pending.items c.accept_all-taken.new.pending.items c.args.updates.items c.in_default.ensures.pending
+pending : (g : Over) (c : In_default g) → updates_among (g.W.Publisher.pending c.self.inside.writer ++ c.accept_all-taken.new.pending.items)
+    ≡ pending_in g.W.Publisher c.self.inside ++ c.args.updates.items
+pending g c =
+    let a = c.self.inside in let more = c.accept_all-taken.new.pending.items in
+    updates_among-more (g.W.Publisher.pending a.writer) a.pending.items more c.args.updates.items c.in_default.ensures.pending
 
 -- the admission is that of the store with all of them
-admits : (g : Over) (c : In_default g) → IsOf c.accept_all-taken.new.admission (record (store_of g.W.Publisher c.self.inside) {
-  updates = record { published = published_in g.W.Publisher c.self.inside; pending = pending_in g.W.Publisher c.self.inside ++ c.args.updates.items };
-})
+admits : (g : Over) (c : In_default g) → IsOf c.accept_all-taken.new.admission
+    (with_pending (store_of g.W.Publisher c.self.inside) (pending_in g.W.Publisher c.self.inside ++ c.args.updates.items))
 admits g c =
     let a = c.self.inside in let store = store_of g.W.Publisher a in
     let all = with_all a.admission store c.args.updates.items (own g.W.Publisher a c.self.invariant) c.in_default.ensures.all in
@@ -30,42 +27,33 @@ admits g c =
 pub returns-in-Err-clause-rejected : goal.returns-in-Err-clause-rejected
 returns-in-Err-clause-rejected g c = rw (← c.self.view_is) (elim c.in-Err.ensures.rejected [
   | inl why ↦ inl why
-  | inr at ↦ inr (rejects c.self.inside.admission (store_of g.W.Publisher c.self.inside) c.args.updates.items _ _ (own g.W.Publisher c.self.inside c.self.invariant) at)
+  | inr at ↦ inr (rejects c.self.inside.admission (store_of g.W.Publisher c.self.inside) c.args.updates.items _ _
+      (own g.W.Publisher c.self.inside c.self.invariant) at)
 ])
 
 pub invariant_of-self-2 : goal.invariant_of-self-2
 invariant_of-self-2 g c =
-    let a = c.self.inside in let i = c.self.invariant in let at = (goal.at.invariant_of-self-2 g c).In_default in
-    let p = published_in g.W.Publisher a in let q = pending_in g.W.Publisher a in
-    let new = admits g at in record {
-      shown = i.shown;
-      all = rw (limit_in, updates_in, published_in, pending_in, operations_in, pending g at) new.front;
-      admits = rw (limit_in, updates_in, published_in, pending_in, operations_in, pending g at) new.admits;
-      greatest = i.greatest;
-      tells = i.tells;
-      store = i.store;
-      within = rw (updates_in, published_in, pending_in, operations_in, pending g at) (prefix_trans a.history.updates (p ++ q) (p ++ (q ++ c.args.updates.items)) i.within (c.args.updates.items, append_assoc p q c.args.updates.items));
-      beyond = i.beyond;
-      profile = i.profile;
-      free = i.free;
-      ahead = i.ahead;
-    }
+    let at = (goal.at.invariant_of-self-2 g c).In_default in
+    with_more g.W.Publisher c.self.inside _ c.args.updates.items refl c.self.invariant (pending g at) (admits g at)
 
 pub returns-clause-all : goal.returns-clause-all
-returns-clause-all g c = rw (← c.self.view_is) (accepts c.self.inside.admission (store_of g.W.Publisher c.self.inside) c.args.updates.items (own g.W.Publisher c.self.inside c.self.invariant) (goal.at.returns-clause-all g c).In_default.in_default.ensures.all)
+returns-clause-all g c =
+    let a = c.self.inside in
+    rw (← c.self.view_is) (accepts a.admission (store_of g.W.Publisher a) c.args.updates.items (own g.W.Publisher a c.self.invariant)
+    (goal.at.returns-clause-all g c).In_default.in_default.ensures.all)
 
 pub returns-clause-accepted : goal.returns-clause-accepted
 returns-clause-accepted g c =
     let a = c.self.inside in let updates = c.args.updates.items in
-    rw (store_of, updates_in, published_in, pending_in, operations_in, pending g (goal.at.returns-clause-accepted g c).In_default)
+    rw (store_of, fields, pending g (goal.at.returns-clause-accepted g c).In_default)
     (sym (with_all-pending (store_of g.W.Publisher a) updates) ∙ ap (λ (s : StoreData). fold with_accepted s updates) c.self.view_is)
 
 pub returns-clause-pending : goal.returns-clause-pending
 returns-clause-pending g c =
-    rw (store_of, updates_in, published_in, pending_in, operations_in, pending g (goal.at.returns-clause-pending g c).In_default)
+    rw (store_of, fields, pending g (goal.at.returns-clause-pending g c).In_default)
     (ap (λ (s : StoreData). record { published = s.updates.published; pending = s.updates.pending ++ c.args.updates.items }) c.self.view_is)
 
 pub returns-clause-number : goal.returns-clause-number
 returns-clause-number g c =
     let at = (goal.at.returns-clause-number g c).In_default in
-    rw (store_of, updates_in, published_in, pending_in, operations_in, pending g at) (c.accepted.ensures ∙ (admits g at).admits.same_count)
+    rw (store_of, fields, pending g at) (c.accepted.ensures ∙ (admits g at).admits.same_count)

@@ -4,6 +4,7 @@ use Rattle.std.proofs.lemmas.List.Elements.{All-append}
 use Rattle.camel_rows.specs.Update.{leaves_record}
 use Rattle.camel_rows.specs.declared.subscriber.update.Update.{Update}
 use Rattle.camel_vlr.proofs.OperationLemmas.{updates_among-next}
+use Rattle.camel_vlr.specs.Dropping.{AllLeave}
 use Rattle.camel_vlr.specs.Operation.{updates_among}
 use Rattle.camel_vlr.proofs.writer.dropping.leave_records.Goals as goal
 
@@ -13,9 +14,11 @@ loop-at-preserved c =
     let leaves = λ (update : Update). leaves_record update ≡ true in record {
       bound = omega (arith, c.loop-at-test.true);
       all = subst (All leaves) (sym (updates_among-next items at item (omega (arith, c.loop-at-test.true, c.args.operations.now.ok.0)) c.index.ensures))
-          (All-append leaves (updates_among (take at items)) (updates_among (item ∷ [])) c.loop-at.invariant.all (c.leaves_record.ensures c.if-not-leaves_record.false));
+          (All-append leaves (updates_among (take at items)) (updates_among (item ∷ [])) c.loop-at.invariant.all
+          (c.leaves_record.ensures c.if-not-leaves_record.false));
     }
 
 pub returns : goal.returns
 returns c is_true =
-    subst (λ list. All (λ (update : Update). leaves_record update ≡ true) (updates_among list)) (take_all c.loop-at.at c.args.operations.now.items (omega (arith, c.loop-at-test.false, c.args.operations.now.ok.0))) c.loop-at.invariant.all
+    subst (λ list. AllLeave (updates_among list))
+    (take_all c.loop-at.at c.args.operations.now.items (omega (arith, c.loop-at-test.false, c.args.operations.now.ok.0))) c.loop-at.invariant.all

@@ -23,6 +23,7 @@ returns-then-leave_records-2-clause-over c =
     let first = c.args.first.now.items in let second = c.args.second.now.items in
     let copy = c.args.published.now in let before = c.args.admission.now in let after = c.restore_each-then-leave_records-2.new.admission in
     let restored = subst (λ updates. IsRestored copy.records updates before after) (sym (updates_among-append first second))
-    (restored-both copy.records (updates_among first) (updates_among second) before c.restore_each.new.admission after c.restore_each.ensures.restored c.restore_each-then-leave_records-2.ensures.restored) in
+    (restored-both copy.records (updates_among first) (updates_among second) before c.restore_each.new.admission after
+    c.restore_each.ensures.restored c.restore_each-then-leave_records-2.ensures.restored) in
     subst (λ (admission : AdmissionData). IsAdmissionOver copy.front admission []) (sym c.restore_accepted.ensures)
     (restored_over copy before after (updates_among (first ++ second)) c.requires.shown c.requires.over restored)

@@ -12,7 +12,9 @@ use Rattle.camel_vlr.proofs.writer.group.accept_each.Goals as goal
 pub returns-in-Err-clause-rejected : goal.returns-in-Err-clause-rejected
 returns-in-Err-clause-rejected c =
     let i = c.loop-update.invariant in let update = c.in-Some.update in
-    let refused = subst (λ (a : AdmissionData). (c.in-Err.why ≡ OutOfMemory) ⊎ (refusal_among (admission_refusal a update) update ≡ Some c.in-Err.why)) i.admission c.in-Err.ensures.refused in
+    let refused = subst
+    (λ (a : AdmissionData). (c.in-Err.why ≡ OutOfMemory) ⊎ (refusal_among (admission_refusal a update) update ≡ Some c.in-Err.why))
+    i.admission c.in-Err.ensures.refused in
     elim refused [
       | inl why ↦ inl why
       | inr why ↦ inr (record {
@@ -33,7 +35,8 @@ loop-update-preserved c =
     let (more, order, updates) = i.pending in
     let (next, behind, one) = e.pending in
     let (accepted, listed, back) = e.listed in record {
-      all = AcceptsAll-push admission_refusal admitted c.args.admission.now done update i.all (subst (λ (a : AdmissionData). refusal_among (admission_refusal a update) update ≡ None) i.admission e.taken);
+      all = AcceptsAll-push admission_refusal admitted c.args.admission.now done update i.all
+          (subst (λ (a : AdmissionData). refusal_among (admission_refusal a update) update ≡ None) i.admission e.taken);
       admission = e.admitted ∙ (ap (λ a. admitted a update) i.admission ∙ sym (fold-append admitted c.args.admission.now done (update ∷ [])));
       pending = (
         more ++ next,

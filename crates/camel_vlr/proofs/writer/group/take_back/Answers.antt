@@ -12,7 +12,8 @@ take_back-requires-clause-there c =
 
 pub loop-one-preserved : goal.loop-one-preserved
 loop-one-preserved c =
-    let on = λ (first : AdmissionData). leads_on first c.loop-one.admission c.take_back.new.self c.in-Some.one c.pop_front.new.self.items c.loop-one.accepted.items c.in-Some.ensures.items c.take_back.ensures in
+    let on = λ (first : AdmissionData). leads_on first c.loop-one.admission c.take_back.new.self c.in-Some.one c.pop_front.new.self.items
+    c.loop-one.accepted.items c.in-Some.ensures.items c.take_back.ensures in
     record {
       there = (c.loop-one.invariant.there.0, on c.loop-one.invariant.there.0 c.loop-one.invariant.there.1);
       same = λ first all. on first (c.loop-one.invariant.same first all);
