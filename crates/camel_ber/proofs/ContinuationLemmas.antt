@@ -1,5 +1,6 @@
 -- The identifier octets behind the first, as a loop looks for their end.
-use Rattle.std.proofs.Common.{[], ◌++◌, ◌+◌, ◌<◌, ◌∙◌, ◌∷◌, ◌≡◌, ◌≤◌, ap, append_assoc, drop, Err, false, get_or, length, List, ltb, Ok, refl, Result, sym, take, true, ℕ}
+use Rattle.std.proofs.Common.{[], ◌++◌, ◌+◌, ◌<◌, ◌∙◌, ◌∷◌, ◌≡◌, ◌≤◌, ap, append_assoc, drop, Err, false, get_or, length}
+use Rattle.std.proofs.Common.{List, ltb, Ok, refl, Result, sym, take, true, ℕ}
 use Rattle.std.proofs.lemmas.List.{drop_all, drop_more, take_more}
 use Rattle.camel_ber.specs.declared.fault.Fault.{Fault}
 use Rattle.camel_ber.specs.Reading.{◌>>=◌, continuation_at}

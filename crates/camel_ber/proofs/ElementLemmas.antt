@@ -1,5 +1,6 @@
 -- An element by its identifier, its length and the way its contents end.
-use Rattle.std.proofs.Common.{◌+◌, ◌-◌, ◌<◌, ◌∙◌, ◌≡◌, ap, arith, Err, false, length, List, None, Ok, Option, refl, Result, suc, take, true, zero, ℕ}
+use Rattle.std.proofs.Common.{◌+◌, ◌-◌, ◌<◌, ◌∙◌, ◌≡◌, ap, arith, Err, false, length, List, None, Ok, Option, refl, Result, suc, take}
+use Rattle.std.proofs.Common.{true, zero, ℕ}
 use Rattle.camel_ber.specs.declared.fault.Fault.{Fault}
 use Rattle.camel_ber.specs.declared.fault.FaultKind.TheVariants.{IndefinitePrimitive, TooDeep}
 use Rattle.camel_ber.specs.Reading.{content_of, element_at, element_by, end_by, fault_at, identifier_at, is_constructed, length_at, place_of}

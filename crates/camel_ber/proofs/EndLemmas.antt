@@ -1,5 +1,6 @@
 -- The end of contents, as a loop looks for it.
-use Rattle.std.proofs.Common.{[], ◌+◌, ◌<◌, ◌∙◌, ◌∷◌, ◌≡◌, ◌≢◌, ◌≤◌, ap, arith, Err, get_or, length, List, Ok, refl, Result, subst, suc, sym, zero, ℕ}
+use Rattle.std.proofs.Common.{[], ◌+◌, ◌<◌, ◌∙◌, ◌∷◌, ◌≡◌, ◌≢◌, ◌≤◌, arith, Err, get_or, length, List, Ok, refl, Result}
+use Rattle.std.proofs.Common.{subst, suc, sym, zero, ℕ}
 use Rattle.std.specs.Prelude.{IfOk}
 use Rattle.camel_ber.specs.declared.fault.Fault.{Fault}
 use Rattle.camel_ber.specs.declared.fault.FaultKind.TheVariants.{PastEnd}
@@ -21,37 +22,32 @@ pub end-passes : (end : ℕ) (one : ElementReader) (fuel octet : ℕ) (more : Li
 unfolding end_by
 end-passes end one fuel octet more = refl
 
+-- of octets that do not begin with 0, an element is read, and the end is looked for behind it
+end-step : (end : ℕ) (one : ElementReader) (rest : List ℕ) (total : Result (List ℕ) Fault)
+    → 0 < length rest → get_or rest 0 0 ≢ 0 → Ends end one rest total
+    → (fuel : ℕ) × (length rest ≤ suc fuel) × ((one rest >>= λ read. end_by end one fuel read.1) ≡ total)
+end-step end one [] total some not_zero so_far = absurd (omega arith)
+end-step end one (zero ∷ more) total some not_zero so_far = absurd (not_zero refl)
+end-step end one (suc octet ∷ more) total some not_zero so_far = from so_far.fuel so_far.enough so_far.ends
+  where
+    from : (fuel : ℕ) → length (suc octet ∷ more) ≤ fuel → end_by end one fuel (suc octet ∷ more) ≡ total
+        → (less : ℕ) × (length (suc octet ∷ more) ≤ suc less)
+        × ((one (suc octet ∷ more) >>= λ read. end_by end one less read.1) ≡ total)
+    from zero enough ends = absurd (omega arith)
+    from (suc fuel) enough ends = (fuel, enough, sym (end-passes end one fuel octet more) ∙ ends)
+
 pub end-goes_on : (end : ℕ) (one : ElementReader) (rest : List ℕ) (element : PlacedData) (after : List ℕ)
     (total : Result (List ℕ) Fault)
     → 0 < length rest → get_or rest 0 0 ≢ 0 → one rest ≡ Ok (element, after) → length after < length rest
     → Ends end one rest total → Ends end one after total
-end-goes_on end one [] element after total some not_zero read shorter so_far = absurd (omega arith)
-end-goes_on end one (zero ∷ more) element after total some not_zero read shorter so_far = absurd (not_zero refl)
-end-goes_on end one (suc octet ∷ more) element after total some not_zero read shorter so_far =
-    from so_far.fuel so_far.enough so_far.ends
-  where
-    from : (fuel : ℕ) → length (suc octet ∷ more) ≤ fuel → end_by end one fuel (suc octet ∷ more) ≡ total
-        → Ends end one after total
-    from zero enough ends = absurd (omega arith)
-    from (suc fuel) enough ends = record {
-      fuel = fuel;
-      enough = omega arith;
-      ends = sym (end-passes end one fuel octet more
-          ∙ ap (λ (reading : Result (PlacedData × List ℕ) Fault). reading >>= λ read. end_by end one fuel read.1)
-          read) ∙ ends;
-    }
+end-goes_on end one rest element after total some not_zero read shorter so_far =
+    let step = end-step end one rest total some not_zero so_far in
+    record { fuel = step.0; enough = omega (arith, shorter, step.1); ends = rw read at step.2 }
 
 pub end-fails : (end : ℕ) (one : ElementReader) (rest : List ℕ) (fault : Fault) (total : Result (List ℕ) Fault)
     → 0 < length rest → get_or rest 0 0 ≢ 0 → one rest ≡ Err fault → Ends end one rest total → total ≡ Err fault
-end-fails end one [] fault total some not_zero read so_far = absurd (omega arith)
-end-fails end one (zero ∷ more) fault total some not_zero read so_far = absurd (not_zero refl)
-end-fails end one (suc octet ∷ more) fault total some not_zero read so_far = from so_far.fuel so_far.enough so_far.ends
-  where
-    from : (fuel : ℕ) → length (suc octet ∷ more) ≤ fuel → end_by end one fuel (suc octet ∷ more) ≡ total
-        → total ≡ Err fault
-    from zero enough ends = absurd (omega arith)
-    from (suc fuel) enough ends = sym ends ∙ end-passes end one fuel octet more
-        ∙ ap (λ (reading : Result (PlacedData × List ℕ) Fault). reading >>= λ read. end_by end one fuel read.1) read
+end-fails end one rest fault total some not_zero read so_far =
+    let step = end-step end one rest total some not_zero so_far in sym (rw read at step.2)
 
 pub end-is_missing : (end : ℕ) (one : ElementReader) (rest : List ℕ) (total : Result (List ℕ) Fault) → length rest ≡ 0
     → Ends end one rest total → total ≡ Err (fault_at PastEnd end rest)

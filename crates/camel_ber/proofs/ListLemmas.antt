@@ -1,5 +1,6 @@
 -- Elements one behind the other, as a loop reads them.
-use Rattle.std.proofs.Common.{[], ◌++◌, ◌<◌, ◌∙◌, ◌∷◌, ◌≡◌, ◌≤◌, ap, append_assoc, arith, Err, length, List, Ok, refl, Result, suc, sym, zero, ℕ}
+use Rattle.std.proofs.Common.{[], ◌++◌, ◌<◌, ◌∙◌, ◌∷◌, ◌≡◌, ◌≤◌, ap, append_assoc, arith, Err, length, List, Ok, refl, Result}
+use Rattle.std.proofs.Common.{suc, sym, zero, ℕ}
 use Rattle.std.proofs.lemmas.List.{append-nil}
 use Rattle.camel_ber.specs.declared.fault.Fault.{Fault}
 use Rattle.camel_ber.specs.Reading.{◌>>=◌, element_at, elements_of, PlacedData}
@@ -48,38 +49,37 @@ unfolding elements_of
 list-none end depth zero = refl
 list-none end depth (suc fuel) = refl
 
+-- of octets that are left, an element is read, and then those behind it
+list-step : (end depth : ℕ) (front : List PlacedData) (rest : List ℕ) (total : Result (List PlacedData) Fault)
+    → 0 < length rest → Reads end depth front rest total → (fuel : ℕ) × (length rest ≤ suc fuel)
+    × (behind_elements front (first_then end depth fuel (element_at end depth rest)) ≡ total)
+list-step end depth front [] total some so_far = absurd (omega arith)
+list-step end depth front (octet ∷ more) total some so_far = from so_far.fuel so_far.enough so_far.reads
+  where
+    from : (fuel : ℕ) → length (octet ∷ more) ≤ fuel
+        → behind_elements front (elements_of end depth fuel (octet ∷ more)) ≡ total
+        → (less : ℕ) × (length (octet ∷ more) ≤ suc less)
+        × (behind_elements front (first_then end depth less (element_at end depth (octet ∷ more))) ≡ total)
+    from zero enough reads = absurd (omega arith)
+    from (suc fuel) enough reads =
+        (fuel, enough, ap (behind_elements front) (sym (list-first end depth fuel octet more)) ∙ reads)
+
 pub list-goes_on : (end depth : ℕ) (front : List PlacedData) (rest : List ℕ) (one : PlacedData) (after : List ℕ)
     (total : Result (List PlacedData) Fault)
     → 0 < length rest → element_at end depth rest ≡ Ok (one, after) → length after < length rest
     → Reads end depth front rest total → Reads end depth (front ++ one ∷ []) after total
-list-goes_on end depth front [] one after total some read shorter so_far = absurd (omega arith)
-list-goes_on end depth front (octet ∷ more) one after total some read shorter so_far =
-    from so_far.fuel so_far.enough so_far.reads
-  where
-    from : (fuel : ℕ) → length (octet ∷ more) ≤ fuel
-        → behind_elements front (elements_of end depth fuel (octet ∷ more)) ≡ total
-        → Reads end depth (front ++ one ∷ []) after total
-    from zero enough reads = absurd (omega arith)
-    from (suc fuel) enough reads = record {
-      fuel = fuel;
-      enough = omega arith;
-      reads = sym (behind_elements-regroup front one (elements_of end depth fuel after))
-          ∙ ap (behind_elements front) (sym (list-first end depth fuel octet more
-          ∙ ap (first_then end depth fuel) read)) ∙ reads;
+list-goes_on end depth front rest one after total some read shorter so_far =
+    let step = list-step end depth front rest total some so_far in record {
+      fuel = step.0;
+      enough = omega (arith, shorter, step.1);
+      reads = sym (behind_elements-regroup front one (elements_of end depth step.0 after)) ∙ (rw read at step.2);
     }
 
 pub list-fails : (end depth : ℕ) (front : List PlacedData) (rest : List ℕ) (fault : Fault)
     (total : Result (List PlacedData) Fault)
     → 0 < length rest → element_at end depth rest ≡ Err fault → Reads end depth front rest total → total ≡ Err fault
-list-fails end depth front [] fault total some read so_far = absurd (omega arith)
-list-fails end depth front (octet ∷ more) fault total some read so_far = from so_far.fuel so_far.enough so_far.reads
-  where
-    from : (fuel : ℕ) → length (octet ∷ more) ≤ fuel
-        → behind_elements front (elements_of end depth fuel (octet ∷ more)) ≡ total → total ≡ Err fault
-    from zero enough reads = absurd (omega arith)
-    from (suc fuel) enough reads =
-        sym reads ∙ ap (behind_elements front) (list-first end depth fuel octet more
-        ∙ ap (first_then end depth fuel) read)
+list-fails end depth front rest fault total some read so_far =
+    let step = list-step end depth front rest total some so_far in sym (rw read at step.2)
 
 pub list-ends : (end depth : ℕ) (front : List PlacedData) (rest : List ℕ) (total : Result (List PlacedData) Fault)
     → length rest ≡ 0 → Reads end depth front rest total → total ≡ Ok front

@@ -1,5 +1,6 @@
 -- Contents that are read are spelled so, where the end of indefinite contents is found exactly.
-use Rattle.std.proofs.Common.{[], ◌++◌, ◌+◌, ◌-◌, ◌∙◌, ◌∷◌, ◌≡◌, ◌≤◌, ◌⊎◌, ap, append_assoc, arith, drop, eq-eqb, inl, inr, length, List, ltb, None, Ok, Option, refl, Some, subst, suc, sym, take, true, ℕ}
+use Rattle.std.proofs.Common.{[], ◌++◌, ◌+◌, ◌-◌, ◌∙◌, ◌∷◌, ◌≡◌, ◌≤◌, ◌⊎◌, ap, append_assoc, arith, drop, eq-eqb, inl}
+use Rattle.std.proofs.Common.{inr, length, List, ltb, None, Ok, Option, refl, Some, subst, suc, sym, take, true, ℕ}
 use Rattle.std.proofs.lemmas.Bool.{eqb-true, ltb-false}
 use Rattle.std.proofs.lemmas.List.{length-append, length-take, take-append-drop, take_at}
 use Rattle.camel_ber.specs.declared.fault.FaultKind.TheVariants.{IndefinitePrimitive, PastEnd}

@@ -1,5 +1,6 @@
 -- An element of either form is read exactly where octets spell it, where the end of indefinite contents is.
-use Rattle.std.proofs.Common.{[], ◌++◌, ◌+◌, ◌-◌, ◌∙◌, ◌∷◌, ◌≡◌, ◌≢◌, ◌≤◌, ap, append_assoc, arith, false, get_or, inl, inr, length, List, ltb, Ok, refl, take, true, ℕ}
+use Rattle.std.proofs.Common.{[], ◌++◌, ◌+◌, ◌-◌, ◌∙◌, ◌∷◌, ◌≡◌, ◌≢◌, ◌≤◌, ap, append_assoc, arith, false, get_or}
+use Rattle.std.proofs.Common.{inl, inr, length, List, ltb, Ok, refl, take, true, ℕ}
 use Rattle.std.proofs.lemmas.Bool.{le-ltb}
 use Rattle.std.proofs.lemmas.List.{drop_at, length-append, take_at}
 use Rattle.camel_ber.specs.Grammar.{ElementData}

@@ -1,5 +1,6 @@
 -- An end of contents is found exactly behind elements, where a reader of one element is exact.
-use Rattle.std.proofs.Common.{[], ◌++◌, ◌+◌, ◌∙◌, ◌∷◌, ◌≡◌, ◌≢◌, ◌≤◌, ap, append_assoc, arith, get_or, length, List, Ok, refl, Result, subst, suc, sym, zero, ℕ}
+use Rattle.std.proofs.Common.{[], ◌++◌, ◌+◌, ◌∙◌, ◌∷◌, ◌≡◌, ◌≢◌, ◌≤◌, ap, append_assoc, arith, get_or, length, List, Ok}
+use Rattle.std.proofs.Common.{refl, Result, subst, suc, sym, zero, ℕ}
 use Rattle.std.proofs.lemmas.List.{length-append}
 use Rattle.camel_ber.specs.declared.fault.Fault.{Fault}
 use Rattle.camel_ber.specs.Grammar.{ElementData, IsSeriesOf}

@@ -1,5 +1,6 @@
 -- An identifier is read exactly where octets spell it.
-use Rattle.std.proofs.Common.{[], ◌%◌, ◌++◌, ◌∙◌, ◌∷◌, ◌≡◌, ◌≢◌, ◌≤◌, ap, arith, cond, eq-eqb, eqb, Err, false, get_or, inl, inr, length, List, Ok, refl, subst, sym, true, ℕ}
+use Rattle.std.proofs.Common.{[], ◌%◌, ◌++◌, ◌∙◌, ◌∷◌, ◌≡◌, ◌≢◌, ◌≤◌, ap, arith, cond, eq-eqb, eqb, Err, false, get_or}
+use Rattle.std.proofs.Common.{inl, inr, length, List, Ok, refl, subst, sym, true, ℕ}
 use Rattle.std.proofs.lemmas.Bool.{eqb-false, eqb-true, ne_eqb}
 use Rattle.std.proofs.lemmas.List.{length-append}
 use Rattle.camel_ber.specs.declared.fault.FaultKind.TheVariants.{LoneEndOfContents, PastEnd, TagNumber}

@@ -11,13 +11,10 @@ use Rattle.camel_ber.proofs.StepLemmas.{first_done, same_value}
 pub list-found : (end depth fuel : ℕ) (bytes : List ℕ) (ps : List PlacedData) → length bytes ≤ fuel
     → elements_of end depth fuel bytes ≡ Ok ps
     → IsSeries depth (elements ps) bytes
-list-found end depth zero [] ps enough e =
+list-found end depth fuel [] ps enough e =
     subst (λ (ps : List PlacedData). IsSeries depth (elements ps) [])
-    (same_value [] ps (sym (list-none end depth 0) ∙ e)) refl
+    (same_value [] ps (sym (list-none end depth fuel) ∙ e)) refl
 list-found end depth zero (first ∷ more) ps enough e = absurd (omega arith)
-list-found end depth (suc fuel) [] ps enough e =
-    subst (λ (ps : List PlacedData). IsSeries depth (elements ps) [])
-    (same_value [] ps (sym (list-none end depth (suc fuel)) ∙ e)) refl
 list-found end depth (suc fuel) (first ∷ more) ps enough e =
     let bytes = first ∷ more in
     let exact = exact-element end depth in

@@ -1,10 +1,9 @@
 -- How long the encodings of single elements are at most.
-use Rattle.std.proofs.Common.{◌≡◌, ℕ, ◌+◌, ◌/◌, ◌%◌, ◌≤◌, Bool, cond, true, false, ltb, List, [], ◌∷◌, ◌++◌, length, inl, inr, arith}
-use Rattle.std.proofs.lemmas.Bool.{cases_lt, le-ltb, lt-ltb}
+use Rattle.std.proofs.Common.{ℕ, ◌+◌, ◌≤◌, List, [], ◌∷◌, ◌++◌, length, arith}
 use Rattle.std.proofs.lemmas.List.{length-append}
 use Rattle.camel_ber.specs.Grammar.{ElementData}
 use Rattle.camel_map.specs.Encoding.{encoding, encodings, leaf, length_octets, number_octets, parent}
-use Rattle.camel_map.proofs.EncodedLengths.{octets-stand}
+use Rattle.camel_map.proofs.EncodedLengths.{chosen, octets-stand}
 
 -- an element takes at most so many octets
 abbrev pub IsMost : ℕ → ElementData → Type 0
@@ -16,13 +15,8 @@ AreMost most es = length (encodings es) ≤ most
 
 lengths_most : (n : ℕ) → length (length_octets n) ≤ 5
 lengths_most n =
-    elim (cases_lt n 128) [
-      | inl short ↦ let low : ltb n 128 ≡ true = lt-ltb _ _ short in rw low (omega arith)
-      | inr long ↦
-          let high : ltb n 128 ≡ false = le-ltb _ _ long in
-          let few = (octets-stand n).few in
-          rw high (omega arith)
-    ]
+    let few = (octets-stand n).few in
+    chosen (λ (octets : List ℕ). length octets ≤ 5) n 128 _ _ (λ below. omega arith) (λ above. omega arith)
 
 together : (octet : ℕ) (lengths content : List ℕ) (most : ℕ) → length lengths ≤ 5 → length content ≤ most
     → length (octet ∷ (lengths ++ content)) ≤ most + 6
@@ -38,18 +32,13 @@ leaf_most octet content most few =
 pub octet_most : (octet value : ℕ) → IsMost 7 (leaf octet (value ∷ []))
 octet_most octet value = leaf_most octet (value ∷ []) 1 (omega arith)
 
-shorter : (test : Bool) (xs ys : List ℕ) (most : ℕ) → length xs ≤ most → length ys ≤ most
-    → length (cond test xs ys) ≤ most
-shorter true xs ys most first second = first
-shorter false xs ys most first second = second
-
 -- a number takes at most four octets
 pub number_most : (octet n : ℕ) → IsMost 10 (leaf octet (number_octets n))
 number_most octet n =
-    let four = n / 16777216 ∷ n / 65536 % 256 ∷ n / 256 % 256 ∷ n % 256 ∷ [] in
-    let three = shorter (ltb n 8388608) (n / 65536 ∷ n / 256 % 256 ∷ n % 256 ∷ []) four 4 (omega arith) (omega arith) in
-    let two = shorter (ltb n 32768) (n / 256 ∷ n % 256 ∷ []) _ 4 (omega arith) three in
-    leaf_most octet (number_octets n) 4 (shorter (ltb n 128) (n ∷ []) _ 4 (omega arith) two)
+    let Few : List ℕ → Type 0 = λ octets. length octets ≤ 4 in
+    leaf_most octet (number_octets n) 4 (chosen Few n 128 _ _ (λ below. omega arith)
+    (λ over_one. chosen Few n 32768 _ _ (λ below. omega arith)
+    (λ over_two. chosen Few n 8388608 _ _ (λ below. omega arith) (λ over_three. omega arith))))
 
 -- an element of parts
 pub parent_most : (octet : ℕ) (parts : List ElementData) (most : ℕ) → AreMost most parts

@@ -1,16 +1,14 @@
 -- An encoded CSI is read as its rows.
-use Rattle.std.proofs.Common.{◌≡◌, ℕ, List, [], ◌∷◌, length, map, None, Result, Ok, refl, arith}
+use Rattle.std.proofs.Common.{◌≡◌, ℕ, List, [], ◌∷◌, map, None, Result, Ok, refl, arith}
 use Rattle.camel_criteria.specs.declared.refusal.Refusal.{Refusal}
 use Rattle.camel_rows.specs.TdpRow.{TdpRowData}
 use Rattle.camel_map.specs.Encoding.{csi_element, ignored_row, parent, row_element, sent_rows}
 use Rattle.camel_map.specs.Identifier.{primitive, sequence}
-use Rattle.camel_map.specs.Items.{received_as}
 use Rattle.camel_map.specs.Kept.{IsKeptList, IsRow}
 use Rattle.camel_map.specs.Row.{csi_in, first_of, row_in}
-use Rattle.camel_map.specs.declared.items.ReceivedList.{ReceivedList}
 use Rattle.camel_map.specs.declared.row.ReceivedCsi.{ReceivedCsi}
 use Rattle.camel_map.proofs.EncodedFields.{field_absent}
-use Rattle.camel_map.proofs.EncodedKept.{ignored_read, kept_read}
+use Rattle.camel_map.proofs.EncodedKept.{came, sent_read}
 use Rattle.camel_map.proofs.EncodedSeries.{a_sequence, Decodes, at, parts_read}
 use Rattle.camel_map.proofs.EncodedRows.{row_read}
 use Rattle.camel_map.proofs.EncodedFirst.{first_read}
@@ -18,21 +16,9 @@ use Rattle.camel_map.proofs.EncodedFirst.{first_read}
 pub is_ignored_row : IsRow ignored_row
 is_ignored_row = record { dp = omega arith; key = omega arith; scf = record { some = omega arith; few = omega arith } }
 
--- the rows of a list that was sent, and how many those were
-abbrev rows_came : List TdpRowData → ReceivedList (List TdpRowData)
-rows_came rows = record { kept = rows; count = length (sent_rows rows) }
-
-rows_read : (kept_of : List TdpRowData → Result (List TdpRowData) Refusal) (octet : ℕ) (rows : List TdpRowData)
-    → IsKeptList IsRow kept_of rows → kept_of (ignored_row ∷ []) ≡ Ok []
-    → Decodes (received_as row_in kept_of) (parent octet (map row_element (sent_rows rows))) (rows_came rows)
-rows_read kept_of octet [] kept none =
-    ignored_read row_in row_element IsRow kept_of (λ row. a_sequence) row_read octet ignored_row is_ignored_row none
-rows_read kept_of octet (row ∷ rows) kept none =
-    kept_read row_in row_element IsRow kept_of (λ row. a_sequence) row_read octet row rows kept
-
 -- a CSI that was sent, without camelCapabilityHandling
 abbrev pub csi_came : List TdpRowData → ReceivedCsi (List TdpRowData)
-csi_came rows = record { rows = rows_came rows; capability = None }
+csi_came rows = record { rows = came ignored_row rows; capability = None }
 
 -- a CSI is read as its rows
 pub csi_read : (kept_of : List TdpRowData → Result (List TdpRowData) Refusal) (octet : ℕ) (rows : List TdpRowData)
@@ -46,6 +32,7 @@ csi_read kept_of octet rows kept none short place end =
     let found = parts.1 in
     let first = first_read csi parts.0 list [] parts.2 in
     let there : first_of csi parts.0 ≡ Ok (at list first.0 first.1) = first.2 in
-    let read = rows_read kept_of sequence rows kept none first.3 first.0 first.1 in
+    let read = sent_read row_in row_element IsRow kept_of (λ row. a_sequence) row_read sequence ignored_row rows is_ignored_row none
+    kept first.3 first.0 first.1 in
     let no_capability = field_absent (primitive 0) parts.0 (list ∷ []) parts.2 refl in
     rw (found, there, read, no_capability) refl

@@ -1,18 +1,18 @@
 -- How long the encodings of criteria entries are at most.
 use Rattle.std.proofs.Common.{◌≡◌, ℕ, ◌+◌, ◌*◌, ◌≤◌, ◌&&◌, true, leb, List, length, arith}
-use Rattle.std.proofs.lemmas.Bool.{leb-true}
+use Rattle.std.proofs.lemmas.Bool.{and_parts, leb-true}
 use Rattle.std.proofs.lemmas.Option.{IfSome_then}
 use Rattle.camel_criteria.specs.Criteria.{OCriteriaData, TCriteriaData, are_causes_at}
 use Rattle.camel_criteria.specs.declared.basic_service.BasicService.{BasicService}
 use Rattle.camel_criteria.specs.declared.basic_service.BasicService.TheVariants.{Bearer, Tele}
-use Rattle.camel_map.specs.Encoding.{call_type_number, cause_element, if_some, leaf, number_element, number_octets, o_entry_element, service_element, t_entry_element}
+use Rattle.camel_map.specs.Encoding.{call_type_number, cause_element, if_some, leaf, number_element, number_octets, o_entry_element, service_element}
+use Rattle.camel_map.specs.Encoding.{t_entry_element}
 use Rattle.camel_map.specs.Identifier.{constructed, enumerated, octet_string, primitive, sequence}
 use Rattle.camel_map.specs.Kept.{IsOEntry, IsTEntry}
 use Rattle.camel_map.proofs.EncodedBounds.{AreMost, IsMost, more_most, number_most, octet_most, parent_most}
 use Rattle.camel_map.proofs.EncodedListBounds.{any_most, append_most, some_most, within}
-use Rattle.camel_map.proofs.EncodedOEntries.{if_some_all}
-use Rattle.camel_map.proofs.EncodedOFields.{basic_part, call_type_element, call_type_part, causes_part, number_part}
-use Rattle.camel_map.proofs.EncodedTests.{left_of, passed, right_of}
+use Rattle.camel_map.proofs.EncodedOEntries.{call_type_element, if_some_all}
+use Rattle.camel_map.proofs.EncodedTests.{passed}
 use Rattle.camel_map.proofs.EncodedSizes.{every, number_criterion_most}
 
 service_most : (service : BasicService) → IsMost 7 (service_element service)
@@ -35,8 +35,8 @@ counts : (without_release dp : ℕ) (basic : List BasicService) (causes : List �
     → (leb (length basic) 5 && are_causes_at without_release dp causes) ≡ true
     → (length basic ≤ 5) × (length causes ≤ 5)
 counts without_release dp basic causes tests =
-    let next = right_of (leb (length basic) 5) _ tests in
-    (leb-true _ _ (left_of (leb (length basic) 5) _ tests), leb-true _ _ (left_of (leb (length causes) 5) _ next))
+    let parts = and_parts (leb (length basic) 5) _ tests in
+    (leb-true _ _ parts.0, leb-true _ _ (and_parts (leb (length causes) 5) _ parts.1).0)
 
 -- an entry of the O-CSI
 pub o_entry_most : (entry : OCriteriaData) → IsOEntry entry → IsMost 301 (o_entry_element entry)
@@ -47,8 +47,7 @@ o_entry_most entry is =
     let call_type = any_most call_type_element 7 entry.call_type
     (if_some_all entry.call_type _ (λ call_type. octet_most (primitive 2) (call_type_number call_type))) in
     let causes = causes_most (constructed 3) entry.causes few.1 in
-    let fields = append_most _ (causes_part entry) 244 41 (append_most _ (call_type_part entry) 237 7
-    (append_most (number_part entry) (basic_part entry) 196 41 number basic) call_type) causes in
+    let fields = append_most _ _ 244 41 (append_most _ _ 237 7 (append_most _ _ 196 41 number basic) call_type) causes in
     let dp = leaf enumerated (number_octets entry.dp) in
     parent_most sequence _ 295 (more_most dp _ 10 285 (number_most enumerated entry.dp) fields)
 

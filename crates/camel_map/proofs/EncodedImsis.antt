@@ -1,5 +1,6 @@
 -- An encoded IMSI is read as its digits.
-use Rattle.std.proofs.Common.{◌≡◌, ◌∙◌, ℕ, ◌+◌, ◌*◌, ◌≤◌, true, false, leb, ltb, List, [], ◌∷◌, length, position, All, IfSome, Option, Some, None, Ok, bytes_eq, inl, inr, refl, sym, ap, arith}
+use Rattle.std.proofs.Common.{◌≡◌, ◌∙◌, ℕ, ◌+◌, ◌*◌, ◌≤◌, true, false, ltb, List, [], ◌∷◌, length, position, All, IfSome}
+use Rattle.std.proofs.Common.{Option, Some, None, Ok, bytes_eq, inl, inr, refl, sym, ap, arith}
 use Rattle.std.proofs.lemmas.Bool.{le-leb, le-ltb}
 use Rattle.std.proofs.lemmas.List.{length-append}
 use Rattle.std.proofs.lemmas.List.Sums.{position_or_len_is}
@@ -46,14 +47,11 @@ tbcd_read digits is =
     let octets = tbcd_octets digits in
     let all = filled digits is.decimal in
     let count = counted digits octets is all in
-    let some : leb 3 (length octets) ≡ true = le-leb _ _ count.0 in
-    let few : leb (length octets) 8 ≡ true = le-leb _ _ count.1 in
     let left : without_filler (nibbles octets) ≡ digits =
     digits_left digits (nibbles octets) is.decimal (omega (arith, is.least)) all in
     let none : position (λ value. ltb 9 value) digits ≡ None = none_over digits is.decimal in
-    let most : leb (length digits) 15 ≡ true = le-leb _ _ is.most in
-    let own : imsi_of_nibbles digits ≡ Ok digits = rw (none, most) refl in
-    rw (some, few) (ap imsi_of_nibbles left ∙ own)
+    let own : imsi_of_nibbles digits ≡ Ok digits = rw (none, le-leb (length digits) 15 is.most) refl in
+    rw (le-leb 3 (length octets) count.0, le-leb (length octets) 8 count.1) (ap imsi_of_nibbles left ∙ own)
 
 -- an IMSI is read as its digits
 pub imsi_read : (octet : ℕ) (digits : List ℕ) → IsImsi digits → Decodes imsi_in (leaf octet (tbcd_octets digits)) digits

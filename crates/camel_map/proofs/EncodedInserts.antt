@@ -4,7 +4,7 @@ use Rattle.camel_ber.specs.Grammar.{ElementData}
 use Rattle.camel_criteria.specs.Criteria.{OCriteriaData, TCriteriaData}
 use Rattle.camel_rows.specs.TdpRow.{TdpRowData}
 use Rattle.camel_rows.specs.declared.subscriber.update.Update.TheVariants as update
-use Rattle.camel_map.specs.Encoding.{leaf, parent, tbcd_octets}
+use Rattle.camel_map.specs.Encoding.{camel_parts, leaf, parent, tbcd_octets}
 use Rattle.camel_map.specs.Identifier.{constructed, primitive, sequence}
 use Rattle.camel_map.specs.Imsi.{imsi_or_of_dialogue}
 use Rattle.camel_map.specs.Kept.{IsKept}
@@ -14,7 +14,7 @@ use Rattle.camel_map.proofs.EncodedCamelFields.{all_identified}
 use Rattle.camel_map.proofs.EncodedFields.{field_there}
 use Rattle.camel_map.proofs.EncodedImsis.{own_imsi_read}
 use Rattle.camel_map.proofs.EncodedSeries.{AreIdentified, Decodes, one_octet, parts_read}
-use Rattle.camel_map.proofs.EncodedInsertFields.{came_insert, camel, fields_read}
+use Rattle.camel_map.proofs.EncodedInsertFields.{came_insert, fields_read}
 
 module _ (imsi : List ℕ) (o : Option (List TdpRowData)) (o_criteria : Option (List OCriteriaData))
     (vt : Option (List TdpRowData)) (t_criteria : Option (List TCriteriaData))
@@ -23,7 +23,7 @@ module _ (imsi : List ℕ) (o : Option (List TdpRowData)) (o_criteria : Option (
   brought = came_insert imsi o o_criteria vt t_criteria kept
 
   abbrev info : List ElementData
-  info = camel imsi o o_criteria vt t_criteria kept
+  info = camel_parts o o_criteria vt t_criteria
 
   abbrev argument_parts : List ElementData
   argument_parts = leaf (primitive 0) (tbcd_octets imsi) ∷ parent (constructed 13) info ∷ []

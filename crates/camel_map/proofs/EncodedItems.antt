@@ -10,13 +10,16 @@ use Rattle.camel_map.specs.Reading.{contents, each_of, elements_in}
 use Rattle.camel_map.specs.declared.map_fault.MapFault.{MapFault}
 use Rattle.camel_map.proofs.EncodedFields.{field_absent, field_there}
 use Rattle.camel_map.proofs.EncodedTags.{of_tag}
-use Rattle.camel_map.proofs.EncodedIdentifiers.{identified_map}
-use Rattle.camel_map.proofs.EncodedSeries.{AreRead, Decodes, at, parts_read}
+use Rattle.camel_map.proofs.EncodedSeries.{AreIdentified, AreRead, Decodes, at, parts_read}
 
 module _ {A : Type 0} (value_of : PlacedData → Result A MapFault) (element_of : A → ElementData) where
   -- an element of each value is read as the value
   abbrev pub AreDecoded : List A → Type 0
   AreDecoded xs = All (λ (x : A). Decodes value_of (element_of x) x) xs
+
+  identified_map : (xs : List A) → ((x : A) → IsIdentifier (element_of x).identifier) → AreIdentified (map element_of xs)
+  identified_map [] is = tt
+  identified_map (x ∷ xs) is = (is x, identified_map xs is)
 
   each_read : (ps : List PlacedData) (xs : List A) → AreRead ps (map element_of xs) → AreDecoded xs
       → each_of value_of ps ≡ Ok xs
@@ -47,7 +50,7 @@ module _ {A : Type 0} (value_of : PlacedData → Result A MapFault) (element_of 
   unfolding items_as
   items_read octet x xs identified decoded short place end =
       let list = at (parent octet (map element_of (x ∷ xs))) place end in
-      let items = identified_map element_of (x ∷ xs) identified in
+      let items = identified_map (x ∷ xs) identified in
       let parts = parts_read octet (map element_of (x ∷ xs)) place end items short in
       let all : elements_in (contents list) ≡ Ok parts.0 = parts.1 in
       ap (λ (ps : Result (List PlacedData) MapFault). (ps >>= some_of list) >>= each_of value_of) all

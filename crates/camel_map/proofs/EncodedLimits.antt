@@ -1,17 +1,18 @@
 -- The encoding of each update that is kept is shorter than the greatest length.
-use Rattle.std.proofs.Common.{◌≡◌, ℕ, ◌≤◌, ◌<◌, Bool, true, false, List, [], ◌∷◌, ◌++◌, length, IfSome, Option, Some, None, subst, arith}
+use Rattle.std.proofs.Common.{◌≡◌, ℕ, ◌≤◌, ◌<◌, Bool, true, false, List, [], ◌∷◌, ◌++◌, length, IfSome, Option, Some, None, subst}
+use Rattle.std.proofs.Common.{arith}
 use Rattle.std.proofs.lemmas.Option.{IfSome_then}
 use Rattle.camel_criteria.specs.DetectionPoint.{o_detection_points, vt_detection_points}
 use Rattle.camel_rows.specs.declared.subscriber.update.Update.{Update}
 use Rattle.camel_rows.specs.declared.subscriber.update.Update.TheVariants as update
 use Rattle.camel_tbcd.specs.Imsi.{IsImsi}
-use Rattle.camel_map.specs.Encoding.{Argument, argument_of, csi_element, encoding, everything_parts, leaf, parent, specific_parts, tbcd_octets}
+use Rattle.camel_map.specs.Encoding.{Argument, argument_of, camel_parts, csi_element, encoding, everything_parts, leaf, parent, specific_parts, tbcd_octets}
 use Rattle.camel_map.specs.Identifier.{constructed, octet_string, primitive, sequence}
 use Rattle.camel_map.specs.Kept.{IsKept}
 use Rattle.camel_map.specs.Written.{argument_octets, octets_of_update}
 use Rattle.camel_map.proofs.EncodedBounds.{AreMost, IsMost, leaf_most, more_most, none_most, parent_most}
 use Rattle.camel_map.proofs.EncodedListBounds.{any_most, append_most, within}
-use Rattle.camel_map.proofs.EncodedCamelFields.{all_parts, o_criteria_element, t_criteria_element}
+use Rattle.camel_map.proofs.EncodedCamelFields.{o_criteria_element, t_criteria_element}
 use Rattle.camel_map.proofs.EncodedImsis.{octets_few as imsi_octets_few}
 use Rattle.camel_map.proofs.EncodedListSizes.{csi_most, o_criteria_most, t_criteria_most}
 
@@ -45,7 +46,7 @@ argument_most (update.Insert imsi o o_criteria vt t_criteria) kept =
     let the_vt = any_most (csi_element (constructed 7)) 156 vt
     (IfSome_then vt kept.3 (csi_most (constructed 7) vt_detection_points (omega arith))) in
     let the_t_criteria = any_most t_criteria_element 300 t_criteria (IfSome_then t_criteria kept.4 t_criteria_most) in
-    let camel = all_parts o o_criteria vt t_criteria in
+    let camel = camel_parts o o_criteria vt t_criteria in
     let fields : AreMost 1172 camel =
     append_most _ _ 872 300 (append_most _ _ 716 156 (append_most _ _ 108 608 the_o the_o_criteria) the_vt)
     the_t_criteria in

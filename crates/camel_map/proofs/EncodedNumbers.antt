@@ -1,10 +1,11 @@
 -- The contents of an INTEGER or ENUMERATED are read as the number that they encode.
-use Rattle.std.proofs.Common.{◌≡◌, ℕ, ◌/◌, ◌%◌, ◌<◌, ◌≤◌, true, false, eqb, leb, ltb, List, [], ◌∷◌, length, slice_index, Ok, inl, inr, refl, ap, arith}
-use Rattle.std.proofs.lemmas.Bool.{cases_lt, le-ltb, lt-ltb}
+use Rattle.std.proofs.Common.{◌≡◌, ℕ, ◌/◌, ◌%◌, ◌<◌, ◌≤◌, false, eqb, leb, List, [], ◌∷◌, length, slice_index, Ok, refl, ap}
+use Rattle.std.proofs.Common.{arith}
 use Rattle.std.proofs.lemmas.Bool.Decides.{nat_tests}
 use Rattle.camel_ber.specs.Grammar.{value_of}
 use Rattle.camel_map.specs.Encoding.{leaf, number_octets}
 use Rattle.camel_map.specs.Value.{detection_point_in, unsigned_in}
+use Rattle.camel_map.proofs.EncodedLengths.{chosen}
 use Rattle.camel_map.proofs.EncodedSeries.{Decodes}
 
 -- contents say a number that is not below 0
@@ -31,24 +32,9 @@ four_places n most = record { some = refl; positive = not_from_128 (n / 16777216
 -- the octets of a number below 2^31 say it
 pub number-said : (n : ℕ) → n ≤ 2147483647 → Say (number_octets n) n
 number-said n most =
-    elim (cases_lt n 128) [
-      | inl one ↦ let low : ltb n 128 ≡ true = lt-ltb _ _ one in rw low (one_place n one)
-      | inr over_one ↦
-          let not_one : ltb n 128 ≡ false = le-ltb _ _ over_one in
-          elim (cases_lt n 32768) [
-            | inl two ↦ let low : ltb n 32768 ≡ true = lt-ltb _ _ two in rw (not_one, low) (two_places n two)
-            | inr over_two ↦
-                let not_two : ltb n 32768 ≡ false = le-ltb _ _ over_two in
-                elim (cases_lt n 8388608) [
-                  | inl three ↦
-                      let low : ltb n 8388608 ≡ true = lt-ltb _ _ three in
-                      rw (not_one, not_two, low) (three_places n three)
-                  | inr over_three ↦
-                      let not_three : ltb n 8388608 ≡ false = le-ltb _ _ over_three in
-                      rw (not_one, not_two, not_three) (four_places n most)
-                ]
-          ]
-    ]
+    chosen (λ content. Say content n) n 128 _ _ (one_place n)
+    (λ over_one. chosen (λ content. Say content n) n 32768 _ _ (two_places n)
+    (λ over_two. chosen (λ content. Say content n) n 8388608 _ _ (three_places n) (λ over_three. four_places n most)))
 
 -- contents that say a number are read as it
 said_unsigned : (octet : ℕ) (content : List ℕ) (n : ℕ) → Say content n → n ≤ 2147483647

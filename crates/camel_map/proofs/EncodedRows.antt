@@ -2,13 +2,12 @@
 use Rattle.std.proofs.Common.{◌≡◌, ◌<◌, ◌≤◌, true, leb, List, [], ◌∷◌, Ok, refl, ap, arith}
 use Rattle.std.proofs.lemmas.Bool.{le-leb}
 use Rattle.camel_ber.specs.Grammar.{ElementData}
-use Rattle.camel_ber.specs.Reading.{◌>>=◌, PlacedData}
+use Rattle.camel_ber.specs.Reading.{PlacedData}
 use Rattle.camel_criteria.specs.Handling.{handling_of}
 use Rattle.camel_criteria.specs.declared.handling.Handling.{Handling}
 use Rattle.camel_criteria.specs.declared.handling.Handling.TheVariants.{Continue, Release}
 use Rattle.camel_rows.specs.TdpRow.{TdpRowData, max_service_key, tdp_row_of}
 use Rattle.camel_map.specs.Encoding.{handling_number, leaf, number_octets, row_element}
-use Rattle.camel_map.specs.Field.{mandatory}
 use Rattle.camel_map.specs.Identifier.{enumerated, integer, primitive, sequence}
 use Rattle.camel_map.specs.Kept.{IsRow}
 use Rattle.camel_map.specs.Reading.{or_refused_at}
@@ -50,17 +49,12 @@ unfolding row_of_fields
 row_fields_read row item fields is read =
     let parts = row_parts row in
     let known = handling_known row.handling in
-    let dp : (mandatory item enumerated fields >>= detection_point_in) ≡ Ok row.dp =
-    mandatory_read detection_point_in enumerated fields parts item _ row.dp refl read refl
+    let dp = mandatory_read detection_point_in enumerated fields parts item _ row.dp refl read refl
     (detection_point enumerated row.dp is.dp) in
-    let key : (mandatory item integer fields >>= unsigned_in) ≡ Ok row.key =
-    mandatory_read unsigned_in integer fields parts item _ row.key refl read refl
-    (unsigned_number integer row.key is.key) in
-    let scf : (mandatory item (primitive 0) fields >>= isdn_address_in) ≡ Ok row.scf =
-    mandatory_read isdn_address_in (primitive 0) fields parts item _ row.scf refl read refl
+    let key = mandatory_read unsigned_in integer fields parts item _ row.key refl read refl (unsigned_number integer row.key is.key) in
+    let scf = mandatory_read isdn_address_in (primitive 0) fields parts item _ row.scf refl read refl
     (address_read (primitive 0) row.scf is.scf) in
-    let handling : (mandatory item (primitive 1) fields >>= unsigned_in) ≡ Ok (handling_number row.handling) =
-    mandatory_read unsigned_in (primitive 1) fields parts item _ (handling_number row.handling) refl read refl
+    let handling = mandatory_read unsigned_in (primitive 1) fields parts item _ (handling_number row.handling) refl read refl
     (unsigned_octet (primitive 1) (handling_number row.handling) known.0) in
     rw (dp, key, scf, handling) (ap (or_refused_at item.place) (row_made row is.key known.1))
 

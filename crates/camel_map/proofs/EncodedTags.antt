@@ -1,5 +1,6 @@
 -- The elements of a tag, where they were read.
-use Rattle.std.proofs.Common.{◌≡◌, ◌∙◌, ℕ, ◌&&◌, Bool, true, false, cond, eqb, List, [], ◌∷◌, length, filter, slice_index, Some, None, Ok, refl, ap}
+use Rattle.std.proofs.Common.{◌≡◌, ◌∙◌, ℕ, ◌&&◌, Bool, true, false, cond, eqb, List, [], ◌∷◌, length, filter, slice_index, Some, None}
+use Rattle.std.proofs.Common.{Ok, refl, ap}
 use Rattle.std.proofs.lemmas.Bool.{eq-eqb}
 use Rattle.camel_ber.specs.Grammar.{ElementData}
 use Rattle.camel_ber.specs.Reading.{PlacedData, elements}

@@ -1,6 +1,6 @@
 -- The tests that a constructor's result shows to be passed.
 use Rattle.std.proofs.Common.{◌≡◌, ℕ, ◌≤◌, ◌&&◌, ◌||◌, Bool, true, false, not, cond, eqb, leb, List, length, All, Ok, Err, refl}
-use Rattle.std.proofs.lemmas.Bool.{leb-true}
+use Rattle.std.proofs.lemmas.Bool.{and_parts, leb-true}
 use Rattle.std.proofs.lemmas.List.Elements.{All-weaker}
 use Rattle.std.proofs.lemmas.List.Sums.{AllPass-from_list_all}
 use Rattle.std.specs.List.{list_all}
@@ -19,22 +19,13 @@ pub passed_next : {A E : Type 0} (refused test : Bool) (x z : A) (first why : E)
 passed_next true test x z first why is = absurd cc
 passed_next false test x z first why is = passed test x z why is
 
-pub right_of : (a b : Bool) → (a && b) ≡ true → b ≡ true
-right_of true b is = is
-right_of false b is = absurd cc
-
-pub left_of : (a b : Bool) → (a && b) ≡ true → a ≡ true
-left_of true b is = refl
-left_of false b is = is
-
 -- causes that are taken are at most the greatest
 pub causes_most : (without_release dp : ℕ) (causes : List ℕ) → are_causes_at without_release dp causes ≡ true
     → All (λ (cause : ℕ). cause ≤ 127) causes
 causes_most without_release dp causes is =
-    let tests = right_of (leb (length causes) 5) _ is in
-    let all : list_all (λ cause. leb cause max_cause) causes ≡ true =
-    left_of (list_all (λ cause. leb cause max_cause) causes) (not (eqb dp without_release) || eqb (length causes) 0)
-    tests in
+    let tests = (and_parts (leb (length causes) 5) _ is).1 in
+    let all = (and_parts (list_all (λ cause. leb cause max_cause) causes)
+    (not (eqb dp without_release) || eqb (length causes) 0) tests).0 in
     All-weaker (λ (cause : ℕ). leb cause 127 ≡ true) (λ (cause : ℕ). cause ≤ 127) (λ cause is. leb-true _ _ is) causes
     (AllPass-from_list_all (λ cause. leb cause max_cause) causes all)
 
@@ -50,12 +41,11 @@ few_listed criterion is =
     let lengths = criterion.lengths in
     let tests = passed_next (eqb (length numbers) 0 && eqb (length lengths) 0)
     (leb (length numbers) 10 && (leb (length lengths) 3 && list_all is_length lengths)) _ criterion _ _ is.0 in
-    let next = right_of (leb (length numbers) 10) _ tests in
-    let all : list_all is_length lengths ≡ true = right_of (leb (length lengths) 3) _ next in
+    let first = and_parts (leb (length numbers) 10) _ tests in
+    let next = and_parts (leb (length lengths) 3) _ first.1 in
     record {
-      numbers = leb-true _ _ (left_of (leb (length numbers) 10) _ tests);
-      lengths = leb-true _ _ (left_of (leb (length lengths) 3) _ next);
+      numbers = leb-true _ _ first.0;
+      lengths = leb-true _ _ next.0;
       digits = All-weaker (λ (count : ℕ). is_length count ≡ true) (λ (count : ℕ). count ≤ 15)
-          (λ count is. leb-true _ _ (right_of (leb 1 count) _ is)) lengths
-          (AllPass-from_list_all is_length lengths all);
+          (λ count is. leb-true _ _ (and_parts (leb 1 count) _ is).1) lengths (AllPass-from_list_all is_length lengths next.1);
     }

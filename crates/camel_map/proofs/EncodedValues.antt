@@ -1,5 +1,5 @@
 -- The encoded values of criteria are read as they are.
-use Rattle.std.proofs.Common.{◌≡◌, ◌∙◌, ℕ, ◌≤◌, min, true, leb, List, [], ◌∷◌, length, Result, Ok, refl, ap, arith}
+use Rattle.std.proofs.Common.{◌≡◌, ◌∙◌, ℕ, ◌≤◌, min, List, [], ◌∷◌, length, Result, Ok, refl, ap, arith}
 use Rattle.std.proofs.lemmas.Bool.{le-leb}
 use Rattle.camel_ber.specs.Grammar.{IsIdentifier}
 use Rattle.camel_ber.specs.Reading.{◌>>=◌}
@@ -21,35 +21,21 @@ use Rattle.camel_map.proofs.EncodedSeries.{Decodes, at, one_octet}
 pub match_type_read : (octet : ℕ) (match_type : MatchType)
     → Decodes match_type_in (leaf octet (match_type_number match_type ∷ [])) match_type
 unfolding match_type_in
-match_type_read octet Inhibiting short place end =
-    let value : unsigned_in (at (leaf octet (0 ∷ [])) place end) ≡ Ok 0 =
-    unsigned_octet octet 0 (omega arith) short place end in
-    rw value refl
-match_type_read octet Enabling short place end =
-    let value : unsigned_in (at (leaf octet (1 ∷ [])) place end) ≡ Ok 1 =
-    unsigned_octet octet 1 (omega arith) short place end in
-    rw value refl
+match_type_read octet Inhibiting short place end = let value = unsigned_octet octet 0 (omega arith) short place end in rw value refl
+match_type_read octet Enabling short place end = let value = unsigned_octet octet 1 (omega arith) short place end in rw value refl
 
 pub call_type_read : (octet : ℕ) (call_type : CallType)
     → Decodes call_type_in (leaf octet (call_type_number call_type ∷ [])) call_type
 unfolding call_type_in
-call_type_read octet Forwarded short place end =
-    let value : unsigned_in (at (leaf octet (0 ∷ [])) place end) ≡ Ok 0 =
-    unsigned_octet octet 0 (omega arith) short place end in
-    rw value refl
-call_type_read octet NotForwarded short place end =
-    let value : unsigned_in (at (leaf octet (1 ∷ [])) place end) ≡ Ok 1 =
-    unsigned_octet octet 1 (omega arith) short place end in
-    rw value refl
+call_type_read octet Forwarded short place end = let value = unsigned_octet octet 0 (omega arith) short place end in rw value refl
+call_type_read octet NotForwarded short place end = let value = unsigned_octet octet 1 (omega arith) short place end in rw value refl
 
 -- an address is read as its octets
 pub address_read : (octet : ℕ) (octets : List ℕ) → IsAddress max_isdn_address_length octets
     → Decodes isdn_address_in (leaf octet octets) octets
 unfolding isdn_address_in
 address_read octet octets is short place end =
-    let some : leb 1 (length octets) ≡ true = le-leb _ _ is.some in
-    let few : leb (length octets) 9 ≡ true = le-leb _ _ is.few in
-    rw (some, few) refl
+    rw (le-leb 1 (length octets) is.some, le-leb (length octets) 9 is.few) refl
 
 pub number_read : (octets : List ℕ) → IsAddress max_isdn_address_length octets
     → Decodes number_in (leaf octet_string octets) octets

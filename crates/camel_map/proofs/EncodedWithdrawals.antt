@@ -7,41 +7,20 @@ use Rattle.camel_map.specs.Field.{field_of}
 use Rattle.camel_map.specs.Identifier.{primitive}
 use Rattle.camel_map.specs.Withdrawal.{is_named, withdrawal_in, withdrawal_with}
 use Rattle.camel_map.proofs.EncodedFields.{field_absent, field_there}
+use Rattle.camel_map.proofs.EncodedParts.{AreOf}
+use Rattle.camel_map.proofs.EncodedSeries.{AreRead}
 use Rattle.camel_map.proofs.EncodedTags.{of_tag}
-use Rattle.camel_map.proofs.EncodedSeries.{AreIdentified, AreRead, one_octet}
 
-pub everything_identified : (everything : Bool) → AreIdentified (everything_parts everything)
-everything_identified false = tt
-everything_identified true = (one_octet (primitive 9) (refl, refl), tt)
+-- the camelSubscriptionInfoWithdraw and the specificCSI-Withdraw have their identifier octets
+pub everything_are : (everything : Bool) → AreOf (primitive 9) (everything_parts everything)
+everything_are false = tt
+everything_are true = (refl, tt)
 
-pub specific_identified : (o vt : Bool) → AreIdentified (specific_parts o vt)
-specific_identified false false = tt
-specific_identified true false = (one_octet (primitive 15) (refl, refl), tt)
-specific_identified false true = (one_octet (primitive 15) (refl, refl), tt)
-specific_identified true true = (one_octet (primitive 15) (refl, refl), tt)
-
--- the camelSubscriptionInfoWithdraw among its own, and among others
-pub own_everything : (everything : Bool)
-    → of_tag (primitive 9) (everything_parts everything) ≡ everything_parts everything
-own_everything false = refl
-own_everything true = refl
-
-pub no_everything : (everything : Bool) → of_tag (primitive 15) (everything_parts everything) ≡ []
-no_everything false = refl
-no_everything true = refl
-
--- the specificCSI-Withdraw
-pub own_specific : (o vt : Bool) → of_tag (primitive 15) (specific_parts o vt) ≡ specific_parts o vt
-own_specific false false = refl
-own_specific true false = refl
-own_specific false true = refl
-own_specific true true = refl
-
-pub no_specific : (o vt : Bool) → of_tag (primitive 9) (specific_parts o vt) ≡ []
-no_specific false false = refl
-no_specific true false = refl
-no_specific false true = refl
-no_specific true true = refl
+pub specific_are : (o vt : Bool) → AreOf (primitive 15) (specific_parts o vt)
+specific_are false false = tt
+specific_are true false = (refl, tt)
+specific_are false true = (refl, tt)
+specific_are true true = (refl, tt)
 
 module _ (fields : List PlacedData) (es : List ElementData) (read : AreRead fields es) where
   -- everything is named, or not

@@ -1,9 +1,10 @@
 -- The fields of a tag, as a loop finds them.
-use Rattle.std.proofs.Common.{◌≡◌, ◌∙◌, ℕ, suc, ◌≤◌, true, List, [], ◌∷◌, ◌++◌, length, drop, filter, Option, Some, None, is_some, Result, Ok, Err, inl, inr, refl, sym, ap}
+use Rattle.std.proofs.Common.{◌≡◌, ◌∙◌, ℕ, suc, ◌≤◌, true, List, [], ◌∷◌, ◌++◌, length, drop, filter, Option, Some, None, is_some}
+use Rattle.std.proofs.Common.{Result, Ok, Err, inl, inr, refl, sym, ap}
 use Rattle.std.proofs.lemmas.List.{append-nil, drop_all}
 use Rattle.camel_ber.specs.Reading.{◌>>=◌, PlacedData, view, views}
 use Rattle.camel_ber.specs.declared.element.Element.{Element}
-use Rattle.camel_map.specs.Field.{is_tagged, field_of, identified, only_field}
+use Rattle.camel_map.specs.Field.{is_tagged, field_of, only_field}
 use Rattle.camel_map.specs.Reading.{ReadsAs, fails_at}
 use Rattle.camel_map.specs.declared.map_fault.MapFault.{MapFault}
 use Rattle.camel_map.specs.declared.map_fault.MapFaultKind.TheVariants.{FieldTwice}
@@ -39,29 +40,6 @@ unfolding field_of
 all_found octet fields at found le so_far =
     let none : filter (is_tagged octet) (views (drop at fields)) ≡ [] = rw (drop_all at fields le) refl in
     ap (only_field octet) (sym so_far ∙ ap (λ left. found_so_far found ++ left) none ∙ append-nil (found_so_far found))
-
--- the field that was found has a fault
-pub found_fails : (octet : ℕ) (fields : List Element) (at : ℕ) (found : Option Element) (field : Element)
-    (fault : MapFault) → length fields ≤ at → found ≡ Some field → identified octet (view field) ≡ Err fault
-    → found_so_far found ++ filter (is_tagged octet) (views (drop at fields)) ≡ filter (is_tagged octet) (views fields)
-    → field_of octet (views fields) ≡ Err fault
-found_fails octet fields at found field fault le is fails so_far =
-    all_found octet fields at found le so_far ∙ rw (is, fails) refl
-
--- the field that was found is one
-pub found_is : (octet : ℕ) (fields : List Element) (at : ℕ) (found : Option Element) (field : Element)
-    (value : PlacedData) → length fields ≤ at → found ≡ Some field → identified octet (view field) ≡ Ok value
-    → found_so_far found ++ filter (is_tagged octet) (views (drop at fields)) ≡ filter (is_tagged octet) (views fields)
-    → field_of octet (views fields) ≡ Ok (Some value)
-found_is octet fields at found field value le is gives so_far =
-    all_found octet fields at found le so_far ∙ rw (is, gives) refl
-
--- no field was found
-pub found_none : (octet : ℕ) (fields : List Element) (at : ℕ) (found : Option Element) → length fields ≤ at
-    → found ≡ None
-    → found_so_far found ++ filter (is_tagged octet) (views (drop at fields)) ≡ filter (is_tagged octet) (views fields)
-    → field_of octet (views fields) ≡ Ok None
-found_none octet fields at found le is so_far = all_found octet fields at found le so_far ∙ rw is refl
 
 -- a field that is there is read as its element is
 pub present : {A : Type 0} (result reading : Result A MapFault) → ReadsAs result reading

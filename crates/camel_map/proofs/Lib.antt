@@ -11,7 +11,6 @@ mod EncodedDigits
 mod EncodedEntrySizes
 mod EncodedFields
 mod EncodedFirst
-mod EncodedIdentifiers
 mod EncodedImsis
 mod EncodedInsertFields
 mod EncodedInserts
@@ -24,7 +23,6 @@ mod EncodedListSizes
 mod EncodedNumberCriterion
 mod EncodedNumbers
 mod EncodedOEntries
-mod EncodedOFields
 mod EncodedParts
 mod EncodedRows
 mod EncodedSeries

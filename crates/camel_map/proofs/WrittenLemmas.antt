@@ -1,6 +1,8 @@
 -- Elements that are written in front of octets.
-use Rattle.std.proofs.Common.{◌≡◌, ◌∙◌, ℕ, zero, suc, ◌-◌, ◌<◌, ◌≤◌, List, [], ◌∷◌, ◌++◌, length, map, drop, slice_get, Option, Some, None, refl, sym, ap, append_assoc, arith}
+use Rattle.std.proofs.Common.{◌≡◌, ◌∙◌, ℕ, zero, suc, ◌-◌, ◌<◌, ◌≤◌, List, [], ◌∷◌, ◌++◌, length, map, drop, slice_get}
+use Rattle.std.proofs.Common.{Option, Some, None, refl, sym, ap, append_assoc, arith, drop-cons}
 use Rattle.std.proofs.lemmas.List.{length-append}
+use Rattle.std.proofs.lemmas.Option.{get_or_from_slice_get, slice_get_within}
 use Rattle.std.specs.Option.{option_map}
 use Rattle.camel_ber.specs.Grammar.{ElementData}
 use Rattle.camel_map.specs.Encoding.{encoding, encodings, if_any, leaf, length_octets}
@@ -28,19 +30,15 @@ pub closed : (octet : ℕ) (content rest : List ℕ)
 closed octet content rest =
     ap (λ (more : List ℕ). octet ∷ more) (sym (append_assoc (length_octets (length content)) content rest))
 
-item_dropped : {A : Type 0} (items : List A) (at : ℕ) (item : A) → slice_get items at ≡ Some item
-    → drop at items ≡ item ∷ drop (suc at) items
-item_dropped [] at item is = absurd cc
-item_dropped (x ∷ xs) zero item is = let same : x ≡ item = cc in ap (λ first. first ∷ xs) same
-item_dropped (x ∷ xs) (suc at) item is = item_dropped xs at item is
-
 -- the elements of the items from a place on begin with that of the item there
 pub item_written : {A : Type 0} (element_of : A → ElementData) (items : List A) (at next : ℕ) (item : A) (rest : List ℕ)
     → Some item ≡ slice_get items at → next ≡ suc at
     → encoding (element_of item) ++ before (map element_of (drop next items)) rest
     ≡ before (map element_of (drop at items)) rest
 item_written element_of items at next item rest is after =
-    rw (after, item_dropped items at item (sym is)) refl
+    let left = drop-cons items at item (slice_get_within items at item (sym is)) in
+    let own = get_or_from_slice_get items at item item (sym is) in
+    rw (after, left, own) refl
 
 -- there is an item at each place
 pub item_there : {A : Type 0} (items : List A) (at : ℕ) → None ≡ slice_get items at → at < length items → ⊥

@@ -1,6 +1,7 @@
 -- An encoding of each update that an operation can say: fields in the order of TS 29.002, definite lengths, and numbers
 -- and lengths in as few octets as hold them (ITU-T X.690).
-use Rattle.std.specs.Prelude.{◌≡◌, ℕ, Bool, true, false, ◌/◌, ◌%◌, ◌+◌, ◌*◌, nat_lt, List, [], ◌∷◌, ◌++◌, length, map, Option, Some, None, IfSome, if◌then◌else◌}
+use Rattle.std.specs.Prelude.{◌≡◌, ℕ, Bool, true, false, ◌/◌, ◌%◌, ◌+◌, ◌*◌, nat_lt, List, [], ◌∷◌, ◌++◌, length, map, Option}
+use Rattle.std.specs.Prelude.{Some, None, IfSome, if◌then◌else◌}
 use Rattle.camel_ber.specs.Grammar.{ElementData}
 use Rattle.camel_criteria.specs.Criteria.{NumberCriterionData, OCriteriaData, TCriteriaData}
 use Rattle.camel_criteria.specs.declared.basic_service.BasicService.{BasicService}
@@ -87,14 +88,16 @@ row_element row = parent sequence (
     ∷ []
     )
 
--- a row that every receiver ignores
+-- a list of one item at least: in the place of none it has one that every receiver ignores
+abbrev pub sent : {A : Type 0} → A → List A → List A
+sent ignored [] = ignored ∷ []
+sent ignored (first ∷ more) = first ∷ more
+
 abbrev pub ignored_row : TdpRowData
 ignored_row = record { dp = 255; key = 0; scf = 0 ∷ []; handling = Continue }
 
--- the rows of a CSI, which has one at least
 abbrev pub sent_rows : List TdpRowData → List TdpRowData
-sent_rows [] = ignored_row ∷ []
-sent_rows (first ∷ more) = first ∷ more
+sent_rows rows = sent ignored_row rows
 
 -- O-CSI and T-CSI
 abbrev pub csi_element : ℕ → List TdpRowData → ElementData
@@ -145,14 +148,17 @@ t_entry_element entry = parent sequence (
     ++ if_some (constructed 1) cause_element entry.causes
     )
 
--- entries that every receiver ignores, in the place of none
+abbrev pub ignored_o_entry : OCriteriaData
+ignored_o_entry = record { dp = 255; number = None; basic = []; call_type = None; causes = [] }
+
+abbrev pub ignored_t_entry : TCriteriaData
+ignored_t_entry = record { dp = 255; basic = []; causes = [] }
+
 abbrev pub sent_o_entries : List OCriteriaData → List OCriteriaData
-sent_o_entries [] = record { dp = 255; number = None; basic = []; call_type = None; causes = [] } ∷ []
-sent_o_entries (first ∷ more) = first ∷ more
+sent_o_entries entries = sent ignored_o_entry entries
 
 abbrev pub sent_t_entries : List TCriteriaData → List TCriteriaData
-sent_t_entries [] = record { dp = 255; basic = []; causes = [] } ∷ []
-sent_t_entries (first ∷ more) = first ∷ more
+sent_t_entries entries = sent ignored_t_entry entries
 
 -- the fields of VlrCamelSubscriptionInfo
 abbrev pub camel_parts : Option (List TdpRowData) → Option (List OCriteriaData) → Option (List TdpRowData)

@@ -1,5 +1,6 @@
 -- The fields of a SEQUENCE, by their tags, in whatever order they come. Those that no definition names are skipped.
-use Rattle.std.specs.Prelude.{ℕ, Bool, ◌==◌, ◌&&◌, ◌/◌, ◌%◌, List, [], ◌∷◌, length, filter, slice_index, Option, Some, None, Result, Ok, if◌then◌else◌}
+use Rattle.std.specs.Prelude.{ℕ, Bool, ◌==◌, ◌&&◌, ◌/◌, ◌%◌, List, [], ◌∷◌, length, filter, slice_index, Option, Some, None, Result, Ok}
+use Rattle.std.specs.Prelude.{if◌then◌else◌}
 use Rattle.camel_ber.specs.Reading.{◌>>=◌, PlacedData}
 use Rattle.camel_map.specs.Reading.{fails_at}
 use Rattle.camel_map.specs.declared.map_fault.MapFault.{MapFault}

@@ -1,5 +1,6 @@
 -- What DeleteSubscriberData names (TS 29.002): all CSIs by camelSubscriptionInfoWithdraw, one by specificCSI-Withdraw.
-use Rattle.std.specs.Prelude.{ℕ, Bool, true, false, ◌==◌, ◌&&◌, ◌||◌, ◌/◌, ◌%◌, ◌+◌, ◌*◌, ◌-◌, nat_le, nat_lt, List, length, slice_index, Option, Some, None, Result, Ok, if◌then◌else◌}
+use Rattle.std.specs.Prelude.{ℕ, Bool, true, false, ◌==◌, ◌&&◌, ◌||◌, ◌/◌, ◌%◌, ◌+◌, ◌*◌, ◌-◌, nat_le, nat_lt, List, length}
+use Rattle.std.specs.Prelude.{slice_index, Option, Some, None, Result, Ok, if◌then◌else◌}
 use Rattle.camel_ber.specs.Reading.{PlacedData}
 use Rattle.camel_rows.specs.declared.subscriber.update.Withdrawal.{Withdrawal}
 use Rattle.camel_map.specs.Reading.{fails_at}

@@ -1,7 +1,7 @@
-use Rattle.std.proofs.Common.{arith, sym}
+use Rattle.std.proofs.Common.{◌∙◌, arith, refl, sym}
 use Rattle.std.proofs.lemmas.Result.{err_from_is_err_and}
 use Rattle.camel_map.proofs.EachLemmas.{drop-item}
-use Rattle.camel_map.proofs.FieldLemmas.{found_fails, found_is, found_none, twice}
+use Rattle.camel_map.proofs.FieldLemmas.{all_found, twice}
 use Rattle.camel_map.proofs.field.find_field.Goals as goal
 
 pub returns-then-is_some : goal.returns-then-is_some
@@ -16,15 +16,15 @@ pub returns-in_err-identified-in-Some : goal.returns-in_err-identified-in-Some
 returns-in_err-identified-in-Some c =
     let returned = err_from_is_err_and c.from_residual.result c.from_residual.ensures.1 in
     rw (returned.1, returned.2)
-    (found_fails c.args.octet c.args.fields.now c.loop-field.field-index c.loop-field.found c.in-Some.field _
-    (omega arith) c.in-Some.is c.in_err-identified-in-Some.ensures c.loop-field.invariant)
+    (all_found c.args.octet c.args.fields.now c.loop-field.field-index c.loop-field.found (omega arith) c.loop-field.invariant
+    ∙ rw (c.in-Some.is, c.in_err-identified-in-Some.ensures) refl)
 
 pub returns-in_ok-identified-in-Some : goal.returns-in_ok-identified-in-Some
 returns-in_ok-identified-in-Some c =
-    found_is c.args.octet c.args.fields.now c.loop-field.field-index c.loop-field.found c.in-Some.field _ (omega arith)
-    c.in-Some.is c.in_ok-identified-in-Some.ensures c.loop-field.invariant
+    all_found c.args.octet c.args.fields.now c.loop-field.field-index c.loop-field.found (omega arith) c.loop-field.invariant
+    ∙ rw (c.in-Some.is, c.in_ok-identified-in-Some.ensures) refl
 
 pub returns-in-None : goal.returns-in-None
 returns-in-None c =
-    found_none c.args.octet c.args.fields.now c.loop-field.field-index c.loop-field.found (omega arith) c.in-None.is
-    c.loop-field.invariant
+    all_found c.args.octet c.args.fields.now c.loop-field.field-index c.loop-field.found (omega arith) c.loop-field.invariant
+    ∙ rw c.in-None.is refl

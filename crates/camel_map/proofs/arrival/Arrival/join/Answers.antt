@@ -1,8 +1,7 @@
 use Rattle.std.proofs.Common.{◌≡◌, ◌∙◌, ℕ, List, Bool, true, false, not, Ok, bytes_eq, ap, subst, sym, refl}
 use Rattle.std.proofs.lemmas.Result.{err_from_is_err_and}
 use Rattle.std.proofs.lemmas.Slice.Eq.{bytes_eq-Decides}
-use Rattle.camel_map.specs.Arrival.{insert_with}
-use Rattle.camel_map.specs.Lists.{as_one, insert_of_lists, latest}
+use Rattle.camel_map.specs.Lists.{as_one, insert_of_lists}
 use Rattle.camel_map.specs.declared.arrival.Arrival.{Arrival}
 use Rattle.camel_map.specs.declared.arrival.CapabilityHandling.{CapabilityHandling}
 use Rattle.camel_map.proofs.InsertParts.{parts}
@@ -55,8 +54,7 @@ returns-in_err-join_lists-2-clause-joined c =
     let second = parts imsi later c.args.next.now _ _ _ _ _ other c.in-Insert-update.is in
     let o = made_as _ _ (c.in_ok-join_lists.ensures earlier.o later.o first.o_is second.o_is) in
     let ended = c.in_err-join_lists-2.ensures earlier.o_criteria later.o_criteria first.o_criteria_is second.o_criteria_is in
-    let given = c.from_residual-in_err-join_lists-2 in
-    let returned = err_from_is_err_and given.result given.ensures.1 in
+    let returned = err_from_is_err_and c.from_residual-in_err-join_lists-2.result c.from_residual-in_err-join_lists-2.ensures.1 in
     rw returned.1 (ends _ _ _ _ returned.2 ended (λ refused. rw (o, refused) refl))
 
 pub returns-in_err-join_lists-3-clause-joined : goal.returns-in_err-join_lists-3-clause-joined
@@ -68,8 +66,7 @@ returns-in_err-join_lists-3-clause-joined c =
     let o = made_as _ _ (c.in_ok-join_lists.ensures earlier.o later.o first.o_is second.o_is) in
     let o_criteria = made_as _ _ (c.in_ok-join_lists-2.ensures earlier.o_criteria later.o_criteria first.o_criteria_is second.o_criteria_is) in
     let ended = c.in_err-join_lists-3.ensures earlier.vt later.vt first.vt_is second.vt_is in
-    let given = c.from_residual-in_err-join_lists-3 in
-    let returned = err_from_is_err_and given.result given.ensures.1 in
+    let returned = err_from_is_err_and c.from_residual-in_err-join_lists-3.result c.from_residual-in_err-join_lists-3.ensures.1 in
     rw returned.1 (ends _ _ _ _ returned.2 ended (λ refused. rw (o, o_criteria, refused) refl))
 
 pub returns-in_err-join_lists-4-clause-joined : goal.returns-in_err-join_lists-4-clause-joined
@@ -82,8 +79,7 @@ returns-in_err-join_lists-4-clause-joined c =
     let o_criteria = made_as _ _ (c.in_ok-join_lists-2.ensures earlier.o_criteria later.o_criteria first.o_criteria_is second.o_criteria_is) in
     let vt = made_as _ _ (c.in_ok-join_lists-3.ensures earlier.vt later.vt first.vt_is second.vt_is) in
     let ended = c.in_err-join_lists-4.ensures earlier.t_criteria later.t_criteria first.t_criteria_is second.t_criteria_is in
-    let given = c.from_residual-in_err-join_lists-4 in
-    let returned = err_from_is_err_and given.result given.ensures.1 in
+    let returned = err_from_is_err_and c.from_residual-in_err-join_lists-4.result c.from_residual-in_err-join_lists-4.ensures.1 in
     rw returned.1 (ends _ _ _ _ returned.2 ended (λ refused. rw (o, o_criteria, vt, refused) refl))
 
 pub returns-clause-joined : goal.returns-clause-joined
@@ -96,9 +92,7 @@ returns-clause-joined c =
     let o_criteria = made_as _ _ (c.in_ok-join_lists-2.ensures earlier.o_criteria later.o_criteria first.o_criteria_is second.o_criteria_is) in
     let vt = made_as _ _ (c.in_ok-join_lists-3.ensures earlier.vt later.vt first.vt_is second.vt_is) in
     let t_criteria = made_as _ _ (c.in_ok-join_lists-4.ensures earlier.t_criteria later.t_criteria first.t_criteria_is second.t_criteria_is) in
-    let whole : c.insert.result ≡ insert_with c.in-Insert.imsi c.in_ok-join_lists.field-0 c.in_ok-join_lists-2.field-0
-    c.in_ok-join_lists-3.field-0 c.in_ok-join_lists-4.field-0 c.latest.result = c.insert.ensures in
-    rw (o, o_criteria, vt, t_criteria, first.imsi_is, whole, c.latest.ensures) refl
+    rw (o, o_criteria, vt, t_criteria, first.imsi_is, c.insert.ensures, c.latest.ensures) refl
 
 pub returns-clause-received : goal.returns-clause-received
 returns-clause-received c =
@@ -111,10 +105,7 @@ returns-clause-received c =
     first.imsi_is ∙ not_other c.in-Insert.imsi c.in-Insert-update.next_imsi c.if-ne.ensures ∙ sym second.imsi_is in
     let other_whole = rw (← same) at other.whole in
     let whole = returns-clause-joined c one.imsi one.lists other.lists one.whole other_whole in
-    let made : c.insert.result ≡ insert_with c.in-Insert.imsi c.in_ok-join_lists.field-0 c.in_ok-join_lists-2.field-0
-    c.in_ok-join_lists-3.field-0 c.in_ok-join_lists-4.field-0 c.latest.result = c.insert.ensures in
-    let capabilities : c.insert.result.capabilities ≡ latest c.args.self.now.capabilities c.args.next.now.capabilities =
-    ap (λ (arrival : Arrival). arrival.capabilities) made ∙ c.latest.ensures in record {
+    let capabilities = ap (λ (arrival : Arrival). arrival.capabilities) c.insert.ensures ∙ c.latest.ensures in record {
       imsi = one.imsi;
       lists = as_one one.lists other.lists;
       whole =
