@@ -4,10 +4,9 @@ use crate::attempts::{Refusals, again};
 use crate::failure::{Failure, Lost, OUT_OF_MEMORY, check};
 use crate::stage::{Stage, set};
 use crate::values::{KNOWN, SECOND};
-use camel_audit::{Job, Transcript};
+use camel_audit::{Ended, Job, OpenGate, Served, Transcript, serve};
 use camel_fixtures::{call_of, imsi_of};
 use camel_vlr::{Of, Session, StoreName, Vlr};
-use camel_workers::{Ended, OpenGate, Served, serve};
 use std::alloc::Global;
 use std::sync::Wait;
 

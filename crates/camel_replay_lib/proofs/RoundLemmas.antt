@@ -12,7 +12,7 @@ use Rattle.camel_vlr.specs.Prefix.{PrefixData, StoreId}
 use Rattle.camel_vlr.specs.Run.{Run}
 use Rattle.camel_vlr.specs.Session.{SessionData}
 use Rattle.camel_vlr.specs.Store.{StoreData, fresh_session}
-use Rattle.camel_workers.specs.Serves.{answer_in, event_in, job_of}
+use Rattle.camel_audit.specs.Serves.{answer_in, event_in, job_of}
 use Rattle.camel_replay_lib.proofs.SegmentLemmas.{call_between}
 use Rattle.camel_replay_lib.specs.Round.{FrontIsAtLeast, FrontIsAtMost, IsJoined, IsOfStore, IsWorkerOf, ServesJobs, ServesSeat}
 use Rattle.camel_replay_lib.specs.Rounds.{AreNumbered, HasAnswered, HasNoEntries, entries_in, session_in}

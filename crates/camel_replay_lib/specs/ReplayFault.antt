@@ -3,8 +3,8 @@ use Rattle.std.specs.Prelude.{ℕ, ◌==◌, ◌&&◌, ◌||◌, nat_le, Bool, O
 use Rattle.camel_audit.specs.AuditFault.{audit_fault_code}
 use Rattle.camel_criteria.specs.declared.refusal.Refusal.{Refusal}
 use Rattle.camel_criteria.specs.declared.refusal.Refusal.TheVariants as refusal
-use Rattle.camel_workers.specs.declared.worker.Ended.{Ended}
-use Rattle.camel_workers.specs.declared.worker.Ended.TheVariants as ended
+use Rattle.camel_audit.specs.declared.worker.Ended.{Ended}
+use Rattle.camel_audit.specs.declared.worker.Ended.TheVariants as ended
 use Rattle.camel_replay_lib.specs.declared.threaded_replay.threads_fault.ThreadsFault.{ThreadsFault}
 use Rattle.camel_replay_lib.specs.declared.threaded_replay.threads_fault.ThreadsFault.TheVariants.{OutOfMemory, NoPlace, NoGuard, Stopped, NoWorker, Audit}
 

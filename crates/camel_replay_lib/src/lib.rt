@@ -7,8 +7,7 @@
 //!   update is pending until the next `publish`.
 //! - [`replay_threads`] is the replay with threads: sessions of a shared store answer the calls, each in a thread of
 //!   its own, beside the writer, and what they answered is audited before a line is written. Its workers and its audit
-//!   are in crates of their own, for switches that replay nothing: [`serve`] and [`Gate`] are of `camel_workers`,
-//!   [`audit`] and what it reads are of `camel_audit`.
+//!   are those of `camel_audit`, which is also for switches that replay nothing.
 //! - [`published_fronts`] is a law of every replay: what is published is a front, and only grows.
 //!
 //! Which records the bytes of a script give, and the text of each line, is stated in `camel_script`; the output of all
@@ -21,8 +20,9 @@ mod command;
 mod script_replay;
 mod threaded_replay;
 
-pub use camel_audit::{AuditFault, Entry, Job, Transcript, audit};
-pub use camel_workers::{Ended, Gate, OpenGate, Served, serve};
+pub use camel_audit::{
+    AuditFault, Ended, Entry, Gate, Job, OpenGate, Served, Transcript, audit, serve,
+};
 pub use command::words::{MAX_LIMIT, MAX_THREADS, options};
 pub use command::{FAULT_STATUS, Options, REJECTED_STATUS, run};
 pub use script_replay::laws::published_fronts;

@@ -1,4 +1,4 @@
-//! The tests of `camel_vlr`, `camel_workers` and `camel_audit`, which call them from outside, as their users do.
+//! The tests of `camel_vlr` and `camel_audit`, which call them from outside, as their users do.
 #![tactic(auto)]
 
 #[cfg(test)]

@@ -4,11 +4,10 @@ ghost use Rattle.std.specs.Prelude.{◌≡◌, Some};
 
 use crate::answers::TURNS;
 use crate::given::{NewStore, Opened, open_store, receipt_of, row_sent};
-use camel_audit::Job;
+use camel_audit::{Ended, Gate, Job, Served, serve};
 use camel_fixtures::{call_of, imsi_of};
 use camel_tbcd::Profile;
 use camel_vlr::{Of, Receipt, Session, StoreName, Vlr};
-use camel_workers::{Ended, Gate, Served, serve};
 use std::alloc::Global;
 use std::marker::Brand;
 use std::process::Abort;

@@ -1,10 +1,9 @@
 use crate::given::row_updates;
 use crate::served::served;
-use camel_audit::{Transcript, audit};
+use camel_audit::{Ended, Gate, OpenGate, Served, Transcript, audit};
 use camel_fixtures::{imsi_of, triggered};
 use camel_rows::{Answer, Outcome, Reason};
 use camel_tbcd::Profile;
-use camel_workers::{Ended, Gate, OpenGate, Served};
 use std::process::Abort;
 use std::sync::atomic::{AtomicU64, Ordering};
 use std::test::Fail;

@@ -6,15 +6,14 @@ ghost use Rattle.std.specs.List.{AllZip};
 ghost use Rattle.camel_replay_lib.specs.ReplayFault.{fault_of_end};
 ghost use Rattle.camel_replay_lib.specs.Round.{AreWorkersOf, FrontIsAtMost, IsJoined, IsOfStore, IsPromiseOf, IsWorkerOf, ServesRound, WritesLines};
 ghost use Rattle.camel_replay_lib.specs.ThreadsOutput.{is_no_call};
-ghost use Rattle.camel_workers.specs.Serves.{Serves};
+ghost use Rattle.camel_audit.specs.Serves.{Serves};
 
 use crate::threaded_replay::seat::Seat;
 use crate::threaded_replay::segment::{Segment, jobs_for};
 use crate::threaded_replay::threads_fault::ThreadsFault;
 use crate::threaded_replay::writer::Writer;
-use camel_audit::{AuditFault, Entry, Job, Transcript};
+use camel_audit::{AuditFault, Ended, Entry, Gate, Job, Served, Transcript, serve};
 use camel_vlr::{Of, Receipt, Session, StoreName};
-use camel_workers::{Ended, Gate, Served, serve};
 use std::alloc::{AllocError, Global};
 use std::collections::VecDeque;
 use std::marker::Brand;

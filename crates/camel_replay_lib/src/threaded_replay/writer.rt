@@ -9,11 +9,11 @@ ghost use Rattle.camel_script.specs.Line.{line_text};
 
 use crate::threaded_replay::open_store::OpenStore;
 use crate::threaded_replay::threads_fault::ThreadsFault;
+use camel_audit::Gate;
 use camel_criteria::Refusal;
 use camel_rows::Update;
 use camel_script::{Line, Record, push_line};
 use camel_vlr::{Receipt, Vlr};
-use camel_workers::Gate;
 use std::alloc::Global;
 use std::collections::VecDeque;
 use std::marker::Model;

@@ -1,9 +1,9 @@
 ghost use Rattle.std.specs.Prelude.{◌≡◌, ◌≢◌, ◌≤◌, ◌↔◌, false, [], length, map, take, vec_capacity};
 ghost use Rattle.camel_vlr.specs.Run.{Answers};
-ghost use Rattle.camel_workers.specs.Serves.{Serves, answer_in, event_in, job_of};
+ghost use Rattle.camel_audit.specs.Serves.{Serves, answer_in, event_in, job_of};
 
 use crate::gate::Gate;
-use camel_audit::{Entry, Job, Transcript};
+use crate::transcript::{Entry, Job, Transcript};
 use camel_rows::{Answer, Outcome};
 use camel_vlr::{Receipt, Session};
 use std::alloc::Global;
@@ -74,7 +74,8 @@ fn serve_each<G: Gate>(
     requires empty { entries.old.items ≡ [] }
     requires room { length jobs.now ≤ vec_capacity entries.old }
     ensures jobs { map job_of entries.new.items ≡ take (length entries.new.items) jobs.now }
-    ensures answers { Answers session.old (map event_in entries.new.items) (map answer_in entries.new.items) session.new }
+    ensures answers { Answers session.old (map event_in entries.new.items) (map answer_in entries.new.items)
+        session.new }
     ensures all { result ≡ Ended.All ↔ length entries.new.items ≡ length jobs.now }
     ensures memory { result ≢ Ended.OutOfMemory }
     ensures looks { session.old.looks ≡ false → session.new.looks ≡ false }

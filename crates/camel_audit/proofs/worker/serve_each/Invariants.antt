@@ -1,7 +1,7 @@
 use Rattle.std.proofs.Common.{◌≡◌, ◌≤◌, false, length, map, take, vec_capacity}
 use Rattle.camel_vlr.specs.Run.{Answers}
-use Rattle.camel_workers.specs.Serves.{answer_in, event_in, job_of}
-use Rattle.camel_workers.proofs.worker.serve_each.Given as goal
+use Rattle.camel_audit.specs.Serves.{answer_in, event_in, job_of}
+use Rattle.camel_audit.proofs.worker.serve_each.Given as goal
 
 -- the jobs so far are answered, and there is room for the others
 abbrev pub invariant-loop-job : goal.invariant-loop-job

@@ -7,8 +7,8 @@ use Rattle.camel_rows.specs.declared.trigger.outcome.Answer.{Answer}
 use Rattle.camel_vlr.specs.Prefix.{PrefixData}
 use Rattle.camel_vlr.specs.Run.{Answers}
 use Rattle.camel_vlr.specs.Session.{SessionData}
-use Rattle.camel_workers.specs.declared.worker.Ended.TheVariants.{All, OutOfMemory}
-use Rattle.camel_workers.specs.declared.worker.Served.{Served}
+use Rattle.camel_audit.specs.declared.worker.Ended.TheVariants.{All, OutOfMemory}
+use Rattle.camel_audit.specs.declared.worker.Served.{Served}
 
 -- the job that an entry answers
 abbrev pub job_of : Entry → Job

@@ -3,8 +3,8 @@ use Rattle.std.proofs.lemmas.Grind.{take_at_read}
 use Rattle.std.proofs.lemmas.List.{map_push}
 use Rattle.camel_audit.specs.declared.transcript.Entry.{Entry}
 use Rattle.camel_vlr.proofs.RunLemmas.{Answers-append}
-use Rattle.camel_workers.specs.Serves.{answer_in, event_in, job_of}
-use Rattle.camel_workers.proofs.worker.serve_each.Goals as goal
+use Rattle.camel_audit.specs.Serves.{answer_in, event_in, job_of}
+use Rattle.camel_audit.proofs.worker.serve_each.Goals as goal
 
 pub loop-job-preserved : goal.loop-job-preserved
 loop-job-preserved g c =
