@@ -14,8 +14,9 @@ pub last_front-push : (earlier : ℕ) (entries : List Entry) (entry : Entry) →
 last_front-push earlier [] entry = refl
 last_front-push earlier (first ∷ entries) entry = last_front-push first.answer.front entries entry
 
-pub AreExplained-push : (profile : Profile) (updates : List Update) (earlier : ℕ) (entries : List Entry) (entry : Entry) → AreExplained profile updates earlier entries
-    → IsExplained profile updates (last_front earlier entries) entry → AreExplained profile updates earlier (entries ++ entry ∷ [])
+pub AreExplained-push : (profile : Profile) (updates : List Update) (earlier : ℕ) (entries : List Entry) (entry : Entry)
+    → AreExplained profile updates earlier entries → IsExplained profile updates (last_front earlier entries) entry
+    → AreExplained profile updates earlier (entries ++ entry ∷ [])
 AreExplained-push profile updates earlier [] entry so_far one = (one, tt)
 AreExplained-push profile updates earlier (first ∷ entries) entry so_far one =
     (so_far.0, AreExplained-push profile updates first.answer.front entries entry so_far.1 one)

@@ -13,8 +13,13 @@ use Rattle.camel_rows.specs.Decision.{decision}
 use Rattle.camel_rows.specs.Outcome.{outcome_of}
 use Rattle.camel_rows.specs.Update.{records_of}
 use Rattle.camel_rows.specs.declared.subscriber.update.Update.{Update}
+use Rattle.camel_rows.specs.declared.trigger.outcome.Outcome.{Outcome}
 
 module _ (is_in : List ℕ → Bool) (profile : Profile) where
+  -- what an entry's call is decided as over the part's updates among these
+  abbrev pub outcome_over : Entry → List Update → Outcome
+  outcome_over entry updates = outcome_of (decision profile (records_of (updates_of_part is_in updates)) entry.event)
+
   explained_push : (updates : List Update) (earlier : ℕ) (entries : List Entry) (entry : Entry) → AreExplainedInPart is_in profile updates earlier entries
       → IsExplainedInPart is_in profile updates (last_front earlier entries) entry → AreExplainedInPart is_in profile updates earlier (entries ++ entry ∷ [])
   explained_push updates earlier [] entry so_far one = (one, tt)
@@ -28,15 +33,14 @@ module _ (is_in : List ℕ → Bool) (profile : Profile) where
     record {
       within = omega (arith, length-append front more, is.0.within);
       later = is.0.later;
-      outcome = λ here. is.0.outcome here
-          ∙ ap (λ updates. outcome_of (decision profile (records_of (updates_of_part is_in updates)) entry.event)) (sym (take-append-le entry.answer.front front more is.0.within));
+      outcome = λ here. is.0.outcome here ∙ ap (outcome_over entry) (sym (take-append-le entry.answer.front front more is.0.within));
     },
     explained_longer front more entry.answer.front entries is.1,
   )
 
   -- of entries that a front explains, the last one has no longer front
-  last_front-within : (front : List Update) (earlier : ℕ) (entries : List Entry) → AreExplainedInPart is_in profile front earlier entries → earlier ≤ length front
-      → last_front earlier entries ≤ length front
+  last_front-within : (front : List Update) (earlier : ℕ) (entries : List Entry) → AreExplainedInPart is_in profile front earlier entries
+      → earlier ≤ length front → last_front earlier entries ≤ length front
   last_front-within front earlier [] is small = small
   last_front-within front earlier (entry ∷ entries) is small = last_front-within front entry.answer.front entries is.1 is.0.within
 
@@ -54,13 +58,13 @@ module _ (is_in : List ℕ → Bool) (profile : Profile) where
         explained = rw longer (explained_push front 0 first entry is.explained (record {
           within = omega (arith, count);
           later = omega (arith, count, small);
-          outcome = λ here. decided here ∙ ap (λ updates. outcome_of (decision profile (records_of (updates_of_part is_in updates)) entry.event)) (sym whole);
+          outcome = λ here. decided here ∙ ap (outcome_over entry) (sym whole);
         }));
       }
 
   -- places that a front explains are places that a longer one explains
-  pub AreExplainedTo-longer : (front more : List Update) (transcripts : List (List Entry)) (places : List ℕ) → AreExplainedTo is_in profile front transcripts places
-      → AreExplainedTo is_in profile (front ++ more) transcripts places
+  pub AreExplainedTo-longer : (front more : List Update) (transcripts : List (List Entry)) (places : List ℕ)
+      → AreExplainedTo is_in profile front transcripts places → AreExplainedTo is_in profile (front ++ more) transcripts places
   AreExplainedTo-longer front more [] [] are = tt
   AreExplainedTo-longer front more [] (place ∷ places) are = absurd are
   AreExplainedTo-longer front more (entries ∷ transcripts) [] are = absurd are
@@ -70,7 +74,8 @@ module _ (is_in : List ℕ → Bool) (profile : Profile) where
   )
 
   -- the places before all entries
-  pub AreExplainedTo-none : (front : List Update) (transcripts : List (List Entry)) → AreExplainedTo is_in profile front transcripts (replicate (length transcripts) 0)
+  pub AreExplainedTo-none : (front : List Update) (transcripts : List (List Entry))
+      → AreExplainedTo is_in profile front transcripts (replicate (length transcripts) 0)
   AreExplainedTo-none front [] = tt
   AreExplainedTo-none front (entries ∷ transcripts) = (record { within = omega arith; explained = tt }, AreExplainedTo-none front transcripts)
 

@@ -3,7 +3,8 @@ use Rattle.std.proofs.Common.{arith, ℕ, zero, suc, ◌<◌, List, [], ◌∷�
 use Rattle.std.proofs.Math.ListN.{set}
 use Rattle.std.specs.List.{AllZip}
 
-pub AllZip-at : {A B : Type 0} (R : A → B → Type 0) (xs : List A) (ys : List B) (i : ℕ) (d : A) (e : B) → AllZip R xs ys → i < length xs → R (get_or xs i d) (get_or ys i e)
+pub AllZip-at : {A B : Type 0} (R : A → B → Type 0) (xs : List A) (ys : List B) (i : ℕ) (d : A) (e : B) → AllZip R xs ys → i < length xs
+    → R (get_or xs i d) (get_or ys i e)
 AllZip-at R [] ys i d e pairs small = absurd (omega (arith, small))
 AllZip-at R (x ∷ xs) [] i d e pairs small = absurd pairs
 AllZip-at R (x ∷ xs) (y ∷ ys) zero d e pairs small = pairs.0

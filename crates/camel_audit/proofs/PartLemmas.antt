@@ -1,6 +1,5 @@
 -- What passes in each part passes: each IMSI is in one.
-use Rattle.std.proofs.Common.{arith, ◌≡◌, ◌∙◌, ℕ, ◌<◌, ◌≤◌, ◌%◌, true, All, List, [], ◌∷◌, Option, Some, None, take, refl, sym, ap, eq-eqb}
-use Rattle.std.proofs.lemmas.List.Elements.{All-cons, All-head, All-nil, All-tail}
+use Rattle.std.proofs.Common.{arith, ◌≡◌, ◌∙◌, ℕ, ◌<◌, ◌≤◌, ◌%◌, true, List, [], ◌∷◌, Option, Some, None, take, refl, sym, ap, eq-eqb}
 use Rattle.camel_audit.proofs.PartRecordsLemmas.{AcceptedIn, accepted_in, after_all}
 use Rattle.camel_audit.specs.Audit.{AreExplained, Passes}
 use Rattle.camel_audit.specs.Part.{AreExplainedInPart, PassesInParts, concerns_part, is_in_part}
@@ -25,7 +24,8 @@ module _ (parts : ℕ) (some : 1 ≤ parts) where
   home None = record { part = 0; within = omega (arith, some); concerned = refl }
   home (Some imsi) = record { part = imsi_number imsi % parts; within = omega (arith, some); concerned = eq-eqb _ _ refl }
 
-  accepted_whole : (m : RecordsData) (updates : List Update) → ((part : ℕ) → part < parts → AcceptedIn (is_in_part parts part) m updates) → AcceptedFrom m updates
+  accepted_whole : (m : RecordsData) (updates : List Update) → ((part : ℕ) → part < parts → AcceptedIn (is_in_part parts part) m updates)
+      → AcceptedFrom m updates
   accepted_whole m [] each = tt
   accepted_whole m (update ∷ updates) each =
       let at = home (update_imsi update) in
@@ -47,17 +47,10 @@ module _ (parts : ℕ) (some : 1 ≤ parts) where
         explained_whole profile updates entry.answer.front entries (λ part within. (each part within).1),
       )
 
-  all_whole : (profile : Profile) (updates : List Update) (transcripts : List (List Entry))
-      → ((part : ℕ) → part < parts → All (AreExplainedInPart (is_in_part parts part) profile updates 0) transcripts) → All (AreExplained profile updates 0) transcripts
-  all_whole profile updates [] each = All-nil (AreExplained profile updates 0)
-  all_whole profile updates (entries ∷ transcripts) each =
-      All-cons (AreExplained profile updates 0) entries transcripts
-      (explained_whole profile updates 0 entries (λ part within. All-head (AreExplainedInPart (is_in_part parts part) profile updates 0) entries transcripts (each part within)))
-      (all_whole profile updates transcripts (λ part within. All-tail (AreExplainedInPart (is_in_part parts part) profile updates 0) entries transcripts (each part within)))
-
   pub passes_whole : (profile : Profile) (updates : List Update) (transcripts : List (List Entry)) → PassesInParts parts profile updates transcripts
       → Passes profile updates transcripts
   passes_whole profile updates transcripts each = record {
-    accepted = accepted_whole no_records updates (λ part within. accepted_in (is_in_part parts part) no_records no_records updates (λ _ _. refl) (each part within).accepted);
-    explained = all_whole profile updates transcripts (λ part within. (each part within).explained);
+    accepted = accepted_whole no_records updates (λ part within.
+        accepted_in (is_in_part parts part) no_records no_records updates (λ _ _. refl) (each part within).accepted);
+    explained = λ at other small. explained_whole profile updates 0 _ (λ part within. (each part within).explained at other small);
   }

@@ -66,10 +66,8 @@ pub record Differs (profile : Profile) (updates : List Update) (earlier : ℕ) (
 -- the first fault of the transcript of a session
 abbrev pub IsFaultOf : Profile → List Update → List Entry → ℕ → AuditFault → Type 0
 IsFaultOf profile updates entries number fault.OutOfMemory = Unit {0}
-IsFaultOf profile updates entries number (fault.FrontTooLong session entry) =
-    (session ≡ number) × FoundAt profile updates entries entry (IsTooLong updates)
-IsFaultOf profile updates entries number (fault.FrontWentBack session entry) =
-    (session ≡ number) × FoundAt profile updates entries entry (WentBack updates)
+IsFaultOf profile updates entries number (fault.FrontTooLong session entry) = (session ≡ number) × FoundAt profile updates entries entry (IsTooLong updates)
+IsFaultOf profile updates entries number (fault.FrontWentBack session entry) = (session ≡ number) × FoundAt profile updates entries entry (WentBack updates)
 IsFaultOf profile updates entries number (fault.AnswerDiffers session entry) =
     (session ≡ number) × FoundAt profile updates entries entry (Differs profile updates)
 IsFaultOf profile updates entries number (fault.BadHistory at) = ⊥

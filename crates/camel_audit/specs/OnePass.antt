@@ -13,8 +13,7 @@ use Rattle.camel_rows.specs.declared.subscriber.update.Update.{Update}
 module _ (is_in : List ℕ → Bool) (profile : Profile) where
   -- the answer of an entry, if its subscriber is in the part, is the decision over these records
   abbrev pub IsDecidedOver : RecordsData → Entry → Type 0
-  IsDecidedOver records entry =
-      is_in (event_imsi entry.event) ≡ true → entry.answer.outcome ≡ outcome_of (decision profile records entry.event)
+  IsDecidedOver records entry = is_in (event_imsi entry.event) ≡ true → entry.answer.outcome ≡ outcome_of (decision profile records entry.event)
 
   -- a front explains the entries before this place
   pub record IsExplainedTo (front : List Update) (entries : List Entry) (place : ℕ) : Type 0 where

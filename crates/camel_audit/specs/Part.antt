@@ -49,5 +49,4 @@ module _ (is_in : List ℕ → Bool) where
 
 -- they pass in each of so many parts
 abbrev pub PassesInParts : ℕ → Profile → List Update → List (List Entry) → Type 0
-PassesInParts parts profile updates transcripts =
-    (part : ℕ) → part < parts → PassesInPart (is_in_part parts part) profile updates transcripts
+PassesInParts parts profile updates transcripts = (part : ℕ) → part < parts → PassesInPart (is_in_part parts part) profile updates transcripts

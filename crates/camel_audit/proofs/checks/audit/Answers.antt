@@ -7,7 +7,8 @@ pub loop-session-preserved : goal.loop-session-preserved
 loop-session-preserved c =
     let so_far = c.loop-session.invariant in record {
       accepted = so_far.accepted;
-      explained = All-more (AreExplained c.args.profile c.args.updates.now 0) c.args.transcripts.now c.loop-session.session c.index-transcripts-session.result (search rules) so_far.explained (search rules);
+      explained = All-more (AreExplained c.args.profile c.args.updates.now 0) c.args.transcripts.now c.loop-session.session
+          c.index-transcripts-session.result (search rules) so_far.explained (search rules);
     }
 
 pub returns-clause-passes : goal.returns-clause-passes

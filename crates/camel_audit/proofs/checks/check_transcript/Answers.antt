@@ -21,9 +21,11 @@ loop-at-preserved c =
     let records : c.apply_all.new.records ≡ records_of (take next.answer.front updates) =
     c.in_ok-apply_all.ensures.applied ∙ ap (λ m. records_from m (take (next.answer.front - c.loop-at.front) (drop c.loop-at.front updates))) so_far.records
     ∙ records_of-longer updates c.loop-at.front next.answer.front later in
-    let outcome : next.answer.outcome ≡ outcome_at_front profile updates next = c.if-not-are_same.ensures.yes refl ∙ c.decide.ensures ∙ ap (λ m. outcome_of (decision profile m next.event)) records in
+    let outcome : next.answer.outcome ≡ outcome_at_front profile updates next =
+    c.if-not-are_same.ensures.yes refl ∙ c.decide.ensures ∙ ap (λ m. outcome_of (decision profile m next.event)) records in
     rw more record {
-      explained = AreExplained-push profile updates 0 first next so_far.explained (record { within = within; later = rw (← so_far.last) later; outcome = outcome });
+      explained = AreExplained-push profile updates 0 first next so_far.explained
+          (record { within = within; later = rw (← so_far.last) later; outcome = outcome });
       last = sym (last_front-push 0 first next);
       within = within;
       records = records;
@@ -35,7 +37,9 @@ returns-then-not-are_same-clause-fault c =
     let updates = c.args.updates.now in
     let profile = c.args.profile in
     let next = c.next-item.result in
-    let there : slice_get c.args.transcript.now c.loop-at.at ≡ Some next = slice_get_read c.args.transcript.now (length c.args.transcript.now) c.loop-at.at next refl (search rules) (search rules) in
+    let entries = c.args.transcript.now in
+    let there : slice_get entries c.loop-at.at ≡ Some next =
+    slice_get_read entries (length entries) c.loop-at.at next refl (search rules) (search rules) in
     let within : next.answer.front ≤ length updates = search rules in
     let later : c.loop-at.front ≤ next.answer.front = search rules in
     let records : c.apply_all.new.records ≡ records_of (take next.answer.front updates) =

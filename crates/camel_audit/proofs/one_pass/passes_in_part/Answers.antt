@@ -22,7 +22,8 @@ move_all-requires-in-loop-at-clause-records c =
     let first = take c.loop-at.at updates in
     let more : take (c.loop-at.at + 1) updates ≡ first ++ update ∷ [] = grind (arith, take_at_read) in
     let yes : c.is_accepted.result ≡ Ok true = c.in_ok-is_accepted.was ∙ ap Ok c.if-not-branch.false in
-    rw more (records-push (is_member c.args.part) first update c.loop-at.records c.is_accepted.new.records c.loop-at.invariant.records (c.is_accepted.ensures.applied yes))
+    let now = c.is_accepted in
+    rw more (records-push (is_member c.args.part) first update c.loop-at.records now.new.records c.loop-at.invariant.records (now.ensures.applied yes))
 
 pub move_all-requires-in-loop-at-clause-explained : goal.move_all-requires-in-loop-at-clause-explained
 move_all-requires-in-loop-at-clause-explained c =
@@ -53,8 +54,8 @@ loop-at-preserved c =
 
 pub are_ends-requires : goal.are_ends-requires
 are_ends-requires c =
-    let same = AllZip-long (IsExplainedTo (is_member c.args.part) c.args.profile (take c.loop-at.at c.args.updates.now)) c.args.transcripts.now c.loop-at.places.items c.loop-at.invariant.places in
-    rw c.deref.ensures.value (omega (arith, same))
+    let Explained = IsExplainedTo (is_member c.args.part) c.args.profile (take c.loop-at.at c.args.updates.now) in
+    rw c.deref.ensures.value (omega (arith, AllZip-long Explained c.args.transcripts.now c.loop-at.places.items c.loop-at.invariant.places))
 
 pub returns-clause-passes : goal.returns-clause-passes
 returns-clause-passes c = λ ok.
@@ -68,6 +69,7 @@ returns-clause-passes c = λ ok.
     let ends : c.loop-at.places.items ≡ map length transcripts = sym c.deref.ensures.value ∙ c.are_ends.ensures yes in
     record {
       accepted = subst (λ (us : List Update). Accepted (updates_of_part is_in us)) whole so_far.accepted;
-      explained = all_explained is_in profile updates transcripts (subst (λ (us : List Update). AreExplainedTo is_in profile us transcripts (map length transcripts)) whole
+      explained = all_explained is_in profile updates transcripts
+          (subst (λ (us : List Update). AreExplainedTo is_in profile us transcripts (map length transcripts)) whole
           (subst (λ (ps : List ℕ). AreExplainedTo is_in profile (take c.loop-at.at updates) transcripts ps) ends so_far.places));
     }

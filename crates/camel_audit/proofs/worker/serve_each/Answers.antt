@@ -17,7 +17,8 @@ loop-job-preserved g c =
     rw (c.push_reserved.ensures.items, more, map_push job_of entries entry, map_push event_in entries entry, map_push answer_in entries entry) record {
       count = omega (arith, so_far.count, length-append entries (entry ∷ []));
       jobs = ap (λ jobs. jobs ++ job ∷ []) so_far.jobs;
-      answers = Answers-append c.args.session.now c.loop-job.session c.answer.new.self (map event_in entries) (job.event ∷ []) (map answer_in entries) (c.in-Ok.answer ∷ []) so_far.answers c.in-Ok.ensures.answers;
+      answers = Answers-append c.args.session.now c.loop-job.session c.answer.new.self (map event_in entries) (job.event ∷ []) (map answer_in entries)
+          (c.in-Ok.answer ∷ []) so_far.answers c.in-Ok.ensures.answers;
       looks = λ _. c.in-Ok.ensures.looks;
       room = omega (arith, so_far.room, c.push_reserved.ensures.capacity);
     }
