@@ -1,4 +1,5 @@
 use Rattle.std.proofs.Common.{rules, ◌≡◌, ◌∙◌, [], None, append-nil, refl}
+use Rattle.std.proofs.lemmas.Result.{err_from_is_err_and}
 use Rattle.camel_rows.specs.Update.{refusal}
 use Rattle.camel_replay_lib.proofs.StoreLemmas.{IsPublishing, IsPublishing-next, first-and-rest, not-refused}
 use Rattle.camel_replay_lib.proofs.script_replay.store.Store.publish.Goals.{After-pop_front}
@@ -6,7 +7,13 @@ use Rattle.camel_replay_lib.proofs.script_replay.store.Store.publish.Goals as go
 
 pub updates-init : goal.updates-init
 updates-init c =
-    record { sound = c.self.invariant; profile = refl; limit = refl; accepted = refl; grows = ([], append-nil c.args.self.now.updates.published) }
+    rw (← c.self.view_is) (record {
+      sound = c.self.invariant;
+      profile = refl;
+      limit = refl;
+      accepted = refl;
+      grows = ([], append-nil c.self.inside.published.value);
+    })
 
 pub returns-in_err-apply-clause-only : goal.returns-in_err-apply-clause-only
 returns-in_err-apply-clause-only c =
@@ -20,7 +27,8 @@ returns-in_err-apply-clause-only c =
 pub returns-in_err-apply-clause-refused : goal.returns-in_err-apply-clause-refused
 returns-in_err-apply-clause-refused c =
     let so_far = c.updates.invariant in
-    record { profile = so_far.profile; limit = so_far.limit; accepted = so_far.accepted; grows = so_far.grows }
+    let returned = err_from_is_err_and c.from_residual.result c.from_residual.ensures.1 in
+    rw returned.1 (record { profile = so_far.profile; limit = so_far.limit; accepted = so_far.accepted; grows = so_far.grows })
 
 -- one turn of the publication, on whichever path it ends
 turn : (c : After-pop_front) → IsPublishing c.args.self.now c.updates.self-inside.admission c.apply.new.self c.updates.self-inside.profile
