@@ -1,14 +1,16 @@
 -- What the matches of the command line hold is what its words say.
-use Rattle.std.proofs.Common.{◌≡◌, ◌≤◌, ◌∙◌, ◌⊎◌, ℕ, List, true, Option, Some, None, IfSome, Result, Ok, Err, IfErr, IsErrAnd, refl, ap, subst, inl, inr, codes}
+use Rattle.std.proofs.Common.{◌≡◌, ◌≤◌, ◌∙◌, ◌⊎◌, ℕ, List, true, Option, Some, None, IfSome, refl, ap, subst, inl, inr, codes}
 use Rattle.camel_tbcd.specs.declared.profile.Profile.{Profile}
 use Rattle.clap.proofs.OnLiterals.{clap_on_literals}
 use Rattle.clap.proofs.WalkLemmas.{first_value-rows}
-use Rattle.clap.specs.Words.{App, HasKind, HasMatchesOf, IsAmong, Kinds, Text, fault_of, first_of, first_value, found_of, is_simple, is_simple_and_free, kind_of}
+use Rattle.clap.specs.Words.{App, HasKind, HasMatchesOf, IsAmong, Kinds, Text, fault_of, first_of, first_value, found_of}
+use Rattle.clap.specs.Words.{is_simple, is_simple_and_free, kind_of}
 use Rattle.clap.specs.declared.error.Error.{Error}
 use Rattle.clap.specs.declared.error.kind.ErrorKind.{ErrorKind}
 use Rattle.clap.specs.declared.error.kind.ErrorKind.TheVariants.{DisplayHelp, OutOfMemory}
 use Rattle.clap.specs.declared.parser.matches.ArgMatches.{ArgMatches}
-use Rattle.camel_replay_lib.specs.CommandLine.{AsksForHelp, GivesNumber, HoldsLimit, HoldsProfile, HoldsThreads, LimitOf, MayGiveNumber, ProfileOf, ThreadsOf, option_text, profile_number, the_program}
+use Rattle.camel_replay_lib.specs.CommandLine.{AsksForHelp, GivesNumber, HoldsLimit, HoldsProfile, HoldsThreads, LimitOf, MayGiveNumber, ProfileOf}
+use Rattle.camel_replay_lib.specs.CommandLine.{ThreadsOf, option_text, profile_number, the_program}
 use Rattle.camel_replay_lib.specs.Limits.{max_limit, max_profile, max_threads}
 
 -- the program is simple, so `clap` says which matches every list of words has
@@ -16,19 +18,19 @@ program_is_simple : is_simple the_program ≡ true
 unfolding clap_on_literals
 program_is_simple = refl
 
-text_held : (name : Text) (words : List Text) (matches : ArgMatches) → HasMatchesOf the_program words matches → first_value (found_of matches) name ≡ option_text name words
-text_held name words matches has = first_value-rows (found_of matches) name ∙ ap (first_of name) (has program_is_simple).0
+module _ (words : List Text) (matches : ArgMatches) (has : HasMatchesOf the_program words matches) where
+  -- what is said of an option that the matches hold is said of its text
+  held : (Says : Option Text → Type 0) (name : Text) → Says (first_value (found_of matches) name) → Says (option_text name words)
+  held Says name = subst Says (first_value-rows (found_of matches) name ∙ ap (first_of name) (has program_is_simple).0)
 
-pub LimitOf-held : (words : List Text) (matches : ArgMatches) (limit : ℕ) → HasMatchesOf the_program words matches → HoldsLimit matches limit → LimitOf words limit
-LimitOf-held words matches limit has held = subst (λ (given : Option Text). GivesNumber max_limit given limit) (text_held (codes "limit") words matches has) held
+  pub LimitOf-held : (limit : ℕ) → HoldsLimit matches limit → LimitOf words limit
+  LimitOf-held limit = held (λ given. GivesNumber max_limit given limit) (codes "limit")
 
-pub ThreadsOf-held : (words : List Text) (matches : ArgMatches) (threads : Option ℕ) → HasMatchesOf the_program words matches → HoldsThreads matches threads → ThreadsOf words threads
-ThreadsOf-held words matches threads has held =
-    subst (λ (given : Option Text). MayGiveNumber max_threads given threads) (text_held (codes "threads") words matches has) held
+  pub ThreadsOf-held : (threads : Option ℕ) → HoldsThreads matches threads → ThreadsOf words threads
+  ThreadsOf-held threads = held (λ given. MayGiveNumber max_threads given threads) (codes "threads")
 
-pub ProfileOf-held : (words : List Text) (matches : ArgMatches) (profile : Profile) → HasMatchesOf the_program words matches → HoldsProfile matches profile → ProfileOf words profile
-ProfileOf-held words matches profile has held =
-    subst (λ (given : Option Text). GivesNumber max_profile given (profile_number profile)) (text_held (codes "profile") words matches has) held
+  pub ProfileOf-held : (profile : Profile) → HoldsProfile matches profile → ProfileOf words profile
+  ProfileOf-held profile = held (λ given. GivesNumber max_profile given (profile_number profile)) (codes "profile")
 
 -- what the words say is in its range
 pub threads_in_range : (words : List Text) (threads : Option ℕ) → ThreadsOf words threads → IfSome threads (λ threads. (1 ≤ threads) × (threads ≤ max_threads))
@@ -47,13 +49,8 @@ help_is_among : (kind : ErrorKind) (kinds : Kinds) → (kind ≡ OutOfMemory) �
 help_is_among kind kinds (inl lacks_memory) help = absurd (cc)
 help_is_among kind kinds (inr among) help = subst (λ kind. IsAmong kind kinds) help among
 
-pub AsksForHelp-answered : (words : List Text) (app : App) (error : Error) → app ≡ the_program → (is_simple_and_free app ≡ true → HasKind (fault_of app words) error)
-    → kind_of error ≡ DisplayHelp → AsksForHelp words
+pub AsksForHelp-answered : (words : List Text) (app : App) (error : Error) → app ≡ the_program
+    → (is_simple_and_free app ≡ true → HasKind (fault_of app words) error) → kind_of error ≡ DisplayHelp → AsksForHelp words
 AsksForHelp-answered words app error same has help =
     let free : is_simple_and_free app ≡ true = rw same program_is_free in
     subst (λ (app : App). IsAmong DisplayHelp (fault_of app words)) same (help_is_among (kind_of error) (fault_of app words) (has free) help)
-
--- an error that is passed on is the error that was returned
-pub passed_on : {T : Type 0} (result : Result T Error) (Given Shown : Error → Type 0) → IsErrAnd result Given → ((error : Error) → Given error → Shown error) → IfErr result Shown
-passed_on (Ok value) Given Shown given shown = tt
-passed_on (Err error) Given Shown given shown = shown error given

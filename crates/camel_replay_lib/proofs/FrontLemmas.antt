@@ -16,8 +16,8 @@ use Rattle.camel_replay_lib.specs.Output.{after_submission, updates_after}
 abbrev AreFront : ℕ → Updates → Type 0
 AreFront limit updates = IsFront limit (accepted_updates updates)
 
-AreFront-submission : (limit : ℕ) (updates : Updates) (update : Update) (why : Option Refusal) → store_refusal limit updates update ≡ why → AreFront limit updates
-    → AreFront limit (after_submission updates update why)
+AreFront-submission : (limit : ℕ) (updates : Updates) (update : Update) (why : Option Refusal) → store_refusal limit updates update ≡ why
+    → AreFront limit updates → AreFront limit (after_submission updates update why)
 AreFront-submission limit updates update (Some why) e front = front
 AreFront-submission limit updates update None e front = IsFront-with_update limit updates update front e
 
@@ -36,9 +36,9 @@ pub published_is_front : (limit : ℕ) (records : List Record) → IsFront limit
 published_is_front limit records =
     IsFront-published limit (updates_from limit no_updates records) (AreFront-from limit no_updates records (IsFront-empty limit))
 
-pub published-after_submission : (updates : Updates) (update : Update) (why : Option Refusal) → (after_submission updates update why).published ≡ updates.published
-published-after_submission updates update None = refl
-published-after_submission updates update (Some why) = refl
+pub published-after_submission : (now : Updates) (update : Update) (why : Option Refusal) → (after_submission now update why).published ≡ now.published
+published-after_submission now update None = refl
+published-after_submission now update (Some why) = refl
 
 -- one record leaves what is published, or lets it grow
 grows_by_one : (limit : ℕ) (updates : Updates) (next_record : Record) → Extends (updates_after limit updates next_record).published updates.published
@@ -53,7 +53,8 @@ grows_from limit updates (next_record ∷ records) =
     let next = updates_after limit updates next_record in
     prefix_trans updates.published next.published _ (grows_by_one limit updates next_record) (grows_from limit next records)
 
-pub updates_from-append : (limit : ℕ) (updates : Updates) (records more : List Record) → updates_from limit updates (records ++ more) ≡ updates_from limit (updates_from limit updates records) more
+pub updates_from-append : (limit : ℕ) (updates : Updates) (records more : List Record)
+    → updates_from limit updates (records ++ more) ≡ updates_from limit (updates_from limit updates records) more
 updates_from-append limit updates [] more = refl
 updates_from-append limit updates (next_record ∷ records) more = updates_from-append limit (updates_after limit updates next_record) records more
 

@@ -1,5 +1,6 @@
 -- How far a script is read.
-use Rattle.std.proofs.Common.{◌≡◌, ◌∙◌, ℕ, ◌+◌, ◌≤◌, true, false, arith, length-append, List, [], ◌∷◌, ◌++◌, length, Option, Some, None, IfSome, IsTrue, refl, sym, ap, inl, inr, append_assoc, append-nil}
+use Rattle.std.proofs.Common.{arith, ◌≡◌, ◌∙◌, inl, inr, refl, sym, ap, true, false, IsTrue, ℕ, ◌+◌, ◌≤◌, Option, Some, None, IfSome}
+use Rattle.std.proofs.Common.{List, [], ◌∷◌, ◌++◌, append_assoc, append-nil, length, length-append}
 use Rattle.std.specs.Io.KnownBytes.{Keeps}
 use Rattle.camel_tbcd.specs.declared.profile.Profile.{Profile}
 use Rattle.camel_audit.specs.declared.audit_fault.AuditFault.TheVariants as audit
@@ -67,8 +68,8 @@ not_text e (inl memory) = rw memory refl
 not_text e (inr read) = rw read refl
 
 -- a read of the script failed
-pub stopped_reading : (known left : Option ScriptData) (records : List Record) (e : ScriptFault) (stop : ReplayFault) → HasRead known records left → FaultsAs e left
-    → stop ≡ record { number = Some (length records + 1); code = script_fault_code e } → IfSome known (λ given. StopsReading given stop)
+pub stopped_reading : (known left : Option ScriptData) (records : List Record) (e : ScriptFault) (stop : ReplayFault) → HasRead known records left
+    → FaultsAs e left → stop ≡ record { number = Some (length records + 1); code = script_fault_code e } → IfSome known (λ given. StopsReading given stop)
 stopped_reading None left records e stop so_far faults is = tt
 stopped_reading (Some all) None records e stop so_far faults is = absurd so_far
 stopped_reading (Some all) (Some rest) records e stop so_far (inl outside) is = record {
@@ -103,9 +104,9 @@ code_of_run (run.Audit (audit.AnswerDiffers session entry)) = (refl, refl, refl)
 code_of_run (run.Audit (audit.BadHistory at)) = (refl, refl, refl)
 
 -- the script was read whole, and no line was written
-pub stopped_later : {X : Type 0} (given : X → ScriptData) (known : Option X) (old new : Option (List ℕ)) (threads : ℕ) (profile : Profile) (limit : ℕ) (records : List Record) (fault : ThreadsFault) (stop : ReplayFault)
-    → IfSome known (λ x. IsAllOf (given x) records) → Keeps old new → stop ≡ record { number = None; code = threads_fault_code fault }
-    → IfSome known (λ x. ThreadsStop old new threads profile limit (given x) stop)
+pub stopped_later : {X : Type 0} (given : X → ScriptData) (known : Option X) (old new : Option (List ℕ)) (threads : ℕ) (profile : Profile) (limit : ℕ)
+    (records : List Record) (fault : ThreadsFault) (stop : ReplayFault) → IfSome known (λ x. IsAllOf (given x) records) → Keeps old new
+    → stop ≡ record { number = None; code = threads_fault_code fault } → IfSome known (λ x. ThreadsStop old new threads profile limit (given x) stop)
 stopped_later given None old new threads profile limit records fault stop all keeps is = tt
 stopped_later given (Some x) old new threads profile limit records fault stop all keeps is =
     let code : stop.code ≡ threads_fault_code fault = ap (λ (f : ReplayFault). f.code) is in
@@ -118,8 +119,9 @@ stopped_later given (Some x) old new threads profile limit records fault stop al
     }
 
 -- the output could not be written
-pub stopped_by_write : {X : Type 0} (given : X → ScriptData) (known : Option X) (old new : Option (List ℕ)) (threads : ℕ) (profile : Profile) (limit : ℕ) (records : List Record) (octets : List ℕ) (stop : ReplayFault)
-    → IfSome known (λ x. IsAllOf (given x) records) → IsThreadsOutput threads profile limit records octets → AppendsPart old new octets → stop ≡ record { number = None; code = 208 }
+pub stopped_by_write : {X : Type 0} (given : X → ScriptData) (known : Option X) (old new : Option (List ℕ)) (threads : ℕ) (profile : Profile) (limit : ℕ)
+    (records : List Record) (octets : List ℕ) (stop : ReplayFault) → IfSome known (λ x. IsAllOf (given x) records)
+    → IsThreadsOutput threads profile limit records octets → AppendsPart old new octets → stop ≡ record { number = None; code = 208 }
     → IfSome known (λ x. ThreadsStop old new threads profile limit (given x) stop)
 stopped_by_write given None old new threads profile limit records octets stop all output part is = tt
 stopped_by_write given (Some x) old new threads profile limit records octets stop all output part is =

@@ -1,6 +1,8 @@
 -- What the workers of a round give back, put together.
-use Rattle.std.proofs.Common.{◌≡◌, ◌∙◌, ℕ, ◌+◌, ◌≤◌, All, List, [], ◌∷◌, ◌++◌, Option, None, Some, IfOk, IfSome, IsSomeAnd, Result, Ok, Err, length, map, refl, ap, arith, length-append}
-use Rattle.std.proofs.lemmas.List.Elements.{All-cons, All-head, All-nil, All-tail}
+use Rattle.std.proofs.Common.{arith, ◌≡◌, ◌∙◌, refl, sym, ap, ℕ, ◌+◌, ◌≤◌, Option, None, Some, IfSome, IsSomeAnd}
+use Rattle.std.proofs.Common.{All, List, [], ◌∷◌, ◌++◌, get_or, length, length-append, map}
+use Rattle.std.proofs.lemmas.List.{get_or-map, length-map}
+use Rattle.std.proofs.lemmas.List.Elements.{All-cons, All-head, All-nil, All-tail, All-weaker}
 use Rattle.std.specs.List.{AllZip}
 use Rattle.camel_audit.specs.declared.transcript.Entry.{Entry}
 use Rattle.camel_audit.specs.declared.transcript.Job.{Job}
@@ -38,8 +40,7 @@ AllZip-trans R S T both [] [] (z ∷ zs) first second = absurd second
 AllZip-trans R S T both [] (y ∷ ys) zs first second = absurd first
 AllZip-trans R S T both (x ∷ xs) [] zs first second = absurd first
 AllZip-trans R S T both (x ∷ xs) (y ∷ ys) [] first second = absurd second
-AllZip-trans R S T both (x ∷ xs) (y ∷ ys) (z ∷ zs) first second =
-    (both x y z first.0 second.0, AllZip-trans R S T both xs ys zs first.1 second.1)
+AllZip-trans R S T both (x ∷ xs) (y ∷ ys) (z ∷ zs) first second = (both x y z first.0 second.0, AllZip-trans R S T both xs ys zs first.1 second.1)
 
 -- what holds of each item of the first list gives what holds of each of the second
 pub AllZip-All : {A B : Type 0} (R : A → B → Type 0) (P : A → Type 0) (Q : B → Type 0) → ((x : A) (y : B) → R x y → P x → Q y)
@@ -55,8 +56,7 @@ pub AllZip-numbered : (R : Seat → Seat → Type 0) → ((x y : Seat) → R x y
 AllZip-numbered R same number [] [] pairs numbered = tt
 AllZip-numbered R same number [] (y ∷ ys) pairs numbered = absurd pairs
 AllZip-numbered R same number (x ∷ xs) [] pairs numbered = absurd pairs
-AllZip-numbered R same number (x ∷ xs) (y ∷ ys) pairs numbered =
-    (same x y pairs.0 ∙ numbered.0, AllZip-numbered R same (number + 1) xs ys pairs.1 numbered.1)
+AllZip-numbered R same number (x ∷ xs) (y ∷ ys) pairs numbered = (same x y pairs.0 ∙ numbered.0, AllZip-numbered R same (number + 1) xs ys pairs.1 numbered.1)
 
 -- a front that extends another is not shorter
 longer : (front earlier : List Update) → Extends front earlier → length earlier ≤ length front
@@ -86,8 +86,9 @@ SessionsAnswer-numbered threads number calls (seat ∷ seats) numbered answered 
 )
 
 -- each front extends the one of the receipt that the session learnt last
-pub reaches-told : (store : StoreId) (seen : List Update) (told : List (List Update)) (receipt : List Update) (entries : List Entry) (fronts : List (List Update))
-    → Run store seen (told ++ receipt ∷ []) (map event_in entries) (map answer_in entries) fronts → All (FrontIsAtLeast (length receipt)) entries
+pub reaches-told : (store : StoreId) (seen : List Update) (told : List (List Update)) (receipt : List Update) (entries : List Entry)
+    (fronts : List (List Update)) → Run store seen (told ++ receipt ∷ []) (map event_in entries) (map answer_in entries) fronts
+    → All (FrontIsAtLeast (length receipt)) entries
 reaches-told store seen told receipt [] fronts run = All-nil (FrontIsAtLeast (length receipt))
 reaches-told store seen told receipt (entry ∷ entries) [] run = absurd run
 reaches-told store seen told receipt (entry ∷ entries) (front ∷ fronts) run =
@@ -102,32 +103,24 @@ AreNumbered-push number (first ∷ seats) seat numbered is = (numbered.0, AreNum
 
 -- the calls that no round has answered yet are none
 pub HasAnswered-none : (threads : ℕ) (seats : List Seat) → All HasNoEntries seats → All (HasAnswered threads []) seats
-HasAnswered-none threads [] empty = All-nil (HasAnswered threads [])
-HasAnswered-none threads (seat ∷ seats) empty =
-    All-cons (HasAnswered threads []) seat seats (rw (All-head HasNoEntries seat seats empty) tt) (HasAnswered-none threads seats (All-tail HasNoEntries seat seats empty))
+HasAnswered-none threads seats empty = All-weaker HasNoEntries (HasAnswered threads []) (λ seat none. rw none tt) seats empty
 
 -- sessions that are each the same are each of this store
-pub IsOf-fresh : (store : StoreId) (seats : List Seat) → All (λ (session : SessionData). session ≡ fresh_session store) (map session_in seats) → All (IsOfStore store) seats
-IsOf-fresh store [] fresh = All-nil (IsOfStore store)
-IsOf-fresh store (seat ∷ seats) fresh =
-    let Fresh : SessionData → Type 0 = λ session. session ≡ fresh_session store in
-    let first : seat.session ≡ fresh_session store = All-head Fresh seat.session (map session_in seats) fresh in
-    All-cons (IsOfStore store) seat seats (ap (λ (session : SessionData). session.store) {x = seat.session} {y = fresh_session store} first)
-    (IsOf-fresh store seats (All-tail Fresh seat.session (map session_in seats) fresh))
+pub IsOf-fresh : (store : StoreId) (seats : List Seat) → All (λ (session : SessionData). session ≡ fresh_session store) (map session_in seats)
+    → All (IsOfStore store) seats
+IsOf-fresh store seats fresh at other small =
+    let same : session_in (get_or seats at other) ≡ fresh_session store =
+    sym (get_or-map session_in seats at other (session_in other) small) ∙ fresh at (session_in other) (rw (length-map seats session_in) small) in
+    ap (λ (session : SessionData). session.store) same
 
 ServesJobs-same : (least least' most : ℕ) (jobs jobs' : List Job) (earlier earlier' later : List Entry) → least ≡ least' → jobs ≡ jobs' → earlier ≡ earlier'
     → ServesJobs least most jobs earlier later → ServesJobs least' most jobs' earlier' later
 ServesJobs-same least least' most jobs jobs' earlier earlier' later same same-jobs same-earlier served = rw (← same, ← same-jobs, ← same-earlier) served
 
 -- an option whose value has one property, and which has a value with another
-record Both {X : Type 0} (A B : X → Type 0) : Type 0 where
-  value : X
-  one : A value
-  other : B value
-
-both-of : {X : Type 0} (A B : X → Type 0) (o : Option X) → IfSome o A → IsSomeAnd o B → Both A B
+both-of : {X : Type 0} (A B : X → Type 0) (o : Option X) → IfSome o A → IsSomeAnd o B → (x : X) × A x × B x
 both-of A B None one other = absurd other
-both-of A B (Some x) one other = record { value = x; one = one; other = other }
+both-of A B (Some x) one other = (x, one, other)
 
 -- a session whose worker was handed its jobs and was joined has served them
 pub ServesSeat-joined : (store : StoreData) (threads most : ℕ) (calls : List Job) (seat after : Seat) (worker : Worker)
@@ -137,17 +130,13 @@ ServesSeat-joined store threads most calls seat after worker is joined =
     let told : PrefixData = record { store = store.store; updates = store.updates.published } in
     let own = jobs_for threads seat.number calls in
     let both = both-of _ _ worker.started is.promise joined.served in
-    let promise : ServedOf = both.value.promise in
-    let session : promise.session.value ≡ seat.session = both.one.0 in
-    let receipt : promise.told.value ≡ told = both.one.1 in
-    let jobs : promise.jobs.value.items ≡ own = both.one.2 in
+    let promise : ServedOf = both.0.promise in
+    let session : promise.session.value ≡ seat.session = both.1.0 in
+    let receipt : promise.told.value ≡ told = both.1.1 in
+    let jobs : promise.jobs.value.items ≡ own = both.1.2 in
     let least : length promise.told.value.updates ≡ length store.updates.published = ap (λ (r : PrefixData). length r.updates) receipt in
     record {
       number = joined.number ∙ is.number;
-      store = both.other.0 ∙ ap (λ (s : SessionData). s.store) session;
-      served = ServesJobs-same _ _ most _ _ _ _ after.entries.items least jobs is.entries both.other.1;
+      store = both.2.0 ∙ ap (λ (s : SessionData). s.store) session;
+      served = ServesJobs-same _ _ most _ _ _ _ after.entries.items least jobs is.entries both.2.1;
     }
-
-pub IfOk-gives : {T E : Type 0} (P Q : T → Type 0) (result : Result T E) → ((value : T) → P value → Q value) → IfOk result P → IfOk result Q
-IfOk-gives P Q (Ok value) gives is = gives value is
-IfOk-gives P Q (Err fault) gives is = tt

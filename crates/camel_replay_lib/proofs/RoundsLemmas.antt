@@ -1,16 +1,16 @@
 -- One round more of a replay with threads.
-use Rattle.std.proofs.Common.{◌≡◌, ◌∙◌, ℕ, ◌+◌, ◌%◌, ◌==◌, true, All, List, [], ◌∷◌, ◌++◌, length, map, refl, sym, ap, subst, arith, append_assoc, length-append}
-use Rattle.std.proofs.lemmas.List.Elements.{All-cons, All-nil, filter-append}
+use Rattle.std.proofs.Common.{arith, ◌≡◌, ◌∙◌, refl, sym, ap, subst, ℕ, ◌+◌, All, List, [], ◌∷◌, ◌++◌, append_assoc, length, length-append, map}
+use Rattle.std.proofs.lemmas.List.Elements.{filter-append}
 use Rattle.std.specs.List.{AllZip, filter}
 use Rattle.camel_audit.specs.declared.transcript.Job.{Job}
 use Rattle.camel_tbcd.specs.declared.profile.Profile.{Profile}
 use Rattle.camel_rows.specs.Store.{Updates, no_updates}
 use Rattle.camel_script.specs.declared.record.Record.{Record}
-use Rattle.camel_script.specs.declared.record.Record.TheVariants as script_record
 use Rattle.camel_vlr.specs.Prefix.{StoreId}
 use Rattle.camel_replay_lib.proofs.FrontLemmas.{updates_from-append}
 use Rattle.camel_replay_lib.proofs.RoundLemmas.{AllZip-All, AllZip-append, Answers-between}
-use Rattle.camel_replay_lib.proofs.SegmentLemmas.{call_between, calls_from-segment, calls_of-between, jobs_from-append, output_from-append, updates_from-no_calls}
+use Rattle.camel_replay_lib.proofs.SegmentLemmas.{call_between, calls_from-segment, calls_of-append, jobs_from-append}
+use Rattle.camel_replay_lib.proofs.SegmentLemmas.{output_from-append, updates_from-no_calls}
 use Rattle.camel_replay_lib.specs.Fronts.{updates_from}
 use Rattle.camel_replay_lib.specs.Output.{output, output_from}
 use Rattle.camel_replay_lib.specs.Round.{IsOfStore, ServesRound, ServesSeat, WritesLines}
@@ -39,22 +39,23 @@ module _ (profile : Profile) (limit : ℕ) (done segment : List Record) (before 
   -- the writer has answered the records of a segment more
   pub WritesScript-more : WritesScript profile limit (done ++ segment) after
   WritesScript-more =
-      let text : after.output ≡ before.output ++ output_from profile limit before.store.updates (filter is_no_call segment) = lines.output ∙ rw (store_profile, store_limit) refl in
-      let now : before.store.updates ≡ updates_from limit no_updates (filter is_no_call done) = so_far.updates ∙ sym (updates_from-no_calls limit no_updates done) in
+      let earlier = filter is_no_call done in
+      let later = filter is_no_call segment in
+      let text : after.output ≡ before.output ++ output_from profile limit before.store.updates later = lines.output ∙ rw (store_profile, store_limit) refl in
+      let now : before.store.updates ≡ updates_from limit no_updates earlier = so_far.updates ∙ sym (updates_from-no_calls limit no_updates done) in
       record {
         updates = updates-more ∙ ap (λ (u : Updates). updates_from limit u segment) so_far.updates ∙ sym (updates_from-append limit no_updates done segment);
-        output_written =
-            text
-            ∙ ap (λ (written : List ℕ). written ++ output_from profile limit before.store.updates (filter is_no_call segment)) so_far.output_written
-            ∙ ap (λ (u : Updates). output profile limit (filter is_no_call done) ++ output_from profile limit u (filter is_no_call segment)) now
-            ∙ sym (output_from-append profile limit no_updates (filter is_no_call done) (filter is_no_call segment))
+        output_written = text ∙ ap (λ (written : List ℕ). written ++ output_from profile limit before.store.updates later) so_far.output_written
+            ∙ ap (λ (u : Updates). output profile limit earlier ++ output_from profile limit u later) now
+            ∙ sym (output_from-append profile limit no_updates earlier later)
             ∙ ap (λ (rs : List Record). output profile limit rs) (sym (filter-append is_no_call done segment));
       }
 
   -- the calls of a segment have the publications before and after the round around them
   pub calls-more : (first : ℕ) (calls : List Call) (whole left : List Record) → IsSegment segment left
       → script_calls limit whole ≡ calls ++ calls_from limit (updates_from limit no_updates done) first (segment ++ left)
-      → script_calls limit whole ≡ (calls ++ map (call_between (length before.store.updates.published) (length after.store.updates.published)) (jobs_from first segment))
+      → script_calls limit whole
+      ≡ (calls ++ map (call_between (length before.store.updates.published) (length after.store.updates.published)) (jobs_from first segment))
       ++ calls_from limit (updates_from limit no_updates (done ++ segment)) (first + length (jobs_from first segment)) left
   calls-more first calls whole left is split =
       let least = length before.store.updates.published in
@@ -64,9 +65,9 @@ module _ (profile : Profile) (limit : ℕ) (done segment : List Record) (before 
       let number = first + length (jobs_from first segment) in
       let starts : length start.published ≡ least = ap (λ (u : Updates). length u.published) (sym so_far.updates) in
       let ends : length (updates_from limit start segment).published ≡ most =
-      ap (λ (u : Updates). length (updates_from limit u segment).published) (sym so_far.updates) ∙ ap (λ (u : Updates). length u.published) (sym updates-more) in
-      split
-      ∙ ap (λ (cs : List Call). calls ++ cs) (calls_from-segment limit start first least most segment left is starts ends
+      ap (λ (u : Updates). length (updates_from limit u segment).published) (sym so_far.updates)
+      ∙ ap (λ (u : Updates). length u.published) (sym updates-more) in
+      split ∙ ap (λ (cs : List Call). calls ++ cs) (calls_from-segment limit start first least most segment left is starts ends
       ∙ ap (λ (u : Updates). more ++ calls_from limit u number left) (sym (updates_from-append limit no_updates done segment)))
       ∙ sym (append_assoc calls more (calls_from limit (updates_from limit no_updates (done ++ segment)) number left))
 
@@ -78,7 +79,7 @@ HasAnswered-seat threads least most calls jobs before after is had =
     let answered : AllZip AnswersCall (map (call_between least most) own) is.served.entries =
     subst (λ (js : List Job). AllZip AnswersCall (map (call_between least most) js) is.served.entries) is.served.jobs_served
     (Answers-between least most is.served.entries is.served.at_least is.served.at_most) in
-    rw (is.number, filter-append (λ (call : Call). call.number % threads == before.number) calls (map (call_between least most) jobs), calls_of-between threads before.number least most jobs, is.served.kept)
+    rw (is.number, calls_of-append threads before.number least most calls jobs, is.served.kept)
     (AllZip-append AnswersCall _ before.entries.items _ is.served.entries had answered)
 
 pub HasAnswered-more : (before after : Updates) (threads : ℕ) (calls : List Call) (jobs : List Job) (seats served : List Seat) → length seats ≡ threads
@@ -90,8 +91,8 @@ HasAnswered-more before after threads calls jobs seats served count round had =
     AllZip-All (ServesSeat least most threads jobs) (HasAnswered threads calls) (HasAnswered threads (calls ++ map (call_between least most) jobs))
     (HasAnswered-seat threads least most calls jobs) seats served (subst (λ (n : ℕ). AllZip (ServesSeat least most n jobs) seats served) count round) had
 
-pub IsOf-more : (store : StoreId) (least most threads : ℕ) (jobs : List Job) (seats served : List Seat) → AllZip (ServesSeat least most threads jobs) seats served
-    → All (IsOfStore store) seats → All (IsOfStore store) served
+pub IsOf-more : (store : StoreId) (least most threads : ℕ) (jobs : List Job) (seats served : List Seat)
+    → AllZip (ServesSeat least most threads jobs) seats served → All (IsOfStore store) seats → All (IsOfStore store) served
 IsOf-more store least most threads jobs seats served round all =
     AllZip-All (ServesSeat least most threads jobs) (IsOfStore store) (IsOfStore store) (λ x y is of. is.store ∙ of) seats served round all
 
@@ -99,10 +100,3 @@ IsOf-more store least most threads jobs seats served round all =
 pub WritesScript-none : (profile : Profile) (limit : ℕ) (writer : WriterData) → IsNewWriter writer → WritesScript profile limit [] writer
 unfolding output_from
 WritesScript-none profile limit writer new = record { updates = new.updates; output_written = new.output }
-
-pub all-no_calls : (records : List Record) → All (λ (asked : Record). is_no_call asked ≡ true) (filter is_no_call records)
-all-no_calls [] = All-nil (λ (asked : Record). is_no_call asked ≡ true)
-all-no_calls (script_record.Call event ∷ records) = all-no_calls records
-all-no_calls (script_record.Update update ∷ records) = All-cons (λ (asked : Record). is_no_call asked ≡ true) (script_record.Update update) (filter is_no_call records) refl (all-no_calls records)
-all-no_calls (script_record.Publish ∷ records) = All-cons (λ (asked : Record). is_no_call asked ≡ true) script_record.Publish (filter is_no_call records) refl (all-no_calls records)
-all-no_calls (script_record.Refused why ∷ records) = All-cons (λ (asked : Record). is_no_call asked ≡ true) (script_record.Refused why) (filter is_no_call records) refl (all-no_calls records)

@@ -1,5 +1,6 @@
 -- Segments of a script, and the calls among its records.
-use Rattle.std.proofs.Common.{suc, ◌≡◌, ◌≢◌, ◌∙◌, ℕ, ◌+◌, ◌≤◌, Bool, true, false, List, [], ◌∷◌, ◌++◌, length, map, refl, sym, ap, subst, arith, append_assoc, append-nil}
+use Rattle.std.proofs.Common.{arith, ◌≡◌, ◌≢◌, ◌∙◌, refl, sym, ap, subst, Bool, true, false, ℕ, suc, ◌+◌, ◌≤◌, ◌%◌, ◌==◌}
+use Rattle.std.proofs.Common.{List, [], ◌∷◌, ◌++◌, append_assoc, append-nil, length, map}
 use Rattle.std.proofs.Math.Bool.{cond}
 use Rattle.std.proofs.lemmas.List.Elements.{filter-append}
 use Rattle.std.specs.List.{filter}
@@ -16,7 +17,8 @@ use Rattle.camel_replay_lib.specs.Output.{line_of, output_from, updates_after}
 use Rattle.camel_replay_lib.specs.Segments.{IsSegment, jobs_for, jobs_from}
 use Rattle.camel_replay_lib.specs.ThreadsOutput.{Call, calls_from, calls_of, is_no_call, next_front}
 
-pub jobs_from-append : (number : ℕ) (xs ys : List Record) → jobs_from number (xs ++ ys) ≡ jobs_from number xs ++ jobs_from (number + length (jobs_from number xs)) ys
+pub jobs_from-append : (number : ℕ) (xs ys : List Record)
+    → jobs_from number (xs ++ ys) ≡ jobs_from number xs ++ jobs_from (number + length (jobs_from number xs)) ys
 jobs_from-append number [] ys = let same : number ≡ number + 0 = omega arith in ap (λ n. jobs_from n ys) same
 jobs_from-append number (script_record.Call event ∷ xs) ys =
     let next : number + 1 + length (jobs_from (number + 1) xs) ≡ number + suc (length (jobs_from (number + 1) xs)) = omega arith in
@@ -77,19 +79,23 @@ map-cond f false xs ys = refl
 
 filter-map : {A B : Type 0} (f : A → B) (test : B → Bool) (xs : List A) → filter test (map f xs) ≡ map f (filter (λ x. test (f x)) xs)
 filter-map f test [] = refl
-filter-map f test (x ∷ xs) =
-    ap (λ ys. cond (test (f x)) (f x ∷ ys) ys) (filter-map f test xs)
+filter-map f test (x ∷ xs) = ap (λ ys. cond (test (f x)) (f x ∷ ys) ys) (filter-map f test xs)
     ∙ sym (map-cond f (test (f x)) (x ∷ filter (λ y. test (f y)) xs) (filter (λ y. test (f y)) xs))
 
 -- the calls of a session among those of a segment are those of its jobs
-pub calls_of-between : (threads session least most : ℕ) (jobs : List Job)
-    → calls_of threads session (map (call_between least most) jobs) ≡ map (call_between least most) (jobs_for threads session jobs)
-calls_of-between threads session least most jobs = filter-map (call_between least most) _ jobs
+pub calls_of-append : (threads session least most : ℕ) (calls : List Call) (jobs : List Job)
+    → calls_of threads session (calls ++ map (call_between least most) jobs)
+    ≡ calls_of threads session calls ++ map (call_between least most) (jobs_for threads session jobs)
+calls_of-append threads session least most calls jobs =
+    filter-append (λ (call : Call). call.number % threads == session) calls (map (call_between least most) jobs)
+    ∙ ap (λ (more : List Call). calls_of threads session calls ++ more) (filter-map (call_between least most) _ jobs)
 
 -- the updates are those that the records leave without the calls
-pub updates_from-no_calls : (limit : ℕ) (updates : Updates) (xs : List Record) → updates_from limit updates (filter is_no_call xs) ≡ updates_from limit updates xs
+pub updates_from-no_calls : (limit : ℕ) (updates : Updates) (xs : List Record)
+    → updates_from limit updates (filter is_no_call xs) ≡ updates_from limit updates xs
 updates_from-no_calls limit updates [] = refl
-updates_from-no_calls limit updates (script_record.Update update ∷ xs) = updates_from-no_calls limit (updates_after limit updates (script_record.Update update)) xs
+updates_from-no_calls limit updates (script_record.Update update ∷ xs) =
+    updates_from-no_calls limit (updates_after limit updates (script_record.Update update)) xs
 updates_from-no_calls limit updates (script_record.Publish ∷ xs) = updates_from-no_calls limit (updates_after limit updates script_record.Publish) xs
 updates_from-no_calls limit updates (script_record.Call event ∷ xs) = updates_from-no_calls limit updates xs
 updates_from-no_calls limit updates (script_record.Refused why ∷ xs) = updates_from-no_calls limit updates xs
@@ -100,8 +106,9 @@ unfolding output_from
 output_from-append profile limit updates [] ys = refl
 output_from-append profile limit updates (next ∷ xs) ys =
     let after = updates_after limit updates next in
-    ap (λ text. line_text (line_of profile limit updates next) ++ text) (output_from-append profile limit after xs ys)
-    ∙ sym (append_assoc (line_text (line_of profile limit updates next)) (output_from profile limit after xs) (output_from profile limit (updates_from limit after xs) ys))
+    let line = line_text (line_of profile limit updates next) in
+    ap (λ text. line ++ text) (output_from-append profile limit after xs ys)
+    ∙ sym (append_assoc line (output_from profile limit after xs) (output_from profile limit (updates_from limit after xs) ys))
 
 pub was_split : {X : Type 0} (done left was all : List X) (next : X) → was ≡ next ∷ left → done ++ was ≡ all → (done ++ next ∷ []) ++ left ≡ all
 was_split done left was all next popped whole = append_assoc done (next ∷ []) left ∙ sym (ap (λ xs. done ++ xs) popped) ∙ whole
@@ -110,12 +117,12 @@ was_split done left was all next popped whole = append_assoc done (next ∷ []) 
 abbrev pub IsQuiet : List Record → Type 0
 IsQuiet done = (more left : List Record) → IsSegment more left → IsSegment (done ++ more) left
 
-pub IsQuiet-push : (done : List Record) (next : Record) → ((more left : List Record) → IsSegment more left → IsSegment (next ∷ more) left) → IsQuiet done
-    → IsQuiet (done ++ next ∷ [])
-IsQuiet-push done next one quiet more left is = subst (λ (rs : List Record). IsSegment rs left) (sym (append_assoc done (next ∷ []) more)) (quiet (next ∷ more) left (one more left is))
+pub IsQuiet-push : (done : List Record) (next : Record) → IsQuiet (next ∷ []) → IsQuiet done → IsQuiet (done ++ next ∷ [])
+IsQuiet-push done next one quiet more left is =
+    subst (λ (rs : List Record). IsSegment rs left) (sym (append_assoc done (next ∷ []) more)) (quiet (next ∷ more) left (one more left is))
 
-pub calls-push : (number : ℕ) (done : List Record) (event : EventData)
-    → jobs_from number (done ++ script_record.Call event ∷ []) ≡ jobs_from number done ++ record { call = number + length (jobs_from number done); event = event } ∷ []
+pub calls-push : (number : ℕ) (done : List Record) (event : EventData) → jobs_from number (done ++ script_record.Call event ∷ [])
+    ≡ jobs_from number done ++ record { call = number + length (jobs_from number done); event = event } ∷ []
 calls-push number done event = jobs_from-append number done (script_record.Call event ∷ [])
 
 pub others-push : (done : List Record) (event : EventData) → filter is_no_call (done ++ script_record.Call event ∷ []) ≡ filter is_no_call done
@@ -125,7 +132,7 @@ others-push done event = filter-append is_no_call done (script_record.Call event
 pub record IsOther (next : Record) : Type 0 where
   pub no_call : is_no_call next ≡ true
   pub no_jobs : (number : ℕ) → jobs_from number (next ∷ []) ≡ []
-  pub quiet : (more left : List Record) → IsSegment more left → IsSegment (next ∷ more) left
+  pub quiet : IsQuiet (next ∷ [])
 
 pub is_other : (next : Record) → ((event : EventData) → next ≢ script_record.Call event) → next ≢ script_record.Publish → IsOther next
 is_other (script_record.Update update) no_call no_publish = record { no_call = refl; no_jobs = λ number. refl; quiet = λ more left is. is }
@@ -133,10 +140,11 @@ is_other (script_record.Refused why) no_call no_publish = record { no_call = ref
 is_other (script_record.Call event) no_call no_publish = absurd (no_call event refl)
 is_other script_record.Publish no_call no_publish = absurd (no_publish refl)
 
-pub no_calls-push : (number : ℕ) (done : List Record) (next : Record) → ((n : ℕ) → jobs_from n (next ∷ []) ≡ []) → jobs_from number (done ++ next ∷ []) ≡ jobs_from number done
+pub no_calls-push : (number : ℕ) (done : List Record) (next : Record) → ((n : ℕ) → jobs_from n (next ∷ []) ≡ [])
+    → jobs_from number (done ++ next ∷ []) ≡ jobs_from number done
 no_calls-push number done next none =
-    jobs_from-append number done (next ∷ []) ∙ ap (λ (jobs : List Job). jobs_from number done ++ jobs) (none (number + length (jobs_from number done))) ∙ append-nil (jobs_from number done)
+    let jobs = jobs_from number done in
+    jobs_from-append number done (next ∷ []) ∙ ap (λ (more : List Job). jobs ++ more) (none (number + length jobs)) ∙ append-nil jobs
 
 pub filter-push : (done : List Record) (next : Record) → is_no_call next ≡ true → filter is_no_call (done ++ next ∷ []) ≡ filter is_no_call done ++ next ∷ []
-filter-push done next is =
-    filter-append is_no_call done (next ∷ []) ∙ ap (λ (test : Bool). filter is_no_call done ++ cond test (next ∷ []) []) is
+filter-push done next is = filter-append is_no_call done (next ∷ []) ∙ ap (λ (test : Bool). filter is_no_call done ++ cond test (next ∷ []) []) is

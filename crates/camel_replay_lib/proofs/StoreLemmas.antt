@@ -1,4 +1,5 @@
 -- The fields of a store of one thread go on to agree.
+use base.Growing.{prefix_trans}
 use Rattle.std.proofs.Common.{◌≡◌, ◌∙◌, ℕ, List, [], ◌∷◌, ◌++◌, ◌<◌, length, get_or, drop, drop-cons, None, refl, sym, ap, subst, append_assoc}
 use Rattle.camel_rows.proofs.AdmissionLemmas.{IsAdmissionOf-empty}
 use Rattle.camel_rows.proofs.StoreLemmas.{IsAdmissionOf-with_update, IsFront-empty, IsFront-with_update, admits, first-pending}
@@ -6,11 +7,13 @@ use Rattle.camel_rows.proofs.UpdateLemmas.{records_from-append}
 use Rattle.camel_rows.specs.ByImsi.{value_of}
 use Rattle.camel_rows.specs.Admission.{AdmissionData, admission_refusal, no_admissions, with_admission}
 use Rattle.camel_rows.specs.CsisPresent.{csis_after}
+use Rattle.camel_rows.specs.Front.{Extends}
 use Rattle.camel_rows.specs.Records.{RecordsData, no_records}
-use Rattle.camel_rows.specs.Store.{Updates, no_updates, with_update}
+use Rattle.camel_rows.specs.Store.{Updates, accepted_updates, no_updates, with_update}
 use Rattle.camel_rows.specs.Update.{records_after, refusal, update_imsi}
 use Rattle.camel_rows.specs.declared.subscriber.update.Update.{Update}
-use Rattle.camel_replay_lib.specs.Store.{IsSound}
+use Rattle.camel_tbcd.specs.declared.profile.Profile.{Profile}
+use Rattle.camel_replay_lib.specs.Store.{IsSound, StoreData}
 
 -- the fields of a store that is empty agree
 pub IsSound-new : (limit : ℕ) → IsSound (no_admissions limit) no_records no_updates
@@ -33,42 +36,40 @@ IsSound-accept admission next records updates update sound accepted next_is =
       published = sound.published;
     })
 
-module _ (admission : AdmissionData) (records : RecordsData) (published rest : List Update) (update : Update)
-    (sound : IsSound admission records (record { published = published; pending = update ∷ rest })) where
-  -- the first pending update is not refused by the records
-  first-accepted : refusal records update ≡ None
-  first-accepted = subst (λ m. refusal m update ≡ None) (sym sound.published) (first-pending published rest update sound.front.accepted)
-
-  moved : published ++ update ∷ rest ≡ (published ++ update ∷ []) ++ rest
-  moved = sym (append_assoc published (update ∷ []) rest)
-
-  -- the fields of a store whose first pending update is published agree
-  IsSound-publish : IsSound admission (records_after records update) (record { published = published ++ update ∷ []; pending = rest })
-  IsSound-publish = record {
-    front = rw (← moved) sound.front;
-    admits = rw (← moved) sound.admits;
-    published = ap (λ m. records_after m update) sound.published ∙ sym (records_from-append no_records published (update ∷ []));
-  }
-
 -- a list with a first item is that item and the others
 pub first-and-rest : {Item : Type 0} (items : List Item) (item : Item) → 0 < length items → item ≡ get_or items 0 item → items ≡ item ∷ drop 1 items
 first-and-rest items item some same = drop-cons items 0 item some ∙ ap (λ head. head ∷ drop 1 items) (sym same)
 
--- one turn of a publication: the first pending update is published
-pub one-published : (admission : AdmissionData) (records next : RecordsData) (published more items rest : List Update) (update : Update)
-    → IsSound admission records (record { published = published; pending = items }) → items ≡ update ∷ rest
-    → next ≡ records_after records update → more ≡ published ++ update ∷ []
-    → IsSound admission next (record { published = more; pending = rest })
-one-published admission records next published more items rest update sound items_is next_is more_is =
-    let split = subst (λ (pending : List Update). IsSound admission records (record { published = published; pending = pending })) items_is sound in
-    rw (next_is, more_is) (IsSound-publish admission records published rest update split)
+-- what is accepted stays, while one update after the other is published
+pub record IsPublishing (before : StoreData) (admission : AdmissionData) (records : RecordsData) (own : Profile) (updates : Updates) : Type 0 where
+  pub sound : IsSound admission records updates
+  pub profile : own ≡ before.profile
+  pub limit : admission.limit ≡ before.limit
+  pub accepted : accepted_updates updates ≡ accepted_updates before.updates
+  pub grows : Extends updates.published before.updates.published
 
-pub same-accepted : (published more items rest : List Update) (update : Update) → items ≡ update ∷ rest → more ≡ published ++ update ∷ []
-    → more ++ rest ≡ published ++ items
-same-accepted published more items rest update items_is more_is = rw (items_is, more_is) (append_assoc published (update ∷ []) rest)
+module _ (before : StoreData) (admission : AdmissionData) (records : RecordsData) (own : Profile) (published items rest : List Update) (update : Update)
+    (so_far : IsPublishing before admission records own (record { published = published; pending = items })) (split : items ≡ update ∷ rest) where
+  sound : IsSound admission records (record { published = published; pending = update ∷ rest })
+  sound = subst (λ (us : List Update). IsSound admission records (record { published = published; pending = us })) split so_far.sound
 
-pub not-refused : (admission : AdmissionData) (records : RecordsData) (published items rest : List Update) (update : Update)
-    → IsSound admission records (record { published = published; pending = items }) → items ≡ update ∷ rest → refusal records update ≡ None
-not-refused admission records published items rest update sound items_is =
-    first-accepted admission records published rest update
-    (subst (λ (pending : List Update). IsSound admission records (record { published = published; pending = pending })) items_is sound)
+  -- the first pending update is not refused by the records
+  pub not-refused : refusal records update ≡ None
+  not-refused = subst (λ m. refusal m update ≡ None) (sym sound.published) (first-pending published rest update sound.front.accepted)
+
+  -- it is published
+  pub IsPublishing-next : (next : RecordsData) (more : List Update) → next ≡ records_after records update → more ≡ published ++ update ∷ []
+      → IsPublishing before admission next own (record { published = more; pending = rest })
+  IsPublishing-next next more next_is more_is =
+      let moved : published ++ update ∷ rest ≡ (published ++ update ∷ []) ++ rest = sym (append_assoc published (update ∷ []) rest) in
+      rw (next_is, more_is) (record {
+        sound = record {
+          front = rw (← moved) sound.front;
+          admits = rw (← moved) sound.admits;
+          published = ap (λ m. records_after m update) sound.published ∙ sym (records_from-append no_records published (update ∷ []));
+        };
+        profile = so_far.profile;
+        limit = so_far.limit;
+        accepted = sym moved ∙ ap (λ us. published ++ us) (sym split) ∙ so_far.accepted;
+        grows = prefix_trans before.updates.published published (published ++ update ∷ []) so_far.grows (update ∷ [], refl);
+      })

@@ -8,8 +8,7 @@ use Rattle.std.specs.Io.KnownBytes.{Appends, Keeps}
 use Rattle.camel_replay_lib.specs.Written.{AppendsProperPart}
 
 -- a write takes some of the octets that are left
-pub wrote_more : (old mid new : Option (List ℕ)) (octets : List ℕ) (written taken : ℕ) → written ≤ length octets
-    → Appends old mid (take written octets)
+pub wrote_more : (old mid new : Option (List ℕ)) (octets : List ℕ) (written taken : ℕ) → written ≤ length octets → Appends old mid (take written octets)
     → Appends mid new (take taken (take (length octets - written) (drop written octets)))
     → Appends old new (take (written + taken) octets)
 wrote_more old mid new octets written taken within before more =

@@ -10,31 +10,21 @@ use Rattle.clap.specs.declared.error.kind.ErrorKind.TheVariants.{DisplayHelp}
 use Rattle.clap.specs.declared.parser.matches.ArgMatches.{ArgMatches}
 use Rattle.camel_replay_lib.specs.Limits.{max_limit, max_profile, max_threads}
 
+-- An option that takes a number from 1 up to the greatest, and has this text if it is not given.
+abbrev pub number_rule : Text → List Text → ℕ → Rule
+number_rule name defaults greatest = record (new_rule name) { long = Some name; value_names = 1; defaults = defaults; parser = Some (Unsigned 1 greatest) }
+
 -- The option `--limit` is a number from 1 to 1000000, and 1000000 if it is not given.
 abbrev pub limit_rule : Rule
-limit_rule = record (new_rule (codes "limit")) {
-  long = Some (codes "limit");
-  value_names = 1;
-  defaults = codes "1000000" ∷ [];
-  parser = Some (Unsigned 1 max_limit);
-}
+limit_rule = number_rule (codes "limit") (codes "1000000" ∷ []) max_limit
 
 -- The option `--threads` is a number from 1 to 16, and may be left out.
 abbrev pub threads_rule : Rule
-threads_rule = record (new_rule (codes "threads")) {
-  long = Some (codes "threads");
-  value_names = 1;
-  parser = Some (Unsigned 1 max_threads);
-}
+threads_rule = number_rule (codes "threads") [] max_threads
 
 -- The option `--profile` is the number of a profile, and 1 if it is not given.
 abbrev pub profile_rule : Rule
-profile_rule = record (new_rule (codes "profile")) {
-  long = Some (codes "profile");
-  value_names = 1;
-  defaults = codes "1" ∷ [];
-  parser = Some (Unsigned 1 max_profile);
-}
+profile_rule = number_rule (codes "profile") (codes "1" ∷ []) max_profile
 
 abbrev pub the_program : App
 the_program = with_rule (with_rule (with_rule (new_app (codes "camel_replay")) limit_rule) threads_rule) profile_rule

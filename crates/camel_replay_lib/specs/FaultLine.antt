@@ -5,8 +5,7 @@ use Rattle.camel_replay_lib.specs.declared.script_replay.ReplayFault.{ReplayFaul
 
 -- The line of a fault, with the number of its record if there is one.
 abbrev pub fault_line_at : Option ℕ → ℕ → List ℕ
-fault_line_at (Some number) code =
-    codes "camel_replay: record " ++ decimal number ++ codes ": fault " ++ decimal code ++ codes "\n"
+fault_line_at (Some number) code = codes "camel_replay: record " ++ decimal number ++ codes ": fault " ++ decimal code ++ codes "\n"
 fault_line_at None code = codes "camel_replay: fault " ++ decimal code ++ codes "\n"
 
 -- The line of a replay's fault.

@@ -19,5 +19,4 @@ abbrev pub PublishedIsFront : Type 0
 PublishedIsFront = (limit : ℕ) (records : List Record) → IsFront limit (published_after limit records)
 
 abbrev pub PublishedGrows : Type 0
-PublishedGrows =
-    (limit : ℕ) (records more : List Record) → Extends (published_after limit (records ++ more)) (published_after limit records)
+PublishedGrows = (limit : ℕ) (records more : List Record) → Extends (published_after limit (records ++ more)) (published_after limit records)

@@ -40,8 +40,7 @@ after_submission updates update (Some why) = updates
 abbrev pub updates_after : ℕ → Updates → Record → Updates
 updates_after limit updates (script_record.Update update) = after_submission updates update (store_refusal limit updates update)
 updates_after limit updates script_record.Publish = all_published updates
-updates_after limit updates (script_record.Call event) = updates
-updates_after limit updates (script_record.Refused why) = updates
+updates_after limit updates other = updates
 
 -- The texts of the lines of some records, one after the other.
 unfoldable pub output_from : Profile → ℕ → Updates → List Record → List ℕ

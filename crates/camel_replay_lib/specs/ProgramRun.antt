@@ -62,8 +62,7 @@ pub record EndsWithFault (promise : Promise) (run : RunData) : Type 0 where
 -- The script is replayed as promised. With status 0 its whole output was written, and nothing to standard error. Any
 -- other status is 1, and the run ended with a fault.
 pub record Replays (promise : Promise) (run : RunData) : Type 0 where
-  pub whole : run.status ≡ 0
-      → IfSome run.input (λ bytes. promise.whole run.out.before run.out.after (script bytes max_records))
+  pub whole : run.status ≡ 0 → IfSome run.input (λ bytes. promise.whole run.out.before run.out.after (script bytes max_records))
   pub silent : run.status ≡ 0 → IsSilent run.err
   pub status : run.status ≢ 0 → run.status ≡ 1
   pub fault : run.status ≢ 0 → EndsWithFault promise run
@@ -82,8 +81,6 @@ LacksMemory run = (run.status ≡ 1) × IsSilent run.out × ShowsPart run.err (f
 
 -- A run does one of four things.
 abbrev pub Runs : List (List ℕ) → RunData → Type 0
-Runs words run =
-    ((threads : Option ℕ) × (profile : Profile) × (limit : ℕ)
-    × ThreadsOf words threads × ProfileOf words profile × LimitOf words limit
+Runs words run = ((threads : Option ℕ) × (profile : Profile) × (limit : ℕ) × ThreadsOf words threads × ProfileOf words profile × LimitOf words limit
     × Replays (promise_of threads profile limit) run)
     ⊎ (Rejects run ⊎ ((AsksForHelp words × Helps run) ⊎ LacksMemory run))

@@ -34,8 +34,7 @@ FrontIsAtMost most entry = entry.answer.front ≤ most
 
 -- the promise of a worker's thread is of this session, this receipt and these jobs
 abbrev pub IsPromiseOf : SessionData → PrefixData → List Job → ServedOf → Type 0
-IsPromiseOf session told jobs promise =
-    (promise.session.value ≡ session) × (promise.told.value ≡ told) × (promise.jobs.value.items ≡ jobs)
+IsPromiseOf session told jobs promise = (promise.session.value ≡ session) × (promise.told.value ≡ told) × (promise.jobs.value.items ≡ jobs)
 
 -- the worker is the one of a session, and is handed a receipt and jobs
 pub record IsWorkerOf (told : PrefixData) (jobs : List Job) (seat : Seat) (worker : Worker) : Type 0 where
@@ -60,8 +59,7 @@ pub record ServesJobs (least most : ℕ) (jobs : List Job) (earlier later : List
 -- the session of a worker comes back with what it has answered
 pub record IsJoined (most : ℕ) (worker : Worker) (seat : Seat) : Type 0 where
   pub number : seat.number ≡ worker.number
-  pub served : IsSomeAnd worker.started (λ handle. let promise : ServedOf = handle.promise in
-      (seat.session.store ≡ promise.session.value.store)
+  pub served : IsSomeAnd worker.started (λ handle. let promise : ServedOf = handle.promise in (seat.session.store ≡ promise.session.value.store)
       × ServesJobs (length promise.told.value.updates) most promise.jobs.value.items worker.entries.items seat.entries.items)
 
 -- a session after a round
@@ -73,5 +71,4 @@ pub record ServesSeat (least most threads : ℕ) (calls : List Job) (before afte
 -- each session has answered its calls over fronts from the last publication before the round to the one that the round
 -- made
 abbrev pub ServesRound : Updates → Updates → List Job → List Seat → List Seat → Type 0
-ServesRound before after calls seats served =
-    AllZip (ServesSeat (length before.published) (length after.published) (length seats) calls) seats served
+ServesRound before after calls seats served = AllZip (ServesSeat (length before.published) (length after.published) (length seats) calls) seats served

@@ -11,9 +11,7 @@ use Rattle.camel_replay_lib.specs.declared.threaded_replay.segment.Segment.{Segm
 abbrev pub jobs_from : ℕ → List Record → List Job
 jobs_from number [] = []
 jobs_from number (script_record.Call event ∷ records) = record { call = number; event = event } ∷ jobs_from (number + 1) records
-jobs_from number (script_record.Update update ∷ records) = jobs_from number records
-jobs_from number (script_record.Publish ∷ records) = jobs_from number records
-jobs_from number (script_record.Refused why ∷ records) = jobs_from number records
+jobs_from number (other ∷ records) = jobs_from number records
 
 -- the jobs among these that the session of this number answers
 abbrev pub jobs_for : ℕ → ℕ → List Job → List Job
@@ -23,9 +21,7 @@ jobs_for threads session jobs = filter (λ (job : Job). job.call % threads == se
 abbrev pub IsSegment : List Record → List Record → Type 0
 IsSegment [] left = left ≡ []
 IsSegment (script_record.Publish ∷ records) left = records ≡ []
-IsSegment (script_record.Update update ∷ records) left = IsSegment records left
-IsSegment (script_record.Call event ∷ records) left = IsSegment records left
-IsSegment (script_record.Refused why ∷ records) left = IsSegment records left
+IsSegment (other ∷ records) left = IsSegment records left
 
 -- the first segment was cut off: its calls, from this number on, and its other records
 pub record IsCutOff (first : ℕ) (before after : List Record) (segment : Segment) : Type 0 where

@@ -9,8 +9,7 @@ use Rattle.camel_replay_lib.specs.Store.{StoreData}
 
 -- They are told apart as the tuple of their parts.
 abbrev pub store_code : Coded StoreData
-store_code =
-    code_by (Profile × (ℕ × (List Update × List Update)))
+store_code = code_by (Profile × (ℕ × (List Update × List Update)))
     (coded× profile.the_row.coded (coded× coded_ℕ (coded× (coded_list update.the_row.coded) (coded_list update.the_row.coded))))
     (λ store. (store.profile, (store.limit, (store.updates.published, store.updates.pending))))
     (λ parts. record {

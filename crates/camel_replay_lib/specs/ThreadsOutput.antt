@@ -23,10 +23,8 @@ is_no_call other = true
 abbrev pub next_front : ℕ → Updates → List Record → ℕ
 next_front limit updates [] = length updates.published
 next_front limit updates (script_record.Publish ∷ records) = length (accepted_updates updates)
-next_front limit updates (script_record.Update update ∷ records) =
-    next_front limit (updates_after limit updates (script_record.Update update)) records
-next_front limit updates (script_record.Call event ∷ records) = next_front limit updates records
-next_front limit updates (script_record.Refused why ∷ records) = next_front limit updates records
+next_front limit updates (script_record.Update update ∷ records) = next_front limit (updates_after limit updates (script_record.Update update)) records
+next_front limit updates (other ∷ records) = next_front limit updates records
 
 -- A call of a script: its number, its event, and how many updates the last publication before it and the next one after
 -- it show.
@@ -44,8 +42,7 @@ calls_from limit updates number (script_record.Call event ∷ records) =
     ∷ calls_from limit updates (number + 1) records
 calls_from limit updates number (script_record.Update update ∷ records) =
     calls_from limit (updates_after limit updates (script_record.Update update)) number records
-calls_from limit updates number (script_record.Publish ∷ records) =
-    calls_from limit (updates_after limit updates script_record.Publish) number records
+calls_from limit updates number (script_record.Publish ∷ records) = calls_from limit (updates_after limit updates script_record.Publish) number records
 calls_from limit updates number (script_record.Refused why ∷ records) = calls_from limit updates number records
 
 -- the calls of a script, numbered from 0
@@ -86,8 +83,7 @@ sessions_text session (entries ∷ transcripts) = session_text session entries +
 
 -- the whole output
 abbrev pub threads_output : Profile → ℕ → List Record → List (List Entry) → List ℕ
-threads_output profile limit records transcripts =
-    output profile limit (filter is_no_call records) ++ sessions_text 0 transcripts ++ line_text line.AuditOk
+threads_output profile limit records transcripts = output profile limit (filter is_no_call records) ++ sessions_text 0 transcripts ++ line_text line.AuditOk
 
 -- these octets are the output of a replay with so many sessions
 pub record IsThreadsOutput (threads : ℕ) (profile : Profile) (limit : ℕ) (records : List Record) (octets : List ℕ) : Type 0 where

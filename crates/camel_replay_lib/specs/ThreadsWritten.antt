@@ -45,8 +45,7 @@ pub record WritesThreadsPart (old new : Option (List ℕ)) (threads : ℕ) (prof
 -- A fault of writing leaves a part of the output. After any other fault nothing was written. A fault of the script's
 -- text is the script's own, of its own record. A fault of reading names the record that was being read, and a later one
 -- names none.
-pub record ThreadsStop (old new : Option (List ℕ)) (threads : ℕ) (profile : Profile) (limit : ℕ) (given : ScriptData)
-    (stop : ReplayFault) : Type 0 where
+pub record ThreadsStop (old new : Option (List ℕ)) (threads : ℕ) (profile : Profile) (limit : ℕ) (given : ScriptData) (stop : ReplayFault) : Type 0 where
   pub unwritten : (IsTrue (is_write_code stop.code) → ⊥) → Keeps old new
   pub write : IsTrue (is_write_code stop.code) → WritesThreadsPart old new threads profile limit given
   pub text : IsTrue (is_text_code stop.code) → NamesFault given stop

@@ -16,8 +16,7 @@ AppendsPart old new octets = (front : List ℕ) × (back : List ℕ) × (octets 
 
 -- What was held, if it is known, grows by a part of the octets, from the first one on, and the last one is missing.
 abbrev pub AppendsProperPart : Option (List ℕ) → Option (List ℕ) → List ℕ → Type 0
-AppendsProperPart old new octets =
-    (front : List ℕ) × (back : List ℕ) × (octets ≡ front ++ back) × (back ≢ []) × Appends old new front
+AppendsProperPart old new octets = (front : List ℕ) × (back : List ℕ) × (octets ≡ front ++ back) × (back ≢ []) × Appends old new front
 
 -- The script has no fault, and its whole output was written, with nothing else.
 abbrev pub WritesAll : Option (List ℕ) → Option (List ℕ) → Profile → ℕ → ScriptData → Type 0
@@ -29,14 +28,12 @@ pub record NamesFault (given : ScriptData) (stop : ReplayFault) : Type 0 where
   pub place : stop.number ≡ Some (length given.records + 1)
 
 -- The script's fault: the lines of all records before it were written, and nothing else.
-pub record StopsAtFault (old new : Option (List ℕ)) (profile : Profile) (limit : ℕ) (given : ScriptData)
-    (stop : ReplayFault) : Type 0 where
+pub record StopsAtFault (old new : Option (List ℕ)) (profile : Profile) (limit : ℕ) (given : ScriptData) (stop : ReplayFault) : Type 0 where
   pub whole : Appends old new (output profile limit given.records)
   pub named : NamesFault given stop
 
 -- The lines of the first `count` records were written, and nothing else. The record after them is named.
-pub record StopsBeforeLine (old new : Option (List ℕ)) (profile : Profile) (limit : ℕ) (records : List Record)
-    (number : Option ℕ) : Type 0 where
+pub record StopsBeforeLine (old new : Option (List ℕ)) (profile : Profile) (limit : ℕ) (records : List Record) (number : Option ℕ) : Type 0 where
   pub count : ℕ
   pub within : count ≤ length records
   pub written : Appends old new (output profile limit (take count records))
@@ -44,8 +41,7 @@ pub record StopsBeforeLine (old new : Option (List ℕ)) (profile : Profile) (li
 
 -- The lines of the first `count` records were written, and then a part of the next record's line, but not all of it.
 -- That record is named.
-pub record StopsInLine (old new : Option (List ℕ)) (profile : Profile) (limit : ℕ) (records : List Record)
-    (number : Option ℕ) : Type 0 where
+pub record StopsInLine (old new : Option (List ℕ)) (profile : Profile) (limit : ℕ) (records : List Record) (number : Option ℕ) : Type 0 where
   pub count : ℕ
   pub front : List ℕ
   pub back : List ℕ
@@ -56,18 +52,15 @@ pub record StopsInLine (old new : Option (List ℕ)) (profile : Profile) (limit 
   pub place : number ≡ Some (count + 1)
 
 -- The flush behind the last line failed: all was written, and the last record is named, by 0 if there is none.
-pub record StopsAtFlush (old new : Option (List ℕ)) (profile : Profile) (limit : ℕ) (given : ScriptData)
-    (number : Option ℕ) : Type 0 where
+pub record StopsAtFlush (old new : Option (List ℕ)) (profile : Profile) (limit : ℕ) (given : ScriptData) (number : Option ℕ) : Type 0 where
   pub whole : WritesAll old new profile limit given
   pub place : number ≡ Some (length given.records)
 
 -- A fault leaves a part of the output of the records before the script's fault. The fault's code says how far that part
 -- goes, and which record is named.
-pub record Stops (old new : Option (List ℕ)) (profile : Profile) (limit : ℕ) (given : ScriptData)
-    (stop : ReplayFault) : Type 0 where
+pub record Stops (old new : Option (List ℕ)) (profile : Profile) (limit : ℕ) (given : ScriptData) (stop : ReplayFault) : Type 0 where
   pub part : AppendsPart old new (output profile limit given.records)
   pub text : IsTrue (is_text_code stop.code) → StopsAtFault old new profile limit given stop
-  pub memory_or_read : IsTrue (is_memory_or_read_code stop.code)
-      → StopsBeforeLine old new profile limit given.records stop.number
+  pub memory_or_read : IsTrue (is_memory_or_read_code stop.code) → StopsBeforeLine old new profile limit given.records stop.number
   pub write : IsTrue (is_write_code stop.code)
       → StopsInLine old new profile limit given.records stop.number ⊎ StopsAtFlush old new profile limit given stop.number

@@ -5,7 +5,8 @@ ghost use Rattle.camel_rows.specs.CsisPresent.{csis_of};
 ghost use Rattle.camel_rows.specs.Store.{accepted_updates, all_published, store_refusal, with_update};
 ghost use Rattle.camel_rows.specs.Update.{records_of};
 ghost use Rattle.camel_replay_lib.specs.Output.{answer_of, line_of};
-ghost use Rattle.camel_replay_lib.specs.Store.{StoreData, empty_store, store_after};
+ghost use Rattle.camel_replay_lib.specs.Store.{IsRefusedMemory, PublishesFirst, StoreData};
+ghost use Rattle.camel_replay_lib.specs.Store.{empty_store, left_in_place, store_after};
 
 use crate::script_replay::update_list::UpdateList;
 use camel_criteria::Refusal;
@@ -93,10 +94,12 @@ impl Store {
 
     /// The line of a record of a script, after which the store holds what the record asks.
     ///
-    /// Fails only with `OutOfMemory` (102). The store may then hold a part of a publication, so it is not used again.
+    /// Fails only with `OutOfMemory` (102). The store is then as it was, but that a publication may have published the
+    /// first of its updates; the next one publishes the others.
     pub fn answer(&mut self, script_record: Record) -> Result<Line, Refusal>
         ensures line { IfOk result (λ line. line ≡ line_of self.old.profile self.old.limit self.old.updates script_record) }
         ensures after { OnOk result (self.new ≡ store_after self.old script_record) }
+        ensures refused { OnErr result (IsRefusedMemory self.old script_record self.new) }
         ensures only { IfErr result (λ why. why ≡ Refusal.OutOfMemory) }
     {
         match script_record {
@@ -107,10 +110,13 @@ impl Store {
         }
     }
 
-    /// As `answer`, of a record in its place. Only an update leaves it, since a call is decided where it is.
+    /// As `answer`, of a record in its place. A call stays there. Of any other record a [`Record::Publish`] is there
+    /// afterwards, also after a failure, so an update that was refused memory is gone.
     pub fn answer_from(&mut self, script_record: &mut Record) -> Result<Line, Refusal>
         ensures line { IfOk result (λ line. line ≡ line_of self.old.profile self.old.limit self.old.updates script_record.old) }
         ensures after { OnOk result (self.new ≡ store_after self.old script_record.old) }
+        ensures refused { OnErr result (IsRefusedMemory self.old script_record.old self.new) }
+        ensures place { script_record.new ≡ left_in_place script_record.old }
         ensures only { IfErr result (λ why. why ≡ Refusal.OutOfMemory) }
     {
         match script_record {
@@ -123,6 +129,7 @@ impl Store {
     fn line_of_update(&mut self, update: Update) -> Result<Line, Refusal>
         ensures line { IfOk result (λ line. line ≡ line_of self.old.profile self.old.limit self.old.updates (Record.Update update)) }
         ensures after { OnOk result (self.new ≡ store_after self.old (Record.Update update)) }
+        ensures unchanged { OnErr result (self.new ≡ self.old) }
         ensures only { IfErr result (λ why. why ≡ Refusal.OutOfMemory) }
     {
         match self.submit(update) {
@@ -153,10 +160,12 @@ impl Store {
 
     /// Publishes the pending updates, and returns how many updates are published.
     ///
-    /// They are published one by one, so that a store whose memory was refused still has fields that agree.
+    /// They are published one by one, so that a store whose memory was refused still has fields that agree: of what was
+    /// pending the first updates are published then, and the others are pending.
     fn publish(&mut self) -> Result<u64, Refusal>
         ensures front { IfOk result (λ front. front ≡ length (accepted_updates self.old.updates)) }
         ensures published { OnOk result (self.new ≡ record self.old { updates = all_published self.old.updates }) }
+        ensures refused { OnErr result (PublishesFirst self.old self.new) }
         ensures only { IfErr result (λ why. why ≡ Refusal.OutOfMemory) }
     {
         'updates: while let Some(update) = self.pending.front() {

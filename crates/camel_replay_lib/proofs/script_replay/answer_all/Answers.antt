@@ -2,7 +2,7 @@ use Rattle.std.proofs.Common.{◌≢◌, Err, ap, arith, refl}
 use Rattle.camel_script.specs.Script.{still_gives}
 use Rattle.camel_script.specs.declared.script_fault.ScriptFault.{ScriptFault}
 use Rattle.camel_script.specs.declared.script_fault.ScriptFault.TheVariants as fault
-use Rattle.camel_replay_lib.proofs.Progress.{is_replay_code-of_script, progress_at_first, progress_by_one, stopped_at_flush, stopped_by_script}
+use Rattle.camel_replay_lib.proofs.Progress.{code_of_script, progress_at_first, progress_by_one, stopped_at_flush, stopped_by_script}
 use Rattle.camel_replay_lib.proofs.Progress.{stopped_in_record, wrote_all}
 use Rattle.camel_replay_lib.proofs.script_replay.answer_all.Goals as goal
 
@@ -18,59 +18,54 @@ records-init g c = record {
 pub returns-in-Err-clause-stopped : goal.returns-in-Err-clause-stopped
 returns-in-Err-clause-stopped g c =
     let held = g.W.Write.contents in
-    stopped_by_script (still_gives c.args.script.now) (held c.args.writer.now) (held c.records.writer)
-    (still_gives c.records.script) c.args.store.now.profile c.args.store.now.limit c.records.number c.records.store c.in-Err.fault
-    c.fault_at.result c.records.invariant.so_far
+    let store = c.args.store.now in
+    stopped_by_script (still_gives c.args.script.now) (held c.args.writer.now) (held c.records.writer) (still_gives c.records.script) store.profile
+    store.limit c.records.number c.records.store c.in-Err.fault c.fault_at.result c.records.invariant.so_far
     (rw c.code.ensures at c.fault_at.ensures) c.in-Err.ensures.faults
 
 pub records-preserved : goal.records-preserved
 records-preserved g c =
     let held = g.W.Write.contents in
-    let known = still_gives c.args.script.now in
+    let store = c.args.store.now in
     let gives = rw c.in-Ok-true.field-0-test at c.in-Ok-true.ensures.gives in
     let counts = (rw c.in-Ok-true.field-0-test at c.in-Ok-true.ensures.counts) refl in
     record {
       reads = (rw c.in-Ok-true.field-0-test at c.in-Ok-true.ensures.reads_on) refl;
       place = omega arith;
       room = omega (arith, counts);
-      so_far = rw c.in-Ok.ensures.after (progress_by_one (held c.args.writer.now) (held c.records.writer)
-          (held c.answer.new.writer) known (still_gives c.records.script)
-          (still_gives c.read_into.new.self) c.args.store.now.profile c.args.store.now.limit c.records.number c.records.store
+      so_far = rw c.in-Ok.ensures.after (progress_by_one (held c.args.writer.now) (held c.records.writer) (held c.answer.new.writer) store.profile
+          store.limit c.records.number c.records.store (still_gives c.args.script.now) (still_gives c.records.script) (still_gives c.read_into.new.self)
           c.read_into.new.read c.records.invariant.so_far gives c.in-Ok.ensures.line);
     }
 
 pub returns-in-Err-answer-clause-stopped : goal.returns-in-Err-answer-clause-stopped
 returns-in-Err-answer-clause-stopped g c =
     let held = g.W.Write.contents in
+    let store = c.args.store.now in
     let gives = rw c.in-Ok-true.field-0-test at c.in-Ok-true.ensures.gives in
-    stopped_in_record (still_gives c.args.script.now) (held c.args.writer.now) (held c.records.writer)
-    (held c.answer.new.writer) (still_gives c.records.script)
-    (still_gives c.read_into.new.self) c.args.store.now.profile c.args.store.now.limit c.records.number c.records.store
-    c.read_into.new.read c.fault_at-in-Err-answer.result
-    c.records.invariant.so_far gives (rw c.fault_at-in-Err-answer.ensures c.in-Err-answer.ensures.stopped)
-    (rw c.fault_at-in-Err-answer.ensures refl)
+    stopped_in_record (held c.args.writer.now) (held c.records.writer) (held c.answer.new.writer) store.profile store.limit c.records.number
+    c.records.store (still_gives c.args.script.now) (still_gives c.records.script) (still_gives c.read_into.new.self) c.read_into.new.read
+    c.fault_at-in-Err-answer.result c.records.invariant.so_far gives
+    (rw c.fault_at-in-Err-answer.ensures c.in-Err-answer.ensures.stopped) (rw c.fault_at-in-Err-answer.ensures refl)
 
 pub returns-in-Ok-flush-clause-whole : goal.returns-in-Ok-flush-clause-whole
 returns-in-Ok-flush-clause-whole g c =
     let held = g.W.Write.contents in
-    let gives = rw c.in-Ok-false.field-0-test at c.in-Ok-false.ensures.gives in
-    wrote_all (still_gives c.args.script.now) (held c.args.writer.now) (held c.records.writer) (held c.flush.new.self)
-    (still_gives c.records.script) (still_gives c.read_into.new.self) c.args.store.now.profile c.args.store.now.limit c.records.number
-    c.records.store c.records.invariant.so_far
-    gives c.flush.ensures.bytes
+    let store = c.args.store.now in
+    wrote_all (held c.args.writer.now) (held c.records.writer) (held c.flush.new.self) store.profile store.limit c.records.number c.records.store
+    (still_gives c.args.script.now) (still_gives c.records.script) (still_gives c.read_into.new.self) c.records.invariant.so_far
+    (rw c.in-Ok-false.field-0-test at c.in-Ok-false.ensures.gives) c.flush.ensures.bytes
 
 pub returns-clause-stopped : goal.returns-clause-stopped
 returns-clause-stopped g c =
     let held = g.W.Write.contents in
-    let gives = rw c.in-Ok-false.field-0-test at c.in-Ok-false.ensures.gives in
-    stopped_at_flush (still_gives c.args.script.now) (held c.args.writer.now) (held c.records.writer)
-    (held c.flush.new.self) (still_gives c.records.script)
-    (still_gives c.read_into.new.self) c.args.store.now.profile c.args.store.now.limit c.records.number c.records.store
-    c.fault_at-in-Err-flush.result c.records.invariant.so_far
-    gives c.flush.ensures.bytes c.fault_at-in-Err-flush.ensures
+    let store = c.args.store.now in
+    stopped_at_flush (held c.args.writer.now) (held c.records.writer) (held c.flush.new.self) store.profile store.limit c.records.number
+    c.records.store (still_gives c.args.script.now) (still_gives c.records.script) (still_gives c.read_into.new.self) c.fault_at-in-Err-flush.result
+    c.records.invariant.so_far (rw c.in-Ok-false.field-0-test at c.in-Ok-false.ensures.gives) c.flush.ensures.bytes c.fault_at-in-Err-flush.ensures
 
 pub returns-in-Err-clause-codes : goal.returns-in-Err-clause-codes
 returns-in-Err-clause-codes g c =
     let unfailed : c.in-Err.fault ≢ fault.Failed =
     λ failed. c.records.invariant.reads (c.in-Err.ensures.failed_only (ap (λ (e : ScriptFault). Err e) failed)) in
-    rw (c.fault_at.ensures, c.code.ensures) (is_replay_code-of_script c.in-Err.fault unfailed)
+    rw (c.fault_at.ensures, c.code.ensures) ((code_of_script c.in-Err.fault).0 unfailed)

@@ -1,11 +1,12 @@
 use Rattle.std.proofs.Common.{rules, ◌≡◌, ◌∙◌, ◌++◌, All, List, length, sym, ap, subst}
 use Rattle.std.proofs.lemmas.List.{length-map}
+use Rattle.std.proofs.lemmas.Result.{IfOk-weaker}
 use Rattle.camel_audit.specs.Audit.{Passes}
 use Rattle.camel_rows.specs.Store.{Updates}
 use Rattle.camel_rows.specs.declared.subscriber.update.Update.{Update}
 use Rattle.camel_script.specs.Line.{line_text}
 use Rattle.camel_script.specs.declared.line.Line.TheVariants as line
-use Rattle.camel_replay_lib.proofs.RoundLemmas.{IfOk-gives, IsOf-fresh, SessionsAnswer-numbered}
+use Rattle.camel_replay_lib.proofs.RoundLemmas.{IsOf-fresh, SessionsAnswer-numbered}
 use Rattle.std.specs.List.{filter}
 use Rattle.camel_replay_lib.specs.Fronts.{published_after}
 use Rattle.camel_replay_lib.specs.Output.{output}
@@ -27,26 +28,28 @@ returns g c =
     let seats = c.in_ok-writer.seats.items in
     let writer = c.in_ok-writer.writer in
     let transcripts = c.in_ok-transcripts.transcripts.items in
-    let same : c.in_ok-vlr.vlr.store.limit ≡ limit = c.in_ok-vlr.ensures.empty.1 in
+    let store = c.in_ok-vlr.vlr.store in
+    let same : store.limit ≡ limit = c.in_ok-vlr.ensures.empty.1 in
     let places : length c.in_ok-vlr.sessions.items ≡ threads = search rules in
     let count : length c.in_ok-seats.seats.items ≡ threads =
     sym (length-map c.in_ok-seats.seats.items session_in) ∙ ap length c.in_ok-seats.ensures.sessions ∙ places in
     let written : WritesScript profile limit records writer =
-    subst (λ p. WritesScript p limit records writer) c.in_ok-vlr.ensures.profile (subst (λ n. WritesScript c.in_ok-vlr.vlr.store.profile n records writer) same done.writer) in
+    subst (λ p. WritesScript p limit records writer) c.in_ok-vlr.ensures.profile (subst (λ n. WritesScript store.profile n records writer) same done.writer) in
     let answered : All (HasAnswered threads (script_calls limit records)) seats =
     subst (λ n. All (HasAnswered threads (script_calls n records)) seats) same
-    (subst (λ n. All (HasAnswered n (script_calls c.in_ok-vlr.vlr.store.limit records)) seats) count done.answered) in
+    (subst (λ n. All (HasAnswered n (script_calls store.limit records)) seats) count done.answered) in
     let each : SessionsAnswer threads 0 (script_calls limit records) transcripts =
     rw c.in_ok-transcripts.ensures (SessionsAnswer-numbered threads 0 (script_calls limit records) seats done.numbered answered) in
     let all : length transcripts ≡ threads = ap length c.in_ok-transcripts.ensures ∙ length-map seats entries_in ∙ done.count ∙ count in
     let text = output profile limit (filter is_no_call records) in
-    let published : c.end-published.result.0.items ≡ published_after limit records = c.end-published.ensures.published ∙ ap (λ (u : Updates). u.published) written.updates in
-    let passes : Passes profile (published_after limit records) transcripts =
+    let front = published_after limit records in
+    let published : c.end-published.result.0.items ≡ front = c.end-published.ensures.published ∙ ap (λ (u : Updates). u.published) written.updates in
+    let passes : Passes profile front transcripts =
     subst (λ (us : List Update). Passes profile us transcripts) published c.in_ok-output.ensures.passes in
     let lines : c.in_ok-output.output.items ≡ text ++ sessions_text 0 transcripts =
     c.in_ok-output.ensures.lines ∙ ap (λ out. out ++ sessions_text 0 transcripts) (c.end-published.ensures.output ∙ written.output_written) in
     let last = line_text line.AuditOk in
-    IfOk-gives _ _ c.finish_output.result
+    IfOk-weaker c.finish_output.result _ _
     (λ whole is. record {
       transcripts = transcripts;
       answer = record { count = all; each = each; passes = passes };

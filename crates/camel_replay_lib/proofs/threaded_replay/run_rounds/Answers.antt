@@ -1,5 +1,6 @@
 use Rattle.std.proofs.Common.{rules, arith, ◌≡◌, ◌∙◌, ◌<◌, ◌+◌, ◌^◌, ◌++◌, List, [], length, map, refl, sym, ap, subst, append_assoc, append-nil, length-append}
 use Rattle.std.proofs.lemmas.List.{nil_from_length}
+use Rattle.std.proofs.lemmas.List.Elements.{filter_passes}
 use Rattle.std.proofs.lemmas.Slice.Zip.{AllZip-long}
 use Rattle.std.specs.List.{filter}
 use Rattle.camel_audit.specs.declared.transcript.Job.{Job}
@@ -7,7 +8,7 @@ use Rattle.camel_rows.specs.Store.{no_updates}
 use Rattle.camel_script.specs.declared.record.Record.{Record}
 use Rattle.camel_vlr.specs.Prefix.{StoreId}
 use Rattle.camel_replay_lib.proofs.RoundLemmas.{AllZip-numbered, HasAnswered-none}
-use Rattle.camel_replay_lib.proofs.RoundsLemmas.{HasAnswered-more, IsOf-more, WritesScript-more, WritesScript-none, all-no_calls, calls-more, number-more}
+use Rattle.camel_replay_lib.proofs.RoundsLemmas.{HasAnswered-more, IsOf-more, WritesScript-more, WritesScript-none, calls-more, number-more}
 use Rattle.camel_replay_lib.proofs.SegmentLemmas.{call_between, jobs_from-length}
 use Rattle.camel_replay_lib.specs.Fronts.{updates_from}
 use Rattle.camel_replay_lib.specs.Round.{ServesRound, ServesSeat, WritesLines}
@@ -56,7 +57,7 @@ overflow_add-first g c =
     omega (arith, so_far.number, small, kept, earlier, more, calls, count, whole, cut_count, cut_whole)
 
 pub run_round-after-requires-clause-no_calls : goal.run_round-after-requires-clause-no_calls
-run_round-after-requires-clause-no_calls g c = λ κs lives. rw c.in_ok-segment.ensures.others (all-no_calls c.in_ok-segment.ensures.records)
+run_round-after-requires-clause-no_calls g c = λ κs lives. rw c.in_ok-segment.ensures.others (filter_passes is_no_call c.in_ok-segment.ensures.records)
 
 pub segments-preserved : goal.segments-preserved
 segments-preserved g c =
@@ -80,8 +81,12 @@ segments-preserved g c =
     let lines : WritesLines (filter is_no_call cut.records) before after =
     subst (λ (rs : List Record). WritesLines rs before after) cut.others (rw c.in_ok-seats.was at c.run_round-after.ensures.output) in
     let round : ServesRound before.store.updates after.store.updates jobs seats served =
-    subst (λ (js : List Job). ServesRound before.store.updates after.store.updates js seats served) cut.calls (rw c.in_ok-seats.was at c.run_round-after.ensures.seats) in
-    let split = subst (λ (rs : List Record). script_calls store.limit c.args.records.items ≡ so_far.calls ++ calls_from store.limit (updates_from store.limit no_updates so_far.done) first rs) cut.whole so_far.split in
+    subst (λ (js : List Job). ServesRound before.store.updates after.store.updates js seats served) cut.calls
+    (rw c.in_ok-seats.was at c.run_round-after.ensures.seats) in
+    let whole = c.args.records.items in
+    let split = subst (λ (rs : List Record).
+    script_calls store.limit whole ≡ so_far.calls ++ calls_from store.limit (updates_from store.limit no_updates so_far.done) first rs)
+    cut.whole so_far.split in
     record {
       done = so_far.done ++ cut.records;
       whole = append_assoc so_far.done cut.records left ∙ ap (λ rs. so_far.done ++ rs) (sym cut.whole) ∙ so_far.whole;
@@ -92,7 +97,8 @@ segments-preserved g c =
       numbered = AllZip-numbered (ServesSeat least most (length seats) jobs) (λ x y is. is.number) 0 seats served round so_far.numbered;
       count = AllZip-long (ServesSeat least most (length seats) jobs) seats served round ∙ so_far.count;
       calls = so_far.calls ++ map (call_between least most) jobs;
-      split = rw count (calls-more store.profile store.limit so_far.done cut.records before after same_profile same so_far.writer lines first so_far.calls c.args.records.items left cut.is_segment split);
+      split = rw count (calls-more store.profile store.limit so_far.done cut.records before after same_profile same so_far.writer lines first so_far.calls
+          whole left cut.is_segment split);
       answered = HasAnswered-more before.store.updates after.store.updates threads so_far.calls jobs seats served so_far.count round so_far.answered;
     }
 
@@ -102,5 +108,6 @@ returns-clause-answered g c =
     let limit = c.args.writer.store.store.limit in
     let none : c.segments.records.items ≡ [] = nil_from_length c.segments.records.items (search rules) in
     let all : script_calls limit c.args.records.items ≡ so_far.calls =
-    so_far.split ∙ ap (λ (rs : List Record). so_far.calls ++ calls_from limit (updates_from limit no_updates so_far.done) c.segments.first rs) none ∙ append-nil so_far.calls in
+    so_far.split ∙ ap (λ (rs : List Record). so_far.calls ++ calls_from limit (updates_from limit no_updates so_far.done) c.segments.first rs) none
+    ∙ append-nil so_far.calls in
     rw all so_far.answered

@@ -15,7 +15,8 @@ records-preserved g c =
       reads = (rw c.in-Ok-true.field-0-test at c.in-Ok-true.ensures.reads_on) refl;
       place = omega (arith, so_far.place, more);
       room = omega (arith, so_far.room, counts);
-      so_far = HasRead-push (still_gives c.args.script.now) (still_gives c.records.script) (still_gives c.read_into.new.self) c.records.records.items next so_far.so_far (rw same gives);
+      so_far = HasRead-push (still_gives c.args.script.now) (still_gives c.records.script) (still_gives c.read_into.new.self) c.records.records.items next
+          so_far.so_far (rw same gives);
     }
 
 pub returns-in_default-clause-stopped : goal.returns-in_default-clause-stopped

@@ -13,6 +13,7 @@ returns-clause-joined g c =
     let ended : served.ended ≡ Answered = c.in_ok-check_ended.ensures.answered in
     let not_lacking : served.ended ≢ OutOfMemory = λ lacks. absurd (cc) in
     let answers = is.answers not_lacking in
+    let session = promise.session.value in
     let entries = served.transcript in
     let shown : c.transcript.inside.entries.items ≡ entries = c.transcript.view_is in
     let within : All (FrontIsAtMost c.args.front) c.transcript.inside.entries.items = search rules in
@@ -25,7 +26,7 @@ returns-clause-joined g c =
           entries = entries;
           kept = c.in_ok-append.ensures.items ∙ ap (λ more. c.args.worker.entries.items ++ more) shown;
           jobs_served = is.jobs_served ∙ take_all (length entries) promise.jobs.value.items (omega (arith, count));
-          at_least = reaches-told promise.session.value.store promise.session.value.seen promise.session.value.told promise.told.value.updates entries answers.fronts answers.run;
+          at_least = reaches-told session.store session.seen session.told promise.told.value.updates entries answers.fronts answers.run;
           at_most = rw (← shown) within;
         },
       );

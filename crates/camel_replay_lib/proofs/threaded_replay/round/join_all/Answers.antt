@@ -10,9 +10,11 @@ workers-preserved g c =
     let worker = c.in-Some.worker in
     let left = c.pop_front.new.self.items in
     let popped : c.workers.workers.items ≡ worker ∷ left = search rules in
-    let pushed : c.push_back.new.self.items ≡ c.workers.seats.items ++ c.in_ok-seat.seat ∷ [] = search rules in
+    let seat = c.in_ok-seat.seat in
+    let pushed : c.push_back.new.self.items ≡ c.workers.seats.items ++ seat ∷ [] = search rules in
     record {
       done = so_far.done ++ worker ∷ [];
       whole = was_split so_far.done left c.workers.workers.items c.args.workers.items worker popped so_far.whole;
-      joined = rw pushed (AllZip-append (IsJoined c.args.front) so_far.done c.workers.seats.items (worker ∷ []) (c.in_ok-seat.seat ∷ []) so_far.joined (c.in_ok-seat.ensures.joined, tt));
+      joined = rw pushed
+          (AllZip-append (IsJoined c.args.front) so_far.done c.workers.seats.items (worker ∷ []) (seat ∷ []) so_far.joined (c.in_ok-seat.ensures.joined, tt));
     }

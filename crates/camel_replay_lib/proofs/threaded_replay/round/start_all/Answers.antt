@@ -17,7 +17,8 @@ seats-preserved g c =
     let worker = c.start-worker.result in
     let count = length c.args.seats.items in
     let calls = c.args.calls.now in
-    let told : PrefixData = record { store = c.args.writer.now.store.store; updates = c.args.writer.now.store.updates.published } in
+    let store = c.args.writer.now.store in
+    let told : PrefixData = record { store = store.store; updates = store.updates.published } in
     let popped : c.seats.seats.items ≡ seat ∷ left = search rules in
     let pushed : c.push_back.new.self.items ≡ c.seats.workers.items ++ worker ∷ [] = search rules in
     let threads : c.len-threads.result ≡ count = search rules in
@@ -28,6 +29,7 @@ seats-preserved g c =
     record {
       done = so_far.done ++ seat ∷ [];
       whole = was_split so_far.done left c.seats.seats.items c.args.seats.items seat popped so_far.whole;
-      same_store = All-tail (IsOfStore c.args.writer.now.store.store) seat left (subst (All (IsOfStore c.args.writer.now.store.store)) popped so_far.same_store);
-      workers = rw pushed (AllZip-append (λ (s : Seat). IsWorkerOf told (jobs_for count s.number calls) s) so_far.done c.seats.workers.items (seat ∷ []) (worker ∷ []) so_far.workers (is, tt));
+      same_store = All-tail (IsOfStore store.store) seat left (subst (All (IsOfStore store.store)) popped so_far.same_store);
+      workers = rw pushed (AllZip-append (λ (s : Seat). IsWorkerOf told (jobs_for count s.number calls) s) so_far.done c.seats.workers.items
+          (seat ∷ []) (worker ∷ []) so_far.workers (is, tt));
     }

@@ -11,11 +11,13 @@ audit_unless-requires g c = λ yes.
     let updates = c.args.updates.now in
     let transcripts = c.args.transcripts.now in
     let sessions = length transcripts in
+    let part = c.part_of in
     elim c.if-own.branch [
       | then-own w ↦
           let own : PassesInPart (is_in_part (sessions + 1) 0) profile updates transcripts =
-          subst (λ (count : ℕ). PassesInPart (is_in_part count 0) profile updates transcripts) c.part_of.ensures.count
-          (subst (λ (number : ℕ). PassesInPart (is_in_part c.part_of.result.count number) profile updates transcripts) c.part_of.ensures.number (c.passes_alone-own.ensures w.if-own.true)) in
+          subst (λ (count : ℕ). PassesInPart (is_in_part count 0) profile updates transcripts) part.ensures.count
+          (subst (λ (number : ℕ). PassesInPart (is_in_part part.result.count number) profile updates transcripts) part.ensures.number
+          (c.passes_alone-own.ensures w.if-own.true)) in
           parts_pass sessions profile updates transcripts own (c.in_ok-started.ensures.parts (c.join_all-passes.ensures.passes (sym w.audit_unless-is ∙ yes)))
       | else-own w ↦ absurd (false≢true (sym w.if-own.false ∙ sym w.audit_unless-is ∙ yes))
     ]

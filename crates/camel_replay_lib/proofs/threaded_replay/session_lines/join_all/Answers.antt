@@ -13,11 +13,13 @@ threads-preserved g c =
     let left = c.pop_front.new.self.items in
     let popped : c.threads.started.items ≡ thread ∷ left = search rules in
     let whole = flat_map text_of c.args.started.items in
+    let first = c.threads.joined.texts in
+    let joined = c.with-joined in
     record {
-      passes = λ yes rest. so_far.passes (c.with-joined.ensures.before yes)
-          (subst (λ (threads : List SessionThread). All PassesOf threads) (sym popped) (All-cons PassesOf thread left (c.join.ensures.passes (c.with-joined.ensures.found yes)) rest));
-      lines = lines_more (λ texts. texts.items) (λ text. text.items) c.threads.joined.texts c.join.result.lines c.with-joined.result.texts (text_of thread) (flat_map text_of left) whole
-          c.with-joined.ensures.lines
-          (subst (λ (threads : List SessionThread). IfOk c.threads.joined.texts (λ texts. flat_map (λ text. text.items) texts.items ++ flat_map text_of threads ≡ whole)) popped so_far.lines)
+      passes = λ yes rest. so_far.passes (joined.ensures.before yes) (subst (λ (threads : List SessionThread). All PassesOf threads) (sym popped)
+          (All-cons PassesOf thread left (c.join.ensures.passes (joined.ensures.found yes)) rest));
+      lines = lines_more (λ texts. texts.items) (λ text. text.items) first c.join.result.lines joined.result.texts (text_of thread) (flat_map text_of left)
+          whole joined.ensures.lines (subst (λ (threads : List SessionThread).
+          IfOk first (λ texts. flat_map (λ text. text.items) texts.items ++ flat_map text_of threads ≡ whole)) popped so_far.lines)
           c.join.ensures.lines;
     }
