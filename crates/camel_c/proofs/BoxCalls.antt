@@ -8,7 +8,8 @@ use base.Fml.{ftrue, flft}
 use prog.Memory.{Memory}
 use prog.Routine.{Routine}
 use types.Logic.{Logic, sem}
-use types.Kit.{Item, ‵, raw, ◌⊛◌, some, later, ◌$◌, ◌∵◌, !, qed, move, drop, use0, use1, split, split3, join, fjoin, pick, feq_i, feq_l, show, check, await, updating, now, done}
+use types.Kit.{Item, ‵, raw, ◌⊛◌, some, later, ◌$◌, ◌∵◌, !, qed}
+use types.Kit.{move, drop, use0, use1, split, split3, join, fjoin, pick, feq_i, feq_l, show, check, await, updating, now, done}
 use contract.BorrowLft.{◌⊑◌, ⊑_static}
 use contract.Lifetimes.{Lfts, Shares}
 use contract.Monad.{Fun, fact, fact_i}
@@ -59,14 +60,16 @@ module _ {M : Type 1} {𝓤 : Ura M} (𝓛 : Logic 𝓤) where
           nothing ! $ use0 𝓛 (raw (fact 𝓤 ([] ⊑ A.lives))) (fact_i 𝓤 ([] ⊑ A.lives) (emp 𝓤) (⊑_static [])) $ join ! $
           use0 𝓛 (raw (fact 𝓤 ([] ⊑ X.lives))) (fact_i 𝓤 ([] ⊑ X.lives) (emp 𝓤) (⊑_static [])) $ join ! $
           nothing ! $ move ! (2 ∷ 0 ∷ []) $ fjoin ! $
-          nothing ! $ use0 𝓛 (‵ (flft [] full_share)) (𝓛.lfts.lft-nil full_share) $ join ! $ use0 𝓛 (‵ (flft [] full_share)) (𝓛.lfts.lft-nil full_share) $ join ! $ join ! $ join ! $ done !
+          nothing ! $ use0 𝓛 (‵ (flft [] full_share)) (𝓛.lfts.lft-nil full_share) $ join ! $
+          use0 𝓛 (‵ (flft [] full_share)) (𝓛.lfts.lft-nil full_share) $ join ! $ join ! $ join ! $ done !
 
       -- the pointer that comes back owns what the box owned
       pub apart_gives : (u : Val) → ent 𝓤 (Apart.post at_apart u) (H.⇛ (ex 𝓤 (λ (p : Ptr). guard 𝓤 (u ≡ ptr_val p) (sem 𝓛 (global_box R p d.value d.alloc)))))
       apart_gives u =
           let E : Ended = into_raw.ended X A ghosts dict heap_drop object_drop in
           qed 𝓛 (raw (Apart.post at_apart u) ∷ []) ∵ updating ! $
-          use1 𝓛 (later (some (λ (p : Ptr). (tokens ⊛ ‵ (RawPtr.own_val p (u ∷ []))) ⊛ some (λ (ws : Lasts E κs (d, tt)). ‵ (lasts E κs (d, tt) ws) ⊛ ‵ (global_box R p d.value d.alloc))))) (id⊢ 𝓤 _) $
+          use1 𝓛 (later (some (λ (p : Ptr). (tokens ⊛ ‵ (RawPtr.own_val p (u ∷ [])))
+          ⊛ some (λ (ws : Lasts E κs (d, tt)). ‵ (lasts E κs (d, tt) ws) ⊛ ‵ (global_box R p d.value d.alloc))))) (id⊢ 𝓤 _) $
           await ! tt $ pick ! (λ p. split ! $ split ! $ drop ! $ feq_l ! (λ e. pick ! (λ ws. split ! $ drop ! $ now ! $
           show ! (λ (p : Ptr). guard 𝓤 (u ≡ ptr_val p) (sem 𝓛 (global_box R p d.value d.alloc))) p $ check ! (ap only e) $ done !)))
 
@@ -81,13 +84,17 @@ module _ {M : Type 1} {𝓤 : Ura M} (𝓛 : Logic 𝓤) where
           use0 𝓛 (raw (fact 𝓤 ([] ⊑ A.lives))) (fact_i 𝓤 ([] ⊑ A.lives) (emp 𝓤) (⊑_static [])) $ join ! $
           use0 𝓛 (raw (fact 𝓤 ([] ⊑ X.lives))) (fact_i 𝓤 ([] ⊑ X.lives) (emp 𝓤) (⊑_static [])) $ join ! $
           nothing ! $ feq_i ! (List Val) (ptr_val p ∷ []) (ptr_val p ∷ []) refl $ fjoin ! $ move ! (2 ∷ 0 ∷ []) $ fjoin ! $
-          nothing ! $ use0 𝓛 (‵ (flft [] full_share)) (𝓛.lfts.lft-nil full_share) $ join ! $ use0 𝓛 (‵ (flft [] full_share)) (𝓛.lfts.lft-nil full_share) $ join ! $ join ! $ join ! $ done !
+          nothing ! $ use0 𝓛 (‵ (flft [] full_share)) (𝓛.lfts.lft-nil full_share) $ join ! $
+          use0 𝓛 (‵ (flft [] full_share)) (𝓛.lfts.lft-nil full_share) $ join ! $ join ! $ join ! $ done !
 
       -- the box that comes back holds the object
       pub again_gives : (u : Val) → ent 𝓤 (Again.post at_again u) (H.⇛ (ex 𝓤 (λ (r : Whole.Denot). guard 𝓤 (r.value ≡ x) (sem 𝓛 (Whole.own_val r (u ∷ []))))))
       again_gives u =
           let E : Ended = from_raw.ended X A ghosts dict heap_drop in
           qed 𝓛 (raw (Again.post at_again u) ∷ []) ∵ updating ! $
-          use1 𝓛 (later (some (λ (r : Whole.Denot). (tokens ⊛ ‵ (Whole.own_val r (u ∷ []))) ⊛ some (λ (ws : Lasts E κs (a, (p, tt))). ‵ (lasts E κs (a, (p, tt)) ws) ⊛ (raw (fact 𝓤 (r.value ≡ x)) ⊛ raw (fact 𝓤 (r.alloc ≡ a))))))) (id⊢ 𝓤 _) $
-          await ! tt $ pick ! (λ r. split ! $ split ! $ drop ! $ move ! (1 ∷ []) $ pick ! (λ ws. split3 ! $ drop ! $ heard ! (r.value ≡ x) (λ e. drop ! $ now ! $
+          use1 𝓛 (later (some (λ (r : Whole.Denot). (tokens ⊛ ‵ (Whole.own_val r (u ∷ [])))
+          ⊛ some (λ (ws : Lasts E κs (a, (p, tt))). ‵ (lasts E κs (a, (p, tt)) ws)
+          ⊛ (raw (fact 𝓤 (r.value ≡ x)) ⊛ raw (fact 𝓤 (r.alloc ≡ a))))))) (id⊢ 𝓤 _) $
+          await ! tt $ pick ! (λ r. split ! $ split ! $ drop ! $ move ! (1 ∷ []) $ pick ! (λ ws. split3 ! $
+          drop ! $ heard ! (r.value ≡ x) (λ e. drop ! $ now ! $
           show ! (λ (r : Whole.Denot). guard 𝓤 (r.value ≡ x) (sem 𝓛 (Whole.own_val r (u ∷ [])))) r $ check ! e $ done !)))

@@ -30,13 +30,15 @@ module _ {M : Type 1} (𝓤 : Ura M) (𝓛 : Logic 𝓤) (𝓜 : Model 𝓤 𝓛
   Has code = Wired 𝓡.env code
 
   pub is_apart : Has into_raw_symbol.code → Has allocate.code → Has deallocate.code → Has grow.code → Has shrink.code → Has no_drop.code → Has of_object.code
-      → Triple 𝓤 ((tables 𝓤 𝓛.H 𝓜 𝓡 𝓡.env).C (into_raw_symbol.name (bounded (a_type ∷ a_type ∷ []) (X, (A, tt)) (dcons dict (dcons heap_drop (dcons object_drop dnil)))))) (Apart 𝓛 𝓜.mem 𝓡.returns)
+      → Triple 𝓤 ((tables 𝓤 𝓛.H 𝓜 𝓡 𝓡.env).C (into_raw_symbol.name (bounded (a_type ∷ a_type ∷ []) (X, (A, tt))
+      (dcons dict (dcons heap_drop (dcons object_drop dnil)))))) (Apart 𝓛 𝓜.mem 𝓡.returns)
   unfolding Rattle.camel_c.proofs.Destruct++none.drop.Code.code
   is_apart w al de gr sh none object = into_raw_met.met 𝓤 𝓛 𝓜 𝓡 w X A LX LA ghosts dict heap_drop object_drop (heap_met.passed 𝓡.env al de gr sh M 𝓤 𝓛 𝓜 𝓡)
       (nothing_to_drop.glues "camel_c::Destruct++none::drop" 𝓡.env none A LA M 𝓤 𝓛 𝓜 𝓡) (drops 𝓤 𝓛 𝓜 𝓡 object)
 
   pub is_again : Has from_raw_symbol.code → Has allocate.code → Has deallocate.code → Has grow.code → Has shrink.code → Has no_drop.code
-      → Triple 𝓤 ((tables 𝓤 𝓛.H 𝓜 𝓡 𝓡.env).C (from_raw_symbol.name (bounded (a_type ∷ a_type ∷ []) (X, (A, tt)) (dcons dict (dcons heap_drop dnil))))) (Again 𝓛 𝓜.mem 𝓡.returns)
+      → Triple 𝓤 ((tables 𝓤 𝓛.H 𝓜 𝓡 𝓡.env).C (from_raw_symbol.name (bounded (a_type ∷ a_type ∷ []) (X, (A, tt))
+      (dcons dict (dcons heap_drop dnil))))) (Again 𝓛 𝓜.mem 𝓡.returns)
   unfolding Rattle.camel_c.proofs.Destruct++none.drop.Code.code
   is_again w al de gr sh none = from_raw_met.met 𝓤 𝓛 𝓜 𝓡 w X A LX LA ghosts dict heap_drop (heap_met.passed 𝓡.env al de gr sh M 𝓤 𝓛 𝓜 𝓡)
       (nothing_to_drop.glues "camel_c::Destruct++none::drop" 𝓡.env none A LA M 𝓤 𝓛 𝓜 𝓡)

@@ -41,7 +41,8 @@ heap_drop = impl ("camel_c::Destruct++none::drop" ∷ []) (tcons (layout A) tnil
 -- what is owned of a box is one machine value, of its type
 pub box_tells : {M : Type 1} {𝓤 : Ura M} {𝓛 : Logic 𝓤} {K : Type 0} {Γ : List (Item 𝓤)} {G : Goal 𝓤 𝓛.H} → K → (d : Whole.Denot) (vs : List Val)
     → ((v : Val) → vs ≡ v ∷ [] → Good (layout Whole) v → Seq K 𝓛 (‵ (Whole.own_val d (v ∷ [])) ∷ Γ) G) → Seq K 𝓛 (‵ (Whole.own_val d vs) ∷ Γ) G
-box_tells t d vs k = handle_tells (record { row = Whole; laws = box_laws R Z ghosts LR LZ; g = record { dealloc_token = λ a σ p. ftrue }; d = dict; drops = dict }) t d vs k
+box_tells t d vs k =
+    handle_tells (record { row = Whole; laws = box_laws R Z ghosts LR LZ; g = record { dealloc_token = λ a σ p. ftrue }; d = dict; drops = dict }) t d vs k
 
 -- so is what is owned of a `Global`
 pub global_tells : {M : Type 1} {𝓤 : Ura M} {𝓛 : Logic 𝓤} {K : Type 0} {Γ : List (Item 𝓤)} {G : Goal 𝓤 𝓛.H} → K → (a : Global) (vs : List Val)

@@ -61,5 +61,7 @@ pub drops : {M : Type 1} (𝓤 : Ura M) (𝓛 : Logic 𝓤) (𝓜 : Model 𝓤 �
 drops {M} 𝓤 𝓛 𝓜 𝓡 w =
     let W : World = record { M = M; 𝓤 = 𝓤; 𝓛 = 𝓛; 𝓜 = 𝓜; 𝓡 = 𝓡 } in
     glue_by X LX W object_drop 𝓡.env Left left Says Within 0 tt (λ κs a h. ((h, tt), tt))
-    (via_longer 𝓛 (Over 𝓛 𝓜 𝓡 𝓡.env) 1 (glue_ps X LX) r_unit Left left Says Within key 0 tt (λ κs. tt) (λ κs a. reads.Asked tt a) (λ κs a p. (tt, tt)) (λ κs bd within a vss qs.
-    method_Known 0 kinds.ps kinds.r reads.requires reads.ensures reads.Asked reads.Learnt reads.known W symbol.name key (symbol.as_method 𝓡.env w key refl) (drop.met 𝓤 𝓛 𝓜 𝓡 w) ((tt, qs, tt, a, vss), tt)))
+    (via_longer 𝓛 (Over 𝓛 𝓜 𝓡 𝓡.env) 1 (glue_ps X LX) r_unit Left left Says Within key 0 tt (λ κs. tt) (λ κs a. reads.Asked tt a) (λ κs a p. (tt, tt))
+    (λ κs bd within a vss qs.
+    method_Known 0 kinds.ps kinds.r reads.requires reads.ensures reads.Asked reads.Learnt reads.known W symbol.name key
+    (symbol.as_method 𝓡.env w key refl) (drop.met 𝓤 𝓛 𝓜 𝓡 w) ((tt, qs, tt, a, vss), tt)))
