@@ -1,5 +1,6 @@
 -- The values of a list of items, as a loop reads them.
-use Rattle.std.proofs.Common.{◌≡◌, ◌∙◌, ℕ, suc, ◌+◌, ◌<◌, ◌≤◌, List, [], ◌∷◌, ◌++◌, length, drop, get_or, map, Result, Ok, Err, inl, inr, refl, sym, ap, add-one, drop-cons}
+use Rattle.std.proofs.Common.{◌≡◌, ◌∙◌, ℕ, suc, ◌+◌, ◌<◌, ◌≤◌, List, [], ◌∷◌, ◌++◌, length, drop, get_or, map, Result, Ok, Err}
+use Rattle.std.proofs.Common.{inl, inr, refl, sym, ap, add-one, drop-cons}
 use Rattle.std.proofs.lemmas.List.{append-nil, append_assoc, drop_all}
 use Rattle.camel_c_data.specs.Reading.{◌>>=◌, FailsAs, ReadsAs, each_of}
 use Rattle.camel_c_data.specs.declared.data_fault.DataFault.{DataFault}
