@@ -80,7 +80,7 @@ fn say_words(out: &mut String, words: &[&str], before_last: &str) -> Result<(), 
     for (at, word) in words.iter().enumerate() {
         let before = match at {
             0 => "",
-            _ if at < words.len() - 1 => ", ",
+            _ if at.saturating_add(1) < words.len() => ", ",
             _ => before_last,
         };
         write!(out, "{before}{word}")?;
