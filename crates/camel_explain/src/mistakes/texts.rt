@@ -35,10 +35,12 @@ pub(crate) fn say_unreadable(
         Expected::NumberCriterion => say_number(out, text),
         Expected::BasicServices => say_list(out, Kind::Code, text),
         Expected::Causes => say_list(out, Kind::Cause, text),
-        Expected::BasicService => say_flaw(out, Kind::Code, text),
-        Expected::Destination | Expected::GsmScfAddress => say_flaw(out, Kind::ListedNumber, text),
-        Expected::Cause | Expected::DetectionPoint => say_flaw(out, Kind::Cause, text),
-        Expected::ServiceKey | Expected::Handling => say_flaw(out, Kind::Integer, text),
+        Expected::BasicService => Kind::Code.say_why_not(out, text),
+        Expected::Destination | Expected::GsmScfAddress => Kind::ListedNumber.say_why_not(
+            out, text,
+        ),
+        Expected::Cause | Expected::DetectionPoint => Kind::Cause.say_why_not(out, text),
+        Expected::ServiceKey | Expected::Handling => Kind::Integer.say_why_not(out, text),
         Expected::Nothing => Ok(()),
     }
 }
@@ -132,37 +134,60 @@ impl Kind {
         }
     }
 
-    /// Appends why a text is none of this kind. Returns whether it is none.
-    fn say_why_not(self, out: &mut String, text: &[u8]) -> Result<bool, AllocError> {
+    /// Whether the reader takes a text of this kind.
+    fn is_text(self, text: &[u8]) -> bool {
+        match self {
+            Kind::Code => match text {
+                [b't' | b'b', first, second] => {
+                    first.is_ascii_hexdigit() && second.is_ascii_hexdigit()
+                }
+                _ => false,
+            },
+            Kind::ListedNumber => {
+                text.len() % 2 == 0 && text.iter().all(|octet| octet.is_ascii_hexdigit())
+            }
+            Kind::Cause | Kind::Length | Kind::Integer => {
+                text.len() <= MAX_DECIMAL_DIGITS
+                    && text.iter().all(|octet| octet.is_ascii_digit())
+                    && decimal(text).is_some_and(|value| value <= self.greatest())
+            }
+        }
+    }
+
+    /// The greatest value of a decimal of this kind.
+    fn greatest(self) -> u64 {
+        match self {
+            Kind::Integer => u64::from(u32::MAX),
+            _ => u64::from(u8::MAX),
+        }
+    }
+
+    /// Appends why a text is none of this kind.
+    fn say_why_not(self, out: &mut String, text: &[u8]) -> Result<(), AllocError> {
         match self {
             Kind::Code => say_no_service(out, text),
             Kind::ListedNumber => say_no_octets(out, text),
-            Kind::Cause | Kind::Length => say_no_decimal(out, text, u64::from(u8::MAX)),
-            Kind::Integer => say_no_decimal(out, text, u64::from(u32::MAX)),
+            Kind::Cause | Kind::Length | Kind::Integer => {
+                say_no_decimal(out, text, self.greatest())
+            }
         }
     }
 }
 
-fn say_flaw(out: &mut String, kind: Kind, text: &[u8]) -> Result<(), AllocError> {
-    kind.say_why_not(out, text)?;
-    Ok(())
-}
-
-fn say_no_decimal(out: &mut String, text: &[u8], greatest: u64) -> Result<bool, AllocError> {
+fn say_no_decimal(out: &mut String, text: &[u8], greatest: u64) -> Result<(), AllocError> {
     if text.is_empty() {
-        write!(out, "a decimal number is expected")?;
-    } else if !say_no_digits(out, text)? {
-        match (text.len() > MAX_DECIMAL_DIGITS, decimal(text)) {
-            (false, Some(value)) if value <= greatest => return Ok(false),
-            (false, _) => write!(out, "over {greatest}")?,
-            (true, _) => write!(
-                out,
-                "{} digits, and at most {MAX_DECIMAL_DIGITS} are read",
-                text.len()
-            )?,
-        }
+        return write!(out, "a decimal number is expected");
     }
-    Ok(true)
+    if say_no_digits(out, text)? {
+        return Ok(());
+    }
+    match text.len() {
+        0..=MAX_DECIMAL_DIGITS => write!(out, "over {greatest}"),
+        count => write!(
+            out,
+            "{count} digits, and at most {MAX_DECIMAL_DIGITS} are read"
+        ),
+    }
 }
 
 /// Appends which character is no decimal digit, if one isn't.
@@ -191,39 +216,32 @@ fn say_imsi(out: &mut String, text: &[u8]) -> Result<(), AllocError> {
 }
 
 /// Appends why a text is not pairs of hexadecimal digits.
-fn say_no_octets(out: &mut String, text: &[u8]) -> Result<bool, AllocError> {
-    if let Some(at) = text.iter().position(|octet| !octet.is_ascii_hexdigit()) {
-        write!(
+fn say_no_octets(out: &mut String, text: &[u8]) -> Result<(), AllocError> {
+    match text.iter().position(|octet| !octet.is_ascii_hexdigit()) {
+        Some(at) => write!(
             out,
             "\"{}\" is no hexadecimal digit",
             Shown(character_at(text, at))
-        )?;
-        return Ok(true);
-    }
-    if text.len() % 2 == 1 {
-        write!(
+        ),
+        None => write!(
             out,
             "{} hexadecimal digits, which is an odd number",
             text.len()
-        )?;
+        ),
     }
-    Ok(text.len() % 2 == 1)
 }
 
 /// Appends why a text is no basic service.
-fn say_no_service(out: &mut String, text: &[u8]) -> Result<bool, AllocError> {
+fn say_no_service(out: &mut String, text: &[u8]) -> Result<(), AllocError> {
     match text.split_first() {
-        Some((b't' | b'b', [first, second]))
-            if first.is_ascii_hexdigit() && second.is_ascii_hexdigit() => return Ok(false),
         Some((b't' | b'b', code)) => write!(
             out,
             "two hexadecimal digits have to follow the letter, not \"{}\"",
             Shown(code)
-        )?,
-        Some((b'T' | b'B', [_, _])) => write!(out, "its letter has to be in lower case")?,
-        _ => write!(out, "a letter t or b is missing")?,
+        ),
+        Some((b'T' | b'B', [_, _])) => write!(out, "its letter has to be in lower case"),
+        _ => write!(out, "a letter t or b is missing"),
     }
-    Ok(true)
 }
 
 /// The character that begins at a place: more octets than one if it is UTF-8.
@@ -240,13 +258,12 @@ fn character_at(text: &[u8], at: usize) -> &[u8] {
 /// Appends which element of a list is wrong, and why: the first one. Returns whether one is.
 fn say_element(out: &mut String, kind: Kind, text: &[u8]) -> Result<bool, AllocError> {
     for (at, element) in text.split(|octet| *octet == b'+').enumerate() {
-        let before = out.len();
-        let number = at.saturating_add(1);
-        write!(out, "{} {number} \"{}\": ", kind.name(), Shown(element))?;
-        if kind.say_why_not(out, element)? {
+        if !kind.is_text(element) {
+            let number = at.saturating_add(1);
+            write!(out, "{} {number} \"{}\": ", kind.name(), Shown(element))?;
+            kind.say_why_not(out, element)?;
             return Ok(true);
         }
-        out.truncate(before);
     }
     Ok(false)
 }
