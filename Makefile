@@ -6,6 +6,9 @@ BUILD_TIME := about 14 minutes the first time
 LONG_TIME := up to 25 minutes the first time
 TEST_TIME := more than an hour the first time
 
+SHELL := scripts/recipe
+.SHELLFLAGS := -c
+
 SCRIPT ?= examples/first-call.csv
 LIMIT ?= 1000000
 SEED ?= 1
