@@ -26,6 +26,8 @@ EXPLAIN := crates/camel_explain/out/camel_explain
 # The shell reads these, and not make, so that a name may have spaces.
 export SCRIPT LIMIT THREADS PROFILE CRATE PREFIX DESTDIR LIBDIR PARTS SANITIZE JOBS
 OPTIONS = --limit "$$LIMIT" $(if $(THREADS),--threads "$$THREADS") $(if $(PROFILE),--profile "$$PROFILE")
+# As in the options of programs, `-` is standard input.
+READ_SCRIPT := [ "$$SCRIPT" = - ] || exec < "$$SCRIPT";
 
 # Prints what its line says of a target, or of each. The name of a time stands for its value there.
 define targets
@@ -67,7 +69,8 @@ begin-%:
 	$(call targets,$*) >&2
 
 script:
-	@[ -r "$$SCRIPT" ] && [ ! -d "$$SCRIPT" ] || { echo "SCRIPT=$$SCRIPT is no file that can be read" >&2; exit 2; }
+	@[ "$$SCRIPT" = - ] || [ -r "$$SCRIPT" ] && [ ! -d "$$SCRIPT" ] || \
+		{ echo "SCRIPT=$$SCRIPT is no file that can be read" >&2; exit 2; }
 
 crate:
 	@[ -n "$$CRATE" ] && [ -d "crates/$$CRATE/src" ] || \
@@ -87,16 +90,16 @@ $(EXPLAIN): BUILD_TIME = $(LONG_TIME)
 # and names it.
 ## Runs SCRIPT by the program, with nothing proved: at once, once it is compiled, which takes a minute or two.
 try: script begin-$$@
-	@scripts/replay scripts/try camel_replay $(OPTIONS) < "$$SCRIPT"
+	@$(READ_SCRIPT) scripts/replay scripts/try camel_replay $(OPTIONS)
 
 # Only the output of the script comes on standard output.
 ## Runs SCRIPT by the proved program: at once, once it is built, which takes BUILD_TIME.
 replay: script $(PROGRAM)
-	@scripts/replay $(PROGRAM) $(OPTIONS) < "$$SCRIPT"
+	@$(READ_SCRIPT) scripts/replay $(PROGRAM) $(OPTIONS)
 
 ## Explains SCRIPT, record by record, with nothing proved: at once, once it is compiled, which takes two minutes.
 try-explain: script begin-$$@
-	@scripts/try camel_explain --limit "$$LIMIT" $(if $(PROFILE),--profile "$$PROFILE") < "$$SCRIPT"
+	@$(READ_SCRIPT) scripts/try camel_explain --limit "$$LIMIT" $(if $(PROFILE),--profile "$$PROFILE")
 
 ## Explains SCRIPT, record by record, by the program for people: at once, once it is built, which takes LONG_TIME.
 explain: script $(EXPLAIN)
