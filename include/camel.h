@@ -16,9 +16,9 @@
  * memory may be refused while the lists of an Insert or the octets of an argument are read.
  *
  * Threads. The store's handle is the writer's, and each session's handle that of one thread. A handle moves to another
- * thread by a lock, by a thread's start or join, or by a sequentially consistent atomic. It is in one call at a time,
- * but a handle that a call takes as const may be in several such calls; different handles may be in calls at the same
- * time. No call takes a lock, waits or yields.
+ * thread by a lock, by a thread's start or join, or by an atomic that one stores with release and the other loads with
+ * acquire. It is in one call at a time, but a handle that a call takes as const may be in several such calls; different
+ * handles may be in calls at the same time. No call takes a lock of its own, waits or yields; malloc may take one.
  *
  * Memory. The library calls malloc, realloc and free. A call that is refused memory returns CAMEL_OUT_OF_MEMORY, has
  * changed nothing, but that a session which looks may have seen a later front, and may be made again. Only camel_open,
@@ -221,7 +221,7 @@ typedef struct {
     uint32_t key;
     camel_isdn_address scf;
     uint8_t dp;
-    bool is_release; /* the default call handling: the call is released if the dialogue with the gsmSCF fails */
+    bool is_release; /* default call handling: release, if the dialogue fails while instructions are awaited */
     bool is_trigger;
     uint8_t reason;
 } camel_answer;
@@ -287,7 +287,7 @@ camel_status camel_isdn_address_of(const uint8_t *octets, size_t octet_count, ca
 /* The digits of an IMSI: as characters 0 to 9 with 0 octets behind them, and as the first `count` of TBCD octets.
  * CAMEL_MALFORMED: it is none, and nothing is written. */
 typedef struct { uint8_t count; char characters[16]; } camel_imsi_digits;
-typedef struct { uint8_t count; uint8_t octets[8]; } camel_imsi_tbcd;
+typedef struct { uint8_t count; uint8_t octets[8]; } camel_imsi_tbcd; /* 0xff behind these */
 
 CAMEL_CALL
 static inline camel_status camel_digits_of_imsi(const camel_imsi *imsi, camel_imsi_digits *digits)
@@ -440,8 +440,9 @@ camel_status camel_submit(camel_store *store, const camel_update *update);
 
 /* Submits copies of several updates in their order, as those of a location update: all are accepted, or none is. It
  * returns what camel_submit does, of each as if those before it were accepted, and CAMEL_UNEXPECTED_DATA_VALUE of a
- * Cancel or a ClearAll, which leaves no record. `rejected` is the index of the first update that the store rejects, and
- * update_count if it rejects none, as when memory is refused or a handle is wrong. It is always written. */
+ * Cancel or a ClearAll, which leaves no record. CAMEL_WRONG_HANDLE: the store's handle holds none, or one of these no
+ * update. `rejected` is the index of the first update that the store rejects, and update_count if it rejects none, as
+ * when memory is refused or a handle is wrong. It is always written. */
 CAMEL_CALL
 camel_status camel_submit_all(camel_store *store, const camel_update *updates, size_t update_count, size_t *rejected);
 
@@ -473,11 +474,12 @@ camel_status camel_receipt_of(const camel_store *store, camel_receipt *receipt);
 CAMEL_CALL
 camel_status camel_learn(camel_session *session, const camel_receipt *receipt);
 
-/* Publishes all that is pending, as camel_publish does, and has these sessions of the store, at most CAMEL_MAX_SESSIONS,
- * learn it, as camel_learn does: from then on each shows it. So a switch with one event loop needs no receipt.
- * CAMEL_WRONG_HANDLE, CAMEL_HELD or CAMEL_OTHER_STORE: the first session that cannot learn is none, has begun a look, or
- * is of another store. Then nothing is published, as after a status of camel_publish. No run meets CAMEL_NO_LOOK, or
- * CAMEL_OTHER_STORE of a session of the store: only then all is published, and that session does not show it. */
+/* Publishes all that is pending, as camel_publish does, and has these sessions of the store learn it, as camel_learn
+ * does: from then on each shows it. So a switch with one event loop needs no receipt. The sessions are in no other call
+ * meanwhile. CAMEL_MALFORMED: there are more than CAMEL_MAX_SESSIONS. CAMEL_WRONG_HANDLE, CAMEL_HELD or
+ * CAMEL_OTHER_STORE: the first session that cannot learn is none, has begun a look, or is of another store. Then
+ * nothing is published, as after a status of camel_publish. No run meets CAMEL_NO_LOOK, or CAMEL_OTHER_STORE of a
+ * session of the store: only then all is published, and that session does not show it. */
 CAMEL_CALL
 camel_status camel_publish_to(camel_store *store, camel_session *sessions, size_t session_count);
 
@@ -486,7 +488,7 @@ camel_status camel_publish_to(camel_store *store, camel_session *sessions, size_
 CAMEL_CALL
 camel_status camel_decide(camel_session *session, const camel_event *event, camel_answer *answer);
 
-/* What the session has decided, by camel_decide. */
+/* What the session has decided, by camel_decide and camel_set_up. What camel_decide_kept decides is not counted. */
 CAMEL_CALL
 camel_status camel_decisions_of(const camel_session *session, camel_decisions *decisions);
 
@@ -521,9 +523,9 @@ camel_status camel_keep(camel_session *session, const camel_imsi *imsi, camel_su
 CAMEL_CALL
 camel_status camel_decide_kept(const camel_subscriber *subscriber, const camel_event *event, camel_answer *answer);
 
-/* The set-up of a call at detection point 2 or 12: decides the event, as camel_decide does, and keeps the record of its
- * subscriber, as camel_keep does, over one front. If memory is refused, nothing is decided, and the session may have seen
- * a later front. */
+/* The set-up of a call: decides the event, as camel_decide does, and keeps the record of its subscriber, as camel_keep
+ * does, over one front. Set-ups are at detection points 2 and 12; an event of another one is decided and kept likewise.
+ * If memory is refused, nothing is decided, and the session may have seen a later front. */
 CAMEL_CALL
 camel_status camel_set_up(camel_session *session, const camel_event *event, camel_answer *answer,
                           camel_subscriber *subscriber, bool *is_there);
@@ -542,7 +544,8 @@ camel_status camel_next_imsi(camel_imsis *imsis, camel_imsi *imsi, bool *is_ther
 /* Writes the argument of the InsertSubscriberData that makes the record of a subscriber where the subscriber has just
  * registered, over the look that has begun, or else by a look of its own: what camel_submit_map or camel_update_of_map
  * makes the record of again, as after a restart. is_there tells whether there is a record; if not, the argument is as
- * before. It has the IMSI in itself. */
+ * before. It has the IMSI in itself. A CSI without rows is written as one row of the detection point 255. TS 29.002 has
+ * no such value, so another decoder may refuse the argument. Without a CSI, vlrCamelSubscriptionInfo has no fields. */
 CAMEL_CALL
 camel_status camel_encode_record(camel_session *session, const camel_imsi *imsi, camel_argument *argument,
                                  bool *is_there);
