@@ -4,7 +4,7 @@ use crate::colours::{Colour, Colours};
 use crate::counts::Counts;
 use crate::listing::Listing;
 use crate::mistakes::say_mistake;
-use crate::notes::say_notes;
+use crate::notes::{note_destination, say_notes};
 use crate::reasons::say_reason;
 use crate::refusals::say_store_refusal;
 use crate::session_word::{HELP, SessionWord, session_word_of};
@@ -131,12 +131,12 @@ impl Explainer {
         if self.view.only_checks && !matches!(self.record, Record::Refused(_)) {
             return Ok(());
         }
-        self.note_update(listing)?;
+        self.note_record(listing)?;
         let line = self.store.answer_from(&mut self.record)?;
         push_line(self.alloc, &mut self.line, &line)?;
         self.counts.count(&line);
         self.say_why(listing, &line)?;
-        if !matches!(line, Line::Accepted(_)) {
+        if matches!(line, Line::Refused(_)) {
             self.notes.clear();
         }
         if !self.is_wanted(&line) {
@@ -148,12 +148,16 @@ impl Explainer {
         Ok(self.said.push_str(&self.notes)?)
     }
 
-    /// Puts the notes on an update in their place, before it is made.
-    fn note_update<R: Read>(&mut self, listing: &Listing<R>) -> Result<(), AllocError> {
+    /// Puts the notes on an update or a call in their place, before it is answered.
+    fn note_record<R: Read>(&mut self, listing: &Listing<R>) -> Result<(), AllocError> {
+        if self.view.only_mistakes {
+            return Ok(());
+        }
         match &self.record {
-            Record::Update(update) if !self.view.only_mistakes => {
+            Record::Update(update) => {
                 say_notes(&mut self.notes, &self.store, listing.fields(), update.get())
             }
+            Record::Call(call) => note_destination(&mut self.notes, listing.fields(), call),
             _ => Ok(()),
         }
     }

@@ -122,6 +122,16 @@ fn name_of(expected: Expected) -> &'static str {
     }
 }
 
+/// What an address is made of, for a user who wrote plain digits.
+pub(crate) const ADDRESS_FORM: &str =
+    "an address has an octet of nature and plan, then its digits in swapped pairs: +4912345 is 91942143f5";
+
+/// Whether an address looks like the digits that are dialled: bit 8 of the first octet is clear, which is set in an
+/// AddressString of TS 29.002 without an extension, or a sign comes first.
+pub(crate) fn is_like_digits(address: &[u8]) -> bool {
+    matches!(address.first(), Some(b'0'..=b'7' | b'+' | b'*' | b'#'))
+}
+
 /// The value of a text of decimal digits, if it has no more than 64 bits.
 pub(crate) fn decimal(text: &[u8]) -> Option<u64> {
     std::str::from_utf8(text).ok()?.parse::<u64>().ok()

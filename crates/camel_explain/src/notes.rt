@@ -1,19 +1,22 @@
-//! Notes on an update that is accepted and perhaps not meant.
+//! Notes on an update or a call that is taken and perhaps not meant.
 
 mod dropped;
 
-use crate::mistakes::decimal;
+use crate::mistakes::{ADDRESS_FORM, decimal, is_like_digits};
 use crate::notes::dropped::note_what_is_dropped;
 use crate::shown::Shown;
 use crate::stored::INDENT;
 use camel_criteria::{is_o_detection_point, is_vt_detection_point};
 use camel_replay_lib::Store;
-use camel_rows::Update;
+use camel_rows::{CallEvent, Update};
 use csv::ByteRecord;
 use std::alloc::AllocError;
 
 /// The field of the first item of an insert, from 0.
 const FIRST_ITEM: usize = 2;
+
+/// The field of the destination of a call, from 0.
+const DESTINATION: usize = 4;
 
 /// What begins a note.
 const NOTE: &str = "note: ";
@@ -32,6 +35,21 @@ pub(crate) fn say_notes(
         }
     }
     note_what_is_dropped(out, store, update)
+}
+
+/// Appends that the destination of a call looks like plain digits, if it does.
+pub(crate) fn note_destination(
+    out: &mut String,
+    fields: &ByteRecord,
+    call: &CallEvent,
+) -> Result<(), AllocError> {
+    let destination = fields.get(DESTINATION).unwrap_or(&[]);
+    // Only a call at a detection point of the O-CSI has a destination.
+    if !is_o_detection_point(call.dp()) || !is_like_digits(destination) {
+        return Ok(());
+    }
+    write!(out, "{INDENT}{NOTE}DEST {}", Shown(destination))?;
+    say_like_digits(out)
 }
 
 /// Appends the notes on an item of an insert, whose parts can be read.
@@ -94,14 +112,6 @@ fn note_listed_numbers(out: &mut String, number: usize, text: &[u8]) -> Result<(
     Ok(())
 }
 
-/// Whether bit 8 of the first octet is clear, which is set in an AddressString of TS 29.002 without an extension.
-fn is_like_digits(address: &[u8]) -> bool {
-    matches!(address.first(), Some(b'0'..=b'7'))
-}
-
 fn say_like_digits(out: &mut String) -> Result<(), AllocError> {
-    writeln!(
-        out,
-        ": it looks like plain digits; an address begins with an octet of nature and plan, as 91"
-    )
+    writeln!(out, ": it looks like plain digits; {ADDRESS_FORM}")
 }

@@ -1,6 +1,6 @@
 //! What is wrong with a text that can't be read.
 
-use crate::mistakes::decimal;
+use crate::mistakes::{ADDRESS_FORM, decimal, is_like_digits};
 use crate::shown::Shown;
 use camel_script::{Expected, MAX_DECIMAL_DIGITS};
 use camel_tbcd::{MAX_IMSI_DIGITS, MIN_IMSI_DIGITS};
@@ -25,6 +25,10 @@ pub(crate) fn say_unreadable(
                 "the script seems to be in UTF-16, and is read as UTF-8"
             )
         }
+        Expected::Word if is_comment(text) => write!(out, "a comment is a line that begins with #"),
+        Expected::Word if has_semicolons(text) => {
+            write!(out, "commas separate the fields, not semicolons")
+        }
         Expected::Imsi => say_imsi(out, text),
         Expected::Word
         | Expected::Withdrawal
@@ -48,6 +52,24 @@ pub(crate) fn say_unreadable(
 /// Whether a word has what only UTF-16 has: its byte order mark, or half of a character of ASCII.
 fn is_utf_16(text: &[u8]) -> bool {
     text.starts_with(b"\xff\xfe") || text.starts_with(b"\xfe\xff") || text.contains(&0)
+}
+
+/// Whether a comment is meant: the word begins as comments of other languages do, or with spaces before the `#`.
+fn is_comment(text: &[u8]) -> bool {
+    let begin = text.trim_ascii();
+    begin.starts_with(b"//") || begin.starts_with(b";") || begin.starts_with(b"#")
+}
+
+/// Whether semicolons separate the fields: a word of records stands before the first one.
+fn has_semicolons(text: &[u8]) -> bool {
+    let mut parts = text.split(|octet| *octet == b';');
+    match (parts.next(), parts.next()) {
+        (Some(first), Some(_)) => Expected::Word
+            .words()
+            .iter()
+            .any(|word| first.eq_ignore_ascii_case(word.as_bytes())),
+        _ => false,
+    }
 }
 
 /// Appends that a text is none of the words that are read there, or one of them in upper case or with spaces around it.
@@ -195,40 +217,54 @@ fn say_no_digits(out: &mut String, text: &[u8]) -> Result<bool, AllocError> {
     let Some(at) = text.iter().position(|octet| !octet.is_ascii_digit()) else {
         return Ok(false);
     };
-    write!(
-        out,
-        "\"{}\" is no decimal digit",
-        Shown(character_at(text, at))
-    )?;
+    say_no_digit(out, "decimal", text, at)?;
     Ok(true)
+}
+
+/// Appends that the character at a place is no digit of a kind. A space and a tab, hard to see, are named.
+fn say_no_digit(out: &mut String, kind: &str, text: &[u8], at: usize) -> Result<(), AllocError> {
+    match text.get(at) {
+        Some(b' ') => write!(out, "a space is no {kind} digit"),
+        Some(b'\t') => write!(out, "a tab is no {kind} digit"),
+        _ => {
+            let character = Shown(character_at(text, at));
+            write!(out, "\"{character}\" is no {kind} digit")
+        }
+    }
 }
 
 fn say_imsi(out: &mut String, text: &[u8]) -> Result<(), AllocError> {
     let is_in_range = (MIN_IMSI_DIGITS..=MAX_IMSI_DIGITS).contains(&text.len());
-    if is_in_range && say_no_digits(out, text)? {
-        return Ok(());
+    if !is_in_range {
+        write!(
+            out,
+            "{} characters, and an IMSI has {MIN_IMSI_DIGITS} to {MAX_IMSI_DIGITS} digits",
+            text.len()
+        )?;
     }
-    write!(
-        out,
-        "{} characters, and an IMSI has {MIN_IMSI_DIGITS} to {MAX_IMSI_DIGITS} digits",
-        text.len()
-    )
+    match text.iter().position(|octet| !octet.is_ascii_digit()) {
+        Some(at) => {
+            write!(out, "{}", if is_in_range { "" } else { "; " })?;
+            say_no_digit(out, "decimal", text, at)
+        }
+        None => Ok(()),
+    }
 }
 
-/// Appends why a text is not pairs of hexadecimal digits.
+/// Appends why a text is not pairs of hexadecimal digits, and what an address has if it looks like plain digits.
 fn say_no_octets(out: &mut String, text: &[u8]) -> Result<(), AllocError> {
     match text.iter().position(|octet| !octet.is_ascii_hexdigit()) {
-        Some(at) => write!(
-            out,
-            "\"{}\" is no hexadecimal digit",
-            Shown(character_at(text, at))
-        ),
+        Some(at) => say_no_digit(out, "hexadecimal", text, at)?,
         None => write!(
             out,
             "{} hexadecimal digits, which is an odd number",
             text.len()
-        ),
+        )?,
     }
+    if is_like_digits(text) {
+        write!(out, "; {ADDRESS_FORM}")?;
+    }
+    Ok(())
 }
 
 /// Appends why a text is no basic service.

@@ -8,7 +8,7 @@ use camel_rows::{CsisPresent, Update};
 use camel_tbcd::Imsi;
 use std::alloc::AllocError;
 
-/// Appends what is stored and dropped by a register, or by a CSI that comes without criteria.
+/// Appends what is stored and dropped by a register, or by an insert that replaces criteria.
 pub(crate) fn note_what_is_dropped(
     out: &mut String,
     store: &Store,
@@ -19,25 +19,15 @@ pub(crate) fn note_what_is_dropped(
             Some(csis) => note_emptied(out, imsi, csis),
             None => Ok(()),
         },
-        Update::Insert {
-            imsi,
-            o,
-            o_criteria,
-            vt,
-            t_criteria,
-        } => {
+        Update::Insert { imsi, .. } => {
             let Some(csis) = store.csis(imsi) else {
                 return Ok(());
             };
-            if csis.o && o.is_some() && o_criteria.is_none() && has_criteria(store, imsi, Kind::O) {
-                note_criteria(out, Kind::O)?;
+            if csis.o {
+                note_entries(out, store, imsi, update, Kind::O)?;
             }
-            if csis.vt
-                && vt.is_some()
-                && t_criteria.is_none()
-                && has_criteria(store, imsi, Kind::Vt)
-            {
-                note_criteria(out, Kind::Vt)?;
+            if csis.vt {
+                note_entries(out, store, imsi, update, Kind::Vt)?;
             }
             Ok(())
         }
@@ -76,21 +66,31 @@ impl Kind {
         }
     }
 
-    /// Whether an update of its subscriber leaves criteria; None if it leaves those that there were.
-    fn criteria_after(self, update: &Update) -> Option<bool> {
-        let (comes, count) = match (self, update) {
-            (Kind::O, Update::Insert { o, o_criteria, .. }) => {
-                (o.is_some(), o_criteria.as_ref().map(|set| set.len()))
-            }
-            (Kind::Vt, Update::Insert { vt, t_criteria, .. }) => {
-                (vt.is_some(), t_criteria.as_ref().map(|set| set.len()))
-            }
+    /// The name of an item that is an entry of its criteria.
+    fn item(self) -> &'static str {
+        match self {
+            Kind::O => "oc",
+            Kind::Vt => "tc",
+        }
+    }
+
+    /// Whether an update of its subscriber leaves an entry of a detection point; None if it leaves the entry as it is.
+    fn entry_after(self, update: &Update, dp: u8) -> Option<bool> {
+        let (comes, entry) = match (self, update) {
+            (Kind::O, Update::Insert { o, o_criteria, .. }) => (
+                o.is_some(),
+                o_criteria.as_ref().map(|set| set.entry(dp).is_some()),
+            ),
+            (Kind::Vt, Update::Insert { vt, t_criteria, .. }) => (
+                vt.is_some(),
+                t_criteria.as_ref().map(|set| set.entry(dp).is_some()),
+            ),
             (Kind::O, Update::Delete { what, .. }) => (what.o || what.everything, None),
             (Kind::Vt, Update::Delete { what, .. }) => (what.vt || what.everything, None),
             _ => (true, None),
         };
-        match count {
-            Some(count) => Some(count > 0),
+        match entry {
+            Some(has) => Some(has),
             None if comes => Some(false),
             None => None,
         }
@@ -100,9 +100,9 @@ impl Kind {
 /// How many pending updates are looked through. Of a script with more of them behind an update there is no note.
 const LOOKED_BACK: usize = 1000;
 
-/// Whether criteria of a CSI are stored, by the last pending update that leaves some or none, or else by what is
-/// published.
-fn has_criteria(store: &Store, imsi: &Imsi, kind: Kind) -> bool {
+/// Whether an entry of a detection point is stored, by the last pending update that leaves one or none, or else by what
+/// is published.
+fn has_entry(store: &Store, imsi: &Imsi, kind: Kind, dp: u8) -> bool {
     let mut left = LOOKED_BACK;
     for update in store.pending().iter().rev() {
         if left == 0 {
@@ -110,27 +110,33 @@ fn has_criteria(store: &Store, imsi: &Imsi, kind: Kind) -> bool {
         }
         left = left.saturating_sub(1);
         if update.imsi().is_none_or(|of| of == *imsi) {
-            if let Some(has) = kind.criteria_after(update) {
+            if let Some(has) = kind.entry_after(update, dp) {
                 return has;
             }
         }
     }
     match store.records().get(imsi) {
-        Some(subscriber) => kind
-            .points()
-            .iter()
-            .any(|dp| subscriber.criteria(*dp).is_some()),
+        Some(subscriber) => subscriber.criteria(dp).is_some(),
         None => false,
     }
 }
 
-fn note_criteria(out: &mut String, kind: Kind) -> Result<(), AllocError> {
-    let (row, entry, csi) = match kind {
-        Kind::O => ("o", "oc", "O-CSI"),
-        Kind::Vt => ("t", "tc", "VT-CSI"),
-    };
-    writeln!(
-        out,
-        "{INDENT}{NOTE}items {row} without {entry}: the stored criteria of the {csi} are dropped"
-    )
+/// Appends which stored entries of the criteria of a CSI an insert drops: those of which it leaves none.
+fn note_entries(
+    out: &mut String,
+    store: &Store,
+    imsi: &Imsi,
+    update: &Update,
+    kind: Kind,
+) -> Result<(), AllocError> {
+    for dp in kind.points() {
+        if kind.entry_after(update, *dp) == Some(false) && has_entry(store, imsi, kind, *dp) {
+            let item = kind.item();
+            writeln!(
+                out,
+                "{INDENT}{NOTE}no item {item} of DP {dp}: the stored entry of DP {dp} is dropped"
+            )?;
+        }
+    }
+    Ok(())
 }
