@@ -196,10 +196,13 @@ impl Explainer {
         say_lines(&mut self.sentence, listing.text())
     }
 
-    /// Prints the record with the number of its line.
+    /// Prints the record with the number of its line, and the comment above it.
     fn say_head<R: Read>(&mut self, listing: &Listing<R>) -> Result<(), AllocError> {
         if self.view.is_at_prompt {
             return Ok(());
+        }
+        if let Some(comment) = listing.comment() {
+            writeln!(self.said, "{}", Shown(comment))?;
         }
         let place = format!(in self.alloc; "{}:", listing.line())?;
         self.view

@@ -67,6 +67,11 @@ impl<R: Read> Listing<R> {
         self.reader.get_ref().text()
     }
 
+    /// The comment on the line above the record, if there is one.
+    pub(crate) fn comment(&self) -> Option<&[u8]> {
+        self.reader.get_ref().comment()
+    }
+
     /// The fields of the record.
     pub(crate) fn fields(&self) -> &ByteRecord {
         &self.fields

@@ -9,7 +9,8 @@ use std::io::{BufRead, BufReader, ErrorKind, Read};
 /// The byte order mark, which is skipped at the start of a script.
 const BYTE_ORDER_MARK: &[u8] = b"\xef\xbb\xbf";
 
-/// A reader that hands on the lines of a script without the comments between records, and keeps those of one record.
+/// A reader that hands on the lines of a script without the comments between records, and keeps those of one record, and
+/// a comment on the line above it.
 ///
 /// Each read hands on octets of one line, so that whoever reads a record has asked for the lines of the record, and for
 /// nothing behind them. An octet behind the end of a line is not waited for: a terminal would not send it. So the line
@@ -21,6 +22,12 @@ pub(crate) struct ScriptLines<R: Read> {
     lines: Vec<u8>,
     /// How many octets of them are handed on.
     handed_on: usize,
+    /// The last comment.
+    comment: Vec<u8>,
+    /// It is on the last line that was read between records.
+    is_last: bool,
+    /// It is on the line above the record.
+    is_above: bool,
     /// The number of the first one.
     line: u64,
     ends: LineEnds,
@@ -40,6 +47,9 @@ impl<R: Read> ScriptLines<R> {
             source: BufReader::new(alloc, reader)?,
             lines: Vec::new(alloc),
             handed_on: 0,
+            comment: Vec::new(alloc),
+            is_last: false,
+            is_above: false,
             line: 1,
             ends: LineEnds {
                 count: 0,
@@ -63,13 +73,15 @@ impl<R: Read> ScriptLines<R> {
     /// The record as it was written, without the end of its last line. If the script ended before that line did, the
     /// last octet is no such end, but may be a line end in a quoted part.
     pub(crate) fn text(&self) -> &[u8] {
-        let text = match self.lines.strip_prefix(BYTE_ORDER_MARK) {
-            Some(rest) if self.line == 1 => rest,
-            _ => &self.lines,
-        };
-        match text.split_last() {
-            Some((_, rest)) if !self.has_ended => rest,
-            _ => text,
+        text_of(&self.lines, self.line, self.has_ended)
+    }
+
+    /// The comment on the line above the record, without the end of that line.
+    pub(crate) fn comment(&self) -> Option<&[u8]> {
+        if self.is_above {
+            Some(&self.comment)
+        } else {
+            None
         }
     }
 
@@ -80,15 +92,32 @@ impl<R: Read> ScriptLines<R> {
         self.handed_on = 0;
         self.line = self.ends.count.saturating_add(1);
         self.append_line()?;
-        let text = self.text();
+        let text = text_of(&self.lines, self.line, self.has_ended);
         match text.first() {
-            None | Some(b'#') => {
-                let end = if self.has_ended { 0 } else { 1 };
-                self.handed_on = self.lines.len().saturating_sub(end);
+            Some(b'#') => {
+                self.comment.clear();
+                self.comment.extend_from_slice(text)?;
+                self.is_last = true;
+                self.skip_line();
             }
-            Some(_) => self.is_between.set(false),
+            None => {
+                // The line feed behind a carriage return is no line between the comment and the record.
+                self.is_last = self.is_last && self.ends.count < self.line;
+                self.skip_line();
+            }
+            Some(_) => {
+                self.is_above = self.is_last;
+                self.is_last = false;
+                self.is_between.set(false);
+            }
         }
         Ok(())
+    }
+
+    /// Leaves of the line only its end to hand on.
+    fn skip_line(&mut self) {
+        let end = if self.has_ended { 0 } else { 1 };
+        self.handed_on = self.lines.len().saturating_sub(end);
     }
 
     /// Appends the next line, or what there is of it if the script ends.
@@ -139,6 +168,19 @@ impl<R: Read> Read for ScriptLines<R> {
         let count = left.read(buf)?;
         self.handed_on = self.handed_on.saturating_add(count);
         Ok(count)
+    }
+}
+
+/// The text of lines of which the first one has this number, without the end of the last one. If the script has ended, the
+/// last octet is no such end.
+fn text_of(lines: &[u8], line: u64, has_ended: bool) -> &[u8] {
+    let text = match lines.strip_prefix(BYTE_ORDER_MARK) {
+        Some(rest) if line == 1 => rest,
+        _ => lines,
+    };
+    match text.split_last() {
+        Some((_, rest)) if !has_ended => rest,
+        _ => text,
     }
 }
 
