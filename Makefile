@@ -24,7 +24,7 @@ MAP_CHECK := crates/camel_map_check/out/camel_map_check
 EXPLAIN := crates/camel_explain/out/camel_explain
 
 # The shell reads these, and not make, so that a name may have spaces.
-export SCRIPT LIMIT THREADS PROFILE CRATE PREFIX DESTDIR LIBDIR PARTS SANITIZE JOBS
+export SCRIPT LIMIT THREADS PROFILE CAPTURE CRATE PREFIX DESTDIR LIBDIR PARTS SANITIZE JOBS
 OPTIONS = --limit "$$LIMIT" $(if $(THREADS),--threads "$$THREADS") $(if $(PROFILE),--profile "$$PROFILE")
 # As in the options of programs, `-` is standard input.
 READ_SCRIPT := [ "$$SCRIPT" = - ] || exec < "$$SCRIPT";
@@ -44,10 +44,10 @@ define targets
 		"Times are those of four cores." }' Makefile
 endef
 
-.PHONY: help try try-explain replay explain explain-check program check script crate pages try-make proofs must-not-compile \
-	examples scripts streams coprocess refusals fuzz map-check map-program library install library-test library-c \
-	library-cpp library-as-shipped library-installed library-deb library-rust deb osmo-check osmo-source soak fuzz-c \
-	bench bench-program bench-peers bench-loop bench-map count-vlr test
+.PHONY: help try try-explain try-map replay explain explain-check program check script capture crate pages try-make \
+	proofs must-not-compile examples scripts streams coprocess refusals fuzz map-check map-program library install \
+	library-test library-c library-cpp library-as-shipped library-installed library-deb library-rust deb osmo-check \
+	osmo-source soak fuzz-c bench bench-program bench-peers bench-loop bench-map count-vlr test
 # In order, so that what is missing is said before anything is built.
 .NOTPARALLEL:
 .SECONDEXPANSION:
@@ -71,6 +71,10 @@ begin-%:
 script:
 	@[ "$$SCRIPT" = - ] || [ -r "$$SCRIPT" ] && [ ! -d "$$SCRIPT" ] || \
 		{ echo "SCRIPT=$$SCRIPT is no file that can be read" >&2; exit 2; }
+
+capture:
+	@[ -r "$$CAPTURE" ] && [ ! -d "$$CAPTURE" ] || \
+		{ echo "CAPTURE=$$CAPTURE is no file that can be read: name one, as CAPTURE=tests/map/dialogues.pcap" >&2; exit 2; }
 
 crate:
 	@[ -n "$$CRATE" ] && [ -d "crates/$$CRATE/src" ] || \
@@ -100,6 +104,13 @@ replay: script $(PROGRAM)
 ## Explains SCRIPT, record by record, with nothing proved: at once, once it is compiled, which takes two minutes.
 try-explain: script begin-$$@
 	@$(READ_SCRIPT) scripts/try camel_explain --limit "$$LIMIT" $(if $(PROFILE),--profile "$$PROFILE")
+
+# FRAMES=1 and ASSUME_REGISTERED=1 are `--frames` and `--assume-registered` of tools/map2script. Only the script comes
+# on standard output.
+## Makes the script of CAPTURE, with nothing proved: seconds, once its decoder is compiled, which takes a minute or two.
+try-map: capture begin-$$@
+	@decoder=$$(scripts/try --path camel_map_check) && tools/map2script --check "$$decoder" \
+		$(if $(FRAMES),--frames) $(if $(ASSUME_REGISTERED),--assume-registered) "$$CAPTURE"
 
 ## Explains SCRIPT, record by record, by the program for people: at once, once it is built, which takes LONG_TIME.
 explain: script $(EXPLAIN)

@@ -162,7 +162,7 @@ def main():
         differing += run_dump(given.dump) if given.dump else 0
         differing += run_joins(given.seed, given.count)
         run_scripts(given.seed)
-        print(f"{CAPTURE}: {check_capture()} messages, with the script that is kept")
+        print(f"{CAPTURE}: {check_capture()} messages, with the scripts that are kept")
     except (Difference, TsharkFailed, OSError) as fault:
         sys.exit(f"map-check: {fault}")
     print(f"{differing} differences")

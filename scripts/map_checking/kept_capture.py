@@ -1,5 +1,5 @@
-"""The kept capture: that it is what the writer writes, that tshark calls nothing in it malformed, and that its script
-is the kept one and replays to triggers."""
+"""The kept capture: that it is what the writer writes, that tshark calls nothing in it malformed, that its scripts and
+what is said of it are the kept ones, and that the scripts replay to the decisions that the dialogues give."""
 
 import subprocess
 import sys
@@ -13,36 +13,66 @@ from checking import Difference
 from .dissection import marks_of
 from .programs import CHECK, REPLAY, output_of
 
-CAPTURE, SCRIPT = "tests/map/dialogues.pcap", "tests/map/dialogues.csv"
+CAPTURE, SAID = "tests/map/dialogues.pcap", "tests/map/dialogues.txt"
+# The status of a capture in which operations give no record.
+PARTIAL = 1
 
-# The first subscriber calls a number that the criteria list, and then one whose route selection fails.
-CALLS = """call,2,262010000000001,t11,919421436587,n
-call,4,262010000000001,t11,919421436587,n,17
-"""
-TRIGGERS = ["trigger 2 100 919471160000 continue", "trigger 4 101 919471160000 release"]
+# A number that the criteria of the first subscriber list.
+LISTED = "919421436587"
+# What calls are decided over either script. The first subscriber's are as the last location update left them that was
+# neither refused nor aborted. The others have a record no more, or never had one.
+CALLS = {
+    f"call,2,262010000000001,t11,{LISTED},n": "trigger 2 100 919471160000 continue",
+    f"call,4,262010000000001,t11,{LISTED},n,17": "trigger 4 101 919471160000 release",
+    "call,12,262010000000001,t11": "none no-csi",
+    f"call,2,262010000000002,t11,{LISTED},n": "none unknown",
+    f"call,2,262010000000003,t11,{LISTED},n": "none unknown",
+    f"call,2,262010000000004,t11,{LISTED},n": "none unknown",
+    f"call,2,262010000000006,t11,{LISTED},n": "none unknown",
+    f"call,2,262010000000008,t11,{LISTED},n": "none unknown",
+}
+# Who registered before the capture has a record only if it is assumed.
+EARLIER, ALSO_EARLIER = (f"call,2,26201000000000{last},t11,{LISTED},n" for last in (5, 7))
+# Of each kept script the options, and its calls.
+SCRIPTS = {
+    "tests/map/dialogues.csv": ([], CALLS | {EARLIER: "none unknown", ALSO_EARLIER: "none unknown"}),
+    "tests/map/dialogues-assumed.csv": (
+        ["--frames", "--assume-registered"],
+        CALLS | {EARLIER: "trigger 2 600 919471160000 continue", ALSO_EARLIER: "none no-csi"},
+    ),
+}
 
 
-def tool_output(*words):
-    """What a tool of the repository writes."""
+def run_tool(*words, status=0, said=""):
+    """What a tool of the repository writes. It is to end so, and to say so much on standard error."""
     ended = subprocess.run([sys.executable, *words], capture_output=True, text=True)
-    if ended.returncode or ended.stderr:
+    if (ended.returncode, ended.stderr) != (status, said):
         raise Difference(f"{' '.join(words)} ends with status {ended.returncode}: {ended.stderr}")
     return ended.stdout
 
 
+def check_script(path, options, calls):
+    """Compares a script of the capture with the kept one, and what it leaves with calls behind it."""
+    words = ["tools/map2script", "--check", CHECK, *options, CAPTURE]
+    script = run_tool(*words, status=PARTIAL, said=Path(SAID).read_text())
+    if script != Path(path).read_text():
+        raise Difference(f"{' '.join(words)} makes another script than {path}:\n{script}")
+    records = [line for line in script.splitlines() if not line.startswith("#")]
+    lines = output_of([REPLAY], "\n".join([*records, *calls])).splitlines()[len(records) :]
+    left = {call: line.split(" ", 2)[-1] for call, line in zip(calls, lines, strict=True)}
+    if left != calls:
+        raise Difference(f"{path} with calls leaves {left}")
+
+
 def check_capture():
-    """Compares what the capture and its script leave with what is kept."""
+    """Compares what the capture and its scripts leave with what is kept. Returns how many messages it has."""
     with tempfile.NamedTemporaryFile(suffix=".pcap") as file:
-        tool_output("tools/mapcapture", file.name)
+        run_tool("tools/mapcapture", file.name)
         if Path(file.name).read_bytes() != Path(CAPTURE).read_bytes():
             raise Difference(f"tools/mapcapture writes other octets than {CAPTURE} has")
     marks = [marks_of(packet) for packet in trees_of(CAPTURE, "m3ua sccp tcap gsm_map")]
     if any(marks):
         raise Difference(f"tshark puts marks in {CAPTURE}: {marks}")
-    script = tool_output("tools/map2script", "--check", CHECK, CAPTURE)
-    if script != Path(SCRIPT).read_text():
-        raise Difference(f"tools/map2script makes of {CAPTURE} another script than {SCRIPT}:\n{script}")
-    left = output_of([REPLAY], script + CALLS).splitlines()[-len(TRIGGERS) :]
-    if [line.split(" ", 2)[-1] for line in left] != TRIGGERS:
-        raise Difference(f"{SCRIPT} with calls leaves {left}")
+    for path, (options, calls) in SCRIPTS.items():
+        check_script(path, options, calls)
     return len(marks)

@@ -1,34 +1,73 @@
-"""The dialogues of MAP in a capture: which operations each has, and of which subscriber it is."""
+"""The dialogues of MAP in a capture: which operations each has, what answers them, and of which subscriber it is."""
 
-import re
 from dataclasses import dataclass, field
 from typing import NamedTuple
 
-from .encoding import tbcd_digits
+from .components import ERROR, REJECT, REQUESTS, Invoke, components_of
+from .lines import Line
 from .trees import trees_of
 
-PROTOCOLS = "m3ua mtp3 sccp tcap"
-OPERATIONS = {2: "updateLocation", 3: "cancelLocation", 7: "insertSubscriberData", 8: "deleteSubscriberData"}
-RESTORE_DATA, SGSN = 57, "149"
+PROTOCOLS = "m3ua mtp3 sccp tcap gsm_map"
+SGSN, ENDS = "149", ("end", "abort")
 
-# Identifiers of TCAP and of MAP: an invoke, its linked id, a local operation code, a sequence, and an IMSI.
-INVOKE, LINKED, LOCAL, SEQUENCE, UNTAGGED_IMSI, TAGGED_IMSI = 0xA1, 0x80, 0x02, 0x30, 0x04, 0x80
-END_OF_CONTENTS, INDEFINITE = b"\0\0", 0x80
+# What answers an operation, if it is no error, and why a request of the VLR has no answer, by what ends it.
+DONE, REJECTED = "answered with a result", "answered with a reject"
+UNANSWERED = {"end": "its dialogue ends without an answer", "abort": "its dialogue is aborted",
+              "": "the capture has no answer"}
+NO_ERRORS = (DONE, REJECTED, *UNANSWERED.values())
+
+
+@dataclass(eq=False)
+class Operation:
+    """An operation that is invoked: its line for the decoder, with the IMSI of its dialogue by then, and what answers
+    it: one of NO_ERRORS, or an error by its name. It is empty if nothing answers an operation of the HLR."""
+
+    line: Line
+    frame: int
+    answer: str = ""
+
+    @property
+    def name(self):
+        return self.line.operation
+
+    def is_insert(self):
+        return self.name == "insertSubscriberData"
+
+    def is_done(self):
+        return self.answer == DONE
+
+    def has_error(self):
+        return self.answer not in ("", *NO_ERRORS)
 
 
 @dataclass(eq=False)
 class Dialogue:
-    """The first IMSI that an invoke of the dialogue has, whether updates of it are not published yet, the CSIs of a
-    location update that have not come in it, and the lines of its inserts that are taken."""
+    """The first IMSI that an invoke of the dialogue has, whether it has an operation that counts here, and those
+    without an answer, by the end that invoked them and their id. Of a location update: its operation, whether an insert
+    came, whether the subscriber had a record before the first one that is taken, and the lines and counts of those."""
 
     imsi: str = ""
-    pending: bool = False
-    missing: list = field(default_factory=list)
+    has_operation: bool = False
+    asked: dict = field(default_factory=dict)
+    location: Operation | None = None
+    has_insert: bool = False
+    had_record: bool = False
     inserts: list = field(default_factory=list)
 
 
+class Step(NamedTuple):
+    """What comes in a frame: an operation, or what answers it; or without an operation the end of a dialogue that had
+    some, or of the capture."""
+
+    frame: int
+    dialogue: Dialogue
+    operation: Operation | None = None
+    is_answer: bool = False
+
+
 class Message(NamedTuple):
-    """A TCAP message: its kind, the SCCP addresses, the transaction ids, empty if there is none, and its invokes."""
+    """A TCAP message: its kind, the SCCP addresses, the transaction ids, empty if there is none, its components, and
+    the names of the errors in it by their codes."""
 
     frame: int
     kind: str
@@ -36,82 +75,8 @@ class Message(NamedTuple):
     called: str
     origin: str
     destination: str
-    invokes: list
-
-
-class Invoke(NamedTuple):
-    """The name of an operation, empty if it is none that gives a record, the IMSI in its argument, and the argument."""
-
-    operation: str
-    imsi: str
-    argument: bytes
-
-
-def head(octets, at):
-    """Where the content of the element at this place starts, and where it ends, None if that is indefinite."""
-    start = at
-    at += 1
-    if octets[start] & 31 == 31:
-        while octets[at] & 128:
-            at += 1
-        at += 1
-    first = octets[at]
-    if first == INDEFINITE:
-        return at + 1, None
-    content = at + 1 + (first & 127 if first > 127 else 0)
-    length = int.from_bytes(octets[at + 1 : content], "big") if first > 127 else first
-    return content, content + length
-
-
-def end_of(octets, at):
-    """Where the content of the element at this place starts and ends, and where the next element starts."""
-    content, end = head(octets, at)
-    if end is not None:
-        return content, end, end
-    at = content
-    while octets[at : at + 2] != END_OF_CONTENTS:
-        at = end_of(octets, at)[2]
-    return content, at, at + 2
-
-
-def elements(octets):
-    """The identifier, the content and the place behind it of each element of a series, up to one that is malformed."""
-    at = 0
-    try:
-        while at < len(octets) and octets[at : at + 2] != END_OF_CONTENTS:
-            identifier, (content, end, at) = octets[at], end_of(octets, at)
-            if at > len(octets):
-                return
-            yield identifier, octets[content:end], at
-    except (IndexError, RecursionError):
-        return
-
-
-def imsi_of(code, argument):
-    """The IMSI in the argument of an operation that may have one, or nothing. The decoder looks for others."""
-    identifier, content, _ = next(elements(argument), (None, b"", 0))
-    if identifier != SEQUENCE or code not in (*OPERATIONS, RESTORE_DATA):
-        return ""
-    tag = UNTAGGED_IMSI if OPERATIONS.get(code) in (None, "updateLocation", "cancelLocation") else TAGGED_IMSI
-    digits = next((tbcd_digits(inner) for identifier, inner, _ in elements(content) if identifier == tag), "")
-    return digits if re.fullmatch("[0-9]{5,15}", digits) else ""
-
-
-def invoke_of(component):
-    """The invoke that the content of a component is, or None if its operation code is not a local one."""
-    for place, (identifier, content, after) in enumerate(elements(component)):
-        # The first element is the id of the invoke, and the id of a linked one may come before the code.
-        if place and identifier != LINKED:
-            if identifier != LOCAL:
-                return None
-            code, argument = int.from_bytes(content, "big"), component[after:]
-            return Invoke(OPERATIONS.get(code, ""), imsi_of(code, argument), argument)
-    return None
-
-
-def invokes_of(components):
-    invokes = (invoke_of(content) for identifier, content, _ in elements(components) if identifier == INVOKE)
-    return [invoke for invoke in invokes if invoke]
+    components: list
+    errors: dict
 
 
 def address_of(protocols, side, point_code):
@@ -130,7 +95,7 @@ def transaction(tcap, name):
 
 
 def message_of(frame, protocols):
-    """The message of a tree of TCAP, without its invokes, or None if it concerns an SGSN."""
+    """The message of a tree of TCAP, without its components, or None if it concerns an SGSN."""
     tcap, sccp = protocols["tcap"], protocols.get("sccp")
     if sccp and any(node.name in ("sccp.called.ssn", "sccp.calling.ssn") and node.show == SGSN
                     for node in sccp.everywhere()):
@@ -139,21 +104,30 @@ def message_of(frame, protocols):
                  if node.name.endswith("_element")), "")
     calling, called = address_of(protocols, "calling", "mtp3.opc"), address_of(protocols, "called", "mtp3.dpc")
     origin, destination = transaction(tcap, "tcap.otid"), transaction(tcap, "tcap.dtid")
-    return Message(frame, kind, calling, called, origin, destination, [])
+    return Message(frame, kind, calling, called, origin, destination, [], {})
+
+
+def errors_of(tree):
+    """The names that tshark has for the errors in a tree of MAP, by their codes."""
+    errors = [node.named("gsm_old.localValue") for node in tree.everywhere() if node.name == "gsm_old.errorCode"]
+    names = {int(error.show): error.said.removeprefix("localValue: ").partition(" ")[0] for error in errors if error}
+    return {code: name for code, name in names.items() if name != "Unknown"}
 
 
 def messages_of(packet, frame):
-    """The TCAP messages of a packet, which may have several. The invokes of one are those of MAP if tshark says so; it
-    shows their octets also if it can't read them."""
+    """The TCAP messages of a packet, which may have several. The components of one are those of MAP if tshark says so;
+    it shows their octets also if it can't read them."""
     protocols, message, found = {}, None, []
     for tree in packet.inner:
         protocols[tree.name] = tree
         if tree.name == "tcap":
             message = message_of(frame, protocols)
             found += [message] if message else []
-        if tree.name == "gsm_map" and message and not message.invokes:
+        if tree.name == "gsm_map" and message:
             components = protocols["tcap"].named("tcap.components")
-            message.invokes.extend(invokes_of(components.octets()) if components else ())
+            if components and not message.components:
+                message.components.extend(components_of(components.octets()))
+            message.errors.update(errors_of(tree))
     return found
 
 
@@ -183,3 +157,55 @@ def messages_in(capture):
     """The TCAP messages of a capture, in its order."""
     for frame, packet in enumerate(trees_of(capture, PROTOCOLS), 1):
         yield from messages_of(packet, frame)
+
+
+def answer_text(message, answer):
+    """What an answer is: DONE, REJECTED, or an error by its name, and if tshark has none by its code."""
+    if answer.kind == ERROR:
+        return f"answered with {message.errors.get(answer.code, f'error {answer.code}')}"
+    return REJECTED if answer.kind == REJECT else DONE
+
+
+def step_of(message, dialogue, component):
+    """The step that a component is, or None if it is of no operation that counts here."""
+    if isinstance(component, Invoke):
+        dialogue.imsi = dialogue.imsi or component.imsi
+        if not component.operation:
+            return None
+        dialogue.has_operation = True
+        operation = Operation(Line(component.operation, dialogue.imsi, component.argument), message.frame)
+        dialogue.asked[message.calling, message.origin, component.number] = operation
+        return Step(message.frame, dialogue, operation)
+    operation = dialogue.asked.pop((message.called, message.destination, component.number), None)
+    if not operation:
+        return None
+    operation.answer = answer_text(message, component)
+    return Step(message.frame, dialogue, operation, is_answer=True)
+
+
+def unanswered(frame, dialogue, kind):
+    """The steps of the VLR's requests that have no answer where their dialogue, or the capture, ends."""
+    for operation in dialogue.asked.values():
+        if operation.name in REQUESTS:
+            operation.answer = UNANSWERED[kind]
+            yield Step(frame, dialogue, operation, is_answer=True)
+    dialogue.asked.clear()
+
+
+def steps_of(messages):
+    """What the messages ask and answer, in their order, and where each dialogue ends, and the capture. An operation
+    that is answered later has its answer when all steps are taken."""
+    dialogues, unended, frame = Dialogues(), {}, 0
+    for message in messages:
+        frame, dialogue = message.frame, dialogues.of(message)
+        unended[dialogue] = None
+        yield from filter(None, (step_of(message, dialogue, component) for component in message.components))
+        if message.kind in ENDS:
+            dialogues.close(dialogue)
+            del unended[dialogue]
+            yield from unanswered(frame, dialogue, message.kind)
+            if dialogue.has_operation:
+                yield Step(frame, dialogue)
+    for dialogue in unended:
+        yield from unanswered(frame, dialogue, "")
+    yield Step(frame, Dialogue())

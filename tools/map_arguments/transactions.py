@@ -1,18 +1,19 @@
-"""TCAP messages (Q.773) with invokes and results of MAP, and the SCCP messages (Q.713) that carry them."""
+"""TCAP messages (Q.773) with invokes, results and errors of MAP, and the SCCP messages (Q.713) that carry them."""
 
 from .ber import (APPLICATION, INTEGER, OBJECT_IDENTIFIER, SEQUENCE, Element, context, identifier_octets,
                   integer_octets, length_octets, minimal, universal)
+from .components import OPERATIONS
 
-CODES = {"updateLocation": 2, "cancelLocation": 3, "insertSubscriberData": 7, "deleteSubscriberData": 8}
+CODES = {name: code for code, name in OPERATIONS.items()}
 
 # The last arcs of the application contexts, which lie below 0.4.0.0.1.0.
 CONTEXTS = {"updateLocation": (1, 3), "cancelLocation": (2, 3), "insertSubscriberData": (16, 3),
-            "deleteSubscriberData": (16, 3)}
+            "deleteSubscriberData": (16, 3), "restoreData": (1, 3), "purgeMS": (27, 3)}
 CONTEXT_PREFIX = bytes.fromhex("0400000100")
 DIALOGUE_AS_STRUCTURED = bytes.fromhex("00118605010101")
 VERSION_1 = bytes.fromhex("0780")
 
-BEGIN, END, CONTINUE = 2, 4, 5
+BEGIN, END, CONTINUE, ABORT = 2, 4, 5, 7
 REQUEST, RESPONSE = 0, 1
 VLR, HLR = 7, 6
 
@@ -36,6 +37,12 @@ def result(number, operation=None, argument=b""):
         head = minimal(universal(INTEGER, integer_octets(CODES[operation])))
         content += wrapped(universal(SEQUENCE, []), head + argument)
     return wrapped(context(2, []), content)
+
+
+def error(number, code, parameter=b""):
+    """The error that answers an invoke, possibly with a parameter."""
+    head = b"".join(minimal(universal(INTEGER, integer_octets(value))) for value in (number, code))
+    return wrapped(context(3, []), head + parameter)
 
 
 def dialogue(kind, operation, version=None):
@@ -62,6 +69,12 @@ def message(kind, origin, destination, portion, components):
     if components:
         content += wrapped(Element(APPLICATION, 12, []), b"".join(components))
     return wrapped(Element(APPLICATION, kind, []), content)
+
+
+def abort(destination, cause):
+    """The TCAP message by which a transaction ends for this cause of its provider."""
+    ids = [Element(APPLICATION, 9, destination.to_bytes(4, "big")), Element(APPLICATION, 10, bytes([cause]))]
+    return minimal(Element(APPLICATION, ABORT, ids))
 
 
 def address(subsystem, digits):

@@ -9,14 +9,16 @@ class TsharkFailed(Exception):
 
 
 class Node:
-    """A field of a tree: its name, its octets in hexadecimal, what it shows, and the fields in it."""
+    """A field of a tree: its name, its octets in hexadecimal, what it shows, what tshark says of it, and the fields in
+    it."""
 
-    __slots__ = ("name", "value", "show", "inner")
+    __slots__ = ("name", "value", "show", "said", "inner")
 
     def __init__(self, attributes):
         self.name = attributes.get("name", "")
         self.value = attributes.get("value", "")
         self.show = attributes.get("show", "")
+        self.said = attributes.get("showname", "")
         self.inner = []
 
     def octets(self):

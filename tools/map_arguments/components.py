@@ -1,0 +1,126 @@
+"""The components of a TCAP message (Q.773): the operations of MAP that it invokes, and what it answers."""
+
+import re
+from typing import NamedTuple
+
+from .encoding import tbcd_digits
+
+OPERATIONS = {2: "updateLocation", 3: "cancelLocation", 7: "insertSubscriberData", 8: "deleteSubscriberData",
+              57: "restoreData", 67: "purgeMS"}
+
+# In a location update the HLR sends the data. A request is one of the VLR, and its answer says what comes of it.
+LOCATION_UPDATES = ("updateLocation", "restoreData")
+REQUESTS = (*LOCATION_UPDATES, "purgeMS")
+
+# Identifiers of TCAP: the components, a linked id, and an INTEGER, which an id and a local code are.
+INVOKE, RESULT, ERROR, REJECT = 0xA1, 0xA2, 0xA3, 0xA4
+LINKED, INTEGER = 0x80, 0x02
+# Identifiers of MAP: arguments, and an IMSI.
+SEQUENCE, PURGE_MS, UNTAGGED_IMSI, TAGGED_IMSI = 0x30, 0xA3, 0x04, 0x80
+END_OF_CONTENTS, INDEFINITE = b"\0\0", 0x80
+
+
+class Invoke(NamedTuple):
+    """The octets of its id, the name of an operation, empty if it is none that counts here, the IMSI in its argument,
+    and the argument."""
+
+    number: bytes
+    operation: str
+    imsi: str
+    argument: bytes
+
+
+class Answer(NamedTuple):
+    """What answers an invoke: the octets of its id, and whether it is a result, an error or a reject. An error has its
+    code."""
+
+    number: bytes
+    kind: int
+    code: int
+
+
+def head(octets, at):
+    """Where the content of the element at this place starts, and where it ends, None if that is indefinite."""
+    start = at
+    at += 1
+    if octets[start] & 31 == 31:
+        while octets[at] & 128:
+            at += 1
+        at += 1
+    first = octets[at]
+    if first == INDEFINITE:
+        return at + 1, None
+    content = at + 1 + (first & 127 if first > 127 else 0)
+    length = int.from_bytes(octets[at + 1 : content], "big") if first > 127 else first
+    return content, content + length
+
+
+def end_of(octets, at):
+    """Where the content of the element at this place starts and ends, and where the next element starts."""
+    content, end = head(octets, at)
+    if end is not None:
+        return content, end, end
+    at = content
+    while octets[at : at + 2] != END_OF_CONTENTS:
+        at = end_of(octets, at)[2]
+    return content, at, at + 2
+
+
+def elements(octets):
+    """The identifier, the content and the place behind it of each element of a series, up to one that is malformed."""
+    at = 0
+    try:
+        while at < len(octets) and octets[at : at + 2] != END_OF_CONTENTS:
+            identifier, (content, end, at) = octets[at], end_of(octets, at)
+            if at > len(octets):
+                return
+            yield identifier, octets[content:end], at
+    except (IndexError, RecursionError):
+        return
+
+
+def imsi_of(operation, argument):
+    """The IMSI in the argument of an operation that may have one, or nothing. The decoder looks for others."""
+    identifier, content, _ = next(elements(argument), (None, b"", 0))
+    forms = (SEQUENCE, PURGE_MS) if operation == "purgeMS" else (SEQUENCE,)
+    if not operation or identifier not in forms:
+        return ""
+    tag = TAGGED_IMSI if operation in ("insertSubscriberData", "deleteSubscriberData") else UNTAGGED_IMSI
+    digits = next((tbcd_digits(inner) for identifier, inner, _ in elements(content) if identifier == tag), "")
+    return digits if re.fullmatch("[0-9]{5,15}", digits) else ""
+
+
+def invoke_of(content):
+    """The invoke that the content of a component is, or None if its operation code is not a local one."""
+    number = b""
+    for place, (identifier, inner, after) in enumerate(elements(content)):
+        # The first element is the id of the invoke, and the id of a linked one may come before the code.
+        if not place:
+            number = inner
+        elif identifier != LINKED:
+            if identifier != INTEGER:
+                return None
+            operation, argument = OPERATIONS.get(int.from_bytes(inner, "big"), ""), content[after:]
+            return Invoke(number, operation, imsi_of(operation, argument), argument)
+    return None
+
+
+def answer_of(kind, content):
+    """The answer that the content of a component is, or None if it has no id."""
+    inner = [*elements(content)]
+    if not inner or inner[0][0] != INTEGER:
+        return None
+    is_local = kind == ERROR and len(inner) > 1 and inner[1][0] == INTEGER
+    return Answer(inner[0][1], kind, int.from_bytes(inner[1][1], "big") if is_local else 0)
+
+
+def components_of(octets):
+    """The invokes and the answers of a message, in its order."""
+    for identifier, content, _ in elements(octets):
+        found = None
+        if identifier == INVOKE:
+            found = invoke_of(content)
+        elif identifier in (RESULT, ERROR, REJECT):
+            found = answer_of(identifier, content)
+        if found:
+            yield found
