@@ -1,7 +1,8 @@
-/* What a switch with one event loop waits for: the longest location update, publication and set-up of a call, at so many
- * subscribers as are named. Each subscriber has a row and a listed number at detection point 2. An update is a decoded
- * InsertSubscriberData behind a Register, submitted as one, published, and seen by the one session. The subscribers are
- * updated in no order, and each tenth one is new. Times are by the clock of the thread's processor time, so that other programs do not count. */
+/* What a switch with one event loop waits for: the longest location update, publication and set-up of a call, at so
+ * many subscribers as are named. Each subscriber has a row and a listed number at detection point 2. An update is a
+ * decoded InsertSubscriberData behind a Register, submitted as one, published, and seen by the one session, as
+ * examples/event_loop.c does it of a dialogue with one operation. The subscribers are updated in no order, and each
+ * tenth one is new. Times are by the clock of the thread's processor time, so that other programs do not count. */
 #define _GNU_SOURCE
 #include "camel.h"
 

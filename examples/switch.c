@@ -134,7 +134,7 @@ static const uint8_t CRITERIA[] = {
 
 /* A location update: a Register, which empties the record, and behind it what the HLR sends in the dialogue, as one
  * Insert. Both are accepted, or neither is. The HLR is answered by the first status that is not 0, or once both are
- * published. */
+ * published. Here both operations have come in one TCAP message; event_loop.c also takes one after the other. */
 static void update_location(camel_store *store, const camel_imsi *imsi)
 {
     camel_update updates[2] = { CAMEL_EMPTY, CAMEL_EMPTY }, next = CAMEL_EMPTY;

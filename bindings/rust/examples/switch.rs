@@ -136,7 +136,8 @@ fn decode(imsi: Imsi, argument: &[u8]) -> Result<PreparedUpdate, MapFault> {
 }
 
 /// A location update: a Register, which empties the record, and behind it what the HLR sends in the dialogue, as one
-/// Insert. Both are accepted, or neither is. The HLR is answered by the first error, or once both are published.
+/// Insert. Both are accepted, or neither is. The HLR is answered by the first error, or once both are published. Here
+/// both operations have come in one TCAP message; `event_loop.rs` also takes one after the other.
 fn update_location(store: &mut Store, imsi: Imsi) -> Outcomes<()> {
     let register = PreparedUpdate::new(&Update::Register { imsi })?;
     let mut insert = decode(imsi, ROWS)?;
