@@ -21,7 +21,7 @@ MAP_CHECK := crates/camel_map_check/out/camel_map_check
 EXPLAIN := crates/camel_explain/out/camel_explain
 
 # The shell reads these, and not make, so that a name may have spaces.
-export SCRIPT LIMIT THREADS PROFILE CRATE PREFIX DESTDIR LIBDIR PARTS SANITIZE JOBS
+export SCRIPT LIMIT THREADS PROFILE CRATE PREFIX DESTDIR LIBDIR PARTS SANITIZE JOBS LIBRARY
 OPTIONS = --limit "$$LIMIT" $(if $(THREADS),--threads "$$THREADS") $(if $(PROFILE),--profile "$$PROFILE")
 
 # Prints what its line says of a target, or of each. The name of a time stands for its value there.
@@ -193,10 +193,10 @@ library-rust: DECISIONS ?= 1000000
 library-rust: begin-$$@ library
 	@scripts/library-test rust $(DECISIONS)
 
-# It needs the packages that osmo-msc is built with, says which are missing, and fetches the source once. SANITIZE=1
-# builds osmo-msc with its sanitizers, by so many JOBS.
+# It needs the packages that osmo-msc is built with, says which are missing, and fetches the source once. LIBRARY=/usr
+# takes the library that is installed there. SANITIZE=1 builds osmo-msc with its sanitizers, by so many JOBS.
 ## Builds Debian's osmo-msc over the library, and runs its tests and that of its glue: a minute, with it built.
-osmo-check: begin-$$@ osmo-source library
+osmo-check: begin-$$@ osmo-source $(if $(LIBRARY),,library)
 	@scripts/osmo-check run
 
 osmo-source: begin-osmo-check
