@@ -24,7 +24,7 @@ MAP_CHECK := crates/camel_map_check/out/camel_map_check
 EXPLAIN := crates/camel_explain/out/camel_explain
 
 # The shell reads these, and not make, so that a name may have spaces.
-export SCRIPT LIMIT THREADS PROFILE CAPTURE CRATE PREFIX DESTDIR LIBDIR PARTS SANITIZE JOBS
+export SCRIPT LIMIT THREADS PROFILE CAPTURE CRATE PREFIX DESTDIR LIBDIR PARTS SANITIZE JOBS LIBRARY
 OPTIONS = --limit "$$LIMIT" $(if $(THREADS),--threads "$$THREADS") $(if $(PROFILE),--profile "$$PROFILE")
 # As in the options of programs, `-` is standard input.
 READ_SCRIPT := [ "$$SCRIPT" = - ] || exec < "$$SCRIPT";
@@ -210,10 +210,10 @@ library-rust: DECISIONS ?= 1000000
 library-rust: begin-$$@ library
 	@scripts/library-test rust $(DECISIONS)
 
-# It needs the packages that osmo-msc is built with, says which are missing, and fetches the source once. SANITIZE=1
-# builds osmo-msc with its sanitizers, by so many JOBS.
-## Builds Debian's osmo-msc over the library, and runs its tests and that of its glue: a minute, with it built.
-osmo-check: begin-$$@ osmo-source library
+# It needs the packages that osmo-msc is built with, says which are missing, and fetches the source once. LIBRARY=/usr
+# takes the library that is installed there. SANITIZE=1 builds osmo-msc with its sanitizers, by so many JOBS.
+## Builds Debian's osmo-msc over the library, and runs its tests and that of its glue: minutes, with it built.
+osmo-check: begin-$$@ osmo-source $(if $(LIBRARY),,library)
 	@scripts/osmo-check run
 
 osmo-source: begin-osmo-check
