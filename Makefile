@@ -195,7 +195,7 @@ library-rust: begin-$$@ library
 
 # It needs the packages that osmo-msc is built with, says which are missing, and fetches the source once. LIBRARY=/usr
 # takes the library that is installed there. SANITIZE=1 builds osmo-msc with its sanitizers, by so many JOBS.
-## Builds Debian's osmo-msc over the library, and runs its tests and that of its glue: a minute, with it built.
+## Builds Debian's osmo-msc over the library, and runs its tests and that of its glue: minutes, with it built.
 osmo-check: begin-$$@ osmo-source $(if $(LIBRARY),,library)
 	@scripts/osmo-check run
 

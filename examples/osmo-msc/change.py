@@ -3,15 +3,16 @@
 
     change.py hooks SOURCE      changes the files of SOURCE as the file `hooks` says, and copies the glue and its test
                                 there. If an anchor is not there exactly once, it names each such, and changes nothing
-    change.py mutations         prints the name of each mutation, a line each
-    change.py mutate NAME FILE  writes the glue with this mutation of the file `mutations` to FILE
+    change.py mutations         prints each mutation on a line: its file, where that is in SOURCE, and its name
+    change.py mutate NAME FILE  writes its file of the glue with this mutation of the file `mutations` to FILE
 
 Both files have blocks of lines `key: value`, with an empty line between two blocks. Text is in the lines behind a key
 that begin with `|`. A comment begins with `#`.
 
 A hook names its file, the place `in` it, which is a function, or a structure as `struct NAME`, and an anchor: `before`
 or `behind` the one statement there that has these words in their order. A statement ends at `;`, `{` or `}`, comments
-and strings aside. Without `in` the anchor is a line of the file, and without any anchor the text goes to its end.
+and strings aside. Without `in` the anchor is a line of the file, and without any anchor the text goes to its end. In C
+the text stands between `#if BUILD_CAMEL` and `#endif`, unless it is an #include.
 """
 
 import re
@@ -22,9 +23,15 @@ from pathlib import Path
 HERE = Path(__file__).resolve().parent
 COPIES = {
     "msc_camel.c": "src/libvlr",
+    "msc_camel_counters.c": "src/libvlr",
+    "msc_camel_call.c": "src/libmsc",
+    "msc_camel_vty.c": "src/libmsc",
     "msc_camel.h": "include/osmocom/msc",
+    "msc_camel_core.h": "include/osmocom/msc",
+    "msc_vlr_camel_claims.c": "tests/msc_vlr",
     "msc_vlr_camel_steps.c": "tests/msc_vlr",
     "msc_vlr_camel_steps.h": "tests/msc_vlr",
+    "msc_vlr_camel_vty.c": "tests/msc_vlr",
     "msc_vlr_test_camel.c": "tests/msc_vlr",
     "msc_vlr_test_camel.ok": "tests/msc_vlr",
 }
@@ -119,6 +126,13 @@ def places(text, hook):
     return found
 
 
+def conditional(path, text):
+    """The text as it stands in the file: in C only for a build with CAMEL."""
+    if path.suffix not in (".c", ".h") or text.startswith("#include"):
+        return text
+    return f"#if BUILD_CAMEL\n{text}#endif\n"
+
+
 def put_hooks(source):
     """Changes the source, or says which anchors are not there exactly once, and exits with 1."""
     insertions, faults = {}, []
@@ -126,7 +140,7 @@ def put_hooks(source):
         path = source / hook["file"]
         found = places(path.read_text(), hook) if path.is_file() else []
         if len(found) == 1:
-            insertions.setdefault(path, []).append((found[0], hook["text"]))
+            insertions.setdefault(path, []).append((found[0], conditional(path, hook["text"])))
         else:
             anchor = ", ".join(f"{key} {hook[key]}" for key in ("in", "before", "behind") if key in hook)
             faults.append(f"{hook['file']}: {anchor}: found {len(found)} times")
@@ -142,16 +156,22 @@ def put_hooks(source):
     print(f"{sum(map(len, insertions.values()))} hooks in {len(insertions)} files of osmo-msc")
 
 
+def mutations():
+    """The name, the file and the old and new texts of each mutation."""
+    for block in blocks("mutations"):
+        yield block[0][1], block[1][1], [value for _, value in block[2:]]
+
+
 def mutate(name, target):
-    """Writes the glue with one mutation, each old text of which is there exactly once."""
-    glue = (HERE / "msc_camel.c").read_text()
-    found = [block for block in blocks("mutations") if block[0] == ("name", name)]
+    """Writes a file of the glue with one mutation, each old text of which is there exactly once."""
+    found = [(file, values) for named, file, values in mutations() if named == name]
     if len(found) != 1:
         sys.exit(f"mutations: {len(found)} of the name {name}")
-    values = [value for _, value in found[0][1:]]
+    file, values = found[0]
+    glue = (HERE / file).read_text()
     for old, new in zip(values[::2], values[1::2], strict=True):
         if glue.count(old) != 1:
-            sys.exit(f"mutation {name}: its old text is {glue.count(old)} times in msc_camel.c:\n{old}")
+            sys.exit(f"mutation {name}: its old text is {glue.count(old)} times in {file}:\n{old}")
         glue = glue.replace(old, new)
     Path(target).write_text(glue)
 
@@ -159,7 +179,7 @@ def mutate(name, target):
 if sys.argv[1:2] == ["hooks"] and len(sys.argv) == 3:
     put_hooks(Path(sys.argv[2]))
 elif sys.argv[1:] == ["mutations"]:
-    print("\n".join(block[0][1] for block in blocks("mutations")))
+    print("\n".join(f"{file} {COPIES[file]} {name}" for name, file, _ in mutations()))
 elif sys.argv[1:2] == ["mutate"] and len(sys.argv) == 4:
     mutate(sys.argv[2], sys.argv[3])
 else:

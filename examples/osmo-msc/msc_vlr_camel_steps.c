@@ -43,6 +43,10 @@ camel_status __wrap_camel_publish_to(camel_store *store, camel_session *sessions
 {
 	camel_status status;
 
+	if (refused == HELD_PUBLICATION) {
+		refused = NO_REQUEST;
+		return CAMEL_HELD;
+	}
 	if (refused == PUBLICATION || refused == PUBLICATION_AND_BEHIND) {
 		refused = refused == PUBLICATION ? NO_REQUEST : EACH_REQUEST;
 		return CAMEL_OUT_OF_MEMORY;
@@ -86,7 +90,7 @@ static void print_lines(void)
 	log_set_print_category_hex(target, 0);
 	log_set_print_filename2(target, LOG_FILENAME_NONE);
 	log_set_all_filter(target, 1);
-	log_set_category_filter(target, DLGLOBAL, 1, LOGL_INFO);
+	log_set_category_filter(target, DCAMEL, 1, LOGL_INFO);
 	log_add_target(target);
 }
 
@@ -97,6 +101,7 @@ void begins(const char *what)
 	fake_time_start();
 	net->vlr->cfg.assign_tmsi = false;
 	rx_from_ran = OSMO_RAT_GERAN_A;
+	OSMO_ASSERT(configures("enable") == 0);
 }
 
 void ends(void)
@@ -105,6 +110,7 @@ void ends(void)
 	is_muted = true;
 	clear_vlr();
 	is_muted = false;
+	OSMO_ASSERT(configures("no enable") == 0);
 }
 
 void hlr_sends(const struct subscriber *who, const char *type, const char *octets, const char *answer,
@@ -177,7 +183,7 @@ void mncc_sends(uint32_t message, uint8_t cause)
 	mncc_tx_to_cc(net, &mncc);
 }
 
-static void connects(const struct subscriber *who, const char *request)
+void connects(const struct subscriber *who, const char *request)
 {
 	char sent[64];
 
@@ -186,17 +192,22 @@ static void connects(const struct subscriber *who, const char *request)
 	ms_sends_msg(sent);
 }
 
-void sets_up(const struct subscriber *who, const char *type, const char *bearer, const char *called)
+void sends_setup(const struct subscriber *who, const char *type, const char *bearer, const char *called)
 {
 	char sent[128];
 
-	connects(who, "052471");
 	OSMO_ASSERT(cm_service_result_sent == RES_ACCEPT);
 	snprintf(sent, sizeof(sent), "%s%s%s15020100", type, bearer, called);
 	cc_to_mncc_expect_tx(who->imsi, MNCC_SETUP_IND);
 	ms_sends_msg(sent);
 	OSMO_ASSERT(cc_to_mncc_tx_confirmed);
 	callref = cc_to_mncc_tx_got_callref;
+}
+
+void sets_up(const struct subscriber *who, const char *type, const char *bearer, const char *called)
+{
+	connects(who, "052471");
+	sends_setup(who, type, bearer, called);
 }
 
 void rejected_with(uint8_t cause)
@@ -264,6 +275,24 @@ void is_called(const struct subscriber *who)
 	setup_request(who);
 	OSMO_ASSERT(paging_sent);
 	callref = INCOMING;
+}
+
+void is_called_and_caller_gives_up(const struct subscriber *who)
+{
+	is_called(who);
+	cc_to_mncc_expect_tx("", MNCC_REL_CNF);
+	mncc_sends(MNCC_REL_REQ, 16);
+	OSMO_ASSERT(cc_to_mncc_tx_confirmed);
+	fake_time_passes(11, 0);
+}
+
+void detaches(const struct subscriber *who)
+{
+	struct vlr_subscr *vsub = vlr_subscr_find_by_imsi(net->vlr, who->imsi, __func__);
+
+	OSMO_ASSERT(vsub);
+	vlr_subscr_rx_imsi_detach(vsub);
+	vlr_subscr_put(vsub, __func__);
 }
 
 void is_detached_and_called(const struct subscriber *who)

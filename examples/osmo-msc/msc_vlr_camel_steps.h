@@ -36,6 +36,14 @@ extern const struct subscriber FIRST, SECOND;
 #define WITHDRAWN_O "3510" "300e" "800809710000000156f0" "8f020080"
 #define WITHDRAWN_ALL "350e" "300c" "800809710000000156f0" "8900"
 
+/* o-BcsmCamelTDP-CriteriaList [4]: at 2 the basic service t11, and the call type forwarded */
+#define OTHER_CRITERIA "a40d" "300b0a0102" "a103830111" "820100"
+/* the same: at 2 ten numbers, so that the argument of 255 octets is the longest that the element has room for */
+#define LONG_NUMBER_OF_16 "0409911111111111111111"
+#define LONG_O_CRITERIA "a471" "306f0a0102" "a06a800101a165" LONG_NUMBER_OF_16 LONG_NUMBER_OF_16 LONG_NUMBER_OF_16 \
+	LONG_NUMBER_OF_16 LONG_NUMBER_OF_16 LONG_NUMBER_OF_16 LONG_NUMBER_OF_16 LONG_NUMBER_OF_16 \
+	"04059122222222" "040491346105"
+
 #define DATA O_CSI_2(ROW("02", "64", CONTINUE), ROW("04", "65", RELEASE))
 #define OTHER_DATA O_CSI_2(ROW("02", "6e", CONTINUE), ROW("04", "6f", CONTINUE))
 #define RELEASING_DATA O_CSI_1(ROW("02", "66", RELEASE))
@@ -54,14 +62,14 @@ extern const struct subscriber FIRST, SECOND;
 #define EMERGENCY_NUMBER "5e038111f2"
 
 /* Which requests of the library for memory are refused: those of a publication, or all. The publication of a withdrawal
- * or a Cancel may need no memory: it can be refused without a request, and all requests behind it. */
-enum refusal { NO_REQUEST, OF_PUBLICATION, EACH_REQUEST, PUBLICATION, PUBLICATION_AND_BEHIND };
+ * or a Cancel may need no memory: it can be refused without a request, and all requests behind it. It can be held. */
+enum refusal { NO_REQUEST, OF_PUBLICATION, EACH_REQUEST, PUBLICATION, PUBLICATION_AND_BEHIND, HELD_PUBLICATION };
 extern enum refusal refused;
 
 /* Prints a line beside those of the glue. */
 #define step(format, args...) printf("- " format "\n", ##args)
 
-/* A test begins, with a heading, and ends with no connection and no subscriber. */
+/* A test begins, with a heading and CAMEL enabled, and ends with no connection and no subscriber, and with it off. */
 void begins(const char *what);
 void ends(void);
 
@@ -81,8 +89,13 @@ void location_update(const struct subscriber *who, const char *contents);
 void location_update_begins(const struct subscriber *who);
 void location_update_ends(const struct subscriber *who, const char *message, enum result_sent result);
 
-/* The mobile sends a SETUP, of which MNCC is told; MNCC rejects it with a cause, or the mobile ends it, and MNCC then.
- * calls() is a call that finds no way: 34, no circuit or channel available. */
+/* A command of the node `camel` of the VTY, and what the VTY returns. */
+int configures(const char *command);
+
+/* The mobile asks for a connection. It sends a SETUP, of which MNCC is told; MNCC rejects it with a cause, or the
+ * mobile ends it, and MNCC then. calls() is a call that finds no way: 34, no circuit or channel available. */
+void connects(const struct subscriber *who, const char *request);
+void sends_setup(const struct subscriber *who, const char *type, const char *bearer, const char *called);
 void sets_up(const struct subscriber *who, const char *type, const char *bearer, const char *called);
 void rejected_with(uint8_t cause);
 void caller_disconnects(void);
@@ -91,11 +104,15 @@ void calls(const struct subscriber *who, const char *called);
 /* A call that is released at DP 2, of which MNCC is told nothing. */
 void calls_in_vain(const struct subscriber *who);
 
+/* The mobile is switched off, or so it seems. */
+void detaches(const struct subscriber *who);
+
 /* MNCC sends a message of the call that is there, or sets one up to the subscriber, for which the mobile is paged, or
  * which is released at once, as if the mobile is detached. */
 void mncc_sends(uint32_t message, uint8_t cause);
 void is_called(const struct subscriber *who);
 void called_in_vain(const struct subscriber *who);
+void is_called_and_caller_gives_up(const struct subscriber *who);
 void is_detached_and_called(const struct subscriber *who);
 
 /* The mobile answers the paging, and has the SETUP; it sends a message of the call that it is called by, of which MNCC
@@ -105,3 +122,19 @@ void called_mobile_sends(const char *octets, uint32_t told, const char *imsi);
 
 /* The connection of the mobile goes with what follows, and is gone. */
 void released_by(const char *octets);
+
+/* The tests of claimed IMSIs, and of the VTY. */
+void test_claim_that_dies(void);
+void test_claim_that_stays(void);
+void test_two_entries(void);
+void test_entry_of_stranger_is_first(void);
+void test_service_request_of_stranger(void);
+void test_changed_imsi(void);
+void test_owners(void);
+void test_detach_by_stranger(void);
+void test_refusal_that_nobody_asked_for(void);
+void test_cancel_by_timer(void);
+void test_settings(void);
+void test_switch(void);
+void test_shown_record(void);
+void test_counters(void);

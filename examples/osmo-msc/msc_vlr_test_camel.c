@@ -1,6 +1,8 @@
 /* SPDX-License-Identifier: MIT OR Apache-2.0 */
 /* CAMEL trigger decisions in osmo-msc. What is compared is standard output: a heading of each step, and the lines of
  * the glue. */
+#include <string.h>
+
 #include <camel.h>
 
 #include "msc_vlr_camel_steps.h"
@@ -38,11 +40,24 @@ static void test_emergency(void)
 {
 	begins("Emergency calls are not asked");
 	location_update(&FIRST, DATA);
-	step("a SETUP to 112");
-	calls(&FIRST, EMERGENCY_NUMBER);
 	step("an EMERGENCY SETUP");
 	sets_up(&FIRST, "038e", SPEECH, "");
 	rejected_with(34);
+	sets_up(&FIRST, "038e", SPEECH, EMERGENCY_NUMBER);
+	rejected_with(34);
+	step("a SETUP to 112, which is no emergency number here");
+	calls(&FIRST, EMERGENCY_NUMBER);
+	step("a SETUP to a number of the VTY");
+	OSMO_ASSERT(configures("emergency-number 999") == 0 && configures("emergency-number 112") == 0);
+	calls(&FIRST, EMERGENCY_NUMBER);
+	OSMO_ASSERT(configures("no emergency-number 112") == 0);
+	calls(&FIRST, EMERGENCY_NUMBER);
+	OSMO_ASSERT(configures("no emergency-number 999") == 0);
+	step("a SETUP to the number to which osmo-msc routes emergency calls");
+	net->emergency.route_to_msisdn = "112";
+	calls(&FIRST, EMERGENCY_NUMBER);
+	calls(&FIRST, LISTED);
+	net->emergency.route_to_msisdn = NULL;
 	ends();
 }
 
@@ -266,6 +281,7 @@ static void test_not_reached(void)
 static void test_cancel_location(void)
 {
 	begins("CancelLocation during a call");
+	OSMO_ASSERT(configures("unknown-subscriber release") == 0);
 	location_update(&FIRST, DATA);
 	sets_up(&FIRST, "0385", SPEECH, LISTED);
 	hlr_sends(&FIRST, "1c", "060100", "1e", "");
@@ -278,6 +294,7 @@ static void test_cancel_location(void)
 	step("the subscriber returns");
 	location_update(&FIRST, OTHER_DATA);
 	calls(&FIRST, LISTED);
+	OSMO_ASSERT(configures("unknown-subscriber continue") == 0);
 	ends();
 }
 
@@ -287,8 +304,10 @@ static void test_refused_location_update(void)
 	location_update(&FIRST, CALLED_DATA);
 	location_update_begins(&FIRST);
 	location_update_ends(&FIRST, "05", RES_REJECT);
-	step("a call to the subscriber is not set up");
+	step("a call to the subscriber is not set up, if the VTY says so");
+	OSMO_ASSERT(configures("unknown-subscriber release") == 0);
 	called_in_vain(&FIRST);
+	OSMO_ASSERT(configures("unknown-subscriber continue") == 0);
 	step("an InsertSubscriberData outside of a location update finds no record");
 	insert_refused(&FIRST, argument_of(DATA), "020102");
 	ends();
@@ -366,6 +385,17 @@ static void test_refused_record(void)
 	ends();
 }
 
+static void test_longest_argument(void)
+{
+	begins("An argument of 255 octets, for which the element has room");
+	step("%zu octets", strlen(argument_of(DATA LONG_O_CRITERIA CALLED_DATA)) / 2 - 2);
+	location_update(&FIRST, DATA LONG_O_CRITERIA CALLED_DATA);
+	calls(&FIRST, LISTED);
+	calls(&FIRST, NOT_LISTED);
+	is_detached_and_called(&FIRST);
+	ends();
+}
+
 msc_vlr_test_func_t msc_vlr_tests[] = {
 	test_criteria,
 	test_release,
@@ -384,5 +414,20 @@ msc_vlr_test_func_t msc_vlr_tests[] = {
 	test_refused_publication,
 	test_refused_withdrawals,
 	test_refused_record,
+	test_longest_argument,
+	test_claim_that_dies,
+	test_claim_that_stays,
+	test_two_entries,
+	test_entry_of_stranger_is_first,
+	test_service_request_of_stranger,
+	test_changed_imsi,
+	test_owners,
+	test_detach_by_stranger,
+	test_refusal_that_nobody_asked_for,
+	test_cancel_by_timer,
+	test_settings,
+	test_switch,
+	test_shown_record,
+	test_counters,
 	NULL
 };
