@@ -3,8 +3,8 @@
 //! A [`Store`] has the O-CSI and VT-CSI of each subscriber, with their criteria, as the HLR sends them. Its one writer
 //! submits an [`Update`] of each operation, or the octets of its argument, and publishes them; each call-control thread
 //! has a [`Session`], and asks at trigger detection points 2, 4, 12, 13 and 14 whether a service is invoked. No call
-//! takes a lock, waits or yields. A [`PreparedUpdate`] is made before it is submitted: so lists that an HLR splits over
-//! operations are joined, and the updates of a location update are accepted together, or none of them is.
+//! takes a lock of its own, waits or yields. A [`PreparedUpdate`] is made before it is submitted: so lists that an HLR
+//! splits over operations are joined, and the updates of a location update are accepted together, or none of them is.
 //!
 //! ```
 //! use camel::{Address, BasicService, Csis, Event, Imsi, IsdnAddress, MAX_UPDATES, Profile, Row, Store, Update};
