@@ -4,7 +4,7 @@
 # How long what takes, on four cores: to prove and build a program, one that takes longer, and all tests.
 BUILD_TIME := about 14 minutes the first time
 LONG_TIME := up to 25 minutes the first time
-TEST_TIME := about two hours the first time
+TEST_TIME := about two hours
 
 SHELL := scripts/recipe
 .SHELLFLAGS := -c
