@@ -1,9 +1,7 @@
 //! When the copies are freed.
 
 use std::alloc::{AllocError, Global};
-use std::process::Abort;
 use std::sync::Arc;
-use std::test::Fail;
 use two_copies::{Apply, Copies, CopyRule, Look, Reader};
 
 // A value that has a share of a token as long as it is there.
@@ -72,28 +70,27 @@ fn look_beside(
     Some((look, idle))
 }
 
-// How many copies are there: before the end, after it during the look, and once the look has left, while both readers
-// are there.
-fn counts<R: Abort>(
-    rt: &R,
-    mut copies: Holders,
-    token: &Arc<u64, Global>,
-    during: u64,
-) -> [usize; 3] {
-    let Some((look, idle)) = look_beside(&mut copies, during) else {
-        panic!(rt; "no look")
-    };
+// How many copies are there before the end and after it; none if no look holds it up.
+fn counts_at_the_end(copies: Holders, token: &Arc<u64, Global>) -> Option<(usize, usize)> {
     let before = copies_of(token);
-    match copies.end() {
-        Ok(_) => panic!(rt; "the look is held"),
-        Err(ending) => ending.abandon(),
-    }
-    let beside = copies_of(token);
+    let ending = copies.end().err()?;
+    ending.abandon();
+    Some((before, copies_of(token)))
+}
+
+// Whether one of two copies is there after the end during the look, and none once the look has left, while both readers
+// are there.
+fn is_freed_by_the_look(alloc: Global, during: u64) -> Option<bool> {
+    let token = Arc::new(alloc, 0).ok()?;
+    let mut copies = holders(alloc, &token).ok()?;
+    let looking = look_beside(&mut copies, during);
+    let counts = counts_at_the_end(copies, &token);
+    let (look, idle) = looking?;
     let reader = look.leave();
-    let after = copies_of(token);
+    let after = copies_of(&token);
     drop(reader);
     drop(idle);
-    [before, beside, after]
+    Some(counts == Some((2, 1)) && after == 0)
 }
 
 // All shares but that of the test.
@@ -102,11 +99,7 @@ fn copies_of(token: &Arc<u64, Global>) -> usize {
 }
 
 #[test]
-fn abandoned_copies_are_freed_when_the_last_look_is_left(rt: HostRuntime) -> Result<(), Fail> {
-    for during in 0..2u64 {
-        let token = Arc::new(rt.alloc(), 0)?;
-        let copies = holders(rt.alloc(), &token)?;
-        assert!(rt; counts(&rt, copies, &token, during) == [2, 1, 0]);
-    }
-    Ok(())
+fn abandoned_copies_are_freed_when_the_last_look_is_left(rt: HostRuntime) {
+    assert!(rt; is_freed_by_the_look(rt.alloc(), 0) == Some(true));
+    assert!(rt; is_freed_by_the_look(rt.alloc(), 1) == Some(true));
 }

@@ -1,11 +1,9 @@
 //! Looks that are held when the copies end.
 
 use crate::sum::{
-    SumEnding, SumLook, SumReader, Sums, end_beside_a_look, finds_the_end, publish_ones, sums,
-    three_readers,
+    SumEnding, SumLook, SumReader, Sums, finds_the_end, last_sum, publish_ones, sums, three_readers,
 };
-use std::process::Abort;
-use std::test::Fail;
+use std::alloc::Global;
 
 // At which of three places a look is held, and how many publications come before it and during it.
 #[derive(Clone, Copy)]
@@ -32,11 +30,17 @@ fn look_at(copies: &mut Sums, held: Held) -> Option<Looking> {
 }
 
 // Copies that end during a look.
-fn ended_beside<R: Abort>(rt: &R, mut copies: Sums, held: Held) -> (SumEnding, Looking) {
-    let Some(looking) = look_at(&mut copies, held) else {
-        panic!(rt; "no look")
-    };
-    (end_beside_a_look(rt, copies), looking)
+fn ended_beside(alloc: Global, held: Held) -> Option<(SumEnding, Looking)> {
+    let mut copies = sums(alloc, 0, 0).ok()?;
+    let looking = look_at(&mut copies, held);
+    let ending = copies.end().err()?;
+    match looking {
+        Some(looking) => Some((ending, looking)),
+        None => {
+            ending.abandon();
+            None
+        }
+    }
 }
 
 // Whether the other readers find the end, the look goes on, and its reader finds the end once it has left.
@@ -48,36 +52,38 @@ fn ends_for_each(looking: Looking, held: Held) -> bool {
     look.get().total() == held.before && look.get().is_whole() && finds_the_end(look.leave())
 }
 
-// Whether each reader finds the end, of copies whose end is tried again behind the look, and of abandoned ones.
-fn is_found<R: Abort>(rt: &R, tried: Sums, abandoned: Sums, held: Held) -> bool {
-    let (ending, looking) = ended_beside(rt, tried, held);
+// Whether each reader finds the end of copies whose end is tried again behind the look.
+fn is_found(alloc: Global, held: Held) -> Option<bool> {
+    let (ending, looking) = ended_beside(alloc, held)?;
     let is_found = ends_for_each(looking, held);
-    let sum = match ending.end() {
-        Ok(sum) => sum.total(),
-        Err(_ending) => panic!(rt; "no look is held"),
-    };
-    let (ending, looking) = ended_beside(rt, abandoned, held);
+    Some(last_sum(ending.end())? == held.before.saturating_add(held.during) && is_found)
+}
+
+// Whether each reader finds the end of abandoned copies.
+fn is_found_if_abandoned(alloc: Global, held: Held) -> Option<bool> {
+    let (ending, looking) = ended_beside(alloc, held)?;
     ending.abandon();
-    is_found && sum == held.before.saturating_add(held.during) && ends_for_each(looking, held)
+    Some(ends_for_each(looking, held))
+}
+
+fn is_found_beside_looks_at(alloc: Global, place: usize) -> Option<bool> {
+    let mut is_found_in_all = true;
+    for before in 0..3u64 {
+        for during in 0..2u64 {
+            let held = Held {
+                place,
+                before,
+                during,
+            };
+            is_found_in_all &= is_found(alloc, held)? && is_found_if_abandoned(alloc, held)?;
+        }
+    }
+    Some(is_found_in_all)
 }
 
 #[test]
-fn each_reader_finds_an_end_beside_a_look(rt: HostRuntime) -> Result<(), Fail> {
-    for place in 0..3usize {
-        for before in 0..3u64 {
-            for during in 0..2u64 {
-                let held = Held {
-                    place,
-                    before,
-                    during,
-                };
-                let tried = sums(rt.alloc(), 0, 0)?;
-                match sums(rt.alloc(), 0, 0) {
-                    Ok(abandoned) => assert!(rt; is_found(&rt, tried, abandoned, held)),
-                    Err(_) => panic!(rt; "no copies"),
-                }
-            }
-        }
-    }
-    Ok(())
+fn each_reader_finds_an_end_beside_a_look(rt: HostRuntime) {
+    assert!(rt; is_found_beside_looks_at(rt.alloc(), 0) == Some(true));
+    assert!(rt; is_found_beside_looks_at(rt.alloc(), 1) == Some(true));
+    assert!(rt; is_found_beside_looks_at(rt.alloc(), 2) == Some(true));
 }

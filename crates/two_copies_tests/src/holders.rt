@@ -1,9 +1,7 @@
 //! Which readers hold up a publication.
 
-use crate::sum::{SumReader, Sums, end, is_held, publish_ones, sums, three_readers};
+use crate::sum::{Sums, all_readers, is_held, last_sum, publish_ones, sums, three_readers};
 use std::alloc::Global;
-use std::test::Fail;
-use two_copies::MAX_READERS;
 
 // Who holds up the next publication: before a look of this one of three readers, during it, and once it has left. One
 // publication goes through during the look, and one behind it.
@@ -27,17 +25,17 @@ fn holders_beside_a_look(copies: &mut Sums, place: usize) -> Option<[u64; 3]> {
     Some([before, during, after])
 }
 
+fn only_the_look_sets_the_bit(alloc: Global, place: usize, bit: u64) -> Option<bool> {
+    let mut copies = sums(alloc, 0, 0).ok()?;
+    let holders = holders_beside_a_look(&mut copies, place);
+    Some(last_sum(copies.end()) == Some(2) && holders == Some([0, bit, 0]))
+}
+
 #[test]
-fn the_bit_of_a_reader_is_set_while_its_look_holds_up_a_publication(
-    rt: HostRuntime,
-) -> Result<(), Fail> {
-    for place in 0..3usize {
-        let mut copies = sums(rt.alloc(), 0, 0)?;
-        let holders = holders_beside_a_look(&mut copies, place);
-        assert_eq!(rt; end(&rt, copies), 2);
-        assert!(rt; holders == Some([0, 1 << place, 0]));
-    }
-    Ok(())
+fn the_bit_of_a_reader_is_set_while_its_look_holds_up_a_publication(rt: HostRuntime) {
+    assert!(rt; only_the_look_sets_the_bit(rt.alloc(), 0, 0b001) == Some(true));
+    assert!(rt; only_the_look_sets_the_bit(rt.alloc(), 1, 0b010) == Some(true));
+    assert!(rt; only_the_look_sets_the_bit(rt.alloc(), 2, 0b100) == Some(true));
 }
 
 // A look at what is shown last holds nothing up, beside one that does.
@@ -51,13 +49,15 @@ fn holders_beside_two_looks(copies: &mut Sums) -> Option<u64> {
     Some(holders)
 }
 
-#[test]
-fn a_look_at_what_is_shown_holds_nothing_up(rt: HostRuntime) -> Result<(), Fail> {
-    let mut copies = sums(rt.alloc(), 0, 0)?;
+fn only_the_older_look_holds_up(alloc: Global) -> Option<bool> {
+    let mut copies = sums(alloc, 0, 0).ok()?;
     let holders = holders_beside_two_looks(&mut copies);
-    assert_eq!(rt; end(&rt, copies), 1);
-    assert!(rt; holders == Some(0b010));
-    Ok(())
+    Some(last_sum(copies.end()) == Some(1) && holders == Some(0b010))
+}
+
+#[test]
+fn a_look_at_what_is_shown_holds_nothing_up(rt: HostRuntime) {
+    assert!(rt; only_the_older_look_holds_up(rt.alloc()) == Some(true));
 }
 
 // The middle one of three readers is dropped, and then the first one. The last one looks all the while, and so does a
@@ -78,21 +78,15 @@ fn holders_beside_dropped_readers(copies: &mut Sums) -> Option<[u64; 3]> {
     Some([without, with, copies.holders()])
 }
 
-#[test]
-fn a_reader_that_is_dropped_leaves_its_bit_to_the_next_one(rt: HostRuntime) -> Result<(), Fail> {
-    let mut copies = sums(rt.alloc(), 0, 0)?;
+fn the_next_reader_gets_the_bit(alloc: Global) -> Option<bool> {
+    let mut copies = sums(alloc, 0, 0).ok()?;
     let holders = holders_beside_dropped_readers(&mut copies);
-    assert_eq!(rt; end(&rt, copies), 2);
-    assert!(rt; holders == Some([0b100, 0b110, 0b110]));
-    Ok(())
+    Some(last_sum(copies.end()) == Some(2) && holders == Some([0b100, 0b110, 0b110]))
 }
 
-fn all_readers(alloc: Global, copies: &mut Sums) -> Option<Vec<SumReader>> {
-    let mut readers = Vec::new(alloc);
-    for _ in 0..MAX_READERS {
-        readers.push(copies.reader().ok()?).ok()?;
-    }
-    Some(readers)
+#[test]
+fn a_reader_that_is_dropped_leaves_its_bit_to_the_next_one(rt: HostRuntime) {
+    assert!(rt; the_next_reader_gets_the_bit(rt.alloc()) == Some(true));
 }
 
 // Looks of the last two of 64 readers.
@@ -104,11 +98,13 @@ fn holders_at_the_last_places(alloc: Global, copies: &mut Sums) -> Option<u64> {
     Some(copies.holders())
 }
 
+fn the_last_places_have_the_highest_bits(alloc: Global) -> Option<bool> {
+    let mut copies = sums(alloc, 0, 0).ok()?;
+    let holders = holders_at_the_last_places(alloc, &mut copies);
+    Some(last_sum(copies.end()) == Some(1) && holders == Some(0xC000_0000_0000_0000))
+}
+
 #[test]
-fn each_of_64_readers_has_a_bit(rt: HostRuntime) -> Result<(), Fail> {
-    let mut copies = sums(rt.alloc(), 0, 0)?;
-    let holders = holders_at_the_last_places(rt.alloc(), &mut copies);
-    assert_eq!(rt; end(&rt, copies), 1);
-    assert!(rt; holders == Some(0xC000_0000_0000_0000));
-    Ok(())
+fn each_of_64_readers_has_a_bit(rt: HostRuntime) {
+    assert!(rt; the_last_places_have_the_highest_bits(rt.alloc()) == Some(true));
 }

@@ -1,11 +1,10 @@
-use crate::sum::{Sums, end, is_held, look_once, look_twice, publish, sums};
-use std::test::Fail;
+use crate::sum::{Sums, is_held, last_sum, look_once, look_twice, publish, publish_ones, sums};
+use std::alloc::Global;
 
 // What is shown, and what a look shows, before, between and after publications of 1 and of 2.
 fn stalls_the_second(copies: &mut Sums) -> Option<[(u64, u64); 3]> {
     let look = copies.reader().ok()?.look().ok()?;
-    copies.push(1).ok()?;
-    publish(copies).ok()?;
+    publish_ones(copies, 1)?;
     let first = (copies.shown().total(), look.get().total());
     copies.push(2).ok()?;
     if copies.is_free() || !is_held(copies) || !is_held(copies) {
@@ -20,21 +19,22 @@ fn stalls_the_second(copies: &mut Sums) -> Option<[(u64, u64); 3]> {
     Some([first, held, (copies.shown().total(), look_once(reader)?)])
 }
 
-#[test]
-fn a_held_look_stalls_the_second_publication_only(rt: HostRuntime) -> Result<(), Fail> {
-    let mut copies = sums(rt.alloc(), 0, 0)?;
+fn only_the_second_is_stalled(alloc: Global) -> Option<bool> {
+    let mut copies = sums(alloc, 0, 0).ok()?;
     let shown = stalls_the_second(&mut copies);
-    assert_eq!(rt; end(&rt, copies), 3);
-    assert!(rt; shown == Some([(1, 0), (1, 0), (3, 3)]));
-    Ok(())
+    Some(last_sum(copies.end()) == Some(3) && shown == Some([(1, 0), (1, 0), (3, 3)]))
+}
+
+#[test]
+fn a_held_look_stalls_the_second_publication_only(rt: HostRuntime) {
+    assert!(rt; only_the_second_is_stalled(rt.alloc()) == Some(true));
 }
 
 // A look at what is shown stalls the next publication but one. What it shows, and what two looks show after it, each
 // with whether a further publication is held.
 fn stalls_the_next_but_one(copies: &mut Sums) -> Option<((u64, bool), (u64, u64, bool))> {
     let look = copies.reader().ok()?.look().ok()?;
-    copies.push(1).ok()?;
-    publish(copies).ok()?;
+    publish_ones(copies, 1)?;
     let look = look.leave().look().ok()?;
     copies.push(2).ok()?;
     publish(copies).ok()?;
@@ -43,30 +43,31 @@ fn stalls_the_next_but_one(copies: &mut Sums) -> Option<((u64, bool), (u64, u64,
     Some((during, (first, second, is_held(copies))))
 }
 
-#[test]
-fn a_new_look_stalls_the_next_publication_but_one(rt: HostRuntime) -> Result<(), Fail> {
-    let mut copies = sums(rt.alloc(), 0, 0)?;
+fn the_next_but_one_is_stalled(alloc: Global) -> Option<bool> {
+    let mut copies = sums(alloc, 0, 0).ok()?;
     let shown = stalls_the_next_but_one(&mut copies);
-    assert_eq!(rt; end(&rt, copies), 3);
-    assert!(rt; shown == Some(((1, true), (3, 3, false))));
-    Ok(())
+    Some(last_sum(copies.end()) == Some(3) && shown == Some(((1, true), (3, 3, false))))
+}
+
+#[test]
+fn a_new_look_stalls_the_next_publication_but_one(rt: HostRuntime) {
+    assert!(rt; the_next_but_one_is_stalled(rt.alloc()) == Some(true));
 }
 
 // So many publications beside a reader that does not look, and then what it sees.
 fn publishes_beside_an_idle_reader(copies: &mut Sums) -> Option<u64> {
     let reader = copies.reader().ok()?;
-    for _ in 0..20u64 {
-        copies.push(1).ok()?;
-        publish(copies).ok()?;
-    }
+    publish_ones(copies, 20)?;
     look_once(reader)
 }
 
-#[test]
-fn an_idle_reader_holds_nobody_up(rt: HostRuntime) -> Result<(), Fail> {
-    let mut copies = sums(rt.alloc(), 0, 0)?;
+fn all_are_seen_by_an_idle_reader(alloc: Global) -> Option<bool> {
+    let mut copies = sums(alloc, 0, 0).ok()?;
     let seen = publishes_beside_an_idle_reader(&mut copies);
-    assert_eq!(rt; end(&rt, copies), 20);
-    assert_eq!(rt; seen, Some(20));
-    Ok(())
+    Some(last_sum(copies.end()) == Some(20) && seen == Some(20))
+}
+
+#[test]
+fn an_idle_reader_holds_nobody_up(rt: HostRuntime) {
+    assert!(rt; all_are_seen_by_an_idle_reader(rt.alloc()) == Some(true));
 }

@@ -1,14 +1,10 @@
-use crate::sum::{Sums, end, look_once, publish, sums};
+use crate::sum::{Sums, all_readers, last_sum, look_once, publish, sums};
 use std::alloc::Global;
-use std::test::Fail;
 use two_copies::{MAX_READERS, NoReader};
 
 // Whether each of 64 readers sees a publication, while a further reader is refused until one of them is dropped.
 fn fills_each_place(alloc: Global, copies: &mut Sums) -> Option<bool> {
-    let mut readers = Vec::new(alloc);
-    for _ in 0..MAX_READERS {
-        readers.push(copies.reader().ok()?).ok()?;
-    }
+    let mut readers = all_readers(alloc, copies)?;
     if !matches!(copies.reader(), Err(NoReader::NoPlace)) {
         return None;
     }
@@ -23,12 +19,14 @@ fn fills_each_place(alloc: Global, copies: &mut Sums) -> Option<bool> {
     Some(all_see)
 }
 
+fn each_place_is_filled(alloc: Global) -> Option<bool> {
+    let mut copies = sums(alloc, 0, 0).ok()?;
+    let filled = fills_each_place(alloc, &mut copies);
+    Some(last_sum(copies.end()) == Some(7) && filled == Some(true))
+}
+
 #[test]
-fn there_are_64_places(rt: HostRuntime) -> Result<(), Fail> {
-    let mut copies = sums(rt.alloc(), 0, 0)?;
-    let filled = fills_each_place(rt.alloc(), &mut copies);
-    assert_eq!(rt; end(&rt, copies), 7);
+fn there_are_64_places(rt: HostRuntime) {
     assert!(rt; MAX_READERS == 64);
-    assert!(rt; filled == Some(true));
-    Ok(())
+    assert!(rt; each_place_is_filled(rt.alloc()) == Some(true));
 }

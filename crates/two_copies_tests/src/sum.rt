@@ -3,8 +3,7 @@ ghost use Rattle.std.specs.Prelude.{◌≡◌, ◌+◌, ◌-◌, ◌^◌, ◌≤
 ghost use Rattle.two_copies.specs.Reader.{seen_by, shown_in};
 
 use std::alloc::{AllocError, Global};
-use std::process::Abort;
-use two_copies::{Apply, Copies, CopyRule, Ending, Look, Reader, Unpublished};
+use two_copies::{Apply, Copies, CopyRule, Ending, Look, MAX_READERS, Reader, Unpublished};
 
 /// The sum. It is written twice, one after the other, so that it can say whether it is whole, and it may be told to
 /// refuse some operations as if memory was refused.
@@ -107,11 +106,14 @@ pub fn is_held(sums: &mut Sums) -> bool {
     matches!(publish(sums), Err(Unpublished::Held))
 }
 
-/// Ends the copies, which no look may hold up, and returns the last sum.
-pub fn end<R: Abort>(rt: &R, sums: Sums) -> u64 {
-    match sums.end() {
-        Ok(sum) => sum.total(),
-        Err(_ending) => panic!(rt; "a look holds up the end"),
+/// The last sum of copies that were ended; none if a look holds up the end.
+pub fn last_sum(ended: Result<Sum, SumEnding>) -> Option<u64> {
+    match ended {
+        Ok(sum) => Some(sum.total()),
+        Err(ending) => {
+            ending.abandon();
+            None
+        }
     }
 }
 
@@ -124,6 +126,15 @@ pub fn three_readers(sums: &mut Sums) -> Option<(SumReader, SumReader, SumReader
     ))
 }
 
+/// As many readers as there may be.
+pub fn all_readers(alloc: Global, sums: &mut Sums) -> Option<Vec<SumReader>> {
+    let mut readers = Vec::new(alloc);
+    for _ in 0..MAX_READERS {
+        readers.push(sums.reader().ok()?).ok()?;
+    }
+    Some(readers)
+}
+
 /// Pushes 1 and publishes it, so often.
 pub fn publish_ones(sums: &mut Sums, count: u64) -> Option<()> {
     for _ in 0..count {
@@ -131,14 +142,6 @@ pub fn publish_ones(sums: &mut Sums, count: u64) -> Option<()> {
         publish(sums).ok()?;
     }
     Some(())
-}
-
-/// Ends the copies while a look holds up the end.
-pub fn end_beside_a_look<R: Abort>(rt: &R, sums: Sums) -> SumEnding {
-    match sums.end() {
-        Ok(_) => panic!(rt; "a look is held"),
-        Err(ending) => ending,
-    }
 }
 
 /// Whether each of many looks finds that the copies have ended.

@@ -1,24 +1,29 @@
-use crate::sum::{SumReader, Sums, end, finds_the_end, publish, publish_ones, sums, three_readers};
+use crate::sum::{
+    SumReader, Sums, finds_the_end, last_sum, publish, publish_ones, sums, three_readers,
+};
+use std::alloc::Global;
 use std::mem;
 use std::sync::atomic::{AtomicBool, Ordering};
-use std::test::Fail;
 use std::thread::{Threads, join};
 
 // How often a reader looks, and how often the writer tries to publish.
 const TURNS: u64 = 300_000;
 
-// Looks so often, and returns the last sum; none if a look goes back, or shows half of an operation.
-fn watch(mut reader: SumReader) -> Option<u64> {
+// Looks so often. Whether no look goes back, shows half of an operation, or more than comes.
+fn watch(mut reader: SumReader) -> bool {
     let mut last: u64 = 0;
     for _ in 0..TURNS {
-        let look = reader.look().ok()?;
-        if look.get().total() < last || !look.get().is_whole() {
-            return None;
+        let Ok(look) = reader.look() else {
+            return false;
+        };
+        let total = look.get().total();
+        if total < last || total > TURNS || !look.get().is_whole() {
+            return false;
         }
-        last = look.get().total();
+        last = total;
         reader = look.leave();
     }
-    Some(last)
+    true
 }
 
 // Pushes 1 and tries to publish, so often, and then until nothing is held.
@@ -36,32 +41,28 @@ fn publish_all(copies: &mut Sums) {
     }
 }
 
-// The writer has a thread of its own, and so has each reader. What each reader saw last.
-fn run<R: Threads + Sync>(
-    rt: &R,
-    copies: &mut Sums,
-    first: SumReader,
-    second: SumReader,
-) -> (Option<u64>, Option<u64>) {
-    let (_, seen) = join(
+// The writer has a thread of its own, and so has each of two readers. Whether both see all well.
+fn run<R: Threads + Sync>(rt: &R, copies: &mut Sums) -> bool {
+    let (Ok(first), Ok(second)) = (copies.reader(), copies.reader()) else {
+        return false;
+    };
+    let (_, (one, two)) = join(
         rt,
         || publish_all(copies),
         || join(rt, || watch(first), || watch(second)),
     );
-    seen
+    one && two
+}
+
+fn are_seen_whole<R: Threads + Sync>(rt: &R, alloc: Global) -> Option<bool> {
+    let mut copies = sums(alloc, 0, 0).ok()?;
+    let are_seen = run(rt, &mut copies);
+    Some(last_sum(copies.end()) == Some(TURNS) && are_seen)
 }
 
 #[test]
-fn readers_see_each_publication_whole(rt: HostRuntime) -> Result<(), Fail> {
-    let mut copies = sums(rt.alloc(), 0, 0)?;
-    let (Ok(first), Ok(second)) = (copies.reader(), copies.reader()) else {
-        panic!(rt; "no reader")
-    };
-    let (one, two) = run(&rt, &mut copies, first, second);
-    assert_eq!(rt; end(&rt, copies), TURNS);
-    assert!(rt; one.is_some_and(|seen| seen <= TURNS));
-    assert!(rt; two.is_some_and(|seen| seen <= TURNS));
-    Ok(())
+fn readers_see_each_publication_whole(rt: HostRuntime) {
+    assert!(rt; are_seen_whole(&rt, rt.alloc()) == Some(true));
 }
 
 // How many stores end beside readers that look.
@@ -100,12 +101,12 @@ fn give_up_in(store: &mut Option<Sums>, has_ended: &AtomicBool) {
 }
 
 // Whether two readers that look in threads of their own, and one that does not look, find the end.
-fn ends_beside_looks<R: Threads + Sync>(rt: &R, mut copies: Sums) -> bool {
-    let Some(readers) = three_readers(&mut copies) else {
+fn ends_beside_looks<R: Threads + Sync>(rt: &R, alloc: Global) -> Option<bool> {
+    let mut copies = sums(alloc, 0, 0).ok()?;
+    let Some((first, second, idle)) = three_readers(&mut copies) else {
         give_up(copies);
-        return false;
+        return None;
     };
-    let (first, second, idle) = readers;
     let has_ended = AtomicBool::new(false);
     let mut store = Some(copies);
     let (_, (one, two)) = join(
@@ -122,14 +123,12 @@ fn ends_beside_looks<R: Threads + Sync>(rt: &R, mut copies: Sums) -> bool {
     if let Some(copies) = store {
         give_up(copies);
     }
-    one && two && finds_the_end(idle)
+    Some(one && two && finds_the_end(idle))
 }
 
 #[test]
-fn each_reader_finds_an_end_in_another_thread(rt: HostRuntime) -> Result<(), Fail> {
+fn each_reader_finds_an_end_in_another_thread(rt: HostRuntime) {
     for _ in 0..ENDS {
-        let copies = sums(rt.alloc(), 0, 0)?;
-        assert!(rt; ends_beside_looks(&rt, copies));
+        assert!(rt; ends_beside_looks(&rt, rt.alloc()) == Some(true));
     }
-    Ok(())
 }
