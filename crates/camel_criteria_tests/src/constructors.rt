@@ -5,8 +5,6 @@ use camel_criteria::{
 };
 use camel_fixtures::number_of;
 use std::alloc::Global;
-use std::process::Abort;
-use std::test::Fail;
 
 /// Three numbers, no two octets of which are alike after the first, so that a lost or moved one shows.
 const NUMBERS: [&[u8]; 3] = [&[0x91, 0x21, 0x43], &[0xa1, 0x65, 0xf7], &[0x91, 0x98]];
@@ -24,32 +22,38 @@ fn number_criterion(alloc: Global, count: usize) -> Result<NumberCriterion, Refu
     }
 }
 
-fn check_number_criterion(
-    rt: &impl Abort,
-    criterion: &NumberCriterion,
-    count: usize,
-) -> Result<(), Fail> {
-    assert_eq!(rt; criterion.match_type(), MatchType::Inhibiting);
-    assert_eq!(rt; criterion.lengths(), [7, 3].as_slice());
-    assert_eq!(rt; criterion.numbers().len(), count);
-    for at in 0..count.min(NUMBERS.len()) {
-        let lent = criterion.number(at).ok_or("too few numbers")?;
-        assert_eq!(rt; lent.bytes(), NUMBERS[at]);
+fn has_number(criterion: &NumberCriterion, at: usize) -> bool {
+    match (criterion.number(at), NUMBERS.get(at)) {
+        (Some(lent), Some(octets)) => lent.bytes() == *octets,
+        _ => false,
     }
-    assert!(rt; criterion.number(count).is_none());
-    Ok(())
+}
+
+/// Whether the criterion is that of so many of the three numbers.
+fn is_number_criterion(criterion: &NumberCriterion, count: usize) -> bool {
+    criterion.match_type() == MatchType::Inhibiting
+        && criterion.lengths() == [7, 3].as_slice()
+        && criterion.numbers().len() == count
+        && (0..count).all(|at| has_number(criterion, at))
+        && criterion.number(count).is_none()
+}
+
+fn is_read_and_copied(alloc: Global, count: usize) -> bool {
+    let Ok(criterion) = number_criterion(alloc, count) else {
+        return false;
+    };
+    is_number_criterion(&criterion, count)
+        && criterion
+            .clone()
+            .is_ok_and(|copied| is_number_criterion(&copied, count))
 }
 
 /// Up to three numbers are stored in place, and more apart.
 #[test]
-fn reads_and_copies_a_number_criterion(rt: HostRuntime) -> Result<(), Fail> {
-    for count in 1..=3 {
-        let criterion = number_criterion(rt.alloc(), count)?;
-        let copied = criterion.clone()?;
-        check_number_criterion(&rt, &criterion, count)?;
-        check_number_criterion(&rt, &copied, count)?;
-    }
-    Ok(())
+fn reads_and_copies_a_number_criterion(rt: HostRuntime) {
+    assert!(rt; is_read_and_copied(rt.alloc(), 1));
+    assert!(rt; is_read_and_copied(rt.alloc(), 2));
+    assert!(rt; is_read_and_copied(rt.alloc(), 3));
 }
 
 const CODES: [BasicService; 2] = [BasicService::Tele(0x10), BasicService::Bearer(0x18)];
@@ -66,33 +70,35 @@ fn o_entry(alloc: Global) -> Result<OCriteria, Refusal> {
     )
 }
 
-fn check_o_entry(rt: &impl Abort, entry: &OCriteria) -> Result<(), Fail> {
-    assert_eq!(rt; entry.dp(), 4);
-    let number = entry.number().ok_or("no number criterion")?;
-    check_number_criterion(rt, number, 3)?;
-    assert_eq!(rt; entry.basic(), CODES.as_slice());
-    assert_eq!(rt; entry.call_type(), Some(CallType::Forwarded));
-    assert_eq!(rt; entry.causes(), [18, 17].as_slice());
-    Ok(())
+fn is_o_entry(entry: &OCriteria) -> bool {
+    entry.dp() == 4
+        && entry
+            .number()
+            .is_some_and(|number| is_number_criterion(number, 3))
+        && entry.basic() == CODES.as_slice()
+        && entry.call_type() == Some(CallType::Forwarded)
+        && entry.causes() == [18, 17].as_slice()
+}
+
+fn is_o_entry_and_its_copy(entry: &OCriteria) -> bool {
+    is_o_entry(entry) && entry.clone().is_ok_and(|copied| is_o_entry(&copied))
 }
 
 #[test]
-fn reads_and_copies_an_entry_of_the_o_csi(rt: HostRuntime) -> Result<(), Fail> {
-    let entry = o_entry(rt.alloc())?;
-    check_o_entry(&rt, &entry)?;
-    check_o_entry(&rt, &entry.clone()?)
+fn reads_and_copies_an_entry_of_the_o_csi(rt: HostRuntime) {
+    assert!(rt; o_entry(rt.alloc()).is_ok_and(|entry| is_o_entry_and_its_copy(&entry)));
 }
 
-fn check_t_entry(rt: &impl Abort, entry: &TCriteria) {
-    assert_eq!(rt; entry.dp(), 13);
-    assert_eq!(rt; entry.basic(), CODES.as_slice());
-    assert_eq!(rt; entry.causes(), [18, 17].as_slice());
+fn is_t_entry(entry: &TCriteria) -> bool {
+    entry.dp() == 13 && entry.basic() == CODES.as_slice() && entry.causes() == [18, 17].as_slice()
+}
+
+fn is_t_entry_and_its_copy(entry: &TCriteria) -> bool {
+    is_t_entry(entry) && entry.clone().is_ok_and(|copied| is_t_entry(&copied))
 }
 
 #[test]
-fn reads_and_copies_an_entry_of_the_vt_csi(rt: HostRuntime) -> Result<(), Fail> {
-    let entry = TCriteria::new(13, &CODES, &[18, 17])?;
-    check_t_entry(&rt, &entry);
-    check_t_entry(&rt, &entry.clone()?);
-    Ok(())
+fn reads_and_copies_an_entry_of_the_vt_csi(rt: HostRuntime) {
+    let made = TCriteria::new(13, &CODES, &[18, 17]);
+    assert!(rt; made.is_ok_and(|entry| is_t_entry_and_its_copy(&entry)));
 }

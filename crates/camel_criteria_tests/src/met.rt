@@ -1,12 +1,10 @@
 use camel_criteria::{
-    BasicService, CallType, Cause, MatchType, NumberCriterion, OCriteria, OEvent, TCriteria,
-    TEvent, criteria_mean, o_met, t_met,
+    BasicService, CallType, Cause, MatchType, NumberCriterion, OCriteria, OEvent, Refusal,
+    TCriteria, TEvent, criteria_mean, o_met, t_met,
 };
 use camel_fixtures::{DESTINATION, TELEPHONY, numbers_of};
 use camel_tbcd::{Address, Profile};
 use std::alloc::Global;
-use std::process::Abort;
-use std::test::Fail;
 
 /// The listed numbers and the lengths of a criterion, a destination, and whether a call to it meets the criterion.
 type NumberCase = (&'static [&'static [u8]], &'static [u8], &'static [u8], bool);
@@ -53,42 +51,58 @@ fn number_entry(
     match_type: MatchType,
     listed: &[&[u8]],
     lengths: &[u8],
-) -> Result<OCriteria, Fail> {
+) -> Result<OCriteria, Refusal> {
     let numbers = numbers_of(alloc, listed)?;
     let number = NumberCriterion::new(alloc, match_type, &numbers, lengths)?;
-    Ok(OCriteria::new(alloc, 2, Some(number), &[], None, &[])?)
+    OCriteria::new(alloc, 2, Some(number), &[], None, &[])
 }
 
-fn check_numbers(
-    rt: &impl Abort,
+fn is_number_met(entry: &OCriteria, destination: &[u8], profile: Profile) -> Option<bool> {
+    let event = OEvent {
+        destination: Address::new(destination).ok()?,
+        basic: TELEPHONY,
+        forwarded: false,
+        cause: None,
+    };
+    Some(o_met(entry, &event, profile))
+}
+
+fn is_right(alloc: Global, match_type: MatchType, profile: Profile, case: &NumberCase) -> bool {
+    let (listed, lengths, destination, wanted) = *case;
+    number_entry(alloc, match_type, listed, lengths).is_ok_and(|entry| is_number_met(
+        &entry,
+        destination,
+        profile,
+    ) == Some(wanted))
+}
+
+/// The place of the first case that is answered otherwise.
+fn wrong_case(
     alloc: Global,
     match_type: MatchType,
     profile: Profile,
     cases: &[NumberCase],
-) -> Result<(), Fail> {
-    for (listed, lengths, destination, wanted) in cases {
-        let event = OEvent {
-            destination: Address::new(destination)?,
-            basic: TELEPHONY,
-            forwarded: false,
-            cause: None,
-        };
-        let entry = number_entry(alloc, match_type, listed, lengths)?;
-        assert_eq!(rt;
-            o_met(&entry, &event, profile),
-            *wanted,
-            "{entry:?} and {event:?} under {profile:?}"
-        );
+) -> Option<usize> {
+    for (at, case) in cases.iter().enumerate() {
+        if !is_right(alloc, match_type, profile, case) {
+            return Some(at);
+        }
     }
-    Ok(())
+    None
 }
 
 #[test]
-fn meets_a_number_criterion(rt: HostRuntime) -> Result<(), Fail> {
+fn meets_a_number_criterion(rt: HostRuntime) {
     criteria_mean();
     let (alloc, profile) = (rt.alloc(), Profile::One);
-    check_numbers(&rt, alloc, MatchType::Enabling, profile, &ENABLING)?;
-    check_numbers(&rt, alloc, MatchType::Inhibiting, profile, &INHIBITING)
+    assert_eq!(rt;
+        wrong_case(alloc, MatchType::Enabling, profile, &ENABLING),
+        None
+    );
+    assert_eq!(rt;
+        wrong_case(alloc, MatchType::Inhibiting, profile, &INHIBITING),
+        None
+    );
 }
 
 /// Under profile 2 a listed number also has the numbering plan of the destination. A length is of any plan.
@@ -106,22 +120,21 @@ const INHIBITING_WITH_PLANS: [NumberCase; 2] = [
 ];
 
 #[test]
-fn meets_a_number_criterion_by_its_plan_under_profile_2(rt: HostRuntime) -> Result<(), Fail> {
+fn meets_a_number_criterion_by_its_plan_under_profile_2(rt: HostRuntime) {
     let (alloc, profile) = (rt.alloc(), Profile::Two);
-    check_numbers(
-        &rt,
-        alloc,
-        MatchType::Enabling,
-        profile,
-        &ENABLING_WITH_PLANS,
-    )?;
-    check_numbers(
-        &rt,
-        alloc,
-        MatchType::Inhibiting,
-        profile,
-        &INHIBITING_WITH_PLANS,
-    )
+    assert_eq!(rt;
+        wrong_case(alloc, MatchType::Enabling, profile, &ENABLING_WITH_PLANS),
+        None
+    );
+    assert_eq!(rt;
+        wrong_case(
+            alloc,
+            MatchType::Inhibiting,
+            profile,
+            &INHIBITING_WITH_PLANS
+        ),
+        None
+    );
 }
 
 const SPEECH: &[BasicService] = &[BasicService::Tele(0x10)];
@@ -156,25 +169,33 @@ const O_CASES: [OCase; 11] = [
     (SPEECH, FORWARDED, &[17], 0x11, true, Some(18), false),
 ];
 
-fn check_o_entries(rt: &impl Abort, alloc: Global, cases: &[OCase]) -> Result<(), Fail> {
-    for (codes, call_type, causes, code, forwarded, cause, wanted) in cases {
-        let event = OEvent {
-            destination: Address::new(&DESTINATION)?,
-            basic: BasicService::Tele(*code),
-            forwarded: *forwarded,
-            cause: cause.and_then(Cause::new),
-        };
-        let entry = OCriteria::new(alloc, 4, None, codes, *call_type, causes)?;
-        let met = o_met(&entry, &event, Profile::One);
-        assert_eq!(rt; met, *wanted, "{entry:?} and {event:?}");
-    }
-    Ok(())
+fn is_o_right(alloc: Global, case: &OCase) -> bool {
+    let (codes, call_type, causes, code, forwarded, cause, wanted) = *case;
+    let Ok(destination) = Address::new(&DESTINATION) else {
+        return false;
+    };
+    let event = OEvent {
+        destination,
+        basic: BasicService::Tele(code),
+        forwarded,
+        cause: cause.and_then(Cause::new),
+    };
+    OCriteria::new(alloc, 4, None, codes, call_type, causes).is_ok_and(|entry| o_met(
+        &entry,
+        &event,
+        Profile::One,
+    ) == wanted)
+}
+
+/// The place of the first case that is answered otherwise.
+fn wrong_o_case(alloc: Global, cases: &[OCase]) -> Option<usize> {
+    cases.iter().position(|case| !is_o_right(alloc, case))
 }
 
 /// By TS 23.078 an event meets an entry if it meets each criterion of it.
 #[test]
-fn meets_an_entry_of_the_o_csi_by_each_criterion(rt: HostRuntime) -> Result<(), Fail> {
-    check_o_entries(&rt, rt.alloc(), &O_CASES)
+fn meets_an_entry_of_the_o_csi_by_each_criterion(rt: HostRuntime) {
+    assert_eq!(rt; wrong_o_case(rt.alloc(), &O_CASES), None);
 }
 
 const FACSIMILE: &[BasicService] = &[BasicService::Tele(0x60)];
@@ -191,19 +212,21 @@ const T_CASES: [TCase; 5] = [
     (FACSIMILE, &[17], 0x62, None, false),
 ];
 
-fn check_t_entries(rt: &impl Abort, cases: &[TCase]) -> Result<(), Fail> {
-    for (codes, causes, code, cause, wanted) in cases {
-        let entry = TCriteria::new(13, codes, causes)?;
-        let event = TEvent {
-            basic: BasicService::Tele(*code),
-            cause: cause.and_then(Cause::new),
-        };
-        assert_eq!(rt; t_met(&entry, &event), *wanted, "{entry:?} and {event:?}");
-    }
-    Ok(())
+fn is_t_right(case: &TCase) -> bool {
+    let (codes, causes, code, cause, wanted) = *case;
+    let event = TEvent {
+        basic: BasicService::Tele(code),
+        cause: cause.and_then(Cause::new),
+    };
+    TCriteria::new(13, codes, causes).is_ok_and(|entry| t_met(&entry, &event) == wanted)
+}
+
+/// The place of the first case that is answered otherwise.
+fn wrong_t_case(cases: &[TCase]) -> Option<usize> {
+    cases.iter().position(|case| !is_t_right(case))
 }
 
 #[test]
-fn meets_an_entry_of_the_vt_csi_by_each_criterion(rt: HostRuntime) -> Result<(), Fail> {
-    check_t_entries(&rt, &T_CASES)
+fn meets_an_entry_of_the_vt_csi_by_each_criterion(rt: HostRuntime) {
+    assert_eq!(rt; wrong_t_case(&T_CASES), None);
 }

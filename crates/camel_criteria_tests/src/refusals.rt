@@ -1,11 +1,9 @@
 use camel_criteria::Refusal;
 use std::alloc::{AllocError, AllocFailed, Global};
 use std::error::Error;
-use std::process::Abort;
-use std::test::Fail;
 
-fn text_of<E: Error>(alloc: Global, error: &E) -> Result<String, AllocError> {
-    format!(in alloc; "{error}")
+fn prints<E: Error>(alloc: Global, error: &E, text: &str) -> bool {
+    format!(in alloc; "{error}").is_ok_and(|printed| printed.as_str() == text)
 }
 
 /// The numbers below 101 are those of the user errors of TS 29.002.
@@ -35,21 +33,19 @@ const REFUSALS: [(Refusal, u16, &str); 7] = [
     (Refusal::NoGuard, 104, "the session got no look"),
 ];
 
-fn check_refusals(
-    rt: &impl Abort,
-    alloc: Global,
-    cases: &[(Refusal, u16, &str)],
-) -> Result<(), Fail> {
+/// The number of the first refusal that shows otherwise.
+fn wrong_refusal(alloc: Global, cases: &[(Refusal, u16, &str)]) -> Option<u16> {
     for (refusal, code, text) in cases {
-        assert_eq!(rt; refusal.code(), *code, "{text}");
-        assert_eq!(rt; text_of(alloc, refusal)?.as_str(), *text);
+        if refusal.code() != *code || !prints(alloc, refusal, text) {
+            return Some(*code);
+        }
     }
-    Ok(())
+    None
 }
 
 #[test]
-fn each_refusal_has_its_number_and_text(rt: HostRuntime) -> Result<(), Fail> {
-    check_refusals(&rt, rt.alloc(), &REFUSALS)
+fn each_refusal_has_its_number_and_text(rt: HostRuntime) {
+    assert_eq!(rt; wrong_refusal(rt.alloc(), &REFUSALS), None);
 }
 
 /// What `?` makes of an error, through the bound only.
@@ -63,6 +59,6 @@ where
 #[test]
 fn an_error_of_the_allocator_is_out_of_memory(rt: HostRuntime) {
     let failed = AllocFailed { value: 7u8 };
-    assert_eq!(rt; refusal_from(AllocError), Err(Refusal::OutOfMemory));
-    assert_eq!(rt; refusal_from(failed), Err(Refusal::OutOfMemory));
+    assert!(rt; refusal_from(AllocError) == Err(Refusal::OutOfMemory));
+    assert!(rt; refusal_from(failed) == Err(Refusal::OutOfMemory));
 }
