@@ -1,61 +1,66 @@
 //! Copies of updates and of records, and what an admission counts.
 
+use crate::restored::{NO_CSI, published};
 use camel_criteria::Refusal;
 use camel_fixtures::{ARMED, LISTED, criteria_update, imsi_of, stored_summary};
-use camel_rows::{Admission, CsisPresent, Records, Update};
-use std::test::Fail;
+use camel_rows::{Admission, Records, Update};
+use std::alloc::Global;
 
-#[test]
-fn copies_hold_the_same(rt: HostRuntime) -> Result<(), Fail> {
-    let imsi = imsi_of(1)?;
-    let insert = criteria_update(rt.alloc(), imsi)?.copy()?;
-    let mut records = Records::new(rt.alloc());
+fn refuse_an_unknown_subscriber(alloc: Global) -> Option<bool> {
+    let insert = criteria_update(alloc, imsi_of(1).ok()?).ok()?.copy().ok()?;
+    let mut records = Records::new(alloc);
     let unknown = Err(Refusal::UnidentifiedSubscriber);
-    assert!(rt; records.check(&insert) == unknown);
-    assert!(rt; records.apply(&insert) == unknown);
-    records.apply(&Update::Register { imsi })?;
-    records.apply(&insert)?;
-    let mut copied = records.copy()?;
-    records.apply(&Update::Cancel { imsi })?;
-    assert_eq!(rt; stored_summary(&records, &imsi, 2), None);
-    let stored = Some((Some(ARMED), Some(LISTED)));
-    assert_eq!(rt; stored_summary(&copied, &imsi, 2), stored);
-    copied.apply(&Update::ClearAll.copy()?)?;
-    assert!(rt; copied.get(&imsi).is_none());
-    Ok(())
+    Some(records.check(&insert) == unknown && records.apply(&insert) == unknown)
+}
+
+fn hold_the_same_in_a_copy(alloc: Global) -> Option<bool> {
+    let imsi = imsi_of(1).ok()?;
+    let mut records = published(alloc)?;
+    let mut copied = records.copy().ok()?;
+    records.apply(&Update::Cancel { imsi }).ok()?;
+    let stored = stored_summary(&copied, &imsi, 2);
+    copied.apply(&Update::ClearAll.copy().ok()?).ok()?;
+    Some(
+        stored_summary(&records, &imsi, 2).is_none()
+            && stored == Some((Some(ARMED), Some(LISTED)))
+            && copied.get(&imsi).is_none(),
+    )
 }
 
 #[test]
-fn an_admission_counts_what_it_accepts(rt: HostRuntime) -> Result<(), Fail> {
-    let imsi = imsi_of(1)?;
-    let mut admission = Admission::new(rt.alloc(), 1);
+fn copies_hold_the_same(rt: HostRuntime) {
+    assert!(rt; refuse_an_unknown_subscriber(rt.alloc()) == Some(true));
+    assert!(rt; hold_the_same_in_a_copy(rt.alloc()) == Some(true));
+}
+
+fn counts_a_registration(alloc: Global) -> Option<bool> {
+    let imsi = imsi_of(1).ok()?;
     let register = Update::Register { imsi };
-    let csis = CsisPresent {
-        o: false,
-        vt: false,
-    };
-    assert_eq!(rt; admission.check(&register), Ok(Some(csis)));
-    admission.accept(Some(imsi), Some(csis))?;
-    assert_eq!(rt;
-        (admission.accepted(), admission.csis(&imsi)),
-        (1, Some(csis))
-    );
-    assert_eq!(rt; admission.check(&register), Err(Refusal::HistoryFull));
-    Ok(())
+    let mut admission = Admission::new(alloc, 1);
+    let is_admitted = admission.check(&register) == Ok(NO_CSI);
+    admission.accept(Some(imsi), NO_CSI).ok()?;
+    let is_counted = (admission.accepted(), admission.csis(&imsi)) == (1, NO_CSI);
+    Some(is_admitted && is_counted && admission.check(&register) == Err(Refusal::HistoryFull))
 }
 
 #[test]
-fn a_clear_leaves_no_subscriber_admitted(rt: HostRuntime) -> Result<(), Fail> {
-    let imsi = imsi_of(1)?;
-    let mut admission = Admission::new(rt.alloc(), 3);
-    assert_eq!(rt; Update::ClearAll.imsi(), None);
-    let csis = admission.check(&Update::Register { imsi })?;
-    admission.accept(Some(imsi), csis)?;
-    assert_eq!(rt; (admission.accepted(), admission.csis(&imsi)), (1, csis));
-    assert_eq!(rt; admission.check(&Update::ClearAll), Ok(None));
+fn an_admission_counts_what_it_accepts(rt: HostRuntime) {
+    assert!(rt; counts_a_registration(rt.alloc()) == Some(true));
+}
+
+fn forgets_all_at_a_clear(alloc: Global) -> Option<bool> {
+    let imsi = imsi_of(1).ok()?;
+    let mut admission = Admission::new(alloc, 3);
+    admission.accept(Some(imsi), NO_CSI).ok()?;
+    let is_admitted = admission.check(&Update::ClearAll) == Ok(None);
     admission.accept_removal(None);
-    assert_eq!(rt; (admission.accepted(), admission.csis(&imsi)), (2, None));
-    admission.accept(None, None)?;
-    assert_eq!(rt; admission.accepted(), 3);
-    Ok(())
+    let is_forgotten = (admission.accepted(), admission.csis(&imsi)) == (2, None);
+    admission.accept(None, None).ok()?;
+    Some(is_admitted && is_forgotten && admission.accepted() == 3)
+}
+
+#[test]
+fn a_clear_leaves_no_subscriber_admitted(rt: HostRuntime) {
+    assert!(rt; Update::ClearAll.imsi().is_none());
+    assert!(rt; forgets_all_at_a_clear(rt.alloc()) == Some(true));
 }

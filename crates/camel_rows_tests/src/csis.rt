@@ -1,70 +1,95 @@
 use camel_criteria::{CriteriaEntry, Handling, OCriteria, Refusal, TCriteria};
 use camel_fixtures::{SCF, row_of};
-use camel_rows::{CriteriaSet, Csi, OCriteriaSet, OCsi, TCriteriaSet, VtCsi};
-use std::test::Fail;
+use camel_rows::{CriteriaSet, Csi, OCriteriaSet, OCsi, TCriteriaSet, TdpRow, VtCsi};
+use std::alloc::Global;
 
 const UNEXPECTED: Option<Refusal> = Some(Refusal::UnexpectedDataValue);
 
 const MISSING: Option<Refusal> = Some(Refusal::DataMissing);
 
-/// By TS 29.002 a ServiceKey has 31 bits.
-#[test]
-fn a_row_shows_its_four_values(rt: HostRuntime) -> Result<(), Fail> {
-    let row = row_of(4, 2_147_483_647, 1)?;
-    let values = (row.dp(), row.key(), row.handling());
-    assert_eq!(rt; values, (4, 2_147_483_647, Handling::Release));
-    assert_eq!(rt; row.scf().bytes(), SCF.as_slice());
-    assert_eq!(rt; row_of(4, 2_147_483_648, 1).err(), UNEXPECTED);
-    Ok(())
+fn shows_its_values(row: &TdpRow) -> bool {
+    (row.dp(), row.key(), row.handling()) == (4, 2_147_483_647, Handling::Release)
+        && row.scf().bytes() == SCF.as_slice()
 }
 
-/// How many rows there are, and the service keys of the first two and of the row of a detection point.
-fn rows_in<const MOST: usize>(csi: &Csi<MOST>, dp: u8) -> (usize, [Option<u32>; 3]) {
-    let keys = [csi.get(0), csi.get(1), csi.row(dp)].map(|row| row.map(|row| row.key()));
-    (csi.len(), keys)
+/// By TS 29.002 a ServiceKey has 31 bits.
+#[test]
+fn a_row_shows_its_four_values(rt: HostRuntime) {
+    assert!(rt; row_of(4, 2_147_483_647, 1).is_ok_and(|row| shows_its_values(&row)));
+    assert!(rt; row_of(4, 2_147_483_648, 1).err() == UNEXPECTED);
 }
 
 /// By TS 23.078 rows of other detection points are ignored; each row here has its place as its service key.
-#[test]
-fn a_csi_keeps_its_rows_in_order(rt: HostRuntime) -> Result<(), Fail> {
-    let rows = [
+fn mixed_rows() -> Result<[TdpRow; 4], Refusal> {
+    Ok([
         row_of(14, 0, 0)?,
         row_of(4, 1, 0)?,
         row_of(12, 2, 0)?,
         row_of(2, 3, 0)?,
-    ];
-    let o = OCsi::new(&rows)?;
-    assert_eq!(rt; rows_in(&o, 2), (2, [Some(1), Some(3), Some(3)]));
-    let vt = VtCsi::new(&rows)?;
-    assert_eq!(rt; rows_in(&vt, 12), (2, [Some(0), Some(2), Some(2)]));
-    assert!(rt; OCsi::new(&[]).err() == MISSING && VtCsi::new(&[]).err() == MISSING);
-    let ignored = OCsi::new(&rows[..1])?;
-    assert!(rt; ignored.is_empty());
-    assert_eq!(rt; rows_in(&ignored, 14), (0, [None; 3]));
-    Ok(())
+    ])
 }
 
-/// How many entries there are, and the detection points of the first two and of the entry that is found at one.
-fn entries_in<E: CriteriaEntry>(set: &CriteriaSet<E>, dp: u8) -> (usize, [Option<u8>; 3]) {
-    let points = [set.get(0), set.get(1), set.entry(dp)];
-    (
-        set.len(),
-        points.map(|entry| entry.map(|entry| entry.detection_point())),
-    )
+/// An O-CSI of the first so many of the rows.
+fn o_csi(count: usize) -> Result<OCsi, Refusal> {
+    OCsi::new(mixed_rows()?.get(..count).unwrap_or(&[]))
+}
+
+/// A VT-CSI of the first so many of the rows.
+fn vt_csi(count: usize) -> Result<VtCsi, Refusal> {
+    VtCsi::new(mixed_rows()?.get(..count).unwrap_or(&[]))
+}
+
+/// Whether there are so many rows, and these are the service keys of the first two and of the row of a detection point.
+fn has_rows<const MOST: usize>(
+    csi: &Csi<MOST>,
+    count: usize,
+    dp: u8,
+    keys: [Option<u32>; 3],
+) -> bool {
+    csi.len() == count
+        && csi.is_empty() == (count == 0)
+        && [csi.get(0), csi.get(1), csi.row(dp)].map(|row| row.map(|row| row.key())) == keys
 }
 
 #[test]
-fn a_set_of_criteria_keeps_its_entries_in_order(rt: HostRuntime) -> Result<(), Fail> {
-    let (mut o, mut t) = (Vec::new(rt.alloc()), Vec::new(rt.alloc()));
-    assert_eq!(rt; OCriteriaSet::new(Vec::new(rt.alloc())).err(), MISSING);
-    assert_eq!(rt; TCriteriaSet::new(Vec::new(rt.alloc())).err(), MISSING);
-    for dp in [14, 4, 12, 2] {
-        o.push(OCriteria::new(rt.alloc(), dp, None, &[], None, &[])?)?;
-        t.push(TCriteria::new(dp, &[], &[])?)?;
+fn a_csi_keeps_its_rows_in_order(rt: HostRuntime) {
+    assert!(rt; o_csi(4).is_ok_and(|csi| has_rows(&csi, 2, 2, [Some(1), Some(3), Some(3)])));
+    assert!(rt; vt_csi(4).is_ok_and(|csi| has_rows(&csi, 2, 12, [Some(0), Some(2), Some(2)])));
+    assert!(rt; o_csi(1).is_ok_and(|csi| has_rows(&csi, 0, 14, [None; 3])));
+    assert!(rt; o_csi(0).err() == MISSING);
+    assert!(rt; vt_csi(0).err() == MISSING);
+}
+
+fn o_set(alloc: Global, points: &[u8]) -> Result<OCriteriaSet, Refusal> {
+    let mut entries = Vec::new(alloc);
+    for dp in points {
+        entries.push(OCriteria::new(alloc, *dp, None, &[], None, &[])?)?;
     }
-    let (o, t) = (OCriteriaSet::new(o)?, TCriteriaSet::new(t)?);
-    assert_eq!(rt; entries_in(&o, 2), (2, [Some(4), Some(2), Some(2)]));
-    assert_eq!(rt; entries_in(&t, 12), (2, [Some(14), Some(12), Some(12)]));
-    assert!(rt; !o.is_empty() && !t.is_empty());
-    Ok(())
+    OCriteriaSet::new(entries)
+}
+
+fn t_set(alloc: Global, points: &[u8]) -> Result<TCriteriaSet, Refusal> {
+    let mut entries = Vec::new(alloc);
+    for dp in points {
+        entries.push(TCriteria::new(*dp, &[], &[])?)?;
+    }
+    TCriteriaSet::new(entries)
+}
+
+/// Whether a set has two entries, of these detection points, and finds the second.
+fn has_entries<E: CriteriaEntry>(set: &CriteriaSet<E>, first: u8, second: u8) -> bool {
+    set.len() == 2
+        && !set.is_empty()
+        && [set.get(0), set.get(1), set.entry(second)].map(|entry| entry.map(
+            |entry| entry.detection_point(),
+        )) == [Some(first), Some(second), Some(second)]
+}
+
+#[test]
+fn a_set_of_criteria_keeps_its_entries_in_order(rt: HostRuntime) {
+    let points = [14, 4, 12, 2];
+    assert!(rt; o_set(rt.alloc(), &points).is_ok_and(|set| has_entries(&set, 4, 2)));
+    assert!(rt; t_set(rt.alloc(), &points).is_ok_and(|set| has_entries(&set, 14, 12)));
+    assert!(rt; o_set(rt.alloc(), &[]).err() == MISSING);
+    assert!(rt; t_set(rt.alloc(), &[]).err() == MISSING);
 }

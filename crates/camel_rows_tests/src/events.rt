@@ -1,14 +1,17 @@
 use camel_criteria::{BasicService, Cause};
 use camel_fixtures::{DESTINATION, TELEPHONY, imsi_of};
 use camel_rows::{CallEvent, Event};
-use camel_tbcd::{CallAddress, Imsi};
-use std::process::Abort;
-use std::test::Fail;
+use camel_tbcd::CallAddress;
 
 const FACSIMILE: BasicService = BasicService::Tele(0x62);
 
-/// The destination of a call and whether it is forwarded, if the event has them.
-fn destination_of<'a>(event: &Event<'a>) -> Option<(&'a [u8], bool)> {
+const BEARER: BasicService = BasicService::Bearer(0x11);
+
+/// What an event shows: its detection point, basic service and cause.
+type Shown = (u8, BasicService, Option<u8>);
+
+/// Whether the destination of a call is `DESTINATION`, and whether it is forwarded, if the event has them.
+fn destination_of(event: &Event) -> Option<(bool, bool)> {
     match event {
         Event::CollectedInfo {
             destination,
@@ -19,94 +22,78 @@ fn destination_of<'a>(event: &Event<'a>) -> Option<(&'a [u8], bool)> {
             destination,
             forwarded,
             ..
-        } => Some((destination.bytes(), *forwarded)),
+        } => Some((destination.bytes() == DESTINATION.as_slice(), *forwarded)),
         _ => None,
     }
 }
 
-/// What an event shows: its detection point, basic service and cause.
-fn shown_by(event: &Event) -> (u8, BasicService, Option<u8>) {
-    (event.dp(), event.basic(), value_of(event.cause()))
+/// Whether a call of the subscriber 1 shows this, and `DESTINATION` if it shows whether it is forwarded.
+fn shows(call: &CallEvent, wanted: Shown, forwarded: Option<bool>) -> Option<bool> {
+    let event = call.lend();
+    let cause = event.cause().map(|cause| cause.value());
+    Some(
+        (event.dp(), event.basic(), cause) == wanted
+            && event.imsi() == imsi_of(1).ok()?
+            && destination_of(&event) == forwarded.map(|forwarded| (true, forwarded)),
+    )
 }
 
-fn value_of(cause: Option<Cause>) -> Option<u8> {
-    Some(cause?.value())
+fn shows_collected_info() -> Option<bool> {
+    let call = CallEvent::CollectedInfo {
+        imsi: imsi_of(1).ok()?,
+        destination: CallAddress::from_bytes(&DESTINATION).ok()?,
+        basic: TELEPHONY,
+        forwarded: false,
+    };
+    shows(&call, (2, TELEPHONY, None), Some(false))
 }
 
-/// An originating call, before and after a failure, of the subscriber 1.
-fn originating(destination: CallAddress, forwarded: bool) -> Result<(CallEvent, CallEvent), Fail> {
-    let imsi = imsi_of(1)?;
-    Ok((
-        CallEvent::CollectedInfo {
-            imsi,
-            destination,
-            basic: TELEPHONY,
-            forwarded,
-        },
-        CallEvent::RouteSelectFailure {
-            imsi,
-            destination,
-            basic: FACSIMILE,
-            forwarded,
-            cause: Cause::new(3).ok_or("no cause")?,
-        },
-    ))
-}
-
-#[test]
-fn an_originating_call_shows_what_it_was_made_of(rt: HostRuntime) -> Result<(), Fail> {
-    check_originating(&rt, &DESTINATION, false)?;
-    check_originating(&rt, &[0x91; 20], true)?;
-    check_originating(&rt, &[0x11], false)
-}
-
-fn check_originating(rt: &impl Abort, octets: &[u8], forwarded: bool) -> Result<(), Fail> {
-    let (before, after) = originating(CallAddress::from_bytes(octets)?, forwarded)?;
-    let (before, after) = (before.lend(), after.lend());
-    assert!(rt; shown_by(&before) == (2, TELEPHONY, None));
-    assert!(rt; shown_by(&after) == (4, FACSIMILE, Some(3)));
-    let imsi = imsi_of(1)?;
-    assert!(rt; before.imsi() == imsi && after.imsi() == imsi);
-    let destination = Some((octets, forwarded));
-    assert!(rt; destination_of(&before) == destination, "{before:?}");
-    assert!(rt; destination_of(&after) == destination, "{after:?}");
-    Ok(())
-}
-
-/// The three events of calls to a subscriber, each with another basic service and another cause.
-fn terminating(imsi: Imsi) -> Result<[CallEvent; 3], Fail> {
-    Ok([
-        CallEvent::TerminatingAttempt {
-            imsi,
-            basic: TELEPHONY,
-        },
-        CallEvent::Busy {
-            imsi,
-            basic: FACSIMILE,
-            cause: Cause::new(17).ok_or("no cause")?,
-        },
-        CallEvent::NoAnswer {
-            imsi,
-            basic: BasicService::Bearer(0x11),
-            cause: Cause::new(127).ok_or("no cause")?,
-        },
-    ])
+fn shows_a_route_failure() -> Option<bool> {
+    let call = CallEvent::RouteSelectFailure {
+        imsi: imsi_of(1).ok()?,
+        destination: CallAddress::from_bytes(&DESTINATION).ok()?,
+        basic: FACSIMILE,
+        forwarded: true,
+        cause: Cause::new(3)?,
+    };
+    shows(&call, (4, FACSIMILE, Some(3)), Some(true))
 }
 
 #[test]
-fn a_call_to_a_subscriber_shows_what_it_was_made_of(rt: HostRuntime) -> Result<(), Fail> {
-    let bearer = BasicService::Bearer(0x11);
-    let wanted = [
-        (12, TELEPHONY, None),
-        (13, FACSIMILE, Some(17)),
-        (14, bearer, Some(127)),
-    ];
-    let imsi = imsi_of(2)?;
-    for (call, wanted) in terminating(imsi)?.iter().zip(wanted.iter()) {
-        let event = call.lend();
-        assert!(rt; shown_by(&event) == *wanted, "{event:?}");
-        assert!(rt; event.imsi() == imsi, "{event:?}");
-        assert!(rt; destination_of(&event).is_none(), "{event:?}");
-    }
-    Ok(())
+fn an_originating_call_shows_what_it_was_made_of(rt: HostRuntime) {
+    assert!(rt; shows_collected_info() == Some(true));
+    assert!(rt; shows_a_route_failure() == Some(true));
+}
+
+fn shows_an_attempt() -> Option<bool> {
+    let call = CallEvent::TerminatingAttempt {
+        imsi: imsi_of(1).ok()?,
+        basic: TELEPHONY,
+    };
+    shows(&call, (12, TELEPHONY, None), None)
+}
+
+fn shows_that_it_is_busy() -> Option<bool> {
+    let call = CallEvent::Busy {
+        imsi: imsi_of(1).ok()?,
+        basic: FACSIMILE,
+        cause: Cause::new(17)?,
+    };
+    shows(&call, (13, FACSIMILE, Some(17)), None)
+}
+
+fn shows_that_nobody_answers() -> Option<bool> {
+    let call = CallEvent::NoAnswer {
+        imsi: imsi_of(1).ok()?,
+        basic: BEARER,
+        cause: Cause::new(127)?,
+    };
+    shows(&call, (14, BEARER, Some(127)), None)
+}
+
+#[test]
+fn a_call_to_a_subscriber_shows_what_it_was_made_of(rt: HostRuntime) {
+    assert!(rt; shows_an_attempt() == Some(true));
+    assert!(rt; shows_that_it_is_busy() == Some(true));
+    assert!(rt; shows_that_nobody_answers() == Some(true));
 }

@@ -12,8 +12,6 @@ mod events;
 #[cfg(test)]
 mod marked;
 #[cfg(test)]
-mod refill;
-#[cfg(test)]
 mod restored;
 #[cfg(test)]
 mod updates;
