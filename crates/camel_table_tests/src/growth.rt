@@ -1,10 +1,9 @@
 use camel_fixtures::imsi_of;
 use camel_table::Table;
 use camel_tbcd::Imsi;
-use std::alloc::{AllocError, Global};
+use std::alloc::Global;
 use std::cell::Cell;
 use std::hash::{BuildHasher, FoldHasher, Hasher};
-use std::test::Fail;
 
 // Counts the hashes that are made: one for each question for an entry's bucket.
 #[derive(Clone, Copy, Drop)]
@@ -35,14 +34,10 @@ fn counted_table(alloc: Global, made: &Cell<u64>) -> CountedTable<'_> {
 }
 
 /// Inserts a value, and returns how many hashes are made for it.
-fn hashes_of_insert(
-    table: &mut CountedTable,
-    made: &Cell<u64>,
-    imsi: &Imsi,
-) -> Result<u64, AllocError> {
+fn hashes_of_insert(table: &mut CountedTable, made: &Cell<u64>, imsi: &Imsi) -> Option<u64> {
     made.set(0);
-    table.insert(imsi, 0)?;
-    Ok(made.get())
+    table.insert(imsi, 0).ok()?;
+    Some(made.get())
 }
 
 const ORDERED: usize = 4_096;
@@ -51,13 +46,13 @@ const ORDERED: usize = 4_096;
 const TRIED: u64 = 100_000;
 
 /// Subscribers whose hashes end in 0, 1, 2 and so on, in this order.
-fn in_order_of_hashes(alloc: Global) -> Result<Vec<Option<Imsi>>, Fail> {
+fn in_order_of_hashes(alloc: Global) -> Option<Vec<Option<Imsi>>> {
     let mut found = Vec::new(alloc);
     for _ in 0..ORDERED {
-        found.push(None)?;
+        found.push(None).ok()?;
     }
     for number in 0..TRIED {
-        let imsi = imsi_of(number)?;
+        let imsi = imsi_of(number).ok()?;
         let mut hasher = FoldHasher::default();
         hasher.write_u64(imsi.number());
         let end = hasher.finish() as usize % ORDERED;
@@ -65,7 +60,7 @@ fn in_order_of_hashes(alloc: Global) -> Result<Vec<Option<Imsi>>, Fail> {
             *place = Some(imsi);
         }
     }
-    Ok(found)
+    Some(found)
 }
 
 // In this order one bucket after the other gets its sixth entry, and is split. So there is never a longer bucket than of
@@ -74,21 +69,25 @@ const LONGEST: u64 = 6;
 
 // A value that is inserted is hashed once, and with it the entries of the bucket that is split. Two buckets would have
 // nine entries or more.
-#[test]
-fn an_insertion_moves_the_entries_of_one_bucket_at_most(rt: HostRuntime) -> Result<(), Fail> {
+fn splits_of_one_bucket_each(alloc: Global) -> Option<usize> {
     let made = Cell::new(0);
-    let mut table = counted_table(rt.alloc(), &made);
+    let mut table = counted_table(alloc, &made);
     let mut splits: usize = 0;
-    for found in in_order_of_hashes(rt.alloc())? {
-        let imsi = found.ok_or("no hash with this end")?;
-        let hashes = hashes_of_insert(&mut table, &made, &imsi)?;
-        assert!(rt; hashes <= 1 + LONGEST, "{imsi:?}");
+    for found in in_order_of_hashes(alloc)? {
+        let hashes = hashes_of_insert(&mut table, &made, &found?)?;
+        if hashes > 1 + LONGEST {
+            return None;
+        }
         splits = splits.wrapping_add(usize::from(hashes > 1));
     }
-    // The buckets become twice as many with each doubling of the entries: the 1,024 that 3,072 entries ask for are enough
-    // up to 5,120.
-    assert!(rt; splits == ORDERED / 4 - 1);
-    Ok(())
+    Some(splits)
+}
+
+// The buckets become twice as many with each doubling of the entries: the 1,024 that 3,072 entries ask for are enough up
+// to 5,120.
+#[test]
+fn an_insertion_moves_the_entries_of_one_bucket_at_most(rt: HostRuntime) {
+    assert!(rt; splits_of_one_bucket_each(rt.alloc()) == Some(ORDERED / 4 - 1));
 }
 
 const REPLACED: u64 = 1_000;
@@ -97,21 +96,27 @@ const ROUNDS: u64 = 1_000;
 
 // A value that is inserted in the place of another one is hashed once, also if its bucket is long: a table grows with
 // its subscribers, and not with the updates.
-#[test]
-fn a_million_replaced_values_split_no_bucket(rt: HostRuntime) -> Result<(), Fail> {
+fn hashes_of_replacements(alloc: Global) -> Option<u64> {
     let made = Cell::new(0);
-    let mut table = counted_table(rt.alloc(), &made);
-    for number in 0..REPLACED {
-        table.insert(&imsi_of(number)?, 0)?;
-    }
+    let mut table = counted_table(alloc, &made);
+    insert_all(&mut table)?;
     made.set(0);
     for _ in 0..ROUNDS {
-        for number in 0..REPLACED {
-            table.insert(&imsi_of(number)?, 0)?;
-        }
+        insert_all(&mut table)?;
     }
-    assert_eq!(rt; made.get(), ROUNDS * REPLACED);
-    Ok(())
+    Some(made.get())
+}
+
+fn insert_all(table: &mut CountedTable) -> Option<()> {
+    for number in 0..REPLACED {
+        table.insert(&imsi_of(number).ok()?, 0).ok()?;
+    }
+    Some(())
+}
+
+#[test]
+fn a_million_replaced_values_split_no_bucket(rt: HostRuntime) {
+    assert!(rt; hashes_of_replacements(rt.alloc()) == Some(ROUNDS * REPLACED));
 }
 
 const RANDOM: u64 = 200_000;
@@ -119,17 +124,23 @@ const RANDOM: u64 = 200_000;
 // No bucket of so many random ones has more entries when it is split.
 const MOST_IN_A_BUCKET: u64 = 30;
 
-#[test]
-fn no_bucket_of_random_hashes_is_long(rt: HostRuntime) -> Result<(), Fail> {
+// The most hashes of an insertion, and how many are made to find the last value.
+fn hashes_of_random_ones(alloc: Global) -> Option<(u64, u64)> {
     let made = Cell::new(0);
-    let mut table = counted_table(rt.alloc(), &made);
+    let mut table = counted_table(alloc, &made);
+    let mut most = 0;
     for number in 0..RANDOM {
-        let hashes = hashes_of_insert(&mut table, &made, &imsi_of(number)?)?;
-        assert!(rt; hashes <= 1 + MOST_IN_A_BUCKET, "{number}");
+        most = most.max(hashes_of_insert(&mut table, &made, &imsi_of(number).ok()?)?);
     }
-    let last = imsi_of(RANDOM)?;
-    table.insert(&last, 0)?;
+    let last = imsi_of(RANDOM).ok()?;
+    table.insert(&last, 0).ok()?;
     made.set(0);
-    assert!(rt; table.get(&last) == Some(&0) && made.get() == 1);
-    Ok(())
+    table.get(&last).filter(|value| **value == 0)?;
+    Some((most, made.get()))
+}
+
+#[test]
+fn no_bucket_of_random_hashes_is_long(rt: HostRuntime) {
+    let hashes = hashes_of_random_ones(rt.alloc());
+    assert!(rt; hashes.is_some_and(|(most, to_find)| most <= 1 + MOST_IN_A_BUCKET && to_find == 1));
 }

@@ -2,11 +2,7 @@
 #![tactic(auto)]
 
 #[cfg(test)]
-mod count;
-#[cfg(test)]
 mod growth;
-#[cfg(test)]
-mod one_bucket;
 #[cfg(test)]
 mod registers;
 #[cfg(test)]

@@ -1,49 +1,67 @@
 use camel_fixtures::imsi_of;
 use camel_table::{Seed, Table};
+use std::alloc::Global;
 use std::test::Fail;
+
+type Numbered = Table<u64, Seed>;
+
+/// A table of the subscribers with the numbers below this one, which are their values.
+pub(crate) fn numbered(alloc: Global, seed: Seed, below: u64) -> Option<Numbered> {
+    let mut table = Table::new(alloc, seed);
+    for number in 0..below {
+        table.insert(&imsi_of(number).ok()?, number).ok()?;
+    }
+    Some(table)
+}
+
+fn odd_ones(alloc: Global, seed: Seed, below: u64) -> Option<Numbered> {
+    let mut table = numbered(alloc, seed, below)?;
+    for number in 0..below {
+        if number % 2 == 0 {
+            table.remove(&imsi_of(number).ok()?);
+        }
+    }
+    Some(table)
+}
 
 const SUBSCRIBERS: u64 = 1_000_000;
 
 const LISTED: u64 = 10_000;
 
-#[test]
-fn finds_each_of_a_million_that_is_there(rt: HostRuntime) -> Result<(), Fail> {
-    let mut table = Table::new(rt.alloc(), Seed::new(17));
-    for number in 0..SUBSCRIBERS {
-        table.insert(&imsi_of(number)?, number)?;
-    }
-    for number in 0..SUBSCRIBERS {
-        if number % 2 == 0 {
-            table.remove(&imsi_of(number)?);
-        }
-    }
+fn finds_just_the_odd_ones(alloc: Global) -> Option<bool> {
+    let table = odd_ones(alloc, Seed::new(17), SUBSCRIBERS)?;
+    let mut are_found = table.len() == 500_000;
     for number in 0..SUBSCRIBERS {
         let there = (number % 2 == 1).then_some(number);
-        assert_eq!(rt; table.get(&imsi_of(number)?).copied(), there);
+        are_found &= table.get(&imsi_of(number).ok()?).copied() == there;
     }
-    Ok(())
+    Some(are_found)
 }
 
 #[test]
-fn lists_each_that_is_there(rt: HostRuntime) -> Result<(), Fail> {
-    let mut table = Table::new(rt.alloc(), Seed::fixed());
-    assert!(rt; table.imsis()?.is_empty());
-    for number in 0..LISTED {
-        table.insert(&imsi_of(number)?, number)?;
-    }
-    for number in 0..LISTED {
-        if number % 2 == 0 {
-            table.remove(&imsi_of(number)?);
-        }
-    }
-    let mut imsis = table.imsis()?;
+fn finds_each_of_a_million_that_is_there(rt: HostRuntime) {
+    assert!(rt; finds_just_the_odd_ones(rt.alloc()) == Some(true));
+}
+
+fn lists_just_the_odd_ones(alloc: Global) -> Option<bool> {
+    let mut imsis = odd_ones(alloc, Seed::fixed(), LISTED)?.imsis().ok()?;
     imsis.sort_unstable();
-    assert_eq!(rt; imsis.len() as u64, LISTED / 2);
+    let mut are_listed = imsis.len() as u64 == LISTED / 2;
     for number in 0..LISTED / 2 {
-        let imsi = imsi_of(2 * number + 1)?;
-        assert_eq!(rt; imsis.get(number as usize), Some(&imsi));
+        are_listed &= imsis.get(number as usize) == Some(&imsi_of(2 * number + 1).ok()?);
     }
-    Ok(())
+    Some(are_listed)
+}
+
+fn is_empty(table: &Numbered) -> bool {
+    let lists_none = table.imsis().is_ok_and(|imsis| imsis.is_empty());
+    lists_none && table.len() == 0
+}
+
+#[test]
+fn lists_each_that_is_there(rt: HostRuntime) {
+    assert!(rt; is_empty(&Table::new(rt.alloc(), Seed::fixed())));
+    assert!(rt; lists_just_the_odd_ones(rt.alloc()) == Some(true));
 }
 
 #[test]

@@ -1,12 +1,11 @@
-use camel_fixtures::imsi_of;
-use camel_table::{Seed, Table};
+use crate::registers::numbered;
+use camel_table::Seed;
 use camel_tbcd::Imsi;
 use std::alloc::Global;
 use std::cell::Cell;
 use std::io;
 use std::io::ErrorKind;
 use std::random::RandomSource;
-use std::test::Fail;
 
 // A random source of one octet, which it gives as often as it is asked for octets.
 #[derive(Drop)]
@@ -35,32 +34,33 @@ impl RandomSource for Exhausted {
 const SUBSCRIBERS: u64 = 100;
 
 /// The order in which a table of this seed lists its IMSIs, which are the same for each seed.
-fn listed_by(alloc: Global, seed: Seed) -> Result<Vec<Imsi>, Fail> {
-    let mut table = Table::new(alloc, seed);
-    for number in 0..SUBSCRIBERS {
-        table.insert(&imsi_of(number)?, number)?;
-    }
-    Ok(table.imsis()?)
+fn listed_by(alloc: Global, seed: Seed) -> Option<Vec<Imsi>> {
+    numbered(alloc, seed, SUBSCRIBERS)?.imsis().ok()
+}
+
+fn list_alike(alloc: Global, first: Seed, second: Seed) -> Option<bool> {
+    Some(listed_by(alloc, first)? == listed_by(alloc, second)?)
 }
 
 // Whoever doesn't know the seed doesn't know which IMSIs are in one bucket.
 #[test]
-fn the_seed_chooses_the_order(rt: HostRuntime) -> Result<(), Fail> {
-    let by_17 = listed_by(rt.alloc(), Seed::new(17))?;
-    assert!(rt; listed_by(rt.alloc(), Seed::new(17))? == by_17);
-    assert!(rt; listed_by(rt.alloc(), Seed::new(18))? != by_17);
-    Ok(())
+fn the_seed_chooses_the_order(rt: HostRuntime) {
+    assert!(rt; list_alike(rt.alloc(), Seed::new(17), Seed::new(17)) == Some(true));
+    assert!(rt; list_alike(rt.alloc(), Seed::new(17), Seed::new(18)) == Some(false));
+}
+
+fn is_random_seed(alloc: Global, octet: u8, seed: Seed) -> Option<bool> {
+    let source = Constant {
+        octet,
+        asked: Cell::new(0),
+    };
+    let random = Seed::random(&source).ok()?;
+    Some(source.asked.get() == 1 && list_alike(alloc, random, seed)?)
 }
 
 #[test]
-fn a_random_seed_is_that_of_the_source(rt: HostRuntime) -> Result<(), Fail> {
-    let source = Constant {
-        octet: 0x17,
-        asked: Cell::new(0),
-    };
-    let order = listed_by(rt.alloc(), Seed::random(&source)?)?;
-    assert!(rt; source.asked.get() == 1);
-    assert!(rt; order == listed_by(rt.alloc(), Seed::new(0x1717_1717_1717_1717))?);
+fn a_random_seed_is_that_of_the_source(rt: HostRuntime) {
+    let seed = Seed::new(0x1717_1717_1717_1717);
+    assert!(rt; is_random_seed(rt.alloc(), 0x17, seed) == Some(true));
     assert!(rt; Seed::random(&Exhausted).is_err());
-    Ok(())
 }
