@@ -4,8 +4,6 @@ use camel_rows::Update;
 use camel_script::{Record, Script};
 use std::alloc::Global;
 use std::io::Read;
-use std::process::Abort;
-use std::test::Fail;
 
 /// The kind of a record, the number of a refusal or of a fault, or the end.
 #[derive(Clone, Copy, Debug, PartialEq, Eq)]
@@ -49,18 +47,20 @@ fn kind_of_update(update: &Update) -> Given {
     }
 }
 
-/// Checks the next reads of a script.
-pub(crate) fn check_next<R: Read>(rt: &impl Abort, script: &mut Script<R>, wanted: &[Given]) {
+pub(crate) fn gives<R: Read>(script: &mut Script<R>, wanted: &[Given]) -> bool {
     for given in wanted {
-        assert!(rt; next(script) == *given, "{given:?}");
+        if next(script) != *given {
+            return false;
+        }
     }
+    true
 }
 
 /// The update that a script begins with.
-pub(crate) fn update_of(alloc: Global, text: &str) -> Result<Update, Fail> {
-    let mut script = Script::new(alloc, text.as_bytes(), 1)?;
-    match script.read_record()? {
-        Some(Record::Update(update)) => Ok(update.into_inner()),
-        _ => Err(Fail::new("no update")),
+pub(crate) fn update_of(alloc: Global, text: &str) -> Option<Update> {
+    let mut script = Script::new(alloc, text.as_bytes(), 1).ok()?;
+    match script.read_record().ok()? {
+        Some(Record::Update(update)) => Some(update.into_inner()),
+        _ => None,
     }
 }
