@@ -5,7 +5,7 @@ ghost use Rattle.camel_vlr.specs.Store.{fresh_session};
 
 use crate::answers::{TURNS, check_asked, check_row, check_submit};
 use camel_criteria::Refusal;
-use camel_fixtures::{call_of, row_update};
+use camel_fixtures::call_of;
 use camel_rows::{Records, Update};
 use camel_table::Seed;
 use camel_tbcd::{Imsi, Profile};
@@ -14,14 +14,6 @@ use std::alloc::Global;
 use std::process::Abort;
 use std::sync::Wait;
 use std::test::Fail;
-
-/// The subscriber registers, and is sent the row.
-pub(crate) fn row_updates(alloc: Global, imsi: Imsi) -> Result<Vec<Update>, Fail> {
-    let mut updates = Vec::new(alloc);
-    updates.push(Update::Register { imsi })?;
-    updates.push(row_update(imsi)?)?;
-    Ok(updates)
-}
 
 /// A store that was opened, and its sessions.
 pub(crate) struct NewStore {

@@ -1,12 +1,10 @@
-//! The tests of `camel_vlr` and `camel_audit`, which call them from outside, as their users do.
+//! The tests of `camel_vlr`, which call it from outside, as its users do.
 #![tactic(auto)]
 
 #[cfg(test)]
 mod answering;
 #[cfg(test)]
 mod answers;
-#[cfg(test)]
-mod audit_faults;
 #[cfg(test)]
 mod cases;
 #[cfg(test)]
@@ -28,16 +26,10 @@ mod profiles;
 #[cfg(test)]
 mod seeds;
 #[cfg(test)]
-mod served;
-#[cfg(test)]
-mod serving;
-#[cfg(test)]
 mod set_up;
 #[cfg(test)]
 mod threads;
 #[cfg(test)]
 mod together;
-#[cfg(test)]
-mod transcripts;
 #[cfg(test)]
 mod wait_free;
