@@ -1,31 +1,27 @@
 //! What the promises of a session come to for a caller: after a receipt was learnt, the front of the next look extends
 //! the receipt's, and a second look extends the first.
 
-ghost use Rattle.std.specs.Prelude.{◌≡◌, ◌≤◌, length, IfSome, OnSome};
+ghost use Rattle.std.specs.Prelude.{◌≡◌, ◌≤◌, length, IfOk, IfSome, OnSome};
 ghost use Rattle.camel_rows.specs.Front.{Extends};
 ghost use Rattle.camel_vlr.specs.Session.{ExtendsAll};
 
-use crate::answers::check_asked;
-use crate::cases::{Case, run_case};
-use crate::given::{Opened, receipt_of, row_sent};
+use crate::bases::{opened, opened_wait_free};
 use camel_criteria::Refusal;
-use camel_fixtures::{call_of, imsi_of, row_update};
+use camel_fixtures::imsi_of;
+use camel_rows::Update;
 use camel_tbcd::Imsi;
-use camel_vlr::{Of, Receipt, Session, StoreName, Vlr};
-use std::process::Abort;
+use camel_vlr::{Receipt, Session, Vlr, WaitFreeSession};
+use std::alloc::Global;
 use std::sync::Wait;
 use std::test::Fail;
 
-// How many updates are published after the first two.
-const UPDATES: usize = 100;
-
 /// How many updates the front of a look has. It extends the front of the look before, and all that was learnt.
-fn front_of_look<S: StoreName>(session: &mut Of<S, Session>) -> Option<u64>
-    ensures count { IfSome result (λ front. front ≡ length session.new.value.seen) }
-    ensures later { Extends session.new.value.seen session.old.value.seen }
-    ensures told { OnSome result (ExtendsAll session.new.value.seen session.old.value.told) }
+fn front_of_look(session: &mut Session) -> Option<u64>
+    ensures count { IfSome result (λ front. front ≡ length session.new.seen) }
+    ensures later { Extends session.new.seen session.old.seen }
+    ensures told { OnSome result (ExtendsAll session.new.seen session.old.told) }
 {
-    let Ok(look) = session.value.look() else {
+    let Ok(look) = session.look() else {
         return None;
     };
     let front = look.front();
@@ -34,63 +30,94 @@ fn front_of_look<S: StoreName>(session: &mut Of<S, Session>) -> Option<u64>
 }
 
 /// How many updates the front of a look has after a receipt: no fewer than the receipt's, which it extends.
-fn front_after<S: StoreName>(session: &mut Of<S, Session>, receipt: Of<S, Receipt>) -> Option<u64>
-    ensures count { IfSome result (λ front. front ≡ length session.new.value.seen) }
-    ensures not_shorter { IfSome result (λ front. length receipt.value.updates ≤ front) }
-    ensures extends { OnSome result (Extends session.new.value.seen receipt.value.updates) }
+fn front_after(session: &mut Session, receipt: Receipt) -> Option<u64>
+    requires { receipt.store ≡ session.old.store }
+    ensures count { IfSome result (λ front. front ≡ length session.new.seen) }
+    ensures not_shorter { IfSome result (λ front. length receipt.updates ≤ front) }
+    ensures extends { OnSome result (Extends session.new.seen receipt.updates) }
 {
-    session.value.learn(receipt.value);
+    session.learn(receipt);
     let front = front_of_look(session)?;
     Some(front)
 }
 
 /// How many updates the fronts of two looks after a receipt have: the second look extends the first, and so the
 /// receipt.
-fn fronts_after<S: StoreName>(
-    session: &mut Of<S, Session>,
-    receipt: Of<S, Receipt>,
-) -> Option<(u64, u64)>
-    ensures not_shorter { IfSome result (λ fronts. length receipt.value.updates ≤ fronts.0) }
+fn fronts_after(session: &mut Session, receipt: Receipt) -> Option<(u64, u64)>
+    requires { receipt.store ≡ session.old.store }
+    ensures not_shorter { IfSome result (λ fronts. length receipt.updates ≤ fronts.0) }
     ensures second { IfSome result (λ fronts. fronts.0 ≤ fronts.1) }
-    ensures extends { OnSome result (Extends session.new.value.seen receipt.value.updates) }
+    ensures extends { OnSome result (Extends session.new.seen receipt.updates) }
 {
     let first = front_after(session, receipt)?;
     let second = front_of_look(session)?;
     Some((first, second))
 }
 
-pub(crate) fn looks_extend_the_receipt<S: StoreName, R: Wait + Abort>(
-    rt: &R,
-    opened: &mut Opened<S>,
-) -> Result<(), Fail> {
-    let (store, session) = (&mut opened.store, &mut opened.session);
-    let imsi = imsi_of(1)?;
-    row_sent(rt, store, imsi);
-    let receipt = last_receipt(rt, store, imsi)?;
-    assert_eq!(rt; receipt.value.front(), 102);
-    if let Some((first, second)) = fronts_after(session, receipt) {
-        assert_eq!(rt; first, 102);
-        assert_eq!(rt; second, 102);
-    }
-    check_asked(rt, session, &call_of(imsi)?, 102, Ok((100, None)));
-    Ok(())
+// The receipt of a publication, as often as it is asked for.
+fn published_once<R: Wait>(rt: &R, store: &mut Vlr, imsi: Imsi) -> Result<Receipt, Refusal>
+    ensures same { store.new.store ≡ store.old.store }
+    ensures own { IfOk result (λ receipt. receipt.store ≡ store.old.store) }
+{
+    store.submit(Update::Register { imsi })?;
+    store.publish(rt)?;
+    Ok(store.receipt().copy())
 }
 
-// Publishes what is pending and then more updates, one by one. The last receipt is of all that is published.
-fn last_receipt<S: StoreName, R: Wait + Abort>(
+// Whether a session had seen a publication before it learnt of it, and the fronts of two looks then.
+fn learnt(session: &mut Session, receipt: Receipt) -> (bool, Option<(u64, u64)>)
+    requires { receipt.store ≡ session.old.store }
+{
+    let before = session.has_seen(&receipt);
+    (before, fronts_after(session, receipt))
+}
+
+fn learnt_of_new<R: Wait>(
     rt: &R,
-    store: &mut Of<S, Vlr>,
+    alloc: Global,
     imsi: Imsi,
-) -> Result<Of<S, Receipt>, Refusal> {
-    receipt_of(rt, store, 2)?;
-    for _ in 0..UPDATES {
-        store.value.submit(row_update(imsi)?)?;
-        store.value.publish(rt)?;
-    }
-    Ok(Of::new(store.value.receipt()))
+) -> Result<(bool, Option<(u64, u64)>), Refusal> {
+    let (mut store, mut session, _other) = opened(rt, alloc)?;
+    let learnt = match published_once(rt, &mut store, imsi) {
+        Ok(receipt) => Ok(learnt(&mut session, receipt)),
+        Err(why) => Err(why),
+    };
+    store.end(rt);
+    learnt
 }
 
 #[test]
 fn the_looks_after_a_receipt_extend_it(rt: HostRuntime) -> Result<(), Fail> {
-    run_case(&rt, rt.alloc(), 1, 1000, Case::LooksExtendTheReceipt)
+    assert!(rt; learnt_of_new(&rt, rt.alloc(), imsi_of(1)?)? == (false, Some((1, 1))));
+    Ok(())
+}
+
+// Whether a session had seen a publication before it learnt of it, whether it has a look then, and has seen it by that.
+fn learnt_wait_free(session: &mut WaitFreeSession, receipt: Receipt) -> (bool, bool, bool)
+    requires { receipt.store ≡ session.old.store }
+{
+    let before = session.has_seen(&receipt);
+    session.learn(receipt.copy());
+    if !session.enter() {
+        return (before, false, false);
+    }
+    (before, true, session.has_seen(&receipt))
+}
+
+fn learnt_of_new_wait_free(alloc: Global, imsi: Imsi) -> Result<(bool, bool, bool), Refusal> {
+    let (mut store, mut session, _other) = opened_wait_free(alloc)?;
+    let is_accepted = store.submit(Update::Register { imsi }).is_ok();
+    let learnt = match store.publish() {
+        Ok(receipt) if is_accepted => Ok(learnt_wait_free(&mut session, receipt)),
+        _ => Err(Refusal::OutOfMemory),
+    };
+    store.abandon();
+    learnt
+}
+
+#[test]
+fn a_look_after_a_receipt_has_seen_it(rt: HostRuntime) -> Result<(), Fail> {
+    let learnt = learnt_of_new_wait_free(rt.alloc(), imsi_of(1)?)?;
+    assert!(rt; learnt == (false, true, true));
+    Ok(())
 }

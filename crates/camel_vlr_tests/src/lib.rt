@@ -2,31 +2,19 @@
 #![tactic(auto)]
 
 #[cfg(test)]
-mod answering;
-#[cfg(test)]
-mod answers;
-#[cfg(test)]
-mod cases;
-#[cfg(test)]
-mod clearing;
+mod bases;
 #[cfg(test)]
 mod closing;
 #[cfg(test)]
 mod fronts;
 #[cfg(test)]
-mod given;
-#[cfg(test)]
 mod holders;
 #[cfg(test)]
 mod limits;
 #[cfg(test)]
-mod looking;
-#[cfg(test)]
-mod profiles;
+mod lives;
 #[cfg(test)]
 mod seeds;
-#[cfg(test)]
-mod set_up;
 #[cfg(test)]
 mod threads;
 #[cfg(test)]

@@ -1,18 +1,16 @@
 //! The seed of a store, which shows in the order in which its records list their subscribers.
 
-ghost use Rattle.std.specs.Prelude.{◌≡◌, Some};
-
-use crate::given::{NewStore, Opened, closed, going_on};
+use camel_criteria::Refusal;
 use camel_fixtures::imsi_of;
 use camel_rows::Update;
 use camel_table::Seed;
 use camel_tbcd::{Imsi, Profile};
-use camel_vlr::{MAX_UPDATES, Of, StoreName, Vlr};
+use camel_vlr::{MAX_UPDATES, Session, Vlr};
 use std::alloc::Global;
 use std::cell::Cell;
 use std::io;
 use std::io::ErrorKind;
-use std::marker::{Brand, PhantomData};
+use std::marker::PhantomData;
 use std::random::RandomSource;
 use std::sync::Wait;
 use std::test::Fail;
@@ -43,32 +41,46 @@ impl<R> RandomSource for Source<R> {
 // So many subscribers that hardly two seeds list them in one order.
 const SUBSCRIBERS: u64 = 100;
 
-// The order in which the closed records of an opened store list the subscribers.
-fn order_of<R: Wait>(rt: &R, alloc: Global, new: NewStore) -> Result<Vec<Imsi>, Fail> {
-    order_in::<Brand, R>(rt, alloc, new)
-}
-
-fn order_in<S: StoreName, R: Wait>(rt: &R, alloc: Global, new: NewStore) -> Result<Vec<Imsi>, Fail>
-    requires { S.store ≡ Some new.store.store }
-{
-    let (mut store, mut session) = Opened::<S>::new(rt, alloc, new)?.into_one();
-    let done = registered(rt, &mut store);
-    let store = going_on(rt, store, done)?;
-    Ok(closed(rt, store, &mut session)?.imsis()?)
-}
-
-fn registered<S: StoreName, R: Wait>(rt: &R, store: &mut Of<S, Vlr>) -> Result<(), Fail> {
+// The Registers of the subscribers.
+fn registers(alloc: Global) -> Result<Vec<Update>, Fail> {
+    let mut updates = Vec::new(alloc);
     for number in 0..SUBSCRIBERS {
         let imsi = imsi_of(number)?;
-        store.value.submit(Update::Register { imsi })?;
+        updates.push(Update::Register { imsi })?;
     }
-    store.value.publish(rt)?;
-    Ok(())
+    Ok(updates)
+}
+
+// The order in which the records of a look list the subscribers.
+fn order_in(session: &mut Session) -> Result<Vec<Imsi>, Refusal> {
+    let Ok(look) = session.look() else {
+        return Err(Refusal::NoGuard);
+    };
+    let order = look.records().imsis();
+    look.leave();
+    order
+}
+
+// The order in which the records of an opened store list the subscribers.
+fn order_of<R: Wait>(
+    rt: &R,
+    opened: (Vlr, Vec<Session>),
+    registers: Vec<Update>,
+) -> Result<Vec<Imsi>, Refusal> {
+    let (mut store, mut sessions) = opened;
+    let are_published = store.submit_all(registers).is_ok() && store.publish(rt).is_ok();
+    let order = match sessions.first_mut() {
+        Some(session) if are_published => order_in(session),
+        _ => Err(Refusal::NoPlace),
+    };
+    store.end(rt);
+    order
 }
 
 fn order_of_seed<R: Wait>(rt: &R, alloc: Global, seed: Seed) -> Result<Vec<Imsi>, Fail> {
-    let (store, sessions) = Vlr::open_seeded(rt, alloc, 1, MAX_UPDATES, Profile::One, seed)?;
-    order_of(rt, alloc, NewStore { store, sessions })
+    let registers = registers(alloc)?;
+    let opened = Vlr::open_seeded(rt, alloc, 1, MAX_UPDATES, Profile::One, seed)?;
+    Ok(order_of(rt, opened, registers)?)
 }
 
 // The order that a source leads to, and how often it is asked.
@@ -77,13 +89,14 @@ fn order_of_source<R: Wait>(
     alloc: Global,
     octet: Option<u8>,
 ) -> Result<(Vec<Imsi>, u64), Fail> {
+    let registers = registers(alloc)?;
     let source = Source::<R> {
         rt: PhantomData,
         octet,
         asked: Cell::new(0),
     };
-    let (store, sessions) = Vlr::open(&source, alloc, 1, MAX_UPDATES, Profile::One)?;
-    let order = order_of(rt, alloc, NewStore { store, sessions })?;
+    let opened = Vlr::open(&source, alloc, 1, MAX_UPDATES, Profile::One)?;
+    let order = order_of(rt, opened, registers)?;
     Ok((order, source.asked.get()))
 }
 
@@ -94,7 +107,7 @@ fn opens_with_the_seed_that_the_random_source_gives(rt: HostRuntime) -> Result<(
     let fixed = order_of_seed(&rt, alloc, Seed::fixed())?;
     let sevens = order_of_seed(&rt, alloc, Seed::new(0x0707_0707_0707_0707))?;
     assert!(rt; fixed != sevens);
-    assert_eq!(rt; order_of_source(&rt, alloc, Some(7))?, (sevens, 1));
-    assert_eq!(rt; order_of_source(&rt, alloc, None)?, (fixed, 1));
+    assert!(rt; order_of_source(&rt, alloc, Some(7))? == (sevens, 1));
+    assert!(rt; order_of_source(&rt, alloc, None)? == (fixed, 1));
     Ok(())
 }

@@ -4,14 +4,14 @@ use Rattle.camel_vlr.specs.Session.{ExtendsAll}
 use Rattle.camel_vlr_tests.proofs.fronts.front_after.Goals as goal
 
 pub returns-clause-extends : goal.returns-clause-extends
-returns-clause-extends g c =
-    let seen = c.front_of_look.new.session.value.seen in
+returns-clause-extends c =
+    let seen = c.front_of_look.new.session.seen in
     let told = subst (ExtendsAll seen) (ap (λ s. s.told) c.learn.ensures) c.in_ok-front.ensures.told in
-    all_last seen c.args.session.now.value.told c.args.receipt.value.updates told
+    all_last seen c.args.session.now.told c.args.receipt.updates told
 
 pub returns-clause-not_shorter : goal.returns-clause-not_shorter
-returns-clause-not_shorter g c =
-    let seen = c.front_of_look.new.session.value.seen in
+returns-clause-not_shorter c =
+    let seen = c.front_of_look.new.session.seen in
     let told = subst (ExtendsAll seen) (ap (λ s. s.told) c.learn.ensures) c.in_ok-front.ensures.told in
-    let longer = extends_length seen c.args.receipt.value.updates (all_last seen c.args.session.now.value.told c.args.receipt.value.updates told) in
+    let longer = extends_length seen c.args.receipt.updates (all_last seen c.args.session.now.told c.args.receipt.updates told) in
     omega (arith, longer, c.in_ok-front.ensures.count)
