@@ -7,8 +7,8 @@ use crate::notes::dropped::note_what_is_dropped;
 use crate::shown::Shown;
 use crate::stored::INDENT;
 use camel_criteria::{is_o_detection_point, is_vt_detection_point};
-use camel_replay_lib::Store;
 use camel_rows::{CallEvent, Update};
+use camel_script_replay::Store;
 use csv::ByteRecord;
 use std::alloc::AllocError;
 

@@ -1,6 +1,6 @@
 //! The command line.
 
-use camel_replay_lib::MAX_LIMIT;
+use camel_script_replay::MAX_LIMIT;
 use camel_tbcd::Profile;
 use clap::builder::ValueParser;
 use clap::{Arg, ArgAction, ArgMatches, Command, Error};

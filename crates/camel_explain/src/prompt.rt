@@ -1,4 +1,4 @@
-use camel_replay_lib::write_all;
+use camel_script_replay::write_all;
 use std::io;
 use std::io::Read;
 

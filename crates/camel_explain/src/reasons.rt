@@ -3,8 +3,8 @@
 use crate::criteria::say_unmet;
 use crate::shown::ShownImsi;
 use camel_criteria::is_o_detection_point;
-use camel_replay_lib::Store;
 use camel_rows::{CallEvent, Csi, CsisPresent, Reason, Subscriber};
+use camel_script_replay::Store;
 use camel_tbcd::Profile;
 use std::alloc::AllocError;
 

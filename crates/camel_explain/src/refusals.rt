@@ -1,7 +1,7 @@
 //! Why the store refuses an update whose data can be read.
 
 use crate::shown::{Shown, ShownImsi};
-use camel_replay_lib::Store;
+use camel_script_replay::Store;
 use camel_tbcd::Imsi;
 use csv::ByteRecord;
 use std::alloc::AllocError;

@@ -9,7 +9,7 @@ use crate::prompt::Prompted;
 use crate::session_word::GREETING;
 use crate::stop::Stop;
 use crate::stored::{append_memory, append_store};
-use camel_replay_lib::write_all;
+use camel_script_replay::write_all;
 use std::io::{IsTerminal, Read, Write};
 use std::{env, fs};
 

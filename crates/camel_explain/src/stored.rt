@@ -3,9 +3,9 @@
 use crate::counts::append_count;
 use crate::shown::{Shown, ShownImsi};
 use camel_criteria::Refusal;
-use camel_replay_lib::Store;
 use camel_rows::{Records, Subscriber, Update};
 use camel_script::append_update;
+use camel_script_replay::Store;
 use camel_tbcd::Imsi;
 use std::alloc::{AllocError, Global};
 

@@ -11,7 +11,8 @@ use Rattle.clap.specs.declared.error.kind.ErrorKind.TheVariants.{DisplayHelp, Ou
 use Rattle.clap.specs.declared.parser.matches.ArgMatches.{ArgMatches}
 use Rattle.camel_replay_lib.specs.CommandLine.{AsksForHelp, GivesNumber, HoldsLimit, HoldsProfile, HoldsThreads, LimitOf, MayGiveNumber, ProfileOf}
 use Rattle.camel_replay_lib.specs.CommandLine.{ThreadsOf, option_text, profile_number, the_program}
-use Rattle.camel_replay_lib.specs.Limits.{max_limit, max_profile, max_threads}
+use Rattle.camel_script_replay.specs.Limits.{max_limit}
+use Rattle.camel_replay_lib.specs.Limits.{max_profile, max_threads}
 
 -- the program is simple, so `clap` says which matches every list of words has
 program_is_simple : is_simple the_program ≡ true

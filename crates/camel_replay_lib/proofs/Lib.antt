@@ -1,11 +1,7 @@
 pub mod CommandLineLemmas
-pub mod FrontLemmas
 pub mod LineLemmas
-pub mod Progress
 pub mod ReadLemmas
 pub mod RoundLemmas
 pub mod RoundsLemmas
 pub mod SegmentLemmas
 pub mod SessionTaskLemmas
-pub mod StoreLemmas
-pub mod WriteLemmas

@@ -8,12 +8,13 @@ use Rattle.camel_script.specs.Script.{FaultsAs, Gives, IsMemoryOrReadFault, Scri
 use Rattle.camel_script.specs.ScriptFault.{script_fault_code}
 use Rattle.camel_script.specs.declared.record.Record.{Record}
 use Rattle.camel_script.specs.declared.script_fault.ScriptFault.{ScriptFault}
-use Rattle.camel_replay_lib.proofs.Progress.{not_of_kind}
-use Rattle.camel_replay_lib.specs.ReplayFault.{is_later_code, is_text_code, is_write_code, threads_fault_code}
+use Rattle.camel_script_replay.proofs.Progress.{not_of_kind}
+use Rattle.camel_script_replay.specs.ReplayFault.{is_text_code, is_write_code}
+use Rattle.camel_replay_lib.specs.ThreadsFault.{is_later_code, threads_fault_code}
 use Rattle.camel_replay_lib.specs.ThreadsOutput.{IsThreadsOutput}
 use Rattle.camel_replay_lib.specs.ThreadsWritten.{IsAllOf, StopsReading, ThreadsStop}
-use Rattle.camel_replay_lib.specs.Written.{AppendsPart}
-use Rattle.camel_replay_lib.specs.declared.script_replay.ReplayFault.{ReplayFault}
+use Rattle.camel_script_replay.specs.Written.{AppendsPart}
+use Rattle.camel_script_replay.specs.declared.script_replay.ReplayFault.{ReplayFault}
 use Rattle.camel_replay_lib.specs.declared.threaded_replay.threads_fault.ThreadsFault.{ThreadsFault}
 use Rattle.camel_replay_lib.specs.declared.threaded_replay.threads_fault.ThreadsFault.TheVariants as run
 

@@ -8,7 +8,8 @@ use Rattle.clap.specs.Words.{new_rule, with_rule}
 use Rattle.clap.specs.declared.builder.value_parser.ValueParser.TheVariants.{Unsigned}
 use Rattle.clap.specs.declared.error.kind.ErrorKind.TheVariants.{DisplayHelp}
 use Rattle.clap.specs.declared.parser.matches.ArgMatches.{ArgMatches}
-use Rattle.camel_replay_lib.specs.Limits.{max_limit, max_profile, max_threads}
+use Rattle.camel_script_replay.specs.Limits.{max_limit}
+use Rattle.camel_replay_lib.specs.Limits.{max_profile, max_threads}
 
 -- An option that takes a number from 1 up to the greatest, and has this text if it is not given.
 abbrev pub number_rule : Text → List Text → ℕ → Rule

@@ -1,7 +1,7 @@
 -- The line that says with which fault a run ended (profile 1's own format).
 use Rattle.std.specs.Prelude.{ℕ, List, ◌++◌, codes, Option, Some, None}
 use Rattle.std.specs.Fmt.{decimal}
-use Rattle.camel_replay_lib.specs.declared.script_replay.ReplayFault.{ReplayFault}
+use Rattle.camel_script_replay.specs.declared.script_replay.ReplayFault.{ReplayFault}
 
 -- The line of a fault, with the number of its record if there is one.
 abbrev pub fault_line_at : Option ℕ → ℕ → List ℕ

@@ -4,11 +4,12 @@ use Rattle.camel_tbcd.specs.declared.profile.Profile.{Profile}
 use Rattle.camel_script.specs.Script.{ScriptData, script}
 use Rattle.camel_replay_lib.specs.CommandLine.{AsksForHelp, LimitOf, ProfileOf, ThreadsOf}
 use Rattle.camel_replay_lib.specs.FaultLine.{fault_line, fault_line_at}
-use Rattle.camel_replay_lib.specs.Limits.{max_records}
-use Rattle.camel_replay_lib.specs.ReplayFault.{is_replay_code, is_threaded_replay_code}
+use Rattle.camel_script_replay.specs.Limits.{max_records}
+use Rattle.camel_script_replay.specs.ReplayFault.{is_replay_code}
+use Rattle.camel_replay_lib.specs.ThreadsFault.{is_threaded_replay_code}
 use Rattle.camel_replay_lib.specs.ThreadsWritten.{ThreadsStop, WritesThreadsOutput}
-use Rattle.camel_replay_lib.specs.Written.{AppendsPart, Stops, WritesAll}
-use Rattle.camel_replay_lib.specs.declared.script_replay.ReplayFault.{ReplayFault}
+use Rattle.camel_script_replay.specs.Written.{AppendsPart, Stops, WritesAll}
+use Rattle.camel_script_replay.specs.declared.script_replay.ReplayFault.{ReplayFault}
 
 -- What a stream holds before the run and after it, if this is known.
 pub record Stream : Type 0 where

@@ -9,8 +9,8 @@ use Rattle.camel_vlr.specs.Prefix.{PrefixData, StoreId}
 use Rattle.camel_vlr.specs.Session.{SessionData}
 use Rattle.camel_vlr.specs.Store.{StoreData}
 use Rattle.camel_audit.specs.Serves.{job_of}
-use Rattle.camel_replay_lib.specs.Fronts.{updates_from}
-use Rattle.camel_replay_lib.specs.Output.{output_from}
+use Rattle.camel_script_replay.specs.Fronts.{updates_from}
+use Rattle.camel_script_replay.specs.Output.{output_from}
 use Rattle.camel_replay_lib.specs.Segments.{jobs_for}
 use Rattle.camel_replay_lib.specs.Writer.{WriterData}
 use Rattle.camel_replay_lib.specs.declared.threaded_replay.round.ServedOf.{ServedOf}

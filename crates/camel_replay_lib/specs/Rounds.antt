@@ -6,8 +6,8 @@ use Rattle.camel_tbcd.specs.declared.profile.Profile.{Profile}
 use Rattle.camel_rows.specs.Store.{no_updates}
 use Rattle.camel_script.specs.declared.record.Record.{Record}
 use Rattle.camel_vlr.specs.Session.{SessionData}
-use Rattle.camel_replay_lib.specs.Fronts.{updates_from}
-use Rattle.camel_replay_lib.specs.Output.{output}
+use Rattle.camel_script_replay.specs.Fronts.{updates_from}
+use Rattle.camel_script_replay.specs.Output.{output}
 use Rattle.camel_replay_lib.specs.ThreadsOutput.{AnswersCall, Call, calls_of, is_no_call}
 use Rattle.camel_replay_lib.specs.Writer.{WriterData}
 use Rattle.camel_replay_lib.specs.declared.threaded_replay.seat.Seat.{Seat}

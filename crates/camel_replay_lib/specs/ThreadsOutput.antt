@@ -12,8 +12,8 @@ use Rattle.camel_script.specs.Line.{line_text}
 use Rattle.camel_script.specs.declared.line.Line.TheVariants as line
 use Rattle.camel_script.specs.declared.record.Record.{Record}
 use Rattle.camel_script.specs.declared.record.Record.TheVariants as script_record
-use Rattle.camel_replay_lib.specs.Fronts.{published_after}
-use Rattle.camel_replay_lib.specs.Output.{output, updates_after}
+use Rattle.camel_script_replay.specs.Fronts.{published_after}
+use Rattle.camel_script_replay.specs.Output.{output, updates_after}
 
 abbrev pub is_no_call : Record → Bool
 is_no_call (script_record.Call event) = false

@@ -4,10 +4,11 @@ use Rattle.std.specs.Io.KnownBytes.{Appends, Keeps}
 use Rattle.camel_tbcd.specs.declared.profile.Profile.{Profile}
 use Rattle.camel_script.specs.Script.{ScriptData}
 use Rattle.camel_script.specs.declared.record.Record.{Record}
-use Rattle.camel_replay_lib.specs.ReplayFault.{is_later_code, is_reading_code, is_text_code, is_write_code}
+use Rattle.camel_script_replay.specs.ReplayFault.{is_reading_code, is_text_code, is_write_code}
+use Rattle.camel_replay_lib.specs.ThreadsFault.{is_later_code}
 use Rattle.camel_replay_lib.specs.ThreadsOutput.{IsThreadsOutput}
-use Rattle.camel_replay_lib.specs.Written.{AppendsPart, NamesFault}
-use Rattle.camel_replay_lib.specs.declared.script_replay.ReplayFault.{ReplayFault}
+use Rattle.camel_script_replay.specs.Written.{AppendsPart, NamesFault}
+use Rattle.camel_script_replay.specs.declared.script_replay.ReplayFault.{ReplayFault}
 
 -- the script has these records and no fault
 pub record IsAllOf (given : ScriptData) (records : List Record) : Type 0 where

@@ -5,17 +5,17 @@ ghost use Rattle.clap.specs.Words.{kind_of};
 ghost use Rattle.clap.specs.declared.error.kind.ErrorKind.TheVariants.{DisplayHelp, OutOfMemory};
 ghost use Rattle.camel_replay_lib.specs.FaultLine.{fault_line, fault_line_at};
 ghost use Rattle.camel_script.specs.Script.{script};
-ghost use Rattle.camel_replay_lib.specs.Limits.{max_limit, max_records, max_threads};
+ghost use Rattle.camel_script_replay.specs.Limits.{max_limit, max_records};
+ghost use Rattle.camel_replay_lib.specs.Limits.{max_threads};
 ghost use Rattle.camel_replay_lib.specs.ProgramRun.{Helps, LacksMemory, Rejects, Replays, RunData, Runs, promise_of};
-ghost use Rattle.camel_replay_lib.specs.Written.{AppendsPart};
+ghost use Rattle.camel_script_replay.specs.Written.{AppendsPart};
 
 pub(crate) mod words;
 
 use crate::command::words::options;
-use crate::script_replay::write::write_all;
-use crate::script_replay::{ReplayFault, replay};
 use crate::threaded_replay::replay_threads;
 use camel_audit::OpenGate;
+use camel_script_replay::{ReplayFault, replay, write_all};
 use camel_tbcd::Profile;
 use clap::error::ErrorKind;
 use std::alloc::{AllocError, Global};

@@ -4,13 +4,14 @@ ghost use Rattle.std.specs.Prelude.{◌≡◌, ◌≤◌, ◌++◌, true, All, I
 ghost use Rattle.std.specs.Io.KnownBytes.{Appends};
 ghost use Rattle.camel_script.specs.Line.{line_text};
 ghost use Rattle.camel_script.specs.Script.{script};
-ghost use Rattle.camel_replay_lib.specs.Limits.{max_limit, max_records, max_threads};
-ghost use Rattle.camel_replay_lib.specs.ReplayFault.{is_threaded_replay_code};
+ghost use Rattle.camel_script_replay.specs.Limits.{max_limit, max_records};
+ghost use Rattle.camel_replay_lib.specs.Limits.{max_threads};
+ghost use Rattle.camel_replay_lib.specs.ThreadsFault.{is_threaded_replay_code};
 ghost use Rattle.camel_replay_lib.specs.Rounds.{AreNumbered, HasAnswered, HasNoEntries, IsNewWriter, WritesScript, entries_in, session_in};
 ghost use Rattle.camel_replay_lib.specs.Round.{IsOfStore};
 ghost use Rattle.camel_replay_lib.specs.ThreadsOutput.{IsThreadsOutput, script_calls, sessions_text};
 ghost use Rattle.camel_replay_lib.specs.ThreadsWritten.{ThreadsStop, WritesThreadsOutput};
-ghost use Rattle.camel_replay_lib.specs.Written.{AppendsPart};
+ghost use Rattle.camel_script_replay.specs.Written.{AppendsPart};
 
 mod open_store;
 mod read;
@@ -21,8 +22,6 @@ mod session_lines;
 mod threads_fault;
 mod writer;
 
-use crate::script_replay::write::{WriteFault, write_all};
-use crate::script_replay::{ReplayFault, WRITE_FAULT};
 use crate::threaded_replay::open_store::OpenStore;
 use crate::threaded_replay::read::read_script;
 use crate::threaded_replay::round::run_round;
@@ -33,6 +32,7 @@ use crate::threaded_replay::threads_fault::ThreadsFault;
 use crate::threaded_replay::writer::Writer;
 use camel_audit::{Gate, Transcript};
 use camel_script::{Line, Record, push_line};
+use camel_script_replay::{ReplayFault, WRITE_FAULT, WriteFault, write_all};
 use camel_table::Seed;
 use camel_tbcd::Profile;
 use camel_vlr::{Session, Vlr};

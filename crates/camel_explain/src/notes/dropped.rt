@@ -3,8 +3,8 @@
 use crate::notes::NOTE;
 use crate::shown::ShownImsi;
 use crate::stored::INDENT;
-use camel_replay_lib::Store;
 use camel_rows::{CsisPresent, Update};
+use camel_script_replay::Store;
 use camel_tbcd::Imsi;
 use std::alloc::AllocError;
 

@@ -5,14 +5,12 @@ ghost use Rattle.camel_replay_lib.specs.CommandLine.{AsksForHelp, HoldsLimit, Ho
 ghost use Rattle.camel_replay_lib.specs.CommandLine.{GivesNumber, ProfileOf, ThreadsOf, limit_rule, profile_number, profile_rule, the_program, threads_rule};
 
 use crate::command::Options;
+use camel_script_replay::MAX_LIMIT;
 use camel_tbcd::Profile;
 use clap::builder::ValueParser;
 use clap::error::ErrorKind;
 use clap::{Arg, ArgMatches, Command, Error};
 use std::alloc::Global;
-
-/// The greatest limit of updates.
-pub const MAX_LIMIT: u64 = 1_000_000;
 
 /// The greatest number of threads that answer calls.
 pub const MAX_THREADS: u64 = 16;

@@ -1,11 +1,11 @@
 ghost use Rattle.std.specs.Prelude.{◌≡◌, ◌≢◌, ◌≤◌, true, IfErr, IfOk, IfSome};
 ghost use Rattle.camel_script.specs.Script.{Failed, records_left, script, still_gives};
-ghost use Rattle.camel_replay_lib.specs.Limits.{max_records};
-ghost use Rattle.camel_replay_lib.specs.ReplayFault.{is_reading_code};
+ghost use Rattle.camel_script_replay.specs.Limits.{max_records};
+ghost use Rattle.camel_script_replay.specs.ReplayFault.{is_reading_code};
 ghost use Rattle.camel_replay_lib.specs.ThreadsWritten.{IsAllOf, StopsReading};
 
-use crate::script_replay::{MAX_RECORDS, ReplayFault, fault_at};
 use camel_script::{Record, Script};
+use camel_script_replay::{MAX_RECORDS, ReplayFault};
 use std::alloc::Global;
 use std::collections::VecDeque;
 use std::io::Read;
@@ -22,7 +22,7 @@ pub(crate) fn read_script<I: Read + Drop>(
 {
     let mut script = match Script::new(alloc, reader, MAX_RECORDS) {
         Ok(script) => script,
-        Err(refusal) => return Err(fault_at(1, refusal.code())),
+        Err(refusal) => return Err(ReplayFault::in_record(1, refusal.code())),
     };
     read_all(alloc, &mut script)
 }
@@ -45,11 +45,11 @@ fn read_all<I: Read + Drop>(
         match script.read_into(&mut next) {
             Ok(true) => {}
             Ok(false) => return Ok(records),
-            Err(fault) => return Err(fault_at(number, fault.code())),
+            Err(fault) => return Err(ReplayFault::in_record(number, fault.code())),
         }
         let read = mem::replace(&mut next, Record::Publish);
         let Ok(()) = records.push_back(read) else {
-            return Err(fault_at(number, OUT_OF_MEMORY));
+            return Err(ReplayFault::in_record(number, OUT_OF_MEMORY));
         };
         number += 1;
     }

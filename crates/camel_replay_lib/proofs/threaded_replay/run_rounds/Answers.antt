@@ -10,7 +10,7 @@ use Rattle.camel_vlr.specs.Prefix.{StoreId}
 use Rattle.camel_replay_lib.proofs.RoundLemmas.{AllZip-numbered, HasAnswered-none}
 use Rattle.camel_replay_lib.proofs.RoundsLemmas.{HasAnswered-more, IsOf-more, WritesScript-more, WritesScript-none, calls-more, number-more}
 use Rattle.camel_replay_lib.proofs.SegmentLemmas.{call_between, jobs_from-length}
-use Rattle.camel_replay_lib.specs.Fronts.{updates_from}
+use Rattle.camel_script_replay.specs.Fronts.{updates_from}
 use Rattle.camel_replay_lib.specs.Round.{ServesRound, ServesSeat, WritesLines}
 use Rattle.camel_replay_lib.specs.Segments.{jobs_from}
 use Rattle.camel_replay_lib.specs.ThreadsOutput.{calls_from, is_no_call, script_calls}

@@ -1,6 +1,6 @@
 use Rattle.std.proofs.Common.{◌≡◌, ◌++◌, All, List, length}
 use Rattle.camel_script.specs.declared.record.Record.{Record}
-use Rattle.camel_replay_lib.specs.Fronts.{updates_from}
+use Rattle.camel_script_replay.specs.Fronts.{updates_from}
 use Rattle.camel_replay_lib.specs.Round.{IsOfStore}
 use Rattle.camel_replay_lib.specs.Rounds.{AreNumbered, HasAnswered, WritesScript}
 use Rattle.camel_replay_lib.specs.Segments.{jobs_from}

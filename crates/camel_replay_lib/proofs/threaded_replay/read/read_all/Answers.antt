@@ -22,11 +22,11 @@ records-preserved g c =
 pub returns-in_default-clause-stopped : goal.returns-in_default-clause-stopped
 returns-in_default-clause-stopped g c =
     let so_far = c.records.invariant in
-    stopped_by_memory (still_gives c.args.script.now) (still_gives c.records.script) c.records.records.items c.fault_at-in_default.result
-    so_far.so_far (rw so_far.place at c.fault_at-in_default.ensures)
+    stopped_by_memory (still_gives c.args.script.now) (still_gives c.records.script) c.records.records.items c.in_record-in_default.result
+    so_far.so_far (rw so_far.place at c.in_record-in_default.ensures)
 
 pub returns-in-Err-clause-stopped : goal.returns-in-Err-clause-stopped
 returns-in-Err-clause-stopped g c =
     let so_far = c.records.invariant in
-    stopped_reading (still_gives c.args.script.now) (still_gives c.records.script) c.records.records.items c.in-Err.fault c.fault_at.result
-    so_far.so_far c.in-Err.ensures.faults (rw (so_far.place, c.code.ensures) at c.fault_at.ensures)
+    stopped_reading (still_gives c.args.script.now) (still_gives c.records.script) c.records.records.items c.in-Err.fault c.in_record.result
+    so_far.so_far c.in-Err.ensures.faults (rw (so_far.place, c.code.ensures) at c.in_record.ensures)

@@ -1,8 +1,0 @@
-use Rattle.camel_replay_lib.proofs.FrontLemmas.{published_grows, published_is_front}
-use Rattle.camel_replay_lib.proofs.script_replay.laws.published_fronts.Goals as goal
-
-pub returns-clause-front : goal.returns-clause-front
-returns-clause-front c = published_is_front
-
-pub returns-clause-grows : goal.returns-clause-grows
-returns-clause-grows c = published_grows

@@ -1,0 +1,4 @@
+pub mod FrontLemmas
+pub mod Progress
+pub mod StoreLemmas
+pub mod WriteLemmas
