@@ -4,14 +4,13 @@ use crate::{
     BasicServiceCode, Call, Change, DestinationNumberCriteria, InsertSubscriberData, MapFault,
     OCriteriaData, Operation, SetUp, TdpData, location_update_of, run_switch, update_of,
 };
-use camel_criteria::{BasicService, Cause, Handling, Refusal};
+use camel_criteria::{BasicService, Cause, Handling};
 use camel_rows::{CallEvent, Outcome, Reason, Update, Withdrawal};
 use camel_tbcd::{CallAddress, Imsi, IsdnAddress};
 use crossbeam_channel::{Sender, unbounded};
 use std::alloc::{AllocError, Global};
-use std::process::Abort;
+use std::random::RandomSource;
 use std::sync::Wait;
-use std::test::Fail;
 use std::thread;
 use std::thread::Threads;
 
@@ -143,61 +142,70 @@ impl Network {
         decided.recv(rt).ok()?.ok()
     }
 
-    /// The outcome at DP 2 or DP 12; None if it is not decided.
-    fn outcome<R: Wait>(&self, rt: &R, event: &CallEvent) -> Option<Outcome> {
-        Some(self.set_up(rt, event)?.outcome)
+    /// Whether an event at DP 2 or DP 12 has this outcome.
+    fn decides<R: Wait>(&self, rt: &R, event: &CallEvent, wanted: Outcome) -> bool {
+        self.set_up(rt, event)
+            .is_some_and(|set_up| set_up.outcome == wanted)
     }
 }
 
+const UNKNOWN: Outcome = Outcome::NoTrigger(Reason::Unknown);
+
+const NO_CSI: Outcome = Outcome::NoTrigger(Reason::NoCsi);
+
+const DONE: Option<Result<(), MapFault>> = Some(Ok(()));
+
+const MISSING: Option<Result<(), MapFault>> = Some(Err(MapFault::DataMissing));
+
+const UNIDENTIFIED: Option<Result<(), MapFault>> = Some(Err(MapFault::UnidentifiedSubscriber));
+
 // A call at DP 2.
-fn call() -> Result<CallEvent, Fail> {
-    Ok(CallEvent::CollectedInfo {
-        imsi: Imsi::from_tbcd(&IMSI)?,
-        destination: CallAddress::from_bytes(&DESTINATION)?,
+fn call() -> Option<CallEvent> {
+    Some(CallEvent::CollectedInfo {
+        imsi: Imsi::from_tbcd(&IMSI).ok()?,
+        destination: CallAddress::from_bytes(&DESTINATION).ok()?,
         basic: BasicService::Tele(0x11),
         forwarded: false,
     })
 }
 
 // A call at DP 12.
-fn terminating_call() -> Result<CallEvent, Fail> {
-    Ok(CallEvent::TerminatingAttempt {
-        imsi: Imsi::from_tbcd(&IMSI)?,
+fn terminating_call() -> Option<CallEvent> {
+    Some(CallEvent::TerminatingAttempt {
+        imsi: Imsi::from_tbcd(&IMSI).ok()?,
         basic: BasicService::Tele(0x11),
     })
 }
 
 // The call at DP 2 after its route has failed with cause 17, user busy.
-fn route_failure() -> Result<CallEvent, Fail> {
-    let Some(cause) = Cause::new(17) else {
-        return Err(Refusal::UnexpectedDataValue.into());
-    };
-    Ok(CallEvent::RouteSelectFailure {
-        imsi: Imsi::from_tbcd(&IMSI)?,
-        destination: CallAddress::from_bytes(&DESTINATION)?,
+fn route_failure() -> Option<CallEvent> {
+    Some(CallEvent::RouteSelectFailure {
+        imsi: Imsi::from_tbcd(&IMSI).ok()?,
+        destination: CallAddress::from_bytes(&DESTINATION).ok()?,
         basic: BasicService::Tele(0x11),
         forwarded: false,
-        cause,
+        cause: Cause::new(17)?,
     })
 }
 
-fn triggered(dp: u8, key: u32) -> Result<Outcome, Fail> {
-    Ok(Outcome::Trigger {
+fn triggered(dp: u8, key: u32) -> Option<Outcome> {
+    Some(Outcome::Trigger {
         dp,
         key,
-        scf: IsdnAddress::from_bytes(&SCF)?,
+        scf: IsdnAddress::from_bytes(&SCF).ok()?,
         handling: Handling::Release,
     })
 }
 
 // A call before the first location update, and one after it.
-fn update_location_first<R: Wait + Abort>(rt: &R, network: &Network) -> Result<(), Fail> {
-    let unknown = Outcome::NoTrigger(Reason::Unknown);
-    assert_eq!(rt; network.outcome(rt, &call()?), Some(unknown));
-    let data = insert_data(network.alloc)?;
-    assert_eq!(rt; network.update_location(rt, &data), Some(Ok(())));
-    assert_eq!(rt; network.outcome(rt, &call()?), Some(triggered(2, 100)?));
-    Ok(())
+fn update_location_first<R: Wait>(rt: &R, network: &Network) -> Option<bool> {
+    let (call, wanted) = (call()?, triggered(2, 100)?);
+    let data = insert_data(network.alloc).ok()?;
+    Some(
+        network.decides(rt, &call, UNKNOWN)
+            && network.update_location(rt, &data) == DONE
+            && network.decides(rt, &call, wanted),
+    )
 }
 
 // How many calls are set up, and how many operations are carried out beside them.
@@ -206,38 +214,33 @@ const CALLS: usize = 1000;
 const OPERATIONS: usize = 100;
 
 // Each call is given its service while the HLR sends the same data again and again.
-fn calls_beside_operations<R: Threads + Wait + Abort + Sync>(
-    rt: &R,
-    network: &Network,
-) -> Result<(), Fail> {
-    let (event, wanted) = (call()?, Some(triggered(2, 100)?));
-    let data = insert_data(network.alloc)?;
+fn calls_beside_operations<R: Threads + Wait + Sync>(rt: &R, network: &Network) -> Option<bool> {
+    let (call, wanted) = (call()?, triggered(2, 100)?);
+    let data = insert_data(network.alloc).ok()?;
     let (are_served, are_done) = thread::join(
         rt,
-        || are_calls_served(rt, network, &event, &wanted),
+        || are_calls_served(rt, network, &call, &wanted),
         || are_inserts_done(rt, network, &data),
     );
-    assert_eq!(rt; (are_served, are_done), (true, true));
-    Ok(())
+    Some(are_served && are_done)
 }
 
 fn are_calls_served<R: Wait>(
     rt: &R,
     network: &Network,
     event: &CallEvent,
-    wanted: &Option<Outcome>,
+    wanted: &Outcome,
 ) -> bool {
     let mut are_served = true;
     for _ in 0..CALLS {
-        let outcome = network.outcome(rt, event);
-        are_served &= outcome == *wanted;
+        are_served &= network.decides(rt, event, *wanted);
     }
     are_served
 }
 
 fn are_inserts_done<R: Wait>(rt: &R, network: &Network, data: &InsertSubscriberData) -> bool {
     for _ in 0..OPERATIONS {
-        if network.insert(rt, data) != Some(Ok(())) {
+        if network.insert(rt, data) != DONE {
             return false;
         }
     }
@@ -245,97 +248,107 @@ fn are_inserts_done<R: Wait>(rt: &R, network: &Network, data: &InsertSubscriberD
 }
 
 // A call that keeps its record over a DeleteSubscriberData, and a call after it.
-fn keep_over_a_delete<R: Wait + Abort>(rt: &R, network: &Network) -> Result<(), Fail> {
-    let Some(kept) = network.set_up(rt, &call()?) else {
-        return Err(Fail::new("no set-up"));
-    };
-    assert_eq!(rt; kept.outcome, triggered(2, 100)?);
+fn keep_over_a_delete<R: Wait>(rt: &R, network: &Network) -> Option<bool> {
+    let (call, failure) = (call()?, route_failure()?);
+    let (first, second) = (triggered(2, 100)?, triggered(4, 101)?);
+    let kept = network.set_up(rt, &call)?;
     let delete = Update::Delete {
-        imsi: Imsi::from_tbcd(&IMSI)?,
+        imsi: Imsi::from_tbcd(&IMSI).ok()?,
         what: Withdrawal {
             o: true,
             vt: false,
             everything: false,
         },
     };
-    assert_eq!(rt; network.answer(rt, Change::One(delete)), Some(Ok(())));
-    assert_eq!(rt; kept.later(&route_failure()?), triggered(4, 101)?);
-    let no_csi = Outcome::NoTrigger(Reason::NoCsi);
-    assert_eq!(rt; network.outcome(rt, &call()?), Some(no_csi));
-    Ok(())
+    Some(
+        kept.outcome == first
+            && network.answer(rt, Change::One(delete)) == DONE
+            && kept.later(&failure) == second
+            && network.decides(rt, &call, NO_CSI),
+    )
 }
 
 // Operations that the HLR is answered with a user error, of a subscriber without a record. No Register is left behind,
 // neither published nor pending.
-fn rejected<R: Wait + Abort>(rt: &R, network: &Network) -> Result<(), Fail> {
-    let imsi = Imsi::from_tbcd(&IMSI)?;
+fn rejected<R: Wait>(rt: &R, network: &Network) -> Option<bool> {
+    let (call, imsi) = (call()?, Imsi::from_tbcd(&IMSI).ok()?);
+    let data = insert_data(network.alloc).ok()?;
+    let criteria = criteria_only(network.alloc).ok()?;
     let cancel = Change::One(Update::Cancel { imsi });
-    assert_eq!(rt; network.answer(rt, cancel), Some(Ok(())));
-    let data = insert_data(network.alloc)?;
-    let unidentified = Some(Err(MapFault::UnidentifiedSubscriber));
-    assert_eq!(rt; network.insert(rt, &data), unidentified);
-    let missing = Some(Err(MapFault::DataMissing));
-    assert_eq!(rt;
-        network.update_location(rt, &criteria_only(network.alloc)?),
-        missing
-    );
-    let unknown = Outcome::NoTrigger(Reason::Unknown);
-    assert_eq!(rt; network.outcome(rt, &call()?), Some(unknown));
-    assert_eq!(rt; network.insert(rt, &data), unidentified);
-    Ok(())
+    Some(
+        network.answer(rt, cancel) == DONE
+            && network.insert(rt, &data) == UNIDENTIFIED
+            && network.update_location(rt, &criteria) == MISSING
+            && network.decides(rt, &call, UNKNOWN)
+            && network.insert(rt, &data) == UNIDENTIFIED,
+    )
 }
 
-// Location updates of a subscriber who has a VT-CSI. One that is rejected leaves the record, also after the next
-// publication. One that is accepted leaves only what came.
-fn update_location_again<R: Wait + Abort>(rt: &R, network: &Network) -> Result<(), Fail> {
-    let (called, both) = (terminating_call()?, with_vt_csi(network.alloc)?);
-    assert_eq!(rt; network.update_location(rt, &both), Some(Ok(())));
-    assert_eq!(rt; network.outcome(rt, &called), Some(triggered(12, 103)?));
-    let missing = Some(Err(MapFault::DataMissing));
-    assert_eq!(rt;
-        network.update_location(rt, &criteria_only(network.alloc)?),
-        missing
-    );
-    let data = insert_data(network.alloc)?;
-    assert_eq!(rt; network.insert(rt, &data), Some(Ok(())));
-    assert_eq!(rt; network.outcome(rt, &called), Some(triggered(12, 103)?));
-    assert_eq!(rt; network.update_location(rt, &data), Some(Ok(())));
-    let no_csi = Outcome::NoTrigger(Reason::NoCsi);
-    assert_eq!(rt; network.outcome(rt, &called), Some(no_csi));
-    assert_eq!(rt; network.outcome(rt, &call()?), Some(triggered(2, 100)?));
-    Ok(())
+// A location update of a subscriber who has a VT-CSI that is rejected leaves the record, also after the next
+// publication.
+fn keep_over_a_rejection<R: Wait>(rt: &R, network: &Network) -> Option<bool> {
+    let (called, wanted) = (terminating_call()?, triggered(12, 103)?);
+    let both = with_vt_csi(network.alloc).ok()?;
+    let criteria = criteria_only(network.alloc).ok()?;
+    let data = insert_data(network.alloc).ok()?;
+    Some(
+        network.update_location(rt, &both) == DONE
+            && network.decides(rt, &called, wanted)
+            && network.update_location(rt, &criteria) == MISSING
+            && network.insert(rt, &data) == DONE
+            && network.decides(rt, &called, wanted),
+    )
 }
 
-#[test]
-fn a_call_finds_what_the_hlr_was_answered(rt: HostRuntime) -> Result<(), Fail> {
-    let alloc = rt.alloc();
-    let (operations, to_writer) = unbounded(alloc)?;
-    let (calls, to_callers) = unbounded(alloc)?;
+// A location update that is accepted leaves only what came.
+fn update_location_again<R: Wait>(rt: &R, network: &Network) -> Option<bool> {
+    let (call, called, wanted) = (call()?, terminating_call()?, triggered(2, 100)?);
+    let data = insert_data(network.alloc).ok()?;
+    Some(
+        network.update_location(rt, &data) == DONE
+            && network.decides(rt, &called, NO_CSI)
+            && network.decides(rt, &call, wanted),
+    )
+}
+
+// What each step finds. The senders end here, and with them the switch.
+fn drive<R: Threads + Wait + Sync>(rt: &R, network: Network) -> [Option<bool>; 6] {
+    [
+        update_location_first(rt, &network),
+        calls_beside_operations(rt, &network),
+        keep_over_a_rejection(rt, &network),
+        update_location_again(rt, &network),
+        keep_over_a_delete(rt, &network),
+        rejected(rt, &network),
+    ]
+}
+
+// What each step finds in a switch that ends well.
+fn run<R: RandomSource + Threads + Wait + Sync>(
+    rt: &R,
+    alloc: Global,
+) -> Option<[Option<bool>; 6]> {
+    let (operations, to_writer) = unbounded(alloc).ok()?;
+    let (calls, to_callers) = unbounded(alloc).ok()?;
     let network = Network {
         alloc,
         operations,
         calls,
     };
-    thread::scope(thread::scope_env(), &rt, |scope| -> Result<(), Fail> {
+    thread::scope(thread::scope_env(), rt, |scope| {
         let network = network;
-        let switch = scope.spawn(|| run_switch(&rt, alloc, 2, to_writer, to_callers));
-        let Ok(switch) = switch else {
-            return Err(Fail::new("no thread"));
-        };
-        let done = drive(&rt, network);
-        let run = switch.join(&rt);
-        assert_eq!(&rt; run, Ok(()));
-        done
+        let switch = scope
+            .spawn(|| run_switch(rt, alloc, 2, to_writer, to_callers))
+            .ok()?;
+        let found = drive(rt, network);
+        switch.join(rt).ok()?;
+        Some(found)
     })
 }
 
-// The senders end here, and with them the switch.
-fn drive<R: Threads + Wait + Abort + Sync>(rt: &R, network: Network) -> Result<(), Fail> {
-    update_location_first(rt, &network)?;
-    calls_beside_operations(rt, &network)?;
-    update_location_again(rt, &network)?;
-    keep_over_a_delete(rt, &network)?;
-    rejected(rt, &network)
+#[test]
+fn a_call_finds_what_the_hlr_was_answered(rt: HostRuntime) {
+    assert_eq!(rt; run(&rt, rt.alloc()), Some([Some(true); 6]));
 }
 
 // The entry of DP 2 without any criterion.
@@ -356,24 +369,34 @@ fn fault_of(alloc: Global, entry: OCriteriaData) -> Result<Option<MapFault>, All
     Ok(update_of(alloc, &data).err())
 }
 
-// What no constructor takes is the switch's own to refuse.
-#[test]
-fn a_value_without_a_meaning_is_an_unexpected_data_value(rt: HostRuntime) -> Result<(), Fail> {
-    let alloc = rt.alloc();
-    let unexpected = Some(MapFault::UnexpectedDataValue);
-    assert_eq!(rt; fault_of(alloc, bare_entry())?, None);
-    let mut call_type = bare_entry();
-    call_type.call_type = Some(2);
-    assert_eq!(rt; fault_of(alloc, call_type)?, unexpected);
-    let mut match_type = bare_entry();
-    match_type.destination = Some(DestinationNumberCriteria {
+fn fault_of_a_call_type(alloc: Global) -> Result<Option<MapFault>, AllocError> {
+    let mut entry = bare_entry();
+    entry.call_type = Some(2);
+    fault_of(alloc, entry)
+}
+
+fn fault_of_a_match_type(alloc: Global) -> Result<Option<MapFault>, AllocError> {
+    let mut entry = bare_entry();
+    entry.destination = Some(DestinationNumberCriteria {
         match_type: 2,
         numbers: None,
         lengths: Some(octets(alloc, &[5])?),
     });
-    assert_eq!(rt; fault_of(alloc, match_type)?, unexpected);
-    let mut code = bare_entry();
-    code.basic = Some(list(alloc, BasicServiceCode::Bearer(Vec::new(alloc)))?);
-    assert_eq!(rt; fault_of(alloc, code)?, unexpected);
-    Ok(())
+    fault_of(alloc, entry)
+}
+
+fn fault_of_an_empty_code(alloc: Global) -> Result<Option<MapFault>, AllocError> {
+    let mut entry = bare_entry();
+    entry.basic = Some(list(alloc, BasicServiceCode::Bearer(Vec::new(alloc)))?);
+    fault_of(alloc, entry)
+}
+
+// What no constructor takes is the switch's own to refuse.
+#[test]
+fn a_value_without_a_meaning_is_an_unexpected_data_value(rt: HostRuntime) {
+    let unexpected = Ok(Some(MapFault::UnexpectedDataValue));
+    assert!(rt; fault_of(rt.alloc(), bare_entry()) == Ok(None));
+    assert!(rt; fault_of_a_call_type(rt.alloc()) == unexpected);
+    assert!(rt; fault_of_a_match_type(rt.alloc()) == unexpected);
+    assert!(rt; fault_of_an_empty_code(rt.alloc()) == unexpected);
 }
