@@ -1,9 +1,9 @@
 use camel_replay_lib::replay;
 use camel_tbcd::Profile;
+use std::alloc::Global;
 use std::cell::Cell;
 use std::io;
 use std::io::{ErrorKind, Read, Write};
-use std::test::Fail;
 
 // A reader that gives one piece of a script a call, and fails if the count of octets that are written by then is not
 // the count of the piece.
@@ -62,32 +62,38 @@ const STEPS: [(&[u8], usize); 7] = [
 const OUTPUT: &str =
     "accepted 1\nrefused 35\naccepted 2\npublished 2\nfront 2 trigger 2 1 91 continue\n";
 
-#[test]
-fn writes_each_line_before_the_next_record_is_read(rt: HostRuntime) -> Result<(), Fail> {
+fn is_written_step_by_step(alloc: Global) -> bool {
     let written = Cell::new(0);
     let reader = Steps {
         left: &STEPS,
         written: &written,
     };
     let mut out = Told {
-        taken: Vec::new(rt.alloc()),
+        taken: Vec::new(alloc),
         written: &written,
     };
-    assert!(rt; replay(rt.alloc(), reader, &mut out, 10, Profile::One).is_ok());
-    assert_eq!(rt; out.taken.as_slice(), OUTPUT.as_bytes());
-    Ok(())
+    let ended = replay(alloc, reader, &mut out, 10, Profile::One);
+    ended.is_ok() && out.taken.as_slice() == OUTPUT.as_bytes()
+}
+
+#[test]
+fn writes_each_line_before_the_next_record_is_read(rt: HostRuntime) {
+    assert!(rt; is_written_step_by_step(rt.alloc()));
 }
 
 // A writer whose count its reader does not see: the reader then fails at the second record.
-#[test]
-fn fails_where_a_line_is_not_written(rt: HostRuntime) {
+fn fails_at_the_second_record(alloc: Global) -> bool {
     let written = Cell::new(0);
     let reader = Steps {
         left: &STEPS,
         written: &written,
     };
-    let mut out = Vec::new(rt.alloc());
-    let ended = replay(rt.alloc(), reader, &mut out, 10, Profile::One);
-    assert_eq!(rt; ended.err().map(|fault| fault.code), Some(206));
-    assert_eq!(rt; out.as_slice(), "accepted 1\n".as_bytes());
+    let mut out = Vec::new(alloc);
+    let ended = replay(alloc, reader, &mut out, 10, Profile::One);
+    ended.is_err_and(|fault| fault.code == 206) && out.as_slice() == "accepted 1\n".as_bytes()
+}
+
+#[test]
+fn fails_where_a_line_is_not_written(rt: HostRuntime) {
+    assert!(rt; fails_at_the_second_record(rt.alloc()));
 }

@@ -3,6 +3,5 @@
 mod failing;
 mod gated;
 mod gates;
-mod many;
 mod rounds;
 mod runs;

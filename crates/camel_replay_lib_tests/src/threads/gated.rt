@@ -1,7 +1,7 @@
 //! Runs in which a gate holds calls and publications.
 
 use crate::threads::gates::{BothCalls, CallInPublication};
-use crate::threads::runs::{BUSY_OR_LATE, run};
+use crate::threads::runs::{BUSY_OR_LATE, Ran, run};
 
 const TWO_CALLS: &str = "register,262010000000001
 insert,262010000000001,o:2:100:919471160000:0
@@ -18,14 +18,17 @@ session 1 call 1 front 2 trigger 2 100 919471160000 continue
 audit ok
 ";
 
+fn wrote(ran: &Ran, output: &str) -> bool {
+    ran.fault.is_none() && ran.output.as_slice() == output.as_bytes()
+}
+
 // Each call waits for the other one. So they are answered in threads that run at once, or the run ends with `Stopped`
 // (105).
 #[test]
 fn answers_two_calls_at_once(rt: HostRuntime) {
     let script = TWO_CALLS.as_bytes();
     let ran = run::<BothCalls, _>(&rt, rt.alloc(), script, 2, &BUSY_OR_LATE);
-    assert_eq!(rt; ran.fault, None);
-    assert_eq!(rt; ran.output.as_slice(), TWO_CALLS_OUTPUT.as_bytes());
+    assert!(rt; wrote(&ran, TWO_CALLS_OUTPUT));
 }
 
 // A script whose first call is answered beside a publication.
@@ -52,6 +55,5 @@ audit ok
 fn a_call_that_ends_before_the_publication_sees_none_of_it(rt: HostRuntime) {
     let script = CANCELLED.as_bytes();
     let ran = run::<CallInPublication, _>(&rt, rt.alloc(), script, 1, &BUSY_OR_LATE);
-    assert_eq!(rt; ran.fault, None);
-    assert_eq!(rt; ran.output.as_slice(), SEEN_BEFORE.as_bytes());
+    assert!(rt; wrote(&ran, SEEN_BEFORE));
 }

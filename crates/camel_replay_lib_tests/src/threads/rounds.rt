@@ -4,10 +4,8 @@ use crate::threads::runs::{BUSY, run};
 use camel_replay_lib::{MAX_LIMIT, MAX_THREADS, OpenGate, replay};
 use camel_tbcd::Profile;
 use std::alloc::Global;
-use std::process::Abort;
 use std::str;
 use std::sync::Wait;
-use std::test::Fail;
 use std::thread::Threads;
 
 // A script of 60 records. Its calls are among the other records of their round: these are the records before the calls
@@ -121,49 +119,53 @@ const EARLY: [usize; 3] = [0, 1, 2];
 // The script with the calls of each round behind its publication, over which they are decided.
 const LATE: [usize; 3] = [0, 2, 1];
 
-fn script_of(alloc: Global, order: [usize; 3]) -> Result<String, Fail> {
+fn script_of(alloc: Global, order: [usize; 3]) -> Option<String> {
     let mut script = String::new(alloc);
     for round in &ROUNDS {
         for part in order {
-            script.push_str(round.get(part).copied().unwrap_or(""))?;
+            let records = round.get(part).copied().unwrap_or("");
+            script.push_str(records).ok()?;
         }
     }
-    Ok(script)
+    Some(script)
 }
 
-// What the one-thread replay of a script writes.
-fn replayed(rt: &impl Abort, alloc: Global, script: &str) -> Result<Vec<u8>, Fail> {
+// What the one-thread replay writes of the script in this order, as with sessions.
+fn replayed(alloc: Global, order: [usize; 3], threads: usize) -> Option<String>
+    requires { 1 ≤ threads }
+{
+    let script = script_of(alloc, order)?;
     let mut output = Vec::new(alloc);
-    let ended = replay(
+    replay(
         alloc,
         script.as_bytes(),
         &mut output,
         MAX_LIMIT,
         Profile::One,
-    );
-    assert_eq!(rt; ended.err(), None);
-    Ok(output)
+    )
+    .ok()?;
+    with_sessions(alloc, str::from_utf8(&output).ok()?, threads)
 }
 
 // The output with threads, in which each call is decided as in this output of one thread.
-fn with_sessions(alloc: Global, output: &str, threads: usize) -> Result<String, Fail>
+fn with_sessions(alloc: Global, output: &str, threads: usize) -> Option<String>
     requires { 1 ≤ threads }
 {
     let mut text = String::new(alloc);
     let mut calls = Vec::new(alloc);
     for line in output.lines() {
         if line.starts_with("front ") {
-            calls.push(line)?;
+            calls.push(line).ok()?;
         } else {
-            text.push_str(line)?;
-            text.push_str("\n")?;
+            text.push_str(line).ok()?;
+            text.push_str("\n").ok()?;
         }
     }
     for session in 0..threads {
         push_session(alloc, &mut text, &calls, threads, session)?;
     }
-    text.push_str("audit ok\n")?;
-    Ok(text)
+    text.push_str("audit ok\n").ok()?;
+    Some(text)
 }
 
 fn push_session(
@@ -172,15 +174,16 @@ fn push_session(
     calls: &[&str],
     threads: usize,
     session: usize,
-) -> Result<(), Fail>
+) -> Option<()>
     requires { 1 ≤ threads }
 {
     for (call, line) in calls.iter().enumerate() {
         if call % threads == session {
-            text.push_str(&format!(in alloc; "session {session} call {call} {line}\n")?)?;
+            let answer = format!(in alloc; "session {session} call {call} {line}\n").ok()?;
+            text.push_str(&answer).ok()?;
         }
     }
-    Ok(())
+    Some(())
 }
 
 // Whether each line is the one at its place in the one text or in the other.
@@ -199,37 +202,26 @@ fn is_line_by_line(output: &str, early: &str, late: &str) -> bool {
 // How often the script is replayed with each number of threads.
 const RUNS: usize = 50;
 
-fn check_threads<R: Threads + Wait + Abort>(
-    rt: &R,
-    alloc: Global,
-    outputs: (&str, &str),
-    threads: usize,
-) -> Result<(), Fail>
+fn are_decided_as_on_one<R: Threads + Wait>(rt: &R, alloc: Global, threads: usize) -> Option<bool>
     requires { (1 ≤ threads) × (threads ≤ MAX_THREADS) }
 {
     let script = script_of(alloc, EARLY)?;
-    let early = with_sessions(alloc, outputs.0, threads)?;
-    let late = with_sessions(alloc, outputs.1, threads)?;
+    let early = replayed(alloc, EARLY, threads)?;
+    let late = replayed(alloc, LATE, threads)?;
     for _ in 0..RUNS {
         let ran = run::<OpenGate, R>(rt, alloc, script.as_bytes(), threads, &BUSY);
-        assert_eq!(rt; ran.fault, None, "with {threads} threads");
-        let output = str::from_utf8(&ran.output)?;
-        assert!(rt;
-            is_line_by_line(output, &early, &late),
-            "with {threads} threads: {output}"
-        );
+        let output = str::from_utf8(&ran.output).ok()?;
+        if ran.fault.is_some() || !is_line_by_line(output, &early, &late) {
+            return None;
+        }
     }
-    Ok(())
+    Some(true)
 }
 
 #[test]
-fn each_call_is_decided_as_on_one_thread(rt: HostRuntime) -> Result<(), Fail> {
-    let alloc = rt.alloc();
-    let early = replayed(&rt, alloc, &script_of(alloc, EARLY)?)?;
-    let late = replayed(&rt, alloc, &script_of(alloc, LATE)?)?;
-    let outputs = (str::from_utf8(&early)?, str::from_utf8(&late)?);
-    for threads in [1, 2, 4, 16] {
-        check_threads(&rt, alloc, outputs, threads)?;
-    }
-    Ok(())
+fn each_call_is_decided_as_on_one_thread(rt: HostRuntime) {
+    assert!(rt; are_decided_as_on_one(&rt, rt.alloc(), 1) == Some(true));
+    assert!(rt; are_decided_as_on_one(&rt, rt.alloc(), 2) == Some(true));
+    assert!(rt; are_decided_as_on_one(&rt, rt.alloc(), 4) == Some(true));
+    assert!(rt; are_decided_as_on_one(&rt, rt.alloc(), 16) == Some(true));
 }
