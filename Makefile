@@ -4,7 +4,7 @@
 # How long what takes, on four cores: to prove and build a program, one that takes longer, and all tests.
 BUILD_TIME := about 14 minutes the first time
 LONG_TIME := up to 25 minutes the first time
-TEST_TIME := about two hours
+TEST_TIME := about an hour
 
 SHELL := scripts/recipe
 .SHELLFLAGS := -c
@@ -45,7 +45,7 @@ define targets
 endef
 
 .PHONY: help try try-explain try-map replay explain explain-check program check script capture crate pages try-make \
-	proofs must-not-compile examples scripts streams coprocess refusals fuzz map-check map-program library install \
+	proofs edits must-not-compile examples scripts streams coprocess refusals fuzz map-check map-program library install \
 	library-test library-c library-cpp library-as-shipped library-installed library-deb library-rust deb osmo-check \
 	osmo-source soak fuzz-c bench bench-program bench-peers bench-loop bench-map count-vlr test
 # In order, so that what is missing is said before anything is built.
@@ -124,9 +124,11 @@ program: $(PROGRAM)
 check: crate begin-$$@
 	@cd "crates/$$CRATE" && rt check
 
-## Looks up what the pages name, compares their numbers, crates and figures, and looks for banned words: a second.
+# It also fails if wrong bodies have to be tried anew, by `make edits`.
+## Looks up what the pages name, compares their numbers, crates and figures, and looks for banned words: seconds.
 pages: begin-$$@
 	@scripts/pages
+	@scripts/edits --recorded
 	@scripts/numbers
 	@scripts/words
 	@bench/plot --check
@@ -135,9 +137,13 @@ pages: begin-$$@
 try-make: begin-$$@
 	@scripts/try-make
 
-## Proves every crate, tries the edits of its contracts, and runs the tests of the crates: nearly all of `make test`.
+## Proves every crate, tries the edits of must-fail/, and runs the tests of the crates: nearly all of `make test`.
 proofs: begin-$$@
 	@scripts/proofs
+
+## Tries the wrong bodies of CRATE, or of all crates, and notes which are refused: up to an hour, all from nothing.
+edits: begin-$$@
+	@scripts/edits $${CRATE:+"$$CRATE"}
 
 ## Tries the programs that the compiler has to refuse: some minutes, once their crates are proved.
 must-not-compile: begin-$$@
