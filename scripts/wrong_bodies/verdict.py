@@ -46,11 +46,10 @@ def refusal_of_whole(ended, texts):
     """The error by which a check of a whole crate with these texts refuses them, and None; or None, and why none."""
     if ended.returncode == 0:
         return None, "NOT REFUSED: the crate is proved with it"
-    places = [(path, f"{path}:{line}: {said}") for path, line, said in PLACE.findall(ended.stdout)]
-    is_read = lambda place: is_refusal(place.split(": ", 1)[1], UNREAD)
-    stands = lambda path: path in texts or path.startswith(("src/", "specs/"))
-    unread = [place for path, place in places if stands(path) and not is_read(place)]
+    places = PLACE.findall(ended.stdout)
+    is_stated = lambda path: path in texts or path.startswith(("src/", "specs/"))
+    unread = [": ".join(it) for it in places if is_stated(it[0]) and not is_refusal(it[2], UNREAD)]
     if ended.returncode != 1 or unread or not re.search("(?m)^logic=not-proved", ended.stdout):
         return None, f"NOT TRIED: {[*unread, ended.stdout[-300:]][0]}"
-    own = [said.split(": ", 1)[1] for _, said in places if is_refusal(said.split(": ", 1)[1], SECOND_HAND)]
-    return [*own, "the crate is not proved"][0], None
+    refusals = [said for _, _, said in places if is_refusal(said, SECOND_HAND)]
+    return [*refusals, "the crate is not proved"][0], None
