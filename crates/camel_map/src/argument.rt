@@ -34,10 +34,11 @@ fn one_of<'a>(elements: &[Element<'a>]) -> Result<Element<'a>, MapFault>
 /// What octets bring, as the argument of an operation in a dialogue of this IMSI, if the dialogue has one: the update,
 /// and what came beside it.
 ///
-/// The octets are those of the parameter of a TCAP invoke, in BER (ITU-T X.690) of any form. They are borrowed, and
-/// nothing of them is kept. Fields are known by their tags (TS 29.002); those that are not needed, and extensions, are
-/// skipped. It takes memory for lists, and gives back all but that of the update. Its steps are at most a constant
-/// times the number of octets.
+/// The octets are those of the parameter of a TCAP invoke, in BER (ITU-T X.690), in the forms of docs/RULES.md: a
+/// length is definite, in the short form or in up to four octets and not only in the fewest, or indefinite, up to 16
+/// deep, and a field that is a string is in one piece. They are borrowed, and nothing of them is kept. Fields are known
+/// by their tags (TS 29.002); those that are not needed, and extensions, are skipped. It takes memory for lists, and
+/// gives back all but that of the update. Its steps are at most a constant times the number of octets.
 ///
 /// Fails with the first fault, and says where it is: `Malformed` (401), `MissingField` (402), `FieldTwice` (403),
 /// `WrongTag` (404), `WrongLength` (405), `NoImsi` (406) or `OtherImsi` (407) of the octets, and with `DataMissing`
