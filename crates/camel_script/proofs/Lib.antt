@@ -1,7 +1,16 @@
 pub mod CsvRecords
 pub mod Elements
 pub mod FieldLemmas
+pub mod FirstRefused
 pub mod InTurn
+pub mod InsertMistake
+pub mod ItemAdded
+pub mod ItemDps
+pub mod ItemPlace
+pub mod ListDps
 pub mod PartsLemmas
 pub mod ReadRecord
+pub mod ReceivedLists
 pub mod RefusedItem
+pub mod RefusedListLemmas
+pub mod StepLemmas

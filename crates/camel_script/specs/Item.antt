@@ -136,7 +136,7 @@ abbrev pub item_dp : List ℕ → ℕ
 item_dp item = result_unwrap_or (decimal_of 255 (item_part item 1)) 0
 
 -- the first item of a name that its list can't take, behind items of these detection points: the eleventh, or the second
--- of a detection point that counts for the list. An insert with a list that is refused has one
+-- of a detection point that counts for the list. An insert with a list that is refused has one (`IsAtRefusedItem`)
 unfoldable pub refused_item : RecordFault → List ℕ → List ℕ → List ℕ → List (ℕ × List ℕ) → Mistake
 refused_item fault name points dps [] = mistake_at 3 1 ItemName fault
 refused_item fault name points dps ((number, item) ∷ more) =

@@ -9,6 +9,7 @@ pub mod Parts
 pub mod Reading
 pub mod Record
 pub mod RecordFault
+pub mod RefusedList
 pub mod Script
 pub mod ScriptFault
 pub mod Texts

@@ -3,6 +3,7 @@
 
 mod append;
 mod item;
+mod laws;
 mod line;
 mod mistake;
 mod record;
@@ -12,6 +13,7 @@ mod script_fault;
 mod text;
 
 pub use append::{append_decimal, append_text};
+pub use laws::refused_list_names_item;
 pub use line::{Line, push_line};
 pub use mistake::{Expected, Mistake};
 pub use record::{Record, parse_fields, parse_record};
