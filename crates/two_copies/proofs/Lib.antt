@@ -1,3 +1,4 @@
+pub mod EndLemmas
 pub mod HeldLemmas
 pub mod LogLemmas
 pub mod Owed

@@ -1,8 +1,9 @@
 -- What clauses see of the writer.
-use Rattle.std.specs.Prelude.{ℕ, List, All, length}
+use Rattle.std.specs.Prelude.{ℕ, List, All, length, map}
 use Rattle.std.specs.Arc.{arc_value}
+use Rattle.atomic_table.specs.Seated.{TableId}
 use Rattle.two_copies.specs.Log.{IsBroughtUp, pending_in}
-use Rattle.two_copies.specs.WriterEnd.{IsFreeAt, held_in}
+use Rattle.two_copies.specs.WriterEnd.{IsFreeAt, held_in, place_at}
 use Rattle.two_copies.specs.declared.apply.Apply.{Ghosts}
 use Rattle.two_copies.specs.declared.copies.Copies.{Copies}
 
@@ -18,6 +19,10 @@ module _ {T O F S : Type 0} {g : Ghosts T O S} where
   -- the copy that is not shown has all that is pending
   abbrev pub IsReady : Copies T O F S g → Type 0
   IsReady copies = IsBroughtUp copies.log
+
+  -- the places, in their order
+  abbrev pub places_of : Copies T O F S g → List TableId
+  places_of copies = map place_at copies.places.items
 
   -- how many places there are
   abbrev pub reader_count : Copies T O F S g → ℕ

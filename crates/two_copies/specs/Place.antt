@@ -74,7 +74,9 @@ module _ {S : Type 0} where
   in_hand (part, []) = known_of part
   in_hand (part, x ∷ others) = x.1
 
-  -- the words that a closed place may have while the reader does this: each has the 8
+  -- the words that a closed place may have while the reader does this: 8, and 2 more while it looks or is refused, and
+  -- 4 more if it said that it gave the other slot back, which a reader that is leaving did not, and 1 more if the
+  -- second slot is the newest. Each is within these bounds, and no step of the reader takes the word below 8
   abbrev pub IsClosedWord : Part S → ℕ → Type 0
   IsClosedWord (Idle seen) word = (8 ≤ word) × (word ≤ 13)
   IsClosedWord (Looking slot seen) word = (10 ≤ word) × (word ≤ 15)

@@ -4,11 +4,16 @@ use Rattle.std.specs.declared.alloc.Global.{Global}
 use Rattle.std.specs.declared.option.Option.{Option}
 use Rattle.std.specs.declared.sync.Arc.{Arc}
 use Rattle.std.specs.Arc.{arc_value}
+use Rattle.atomic_table.specs.Seated.{TableId}
 use Rattle.two_copies.specs.Place.{HasClosed, known_of, number}
 use Rattle.two_copies.specs.Slot.{value_in}
 use Rattle.two_copies.specs.declared.place.writer_end.WriterEnd.{WriterEnd}
 
 module _ {T F : Type 0} where
+  -- which place it is: its table
+  abbrev pub place_at : WriterEnd T F → TableId
+  place_at end = end.seat.table_id
+
   -- the newest slot
   abbrev pub slot_at : WriterEnd T F → Option (Arc T Global)
   slot_at end = known_of end.seat.me.0

@@ -2,7 +2,8 @@
 ghost use Rattle.std.specs.Prelude.{◌≡◌, ◌≢◌, ◌<◌, ◌≤◌, ◌↔◌, [], ◌∷◌, ◌++◌, fold, length, true, All, IsTrue, MatchResult, OnErr, OnOk, IfErr, IfOk, Err, Some};
 ghost use Rattle.std.specs.Arc.{arc_value};
 ghost use Rattle.two_copies.specs.Log.{IsAlike, pending_in};
-ghost use Rattle.two_copies.specs.Reader.{seen_by};
+ghost use Rattle.two_copies.specs.Places.{IsOneMore};
+ghost use Rattle.two_copies.specs.Reader.{place_of, seen_by};
 ghost use Rattle.two_copies.specs.WriterEnd.{IsFreeAt, IsNextAt, ShowsAt};
 ghost use Rattle.two_copies.specs.declared.copies.TheConstants.{MAX_READERS};
 
@@ -76,7 +77,7 @@ pub struct Copies<T: Drop + Apply<O>, O: Drop, F: CopyRule<T>> {
 }
 
 impl<T: Drop + Apply<O>, O: Drop, F: CopyRule<T>> Copies<T, O, F> {
-    ghost use Rattle.two_copies.specs.Copies.{IsFree, IsReady, held_by, pending_of, reader_count, shown_by};
+    ghost use Rattle.two_copies.specs.Copies.{IsFree, IsReady, held_by, pending_of, places_of, reader_count, shown_by};
     ghost use Rattle.two_copies.specs.declared.copies.NoReader.TheVariants.{NoPlace};
     ghost use Rattle.two_copies.specs.declared.copies.Unpublished.TheVariants.{Held};
     ghost use Rattle.two_copies.specs.Ending.{closed_count, value_of};
@@ -87,6 +88,7 @@ impl<T: Drop + Apply<O>, O: Drop, F: CopyRule<T>> Copies<T, O, F> {
         requires { T.state first ≡ T.state second }
         ensures shown { IfOk result (λ copies. shown_by copies ≡ first) }
         ensures pending { IfOk result (λ copies. pending_of copies ≡ []) }
+        ensures places { IfOk result (λ copies. places_of copies ≡ []) }
     {
         let shown = Arc::new(alloc, first)?;
         let spare = Arc::new(alloc, second)?;
@@ -106,25 +108,30 @@ impl<T: Drop + Apply<O>, O: Drop, F: CopyRule<T>> Copies<T, O, F> {
         requires { F.holds (shown_by self.old) }
         ensures seen { IfOk result (λ reader. seen_by reader ≡ Some (shown_by self.old)) }
         ensures no_place { result ≡ Err NoPlace → reader_count self.old ≡ MAX_READERS }
+        ensures place { IfOk result (λ reader. IsOneMore (place_of reader) (places_of self.old) (places_of self.new)) }
+        ensures none { OnErr result (places_of self.new ≡ places_of self.old) }
         ensures same { (shown_by self.new ≡ shown_by self.old) × (pending_of self.new ≡ pending_of self.old) }
     {
         let place = next_place(&self.places);
+        // Before any memory is asked for.
         if place >= MAX_READERS {
             return Err(NoReader::NoPlace);
         }
-        Ok(self.add_place(place)?)
+        self.add_place(place)
     }
 
-    fn add_place(&mut self, place: usize) -> Result<Reader<T, F>, AllocError>
-        requires holds { F.holds (shown_by self.old) }
-        requires place { place ≤ reader_count self.old }
-        requires room { place < MAX_READERS }
+    /// A reader whose place is this one or behind it.
+    fn add_place(&mut self, first: usize) -> Result<Reader<T, F>, NoReader>
+        requires { F.holds (shown_by self.old) }
         ensures seen { IfOk result (λ reader. seen_by reader ≡ Some (shown_by self.old)) }
+        ensures no_place { result ≡ Err NoPlace → reader_count self.old ≡ MAX_READERS }
+        ensures place { IfOk result (λ reader. IsOneMore (place_of reader) (places_of self.old) (places_of self.new)) }
+        ensures none { OnErr result (places_of self.new ≡ places_of self.old) }
         ensures same { (shown_by self.new ≡ shown_by self.old) × (pending_of self.new ≡ pending_of self.old) }
     {
         let share = Arc::try_clone(&self.shown)?;
         let (end, reader) = WriterEnd::new(self.alloc, share)?;
-        put(&mut self.places, place, end)?;
+        drop(put(&mut self.places, first, end)?);
         Ok(reader)
     }
 
@@ -143,6 +150,7 @@ impl<T: Drop + Apply<O>, O: Drop, F: CopyRule<T>> Copies<T, O, F> {
             (λ _. pending_of self.new ≡ pending_of self.old ++ operation ∷ [])
             (λ _. pending_of self.new ≡ pending_of self.old) }
         ensures free { IsFree self.old → IsFree self.new }
+        ensures places { places_of self.new ≡ places_of self.old }
     {
         self.log.push(operation)
     }
@@ -158,6 +166,7 @@ impl<T: Drop + Apply<O>, O: Drop, F: CopyRule<T>> Copies<T, O, F> {
             (λ _. operations.new.items ≡ [])
             (λ _. operations.new.items ≡ operations.old.items) }
         ensures free { IsFree self.old → IsFree self.new }
+        ensures places { places_of self.new ≡ places_of self.old }
     {
         self.log.push_all(operations)
     }
@@ -172,7 +181,9 @@ impl<T: Drop + Apply<O>, O: Drop, F: CopyRule<T>> Copies<T, O, F> {
     /// Makes room for so many operations more behind those that are pending.
     pub fn reserve(&mut self, additional: usize) -> Result<(), AllocError>
         ensures same { (shown_by self.new ≡ shown_by self.old) × (pending_of self.new ≡ pending_of self.old) }
+        ensures ready { IsReady self.old → IsReady self.new }
         ensures free { IsFree self.old → IsFree self.new }
+        ensures places { places_of self.new ≡ places_of self.old }
     {
         self.log.reserve(additional)
     }
@@ -182,7 +193,8 @@ impl<T: Drop + Apply<O>, O: Drop, F: CopyRule<T>> Copies<T, O, F> {
     pub fn drop_pending(&mut self)
         ensures shown { shown_by self.new ≡ shown_by self.old }
         ensures none { pending_of self.new ≡ [] }
-        ensures free { IsFree self.old → IsFree self.new }
+        ensures free { IsFree self.old ↔ IsFree self.new }
+        ensures places { places_of self.new ≡ places_of self.old }
     {
         self.log.drop_pending::<T>();
     }
@@ -190,13 +202,16 @@ impl<T: Drop + Apply<O>, O: Drop, F: CopyRule<T>> Copies<T, O, F> {
     /// Applies all that is pending to the copy that is not shown, so that a publication has little left to do and to
     /// ask memory for. Nothing is published, and all is pending as before.
     ///
-    /// It fails if memory was refused, or if a look keeps that copy.
+    /// It returns `AllocError` if memory was refused. It also does, before it asks for any, if a look keeps that copy,
+    /// or has left it and the writer has not taken it back since, as [`Copies::is_free`] and [`Copies::holders`] do.
     pub fn bring_up(&mut self) -> Result<(), AllocError>
         ensures same { (shown_by self.new ≡ shown_by self.old) × (pending_of self.new ≡ pending_of self.old) }
         ensures ready { OnOk result (IsReady self.new) }
         ensures free { IsFree self.old → IsFree self.new }
+        ensures places { places_of self.new ≡ places_of self.old }
     {
-        // The writer has each share of the spare copy that was at a place, and has dropped it, unless a look keeps it.
+        // Each share of the spare copy that was at a place was dropped, unless a look had it when the writer last took
+        // the slots back.
         let Some(copy) = Arc::get_mut(&mut self.spare) else {
             return Err(AllocError);
         };
@@ -208,6 +223,7 @@ impl<T: Drop + Apply<O>, O: Drop, F: CopyRule<T>> Copies<T, O, F> {
     pub fn is_free(&mut self) -> bool
         ensures free { IsTrue result ↔ IsFree self.new }
         ensures keeps { IsFree self.old → result ≡ true }
+        ensures places { places_of self.new ≡ places_of self.old }
         ensures same { (shown_by self.new ≡ shown_by self.old) × (pending_of self.new ≡ pending_of self.old) }
     {
         reclaim_all(&mut self.places)
@@ -222,7 +238,7 @@ impl<T: Drop + Apply<O>, O: Drop, F: CopyRule<T>> Copies<T, O, F> {
         ensures free { (result ≡ 0) ↔ IsFree self.new }
         ensures keeps { IsFree self.old → result ≡ 0 }
         ensures same { (shown_by self.new ≡ shown_by self.old) × (pending_of self.new ≡ pending_of self.old) }
-        ensures places { reader_count self.new ≡ reader_count self.old }
+        ensures places { places_of self.new ≡ places_of self.old }
     {
         reclaim_each(&mut self.places)
     }
@@ -243,7 +259,9 @@ impl<T: Drop + Apply<O>, O: Drop, F: CopyRule<T>> Copies<T, O, F> {
         ensures none { OnOk result (pending_of self.new ≡ []) }
         ensures unchanged { OnErr result ((shown_by self.new ≡ shown_by self.old) × (pending_of self.new ≡ pending_of self.old)) }
         ensures free { IsFree self.old → result ≢ Err Held }
+        ensures held { IfErr result (λ why. (why ≡ Held) ↔ (IsFree self.new → ⊥)) }
         ensures keeps { OnErr result (IsFree self.old → IsFree self.new) }
+        ensures places { places_of self.new ≡ places_of self.old }
     {
         if !self.is_free() {
             return Err(Unpublished::Held);
@@ -260,6 +278,7 @@ impl<T: Drop + Apply<O>, O: Drop, F: CopyRule<T>> Copies<T, O, F> {
         ensures ready { OnOk result (IsReady self.new) }
         ensures free { IsFree self.new }
         ensures next { OnOk result (All (IsNextAt (arc_value self.new.spare)) self.new.places.items) }
+        ensures places { places_of self.new ≡ places_of self.old }
     {
         self.bring_up()?;
         prepare_all(&mut self.places, &self.spare)
@@ -274,6 +293,7 @@ impl<T: Drop + Apply<O>, O: Drop, F: CopyRule<T>> Copies<T, O, F> {
         requires follows { F.follows (shown_by self.old) (arc_value self.old.spare) }
         ensures published { T.state (shown_by self.new) ≡ fold T.applied (T.state (shown_by self.old)) (pending_of self.old) }
         ensures none { pending_of self.new ≡ [] }
+        ensures places { places_of self.new ≡ places_of self.old }
     {
         show_all(&mut self.places, &self.shown, &self.spare);
         mem::swap(&mut self.shown, &mut self.spare);
@@ -289,6 +309,14 @@ impl<T: Drop + Apply<O>, O: Drop, F: CopyRule<T>> Copies<T, O, F> {
         ensures value { MatchResult result (λ value. value ≡ shown_by self) (λ ending. value_of ending ≡ shown_by self) }
         ensures closed { IfErr result (λ ending. closed_count ending ≡ reader_count self) }
     {
+        self.close().end()
+    }
+
+    /// Closes each place, whether or not its reader looks, and drops what is pending.
+    fn close(self) -> Ending<T, F>
+        ensures value { value_of result ≡ shown_by self }
+        ensures closed { closed_count result ≡ reader_count self }
+    {
         let Copies {
             alloc: _alloc,
             shown,
@@ -297,6 +325,6 @@ impl<T: Drop + Apply<O>, O: Drop, F: CopyRule<T>> Copies<T, O, F> {
             log: _log,
         } = self;
         close_all(&mut places);
-        Ending::new(shown, spare, places).end()
+        Ending::new(shown, spare, places)
     }
 }

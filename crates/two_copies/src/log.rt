@@ -82,6 +82,7 @@ impl<O: Drop> Log<O> {
         ensures dropped { self.new.dropped ≡ self.old.dropped }
         ensures last { self.new.last ≡ self.old.last }
         ensures done { done_in self.new ≡ done_in self.old }
+        ensures ready { IsBroughtUp self.old → IsBroughtUp self.new }
     {
         self.pending.reserve(additional)
     }

@@ -1,11 +1,14 @@
 //! What the writer does at each place in turn.
-ghost use Rattle.std.specs.Prelude.{◌≡◌, ◌<◌, ◌≤◌, ◌↔◌, ℕ, true, length, All, IsTrue, OnOk};
+ghost use Rattle.std.specs.Prelude.{◌≡◌, ◌≤◌, ◌↔◌, true, length, map, option_map, All, Err, IfOk, IsTrue, OnErr, OnOk};
 ghost use Rattle.std.specs.Arc.{arc_value};
 ghost use Rattle.two_copies.specs.Place.{number};
-ghost use Rattle.two_copies.specs.WriterEnd.{IsClosedAt, IsFreeAt, IsNextAt, ShowsAt, held_in};
+ghost use Rattle.two_copies.specs.Places.{IsPut};
+ghost use Rattle.two_copies.specs.WriterEnd.{IsClosedAt, IsFreeAt, IsNextAt, ShowsAt, held_in, place_at};
+ghost use Rattle.two_copies.specs.declared.copies.NoReader.TheVariants.{NoPlace};
 ghost use Rattle.two_copies.specs.declared.copies.TheConstants.{MAX_READERS};
 
-use crate::copies::MAX_READERS;
+use crate::copies::{MAX_READERS, NoReader};
+use crate::place::Board;
 use crate::place::writer_end::WriterEnd;
 use crate::rule::CopyRule;
 use std::alloc::{AllocError, Global};
@@ -13,7 +16,7 @@ use std::sync::Arc;
 
 pub(crate) type Places<T, F> = Vec<WriterEnd<T, F>, Global>;
 
-/// Where a further place goes: to that of a reader which was dropped, or else behind the others. So no place moves.
+/// The first place whose reader was dropped, or else where one behind the others goes.
 pub(crate) fn next_place<T: Drop, F: CopyRule<T>>(places: &Places<T, F>) -> usize
     ensures { result ≤ length places.now.items }
 {
@@ -24,23 +27,33 @@ pub(crate) fn next_place<T: Drop, F: CopyRule<T>>(places: &Places<T, F>) -> usiz
     next
 }
 
-/// Puts a place where another one was, or behind the others.
+/// Puts an end at the first place from this one on whose reader was dropped, or else behind all. So no place moves.
+/// Returns the board that was there, if one was.
 pub(crate) fn put<T: Drop, F: CopyRule<T>>(
     places: &mut Places<T, F>,
-    place: usize,
-    end: WriterEnd<T, F>,
-) -> Result<(), AllocError>
-    requires { place ≤ length places.old.items }
-    ensures len { (most : ℕ) → place < most → length places.old.items ≤ most → length places.new.items ≤ most }
-    ensures shown { (shown : T) → ShowsAt shown end → All (ShowsAt shown) places.old.items → All (ShowsAt shown) places.new.items }
+    first: usize,
+    mut end: WriterEnd<T, F>,
+) -> Result<Option<Board<T, F>>, NoReader>
+    requires { length places.old.items ≤ MAX_READERS }
+    ensures put { IfOk result (λ left. IsPut (option_map (λ board. board.shared.table_id) left) end places.old.items places.new.items) }
+    ensures same { OnErr result (places.new.items ≡ places.old.items) }
+    ensures no_place { result ≡ Err NoPlace → length places.old.items ≡ MAX_READERS }
+    ensures room { length places.new.items ≤ MAX_READERS }
 {
-    if place < places.len() {
-        places[place] = end;
-        return Ok(());
+    let mut next = first;
+    while next < places.len() {
+        match places[next].replace(end) {
+            Ok(board) => return Ok(Some(board)),
+            Err(back) => end = back,
+        }
+        next += 1;
+    }
+    if places.len() >= MAX_READERS {
+        return Err(NoReader::NoPlace);
     }
     places.reserve(1)?;
     places.push_reserved(end);
-    Ok(())
+    Ok(None)
 }
 
 /// Takes the slot for the next copy from each place, until a reader has one. Returns whether it has all.
@@ -49,6 +62,7 @@ pub(crate) fn reclaim_all<T: Drop, F: CopyRule<T>>(places: &mut Places<T, F>) ->
     ensures keeps { All IsFreeAt places.old.items → result ≡ true }
     ensures len { length places.new.items ≡ length places.old.items }
     ensures shown { (shown : T) → All (ShowsAt shown) places.old.items → All (ShowsAt shown) places.new.items }
+    ensures places { map place_at places.new.items ≡ map place_at places.old.items }
 {
     let mut next: usize = 0;
     while next < places.len() {
@@ -67,6 +81,7 @@ pub(crate) fn reclaim_each<T: Drop, F: CopyRule<T>>(places: &mut Places<T, F>) -
     ensures keeps { All IsFreeAt places.old.items → All IsFreeAt places.new.items }
     ensures len { length places.new.items ≡ length places.old.items }
     ensures shown { (shown : T) → All (ShowsAt shown) places.old.items → All (ShowsAt shown) places.new.items }
+    ensures places { map place_at places.new.items ≡ map place_at places.old.items }
 {
     let mut held: u64 = 0;
     let mut next = places.len();
@@ -94,6 +109,7 @@ pub(crate) fn prepare_all<T: Drop, F: CopyRule<T>>(
     ensures next { OnOk result (All (IsNextAt (arc_value copy.now)) places.new.items) }
     ensures len { length places.new.items ≡ length places.old.items }
     ensures shown { (shown : T) → All (ShowsAt shown) places.old.items → All (ShowsAt shown) places.new.items }
+    ensures places { map place_at places.new.items ≡ map place_at places.old.items }
 {
     let mut next: usize = 0;
     while next < places.len() {
@@ -116,6 +132,7 @@ pub(crate) fn show_all<T: Drop, F: CopyRule<T>>(
     requires holds { F.holds (arc_value copy.now) }
     requires follows { F.follows (arc_value shown.now) (arc_value copy.now) }
     ensures shown { All (ShowsAt (arc_value copy.now)) places.new.items }
+    ensures places { map place_at places.new.items ≡ map place_at places.old.items }
     ensures len { length places.new.items ≡ length places.old.items }
 {
     let mut next: usize = 0;

@@ -1,5 +1,5 @@
 //! A reader and its looks.
-ghost use Rattle.std.specs.Prelude.{◌≡◌, Some, None, IfErr, IfOk, IsErr, IsSomeAnd};
+ghost use Rattle.std.specs.Prelude.{◌≡◌, Some, None, IfErr, IfOk, IsErr, IsSomeAnd, MatchResult};
 ghost use Rattle.std.specs.Arc.{arc_value};
 ghost use Rattle.atomic_table.specs.Table.{rest};
 ghost use Rattle.two_copies.specs.Place.{AreEmpty, IsSlotIndex, known_of, looking};
@@ -41,7 +41,7 @@ pub struct Look<T: Drop, F: CopyRule<T>> {
 }
 
 impl<T: Drop, F: CopyRule<T>> Reader<T, F> {
-    ghost use Rattle.two_copies.specs.Reader.{seen_by, shown_in};
+    ghost use Rattle.two_copies.specs.Reader.{place_in, place_of, seen_by, shown_in};
 
     pub(crate) fn new(board: Arc<Board<T, F>, Global>, seat: PlaceSeat<T>) -> Reader<T, F>
         requires seated { IsSeated seat.table_id (arc_value board).shared.table_id }
@@ -62,6 +62,7 @@ impl<T: Drop, F: CopyRule<T>> Reader<T, F> {
         ensures follows { IfOk result (λ look. IsSomeAnd (seen_by self) (λ seen. F.follows seen (shown_in look))) }
         ensures ended { IfErr result (λ reader. seen_by reader ≡ None) }
         ensures for_good { seen_by self ≡ None → IsErr result }
+        ensures place { MatchResult result (λ look. place_in look ≡ place_of self) (λ reader. place_of reader ≡ place_of self) }
     {
         let Reader { board, mut seat } = self;
         match enter(&board, &mut seat) {
@@ -77,7 +78,7 @@ impl<T: Drop, F: CopyRule<T>> Reader<T, F> {
 }
 
 impl<T: Drop, F: CopyRule<T>> Look<T, F> {
-    ghost use Rattle.two_copies.specs.Reader.{seen_by, shown_in};
+    ghost use Rattle.two_copies.specs.Reader.{place_in, place_of, seen_by, shown_in};
 
     /// The value. It costs nothing.
     #[inline]
@@ -92,7 +93,8 @@ impl<T: Drop, F: CopyRule<T>> Look<T, F> {
     /// this one, it frees the copy.
     #[inline]
     pub fn leave(self) -> Reader<T, F>
-        ensures { seen_by result ≡ Some (shown_in self) }
+        ensures seen { seen_by result ≡ Some (shown_in self) }
+        ensures place { place_of result ≡ place_in self }
     {
         let Look {
             board,

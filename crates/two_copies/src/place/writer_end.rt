@@ -1,8 +1,8 @@
 //! The writer's end of a place.
-ghost use Rattle.std.specs.Prelude.{◌≡◌, true, Some, None, IfOk};
+ghost use Rattle.std.specs.Prelude.{◌≡◌, true, Some, None, IfOk, MatchResult};
 ghost use Rattle.std.specs.Arc.{arc_value};
 ghost use Rattle.two_copies.specs.Place.{IsWriterSeat};
-ghost use Rattle.two_copies.specs.Reader.{seen_by};
+ghost use Rattle.two_copies.specs.Reader.{place_of, seen_by};
 ghost use Rattle.two_copies.specs.Seated.{IsSeated};
 ghost use Rattle.two_copies.specs.Slot.{Follows, Holds};
 
@@ -31,7 +31,7 @@ pub(crate) struct WriterEnd<T: Drop, F: CopyRule<T>> {
 }
 
 impl<T: Drop, F: CopyRule<T>> WriterEnd<T, F> {
-    ghost use Rattle.two_copies.specs.WriterEnd.{IsClosedAt, shown_at, slot_at};
+    ghost use Rattle.two_copies.specs.WriterEnd.{IsClosedAt, place_at, shown_at, slot_at};
 
     /// A place that shows this copy, and its reader.
     pub(crate) fn new(
@@ -41,6 +41,7 @@ impl<T: Drop, F: CopyRule<T>> WriterEnd<T, F> {
         requires { F.holds (arc_value first) }
         ensures shown { IfOk result (λ r. shown_at r.0 ≡ Some (arc_value first)) }
         ensures seen { IfOk result (λ r. seen_by r.1 ≡ Some (arc_value first)) }
+        ensures place { IfOk result (λ r. place_of r.1 ≡ place_at r.0) }
     {
         let (board, mut seat) = lay(alloc, first)?;
         let theirs = divide(&board, &mut seat);
@@ -63,6 +64,7 @@ impl<T: Drop, F: CopyRule<T>> WriterEnd<T, F> {
         ensures keeps { self.old.has_other ≡ true → result ≡ true }
         ensures next { self.new.next ≡ None }
         ensures shown { slot_at self.new ≡ slot_at self.old }
+        ensures place { place_at self.new ≡ place_at self.old }
     {
         self.next = None;
         if !self.is_closed && !self.has_other {
@@ -76,6 +78,7 @@ impl<T: Drop, F: CopyRule<T>> WriterEnd<T, F> {
         ensures next { self.new.next ≡ Some next }
         ensures has { self.new.has_other ≡ self.old.has_other }
         ensures shown { slot_at self.new ≡ slot_at self.old }
+        ensures place { place_at self.new ≡ place_at self.old }
     {
         self.next = Some(next);
     }
@@ -86,6 +89,7 @@ impl<T: Drop, F: CopyRule<T>> WriterEnd<T, F> {
         requires holds { Holds F.holds self.old.next }
         requires follows { Follows F.follows (slot_at self.old) self.old.next }
         ensures shown { slot_at self.new ≡ self.old.next }
+        ensures place { place_at self.new ≡ place_at self.old }
     {
         let next = mem::replace(&mut self.next, None);
         self.has_other = show(&self.board, &mut self.seat, self.newest, next);
@@ -107,5 +111,36 @@ impl<T: Drop, F: CopyRule<T>> WriterEnd<T, F> {
     /// Whether its reader was dropped.
     pub(crate) fn is_left(&self) -> bool {
         Arc::strong_count(&self.board) == 1
+    }
+
+    /// Puts another end here, if the reader was dropped. The board that was here comes back then, which only the last
+    /// owner gets out of its `Arc`. Else the other end comes back, and all is as before.
+    pub(crate) fn replace(&mut self, end: WriterEnd<T, F>) -> Result<Board<T, F>, WriterEnd<T, F>>
+        ensures left { MatchResult result
+            (λ board. (board.shared.table_id ≡ place_at self.old) × (self.new ≡ end))
+            (λ back. (back ≡ end) × (self.new ≡ self.old)) }
+    {
+        let WriterEnd {
+            board,
+            seat,
+            newest,
+            has_other,
+            next,
+            is_closed,
+        } = mem::replace(self, end);
+        match Arc::try_unwrap(board) {
+            Ok(board) => Ok(board),
+            Err(board) => Err(mem::replace(
+                self,
+                WriterEnd {
+                    board,
+                    seat,
+                    newest,
+                    has_other,
+                    next,
+                    is_closed,
+                },
+            )),
+        }
     }
 }

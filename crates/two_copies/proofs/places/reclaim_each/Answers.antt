@@ -1,7 +1,7 @@
-use Rattle.std.proofs.Common.{rules, arith, ap, length, not, ◌≤◌, ◌<◌, ◌+◌, ◌*◌, ◌^◌}
+use Rattle.std.proofs.Common.{rules, ◌∙◌, arith, ap, length, not, ◌≤◌, ◌<◌, ◌+◌, ◌*◌, ◌^◌}
 use Rattle.two_copies.specs.Place.{number}
 use Rattle.two_copies.proofs.HeldLemmas.{has_room, held_with, number_small}
-use Rattle.two_copies.proofs.PlacesLemmas.{all_show}
+use Rattle.two_copies.proofs.PlacesLemmas.{all_show, same_places}
 use Rattle.two_copies.proofs.places.reclaim_each.Given.{Over}
 use Rattle.two_copies.proofs.places.reclaim_each.Goals.{In-loop-next}
 use Rattle.two_copies.proofs.places.reclaim_each.Goals as goal
@@ -24,6 +24,7 @@ loop-next-preserved g c =
     let with = held_with c.loop-next.places.items c.loop-next.next c.reclaim.new.self (search rules) c.loop-next.invariant.bound in record {
       bound = search rules;
       len = search rules;
+      places = same_places _ _ c.index_mut.result.now _ c.reclaim.ensures.place c.index_mut.ensures.value ∙ c.loop-next.invariant.places;
       held = omega (arith, has, c.bit.ensures, c.loop-next.invariant.held, with);
       keeps = λ before. let all = c.loop-next.invariant.keeps before in search rules;
       shown = λ shown before. let all = c.loop-next.invariant.shown shown before in
