@@ -6,7 +6,6 @@
 
 #include <stdio.h>
 #include <stdlib.h>
-#include <sys/random.h>
 
 struct loop {
     camel_store store;
@@ -364,7 +363,7 @@ int main(void)
     struct call call;
     uint64_t seed;
 
-    EXPECT(getrandom(&seed, sizeof seed, 0) == sizeof seed);
+    EXPECT(camel_random_seed(&seed));
     EXPECT(camel_open(&loop.store, &loop.session, 1, CAMEL_MAX_UPDATES, CAMEL_PROFILE_1, seed) == CAMEL_OK);
     EXPECT(camel_imsi_of_digits((const uint8_t *)"262010000000001", 15, &subscriber.imsi) == CAMEL_OK);
     EXPECT(camel_imsi_of_digits((const uint8_t *)"262010000000002", 15, &other.imsi) == CAMEL_OK);

@@ -8,7 +8,6 @@
 #include <stdio.h>
 #include <stdlib.h>
 #include <string.h>
-#include <sys/random.h>
 
 enum { THREADS = 2, CALLS = 10000, ROOM = 8 };
 
@@ -27,8 +26,8 @@ static void expect(const char *what, camel_status status, camel_status wanted)
 static uint64_t random_seed(void)
 {
     uint64_t seed;
-    if (getrandom(&seed, sizeof seed, 0) != sizeof seed) {
-        perror("getrandom");
+    if (!camel_random_seed(&seed)) {
+        perror("camel_random_seed");
         exit(1);
     }
     return seed;

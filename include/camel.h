@@ -36,6 +36,7 @@
 #include <stdbool.h>
 #include <stddef.h>
 #include <stdint.h>
+#include <sys/random.h>
 
 #ifdef __cplusplus
 extern "C" {
@@ -98,8 +99,8 @@ typedef struct { void *at; bool is_full; } camel_update;
 typedef struct { void *at; bool is_full; } camel_imsis;
 #define CAMEL_EMPTY { 0, 0 }
 
-/* Which updates a store has published: its number, and how many they are. The number is made of the seed, so a receipt
- * is neither sent nor logged. */
+/* Which updates a store has published: its number, which is its seed, and how many they are. So a receipt is neither
+ * sent nor logged. */
 typedef struct { uint64_t store; uint64_t front; } camel_receipt;
 
 /* An IMSI as one number: how many digits it has, 5 to 15, in the highest octet, and below it their decimal value, as in
@@ -322,6 +323,18 @@ static inline camel_status camel_tbcd_of_imsi(const camel_imsi *imsi, camel_imsi
     for (unsigned at = 0; at < 8; at++)
         tbcd->octets[at] = nibbles >> 8 * at & 255;
     return CAMEL_OK;
+}
+
+/* Writes a seed for camel_open, of the system's random source. Returns false if there is none; then it writes nothing. */
+CAMEL_CALL
+static inline bool camel_random_seed(uint64_t *seed)
+{
+    uint64_t random;
+
+    if (getrandom(&random, sizeof random, 0) != (ssize_t)sizeof random)
+        return false;
+    *seed = random;
+    return true;
 }
 
 /* Opens a store that takes at most `limit` updates in its life (1 to 2^63 - 1; a great limit takes no memory), with 1

@@ -40,15 +40,16 @@ HoldAsBefore before after = map (λ (handle : CamelHandle). handle.value) after 
 abbrev pub new_session : StoreId → ℕ → ThreadSession
 new_session store number = record { session = fresh_session store; store = number; decisions = no_decisions }
 
--- it is a store of this limit and profile with no updates, and no publication was held up
-pub record IsNew (most : ℕ) (under : Profile) (live : LiveStore) : Type 0 where
+-- it is a store of this limit, profile and seed with no updates, and no publication was held up; its number is its seed
+pub record IsNew (most : ℕ) (under : Profile) (seed : ℕ) (live : LiveStore) : Type 0 where
+  pub number : live.number ≡ seed
   pub updates : live.vlr.updates ≡ no_updates
   pub limit : live.vlr.store.limit ≡ most
   pub profile : live.vlr.store.profile ≡ under
   pub held : live.held ≡ 0
 
 -- a handle holds such a store, of the profile of this number, and the others hold each a new session of it
-abbrev pub Opens : ℕ → ℕ → Option Object → List CamelHandle → Type 0
-Opens limit number held sessions = (live : LiveStore) × (profile : Profile) × (profile_of number ≡ Some profile)
-    × (held ≡ Some (live_store live)) × IsNew limit profile live
+abbrev pub Opens : ℕ → ℕ → ℕ → Option Object → List CamelHandle → Type 0
+Opens limit number seed held sessions = (live : LiveStore) × (profile : Profile) × (profile_of number ≡ Some profile)
+    × (held ≡ Some (live_store live)) × IsNew limit profile seed live
     × AllHold (object.Session (new_session live.vlr.store live.number)) sessions

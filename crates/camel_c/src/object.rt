@@ -11,7 +11,7 @@ use camel_vlr::{Closing, WaitFreeVlr};
 /// A store that takes updates.
 pub struct LiveStore {
     pub vlr: WaitFreeVlr,
-    /// Its number, by which its sessions know its receipts.
+    /// Its seed, by which its sessions know its receipts.
     pub number: u64,
     /// How many publications a look held up, modulo 2^64.
     pub held: u64,

@@ -22,11 +22,10 @@ use camel_tbcd::Profile;
 use camel_vlr::{MAX_PLACES, MAX_UPDATES, WaitFreeSession, WaitFreeVlr};
 use core::mem::replace_with;
 use std::alloc::Global;
-use std::hash::BuildHasher;
 
 /// Opens a store that takes at most `limit` updates (1 to 2^63 - 1), with 1 to 64 sessions, which decide under profile 1
 /// or 2, and fills the handles. The seed of its tables is secret and random: with one that is known, whoever chooses
-/// IMSIs can make look-ups slow. The store's number is made of it, so receipts of stores with one seed are not told apart.
+/// IMSIs can make look-ups slow. It is the store's number too, so only receipts of stores with one seed are not told apart.
 ///
 /// It fails with 506 if the caller knows another version of the layouts, with 502 for an argument out of range, with 504
 /// if a handle is not empty, and with 102 if memory was refused; it names 103 too, which no run meets. Then all handles
@@ -41,7 +40,7 @@ pub extern "C" fn camel_open_version(
     profile: u8,
     seed: u64,
 ) -> u32
-    ensures opened { result ≡ 0 → Opens limit profile store.new.value sessions.new }
+    ensures opened { result ≡ 0 → Opens limit profile seed store.new.value sessions.new }
     ensures unchanged { result ≢ 0 → (store.new.value ≡ store.old.value) × HoldAsBefore sessions.old sessions.new }
     ensures version { (version ≡ 3) ⊎ (result ≡ 506) }
     ensures malformed { version ≡ 3 → CanOpen (length sessions.old) limit profile ⊎ (result ≡ 502) }
@@ -103,28 +102,26 @@ fn open(
     requires places { (1 ≤ length sessions.old) × (length sessions.old ≤ 64) }
     requires limit { (1 ≤ limit) × (limit ≤ 9223372036854775807) }
     requires empty { (store.old.value ≡ None) × AllEmpty sessions.old }
-    ensures opened { OnOk result ((live : LiveStore) × (store.new.value ≡ Some (live_store live)) × IsNew limit profile live
+    ensures opened { OnOk result ((live : LiveStore) × (store.new.value ≡ Some (live_store live)) × IsNew limit profile seed live
         × AllHold (object.Session (new_session live.vlr.store live.number)) sessions.new) }
     ensures unchanged { OnErr result ((store.new.value ≡ store.old.value) × HoldAsBefore sessions.old sessions.new) }
     ensures only { IfErr result (λ why. (why ≡ Refusal.OutOfMemory) ⊎ (why ≡ Refusal.NoPlace)) }
 {
-    let seed = Seed::new(seed);
-    let number = seed.hash_one(0u64);
     let (vlr, mut seated) = WaitFreeVlr::open_wait_free(
         alloc,
         sessions.len(),
         limit,
         profile,
-        seed,
+        Seed::new(seed),
     )?;
     let live = LiveStore {
         vlr,
-        number,
+        number: seed,
         held: 0,
     };
     let made = Object::Store(Store::of(Stage::Live(live)));
     match replace_with(store, (alloc, made), fill) {
-        Ok(()) => match fill_all(alloc, number, sessions, &mut seated) {
+        Ok(()) => match fill_all(alloc, seed, sessions, &mut seated) {
             Ok(()) => Ok(()),
             Err(why) => {
                 camel_empty(alloc, store);

@@ -10,11 +10,11 @@ use Rattle.camel_c.proofs.opening.open.Goals as goal
 pub returns-in-Ok-fill_all-clause-opened : goal.returns-in-Ok-fill_all-clause-opened
 returns-in-Ok-fill_all-clause-opened c =
     let e = c.in_ok-vlr.ensures in
-    let live : LiveStore = record { vlr = c.in_ok-vlr.vlr; number = c.hash_one-number.result; held = 0 } in
+    let live : LiveStore = record { vlr = c.in_ok-vlr.vlr; number = c.args.seed; held = 0 } in
     let made : c.replace_with.new.dest.value ≡ Some (live_store live) =
     c.in-Ok.ensures.0.1 ∙ ap (λ (s : Stage). Some (object.Store (record { stage = s }))) c.of.ensures in (
       live,
       made,
-      record { updates = e.empty.0; limit = e.empty.1; profile = e.profile; held = refl },
+      record { number = refl; updates = e.empty.0; limit = e.empty.1; profile = e.profile; held = refl },
       c.in-Ok-fill_all.ensures.filled (fresh_session live.vlr.store) e.sessions,
     )
