@@ -2,7 +2,7 @@
  * tables, as the order shows in which their IMSIs are listed. And the system gives seeds. */
 #include "check.h"
 
-enum { SUBSCRIBERS = 48, SEEDS = 16 };
+enum { SUBSCRIBERS = 300, SEEDS = 16 };
 
 /* What a store of a seed shows of it. */
 struct shown {

@@ -1,8 +1,8 @@
 -- What the calls of C do to what their handles hold.
-use Rattle.std.specs.Prelude.{◌≡◌, ◌⊎◌, ◌+◌, ◌%◌, ◌^◌, Bool, false, List, Option, Some}
-use Rattle.camel_rows.specs.Store.{all_published, with_update}
+use Rattle.std.specs.Prelude.{◌≡◌, ◌⊎◌, ◌+◌, ◌%◌, ◌^◌, Bool, not, false, true, List, Option, Some}
+use Rattle.camel_rows.specs.Store.{with_update}
 use Rattle.camel_rows.specs.declared.subscriber.update.Update.{Update}
-use Rattle.camel_vlr.specs.Store.{with_none_pending}
+use Rattle.camel_vlr.specs.Store.{with_all_published, with_none_pending}
 use Rattle.camel_vlr.specs.Session.{LeavesLook, Sees, SessionData}
 use Rattle.camel_c.specs.Object.{closing_store, live_store}
 use Rattle.camel_c.specs.declared.object.LiveStore.{LiveStore}
@@ -15,25 +15,34 @@ abbrev pub ChangesStore : (LiveStore → LiveStore) → Option Object → Option
 ChangesStore change before after =
     (live : LiveStore) × (before ≡ Some (live_store live)) × (after ≡ Some (live_store (change live)))
 
+-- memory was refused to a publication, which no look held up; nothing was published
+abbrev pub IsRefused : LiveStore → LiveStore → Type 0
+IsRefused before after = after ≡ record before { vlr = record before.vlr { free = true; held = false; ahead = after.vlr.ahead } }
+
+-- it was a store that takes updates, to whose publication memory was refused
+abbrev pub RefusesStore : Option Object → Option Object → Type 0
+RefusesStore before after =
+    (live : LiveStore) × (left : LiveStore) × (before ≡ Some (live_store live)) × (after ≡ Some (live_store left)) × IsRefused live left
+
 -- a store with an update more
 abbrev pub with_pending : Update → LiveStore → LiveStore
 with_pending update live = record live { vlr = record live.vlr { updates = with_update live.vlr.updates update } }
 
 -- a store that has published all that was pending; whether the next publication is held up is not known
 abbrev pub with_published : LiveStore → LiveStore
-with_published live = record live { vlr = record live.vlr { updates = all_published live.vlr.updates; free = false } }
+with_published live = record live { vlr = with_all_published live.vlr }
 
 -- a store that has dropped all that was pending
 abbrev pub with_dropped : LiveStore → LiveStore
 with_dropped live = record live { vlr = with_none_pending live.vlr }
 
--- a store of which a publication was held up, which is counted modulo 2^64
+-- a store of which a look has held a publication up, which is counted modulo 2^64
 abbrev pub with_held : LiveStore → LiveStore
-with_held live = record live { held = (live.held + 1) % 2 ^ 64 }
+with_held live = record live { held = (live.held + 1) % 2 ^ 64; vlr = record live.vlr { held = true } }
 
 -- a store of which it is known whether a look holds the next publication up
 abbrev pub with_free : Bool → LiveStore → LiveStore
-with_free free live = record live { vlr = record live.vlr { free = free } }
+with_free free live = record live { vlr = record live.vlr { free = free; held = not free } }
 
 -- it is a store that has published these updates, and has not ended
 abbrev pub HasPublished : List Update → Option Object → Type 0

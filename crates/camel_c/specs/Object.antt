@@ -1,6 +1,7 @@
 -- What a handle of C holds.
 use Rattle.std.specs.Prelude.{◌≡◌, true, false, List, Option, Some}
 use Rattle.camel_rows.specs.declared.subscriber.update.Update.{Update}
+use Rattle.camel_vlr.specs.Store.{AllLeave}
 use Rattle.camel_c.specs.declared.object.LiveStore.{LiveStore}
 use Rattle.camel_c.specs.declared.object.Object.{Object}
 use Rattle.camel_c.specs.declared.object.Object.TheVariants as object
@@ -27,6 +28,15 @@ HoldsLiveStore held = (store : LiveStore) × (held ≡ Some (live_store store))
 -- a store that takes updates, and of which it is known that no look holds the next publication up
 abbrev pub HoldsFreeStore : Option Object → Type 0
 HoldsFreeStore held = (store : LiveStore) × (held ≡ Some (live_store store)) × (store.vlr.free ≡ true)
+
+-- a store that takes updates, and of which no publication has failed once its front was made
+abbrev pub HoldsLevelStore : Option Object → Type 0
+HoldsLevelStore held = (store : LiveStore) × (held ≡ Some (live_store store)) × (store.vlr.ahead ≡ false)
+
+-- such a store, and nothing that is pending is a Cancel or a ClearAll
+abbrev pub HoldsDroppable : Option Object → Type 0
+HoldsDroppable held = (store : LiveStore) × (held ≡ Some (live_store store)) × (store.vlr.ahead ≡ false)
+    × AllLeave store.vlr.updates.pending
 
 abbrev pub HoldsStore : Option Object → Type 0
 HoldsStore held = (store : Store) × (held ≡ Some (object.Store store))

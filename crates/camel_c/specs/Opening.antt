@@ -1,5 +1,5 @@
 -- Opening a store with its sessions.
-use Rattle.std.specs.Prelude.{◌≡◌, ◌==◌, ◌≤◌, ℕ, List, map, Option, Some, None, All, if◌then◌else◌}
+use Rattle.std.specs.Prelude.{◌≡◌, ◌==◌, ◌≤◌, ℕ, false, List, map, Option, Some, None, All, if◌then◌else◌}
 use Rattle.camel_tbcd.specs.declared.profile.Profile.{Profile}
 use Rattle.camel_tbcd.specs.declared.profile.Profile.TheVariants.{One, Two}
 use Rattle.camel_rows.specs.Store.{no_updates}
@@ -40,12 +40,13 @@ HoldAsBefore before after = map (λ (handle : CamelHandle). handle.value) after 
 abbrev pub new_session : StoreId → ℕ → ThreadSession
 new_session store number = record { session = fresh_session store; store = number; decisions = no_decisions }
 
--- it is a store of this limit, profile and seed with no updates, and no publication was held up; its number is its seed
+-- it is a store of this limit, profile and seed with no updates, and no publication was tried; its number is its seed
 pub record IsNew (most : ℕ) (under : Profile) (seed : ℕ) (live : LiveStore) : Type 0 where
   pub number : live.number ≡ seed
   pub updates : live.vlr.updates ≡ no_updates
   pub limit : live.vlr.store.limit ≡ most
   pub profile : live.vlr.store.profile ≡ under
+  pub level : live.vlr.ahead ≡ false
   pub held : live.held ≡ 0
 
 -- a handle holds such a store, of the profile of this number, and the others hold each a new session of it

@@ -3,7 +3,7 @@ use Rattle.std.specs.Prelude.{◌≡◌, ◌≢◌, ◌⊎◌, ◌≤◌, ℕ, f
 use Rattle.std.specs.List.{AllZip}
 use Rattle.camel_vlr.specs.Session.{SessionData}
 use Rattle.camel_c_data.specs.declared.receipt.CamelReceipt.{CamelReceipt}
-use Rattle.camel_c.specs.Change.{ChangesStore, with_held, with_published}
+use Rattle.camel_c.specs.Change.{ChangesStore, RefusesStore, with_held, with_published}
 use Rattle.camel_c.specs.Object.{HoldsAnySession, HoldsFreeStore, HoldsLiveStore, HoldsLook, HoldsSession, live_store}
 use Rattle.camel_c.specs.Receipts.{GivesReceipt, LearnsReceipt, MayLook}
 use Rattle.camel_c.specs.declared.handle.CamelHandle.{CamelHandle}
@@ -56,18 +56,25 @@ AllLearn receipt before after = AllZip (Learns receipt) before after
 abbrev pub AreReady : Option Object → List CamelHandle → Type 0
 AreReady held sessions = (live : LiveStore) × (held ≡ Some (live_store live)) × AllReady live.number sessions
 
+-- neither the store nor a session has changed
+abbrev pub IsAsBefore : Option Object → Option Object → List CamelHandle → List CamelHandle → Type 0
+IsAsBefore before after sessions left = (after ≡ before) × (left ≡ sessions)
+
 -- What is pending is published, and these sessions learn it, or this is the status that says why not.
 pub record PublishesTo (status : ℕ) (before after : Option Object) (sessions left : List CamelHandle) : Type 0 where
   pub published : status ≡ 0 → ChangesStore with_published before after
   pub learnt : status ≡ 0 → (receipt : CamelReceipt) × GivesReceipt after receipt × AllLearn receipt sessions left
-  -- nothing is published, and it is counted if a look held that up; or all is, and a session has not seen it
-  pub failed : status ≢ 0
-      → ((left ≡ sessions) × ((after ≡ before) ⊎ ((status ≡ 501) × ChangesStore with_held before after)))
-      ⊎ (((status ≡ 104) ⊎ (status ≡ 505)) × ChangesStore with_published before after × AllMayLook sessions left)
+  -- a look held the publication up, which is counted
+  pub held : AreReady before sessions → status ≡ 501 → ChangesStore with_held before after × (left ≡ sessions)
+  pub refused : AreReady before sessions → status ≡ 102 → RefusesStore before after × (left ≡ sessions)
+  -- it is published, and a session has not seen it
+  pub unseen : AreReady before sessions → (status ≡ 104) ⊎ (status ≡ 505)
+      → ChangesStore with_published before after × AllMayLook sessions left
   pub only : length sessions ≤ 64 → AreReady before sessions
       → (status ≡ 0) ⊎ ((status ≡ 102) ⊎ ((status ≡ 501) ⊎ ((status ≡ 104) ⊎ (status ≡ 505))))
   pub free : HoldsFreeStore before → AreReady before sessions → status ≢ 501
-  pub many : (length sessions ≤ 64) ⊎ (status ≡ 502)
-  pub wrong : length sessions ≤ 64 → HoldsLiveStore before ⊎ (status ≡ 503)
+  -- if the call is wrong, all is as before
+  pub many : (length sessions ≤ 64) ⊎ ((status ≡ 502) × IsAsBefore before after sessions left)
+  pub wrong : length sessions ≤ 64 → HoldsLiveStore before ⊎ ((status ≡ 503) × IsAsBefore before after sessions left)
   pub unready : length sessions ≤ 64 → (live : LiveStore) → before ≡ Some (live_store live)
-      → AllReady live.number sessions ⊎ FirstUnready live.number sessions status
+      → AllReady live.number sessions ⊎ (FirstUnready live.number sessions status × IsAsBefore before after sessions left)

@@ -2,7 +2,7 @@
 
 ghost use Rattle.std.specs.Prelude.{◌≡◌, ◌≢◌, ◌⊎◌, Some};
 ghost use Rattle.camel_c.specs.Change.{ChangesStore, with_dropped};
-ghost use Rattle.camel_c.specs.Object.{HoldsLiveStore};
+ghost use Rattle.camel_c.specs.Object.{HoldsDroppable, HoldsLevelStore, HoldsLiveStore};
 
 use crate::failure::Failure;
 use crate::handle::CamelHandle;
@@ -17,6 +17,8 @@ use crate::object::{Object, Stage};
 #[unsafe(no_mangle)]
 pub extern "C" fn camel_drop_pending(store: &mut CamelHandle) -> u32
     ensures dropped { result ≡ 0 → ChangesStore with_dropped store.old.value store.new.value }
+    ensures droppable { HoldsDroppable store.old.value → result ≡ 0 }
+    ensures level { result ≡ 0 → HoldsLevelStore store.new.value }
     ensures unchanged { result ≢ 0 → store.new.value ≡ store.old.value }
     ensures only { HoldsLiveStore store.old.value → (result ≡ 0) ⊎ (result ≡ 102) }
     ensures wrong { HoldsLiveStore store.old.value ⊎ (result ≡ 503) }
@@ -29,6 +31,8 @@ pub extern "C" fn camel_drop_pending(store: &mut CamelHandle) -> u32
 
 fn drop_held(held: &mut Object) -> u32
     ensures dropped { result ≡ 0 → ChangesStore with_dropped (Some held.old) (Some held.new) }
+    ensures droppable { HoldsDroppable (Some held.old) → result ≡ 0 }
+    ensures level { result ≡ 0 → HoldsLevelStore (Some held.new) }
     ensures unchanged { result ≢ 0 → held.new ≡ held.old }
     ensures only { HoldsLiveStore (Some held.old) → (result ≡ 0) ⊎ (result ≡ 102) }
     ensures wrong { HoldsLiveStore (Some held.old) ⊎ (result ≡ 503) }

@@ -19,6 +19,7 @@ mod encoding;
 mod ending;
 mod failure;
 mod filling;
+mod fronts;
 mod handle;
 mod imsi_list;
 mod joining;

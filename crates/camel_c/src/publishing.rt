@@ -1,7 +1,7 @@
 //! Publishing what is pending.
 
 ghost use Rattle.std.specs.Prelude.{◌≡◌, ◌≢◌, ◌⊎◌, ◌==◌, Some, true};
-ghost use Rattle.camel_c.specs.Change.{ChangesStore, with_free, with_held, with_published};
+ghost use Rattle.camel_c.specs.Change.{ChangesStore, IsRefused, RefusesStore, with_free, with_held, with_published};
 ghost use Rattle.camel_c.specs.Object.{HoldsFreeStore, HoldsLiveStore};
 
 use crate::failure::Failure;
@@ -15,13 +15,15 @@ use camel_vlr::Unpublished;
 ///
 /// It fails with 501 if a look keeps the copy that is to be changed, which is counted, with 102 if memory was refused,
 /// and with 503 if the handle holds no store that takes updates. Then nothing was published, and all is pending as before.
-/// It does not fail with 501 if `camel_holders` has told of no session since the last publication.
+/// It does not fail with 501 if `camel_holders` has told of no session, or it has failed with 102, since the last
+/// publication.
 #[unsafe(no_mangle)]
 pub extern "C" fn camel_publish(store: &mut CamelHandle) -> u32
     ensures published { result ≡ 0 → ChangesStore with_published store.old.value store.new.value }
     ensures held { result ≡ 501 → ChangesStore with_held store.old.value store.new.value }
     ensures free { HoldsFreeStore store.old.value → result ≢ 501 }
-    ensures unchanged { (result ≡ 102) ⊎ (result ≡ 503) → store.new.value ≡ store.old.value }
+    ensures refused { result ≡ 102 → RefusesStore store.old.value store.new.value }
+    ensures unchanged { result ≡ 503 → store.new.value ≡ store.old.value }
     ensures only { HoldsLiveStore store.old.value → (result ≡ 0) ⊎ ((result ≡ 102) ⊎ (result ≡ 501)) }
     ensures wrong { HoldsLiveStore store.old.value ⊎ (result ≡ 503) }
 {
@@ -35,7 +37,8 @@ fn publish_held(held: &mut Object) -> u32
     ensures published { result ≡ 0 → ChangesStore with_published (Some held.old) (Some held.new) }
     ensures held { result ≡ 501 → ChangesStore with_held (Some held.old) (Some held.new) }
     ensures free { HoldsFreeStore (Some held.old) → result ≢ 501 }
-    ensures unchanged { (result ≡ 102) ⊎ (result ≡ 503) → held.new ≡ held.old }
+    ensures refused { result ≡ 102 → RefusesStore (Some held.old) (Some held.new) }
+    ensures unchanged { result ≡ 503 → held.new ≡ held.old }
     ensures only { HoldsLiveStore (Some held.old) → (result ≡ 0) ⊎ ((result ≡ 102) ⊎ (result ≡ 501)) }
     ensures wrong { HoldsLiveStore (Some held.old) ⊎ (result ≡ 503) }
 {
@@ -54,7 +57,7 @@ impl LiveStore {
         ensures published { result ≡ 0 → self.new ≡ with_published self.old }
         ensures held { result ≡ 501 → self.new ≡ with_held self.old }
         ensures free { self.old.vlr.free ≡ true → result ≢ 501 }
-        ensures unchanged { result ≡ 102 → self.new ≡ self.old }
+        ensures refused { result ≡ 102 → IsRefused self.old self.new }
         ensures only { (result ≡ 0) ⊎ ((result ≡ 102) ⊎ (result ≡ 501)) }
     {
         match self.vlr.publish() {

@@ -1,7 +1,7 @@
 //! Publishing what is pending, and telling sessions of it.
 
 ghost use Rattle.std.specs.Prelude.{◌≡◌, ◌≢◌, ◌⊎◌, ◌≤◌, length, Some, true};
-ghost use Rattle.camel_c.specs.Change.{with_held, with_published};
+ghost use Rattle.camel_c.specs.Change.{IsRefused, with_held, with_published};
 ghost use Rattle.camel_c.specs.Publication.{AllLearn, AllMayLook, AllReady, FirstUnready, IsHeldReady, IsReady, IsUnready, PublishesTo};
 
 use crate::failure::Failure;
@@ -50,13 +50,17 @@ impl LiveStore {
         ensures published { result ≡ 0 → self.new ≡ with_published self.old }
         ensures learnt { result ≡ 0 → AllLearn (record { store = self.new.number; front = length self.new.vlr.updates.published })
             sessions.old sessions.new }
-        ensures failed { result ≢ 0
-            → ((sessions.new ≡ sessions.old) × ((self.new ≡ self.old) ⊎ ((result ≡ 501) × (self.new ≡ with_held self.old))))
-            ⊎ (((result ≡ 104) ⊎ (result ≡ 505)) × (self.new ≡ with_published self.old) × AllMayLook sessions.old sessions.new) }
+        ensures held { AllReady self.old.number sessions.old → result ≡ 501
+            → (self.new ≡ with_held self.old) × (sessions.new ≡ sessions.old) }
+        ensures refused { AllReady self.old.number sessions.old → result ≡ 102
+            → IsRefused self.old self.new × (sessions.new ≡ sessions.old) }
+        ensures unseen { AllReady self.old.number sessions.old → (result ≡ 104) ⊎ (result ≡ 505)
+            → (self.new ≡ with_published self.old) × AllMayLook sessions.old sessions.new }
         ensures only { AllReady self.old.number sessions.old
             → (result ≡ 0) ⊎ ((result ≡ 102) ⊎ ((result ≡ 501) ⊎ ((result ≡ 104) ⊎ (result ≡ 505)))) }
         ensures free { self.old.vlr.free ≡ true → AllReady self.old.number sessions.old → result ≢ 501 }
-        ensures unready { AllReady self.old.number sessions.old ⊎ FirstUnready self.old.number sessions.old result }
+        ensures unready { AllReady self.old.number sessions.old
+            ⊎ (FirstUnready self.old.number sessions.old result × (self.new ≡ self.old) × (sessions.new ≡ sessions.old)) }
     {
         match first_unready(sessions, self.number) {
             0 => match self.publish() {

@@ -1,12 +1,13 @@
--- Both steps keep the chain, and what was seen of it stays.
+-- Each step keeps the chain, and what was seen of it stays.
 use Rattle.std.proofs.Common.{◌≡◌, ◌∙◌, ℕ, zero, suc, ◌<◌, ◌==◌, Bool, true, false, List, [], ◌∷◌, ◌++◌, length, length-append, append-nil, append_assoc}
 use Rattle.std.proofs.Common.{if◌then◌else◌, refl, ap, sym, subst, arith, inl, None, slice_set}
 use Rattle.std.proofs.lemmas.Bool.Decides.{nat_tests}
 use mathlib.Core.List.{IsPrefix}
+use base.Growing.{prefix_trans}
 use prog.Atomic.{either}
-use Rattle.logbook.specs.Pages.{Away, Cell, Goes, Moves, Nib, View, adds, cell, gives, may_write, no_nib, step}
+use Rattle.logbook.specs.Pages.{Away, Cell, Goes, Moves, Nib, View, adds, cell, gives, keeps, may_write, no_nib, step}
 use Rattle.camel_rows.specs.declared.subscriber.update.Update.{Update}
-use Rattle.camel_vlr.specs.Chain.{AddsLink, AllUsedUp, IsUsedUp, MakesCell, UsedUp, list_of, root_of, tail_of, terms_of}
+use Rattle.camel_vlr.specs.Chain.{AddsLink, AllUsedUp, IsUsedUp, KeepsChain, MakesCell, UsedUp, list_of, root_of, tail_of, terms_of}
 use Rattle.camel_vlr.specs.declared.history.link.Link.{Link}
 
 -- the cell of this key is there, and at home
@@ -130,7 +131,7 @@ list_of-prefix start (x ∷ seen) (link ∷ links) prefix =
         let rest = further x.next in rw p (rest.0, append_assoc x.updates (list_of x.next seen) rest.0 ∙ ap (λ updates. x.updates ++ updates) rest.1)
     by_test further false p = rw p (further start)
 
--- ---- the two steps
+-- ---- the three steps
 
 abbrev pub nothing_shown : List Link → List Link
 nothing_shown links = []
@@ -201,4 +202,24 @@ adds_link seen updates next ask right_to right = moves seen right_to (AddsLink u
           let follows : (right_to.key == tail_of start links) ≡ true = grind (arith, nat_tests) in
           let new = chain-push start links link follows in
           (new.0 ∙ ap (λ list. list ++ updates) old.0, new.1)),
+    ))
+
+pub keeps_chain : (seen : List Link) (ask : Link) (right_to : Nib) → right_to.right ≡ may_write → MovesAt seen right_to (KeepsChain (step 0 0 0 ask))
+keeps_chain seen ask right_to right = moves seen right_to (KeepsChain (step 0 0 0 ask)) (λ links others away prefix all.
+    let cells : List Cell = (0, true) ∷ others in
+    let out = away right in (
+      keeps,
+      [],
+      None,
+      tt,
+      record { others = others; head = refl; each = rw (append-nil links) all },
+      inl (refl, refl),
+      record {
+        nib = refl;
+        chain = λ earlier start first at.
+            let old = chain-stays cells right_to.key start earlier links
+            (λ x same home. absurd (cc (subst (λ (key : ℕ). (cell cells key).1 ≡ true) same home.1, out.1))) at
+            (prefix_trans earlier seen links first prefix) all in
+            rw (append-nil links) old.0;
+      },
     ))

@@ -18,8 +18,9 @@ use Rattle.camel_rows.specs.Subscriber.{SubscriberData}
 use Rattle.camel_rows.specs.Update.{AcceptedFrom, is_of, records_after, records_from, records_of, update_imsi}
 use Rattle.camel_rows.specs.declared.subscriber.csis_present.CsisPresent.{CsisPresent}
 use Rattle.camel_rows.specs.declared.subscriber.update.Update.{Update}
-use Rattle.camel_vlr.specs.Dropping.{AllLeave, HasAll, IsAdmissionOver, IsRestored, IsRestoredAt}
+use Rattle.camel_vlr.specs.Dropping.{HasAll, IsAdmissionOver, IsRestored, IsRestoredAt}
 use Rattle.camel_vlr.specs.PublishedCopy.{IsOfItsFront}
+use Rattle.camel_vlr.specs.Store.{AllLeave}
 use Rattle.camel_vlr.specs.declared.published_copy.PublishedCopy.{PublishedCopy}
 
 -- updates are accepted behind those before them

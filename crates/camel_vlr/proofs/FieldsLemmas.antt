@@ -35,6 +35,7 @@ module _ {W S : Type 0} (g : Ghosts W S) (a : Inside W S) where
         beyond = i.beyond;
         profile = i.profile;
         free = i.free;
+        held = i.held;
         ahead = i.ahead;
       })
 
@@ -42,8 +43,8 @@ module _ {W S : Type 0} (g : Ghosts W S) (a : Inside W S) where
   pub begins : IsOfItsFront (g.shown a.writer) → (g.shown a.writer).front ≡ a.history → published_in g a ≡ [] → pending_in g a ≡ []
       → limit_in g a ≤ MAX_UPDATES → IsAdmissionOf a.admission (limit_in g a) (length {A = Update} []) (records_of [])
       → g.tells a.writer (g.shown a.writer).front
-      → a.profile ≡ a.history.store.profile → a.free.value ≡ false → IsStore g a
-  begins shown same none pending greatest admits tells profile free =
+      → a.profile ≡ a.history.store.profile → a.free.value ≡ false → a.held.value ≡ false → IsStore g a
+  begins shown same none pending greatest admits tells profile free held =
       let all : published_in g a ++ pending_in g a ≡ published_in g a = ap (λ x. published_in g a ++ x) pending ∙ append-nil (published_in g a) in
       record {
         shown = shown;
@@ -57,4 +58,5 @@ module _ {W S : Type 0} (g : Ghosts W S) (a : Inside W S) where
         profile = profile ∙ sym (ap (λ x. x.store.profile) same);
         ahead = λ level. sym (ap (λ x. x.updates) same);
         free = λ known. absurd cc;
+        held = λ known. absurd cc;
       }

@@ -1,6 +1,6 @@
 -- Fronts that extend others.
 use base.Growing.{prefix_trans}
-use Rattle.std.proofs.Common.{◌≡◌, ◌∙◌, ◌≤◌, All, List, [], ◌∷◌, ◌++◌, length, sym, ap, arith, append-nil, length-append}
+use Rattle.std.proofs.Common.{◌≡◌, ◌∙◌, ◌≤◌, All, List, [], ◌∷◌, ◌++◌, length, refl, sym, ap, arith, append-nil, length-append}
 use Rattle.std.proofs.lemmas.List.Elements.{All-head, All-push, All-tail, All-weaker}
 use Rattle.std.proofs.lemmas.List.{nil_from_length}
 use Rattle.camel_rows.specs.Front.{Extends}
@@ -28,3 +28,21 @@ all_last f earlier h all = last earlier all.each
     last : (xs : List (List Update)) → All (Extends f) (xs ++ h ∷ []) → Extends f h
     last [] a = All-head (Extends f) h [] a
     last (x ∷ xs) a = last xs (All-tail (Extends f) x (xs ++ h ∷ []) a)
+
+first_of : Update → List Update → Update
+first_of none [] = none
+first_of none (x ∷ updates) = x
+
+rest_of : List Update → List Update
+rest_of [] = []
+rest_of (x ∷ updates) = updates
+
+-- of two fronts of one list the longer one extends the other
+pub longer_extends : (all short long : List Update) → Extends all short → Extends all long → length short ≤ length long → Extends long short
+unfolding first_of rest_of
+longer_extends all [] long one other few = (long, refl)
+longer_extends all (x ∷ short) [] one other few = absurd (omega (arith, few))
+longer_extends all (x ∷ short) (y ∷ long) one other few =
+    let same : x ≡ y = ap (first_of x) (one.1 ∙ sym other.1) in
+    let more = longer_extends (rest_of all) short long (one.0, ap rest_of one.1) (other.0, ap rest_of other.1) (omega (arith, few)) in
+    (more.0, λ i. same i ∷ more.1 i)

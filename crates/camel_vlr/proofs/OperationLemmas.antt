@@ -55,6 +55,13 @@ pub updates_among-next : (items : List Operation) (at : ℕ) (item : Operation) 
 updates_among-next items at item few is =
     ap updates_among (take_more items at item few ∙ ap (λ one. take at items ++ one ∷ []) (sym is)) ∙ updates_among-append (take at items) (item ∷ [])
 
+-- what is true of all updates of two lists is true of those of each
+pub each_half : (P : Update → Type 0) (first second : List Update) → All P (first ++ second) → All P first × All P second
+each_half P [] second all = (All-nil P, all)
+each_half P (update ∷ first) second all =
+    let rest = each_half P first second (All-tail P update (first ++ second) all) in
+    (All-cons P update first (All-head P update (first ++ second) all) rest.0, rest.1)
+
 -- what is true of all updates is true of that of each operation
 pub each_of : (P : Update → Type 0) (items : List Operation) (at : ℕ) (item : Operation) → at < length items → item ≡ get_or items at item
     → All P (updates_among items) → All P (updates_among (item ∷ []))

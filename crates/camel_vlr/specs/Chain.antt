@@ -1,6 +1,7 @@
 -- The updates of a history as a chain of links, each of which uses up the cell that the link before it names. So
 -- the chain from a cell on can only grow at its end, by whoever has the right to the cell that its last link names.
 -- It is for the proof: no promise cites it.
+use mathlib.Core.List.{IsPrefix}
 use Rattle.std.specs.Prelude.{ℕ, ◌≡◌, ◌==◌, ◌<◌, true, List, [], ◌∷◌, ◌++◌, length, if◌then◌else◌}
 use Rattle.logbook.specs.Pages.{Book, Cell, Named, Step, View, cell, may_make}
 use Rattle.camel_tbcd.specs.declared.profile.Profile.TheVariants.{One}
@@ -60,3 +61,9 @@ pub record MakesCell (step : Step Link) (before : View Link ℕ) (found : ℕ) (
 abbrev pub AddsLink : List Update → ℕ → Step Link → View Link ℕ → ℕ → View Link ℕ → Type 0
 AddsLink updates next step before found after =
     (start : ℕ) → tail_of start before.0 ≡ before.1.0.key → (list_of start after.0 ≡ list_of start before.0 ++ updates) × (tail_of start after.0 ≡ next)
+
+-- the step changes nothing: a chain whose next cell is the pen's, and so was when any part of the links was seen, is as it was
+-- seen there
+pub record KeepsChain (step : Step Link) (before : View Link ℕ) (found : ℕ) (after : View Link ℕ) : Type 0 where
+  pub nib : after.1.0 ≡ before.1.0
+  pub chain : (seen : List Link) (start : ℕ) → IsPrefix seen before.0 → tail_of start seen ≡ before.1.0.key → list_of start after.0 ≡ list_of start seen

@@ -1,5 +1,5 @@
 -- How an admission is restored when pending updates are dropped. It is for the proof: no promise cites it.
-use Rattle.std.specs.Prelude.{◌≡◌, ◌⊎◌, ℕ, List, ◌++◌, true, false, All, IsSome}
+use Rattle.std.specs.Prelude.{◌≡◌, ◌⊎◌, ℕ, List, ◌++◌, false, All, IsSome}
 use Rattle.std.specs.FinMap as map
 use Rattle.std.specs.Option.{option_map}
 use Rattle.camel_rows.specs.Admission.{AdmissionData}
@@ -8,7 +8,7 @@ use Rattle.camel_rows.specs.Directory.{DirectoryData}
 use Rattle.camel_rows.specs.Front.{IsFront}
 use Rattle.camel_rows.specs.Records.{RecordsData}
 use Rattle.camel_rows.specs.Store.{IsAdmissionOfUpdates}
-use Rattle.camel_rows.specs.Update.{is_of, leaves_record}
+use Rattle.camel_rows.specs.Update.{is_of}
 use Rattle.camel_rows.specs.declared.subscriber.update.Update.{Update}
 use Rattle.camel_vlr.specs.Prefix.{PrefixData}
 
@@ -16,10 +16,6 @@ use Rattle.camel_vlr.specs.Prefix.{PrefixData}
 pub record IsAdmissionOver (front : PrefixData) (admission : AdmissionData) (pending : List Update) : Type 0 where
   pub all : IsFront front.store.limit (front.updates ++ pending)
   pub admits : IsAdmissionOfUpdates admission front.store.limit (record { published = front.updates; pending = pending })
-
--- each of the updates leaves a record
-abbrev pub AllLeave : List Update → Type 0
-AllLeave updates = All (λ update. leaves_record update ≡ true) updates
 
 -- each subscriber of the records has an entry in the directory
 abbrev pub HasAll : RecordsData → DirectoryData → Type 0

@@ -4,8 +4,8 @@ use Rattle.camel_vlr.specs.declared.base.publisher.HandedOver.{HandedOver}
 use Rattle.camel_vlr.specs.declared.base.publisher.HandedOver.TheVariants.{Nothing, Operations, Kept}
 use Rattle.camel_vlr.specs.declared.writer.operation.Operation.{Operation}
 
--- these operations are pending, and can be dropped, unless the base keeps them
-abbrev pub IsHandedOver : HandedOver → List Operation → Type 0 → Type 0
-IsHandedOver Nothing pending droppable = (pending ≡ []) × droppable
-IsHandedOver (Operations list) pending droppable = (list.now.items ≡ pending) × droppable
-IsHandedOver Kept pending droppable = Unit {0}
+-- these operations are pending, and can be dropped, unless the base keeps them, as one does that can't always drop them
+abbrev pub IsHandedOver : HandedOver → List Operation → Type 0 → Type 0 → Type 0
+IsHandedOver Nothing pending droppable always = (pending ≡ []) × droppable
+IsHandedOver (Operations list) pending droppable always = (list.now.items ≡ pending) × droppable
+IsHandedOver Kept pending droppable always = always → ⊥

@@ -28,7 +28,8 @@ abbrev pub limit_in : {W S : Type 0} → Ghosts W S → Inside W S → ℕ
 limit_in g a = (g.shown a.writer).front.store.limit
 
 abbrev pub store_of : {W S : Type 0} → Ghosts W S → Inside W S → StoreData
-store_of g a = record { store = (g.shown a.writer).front.store; updates = updates_in g a; free = a.free.value }
+store_of g a =
+    record { store = (g.shown a.writer).front.store; updates = updates_in g a; free = a.free.value; held = a.held.value; ahead = a.is_ahead }
 
 pub record IsStore {W S : Type 0} (g : Ghosts W S) (a : Inside W S) : Type 0 where
   pub shown : IsOfItsFront (g.shown a.writer)
@@ -43,3 +44,4 @@ pub record IsStore {W S : Type 0} (g : Ghosts W S) (a : Inside W S) : Type 0 whe
   pub beyond : Extends a.history.updates (published_in g a)
   pub ahead : a.is_ahead ≡ false → a.history.updates ≡ published_in g a
   pub free : a.free.value ≡ true → g.free a.writer
+  pub held : a.held.value ≡ true → g.held a.writer

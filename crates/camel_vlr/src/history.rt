@@ -2,6 +2,7 @@
 
 ghost use Rattle.std.specs.Prelude.{◌≡◌, [], ◌++◌};
 ghost use Rattle.logbook.specs.Pages.{may_write};
+ghost use Rattle.camel_rows.specs.Front.{Extends};
 
 pub(crate) mod link;
 pub(crate) mod prefix;
@@ -44,6 +45,15 @@ impl<G: Growth> Play<Link, u64> for AddLink<G> {
     ghost use Rattle.camel_vlr.specs.Chain.{AddsLink};
 
     ghost then = { AddsLink G.updates G.next };
+}
+
+/// A step that changes nothing, by whoever has the right to add the next link.
+struct KeepChain;
+
+impl Play<Link, u64> for KeepChain {
+    ghost use Rattle.camel_vlr.specs.Chain.{KeepsChain};
+
+    ghost then = { KeepsChain };
 }
 
 /// The one place that makes the list of a store's updates longer. Of the list itself nothing is kept at run time.
@@ -119,5 +129,21 @@ impl History {
             .compare_exchange::<AddLink<G>, NoGain>(0, 0, &mut seen, &mut offer, &mut self.pen);
         self.seen = seen;
         self.pen = next;
+    }
+
+    /// No prefix of this history goes beyond it, whoever has one: only [`History::grow`] makes it longer. It changes
+    /// nothing.
+    pub(crate) fn bounds(&mut self, prefix: &Prefix)
+        requires { prefix.now.store ≡ self.old.store }
+        ensures same { self.new ≡ self.old }
+        ensures bounds { Extends self.old.updates prefix.now.updates }
+    {
+        let mut seen = self.seen.again();
+        seen.learn(&prefix.seen);
+        let mut offer: Offer<Link, u64, OneChain, NoGain> = seen.plain::<NoGain, Terms, WithTerms>(
+            &NO_TERMS,
+        );
+        self.head
+            .compare_exchange::<KeepChain, NoGain>(0, 0, &mut seen, &mut offer, &mut self.pen);
     }
 }

@@ -100,6 +100,14 @@ impl<S: Seat> Session<S> {
         receipt.is_prefix_of(&self.seen)
     }
 
+    /// A receipt of the front that was last seen, for another session or for [`Vlr::bounds`](crate::Vlr::bounds). It
+    /// takes no memory, and reads nothing that threads share.
+    pub fn seen(&self) -> Receipt
+        ensures { result ≡ record { store = self.now.store; updates = self.now.seen } }
+    {
+        self.seen.copy()
+    }
+
     /// A look at a front that extends all that the session saw and learnt. It takes no lock, does not wait, and takes
     /// no memory.
     ///

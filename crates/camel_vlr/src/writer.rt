@@ -1,12 +1,12 @@
 //! The writer of a store.
 
 ghost use Rattle.std.specs.Prelude.{◌≡◌, ◌+◌, ◌≤◌, ◌⊎◌, [], ◌∷◌, ◌++◌, Some, None, fold, length, true, false, vec_len, All, IfErr, IfOk, IfSome, OnErr, OnOk};
-ghost use Rattle.camel_rows.specs.Front.{IsFront};
+ghost use Rattle.camel_rows.specs.Front.{Extends, IsFront};
 ghost use Rattle.std.specs.FinMap as map;
 ghost use Rattle.camel_rows.specs.Update.{records_of};
-ghost use Rattle.camel_rows.specs.Store.{accepted_updates, all_published, no_updates, with_update};
+ghost use Rattle.camel_rows.specs.Store.{accepted_updates, no_updates, with_update};
 ghost use Rattle.camel_vlr.specs.Group.{AcceptsAll, RejectsAt};
-ghost use Rattle.camel_vlr.specs.Store.{fresh_session, submission_refusal, with_accepted};
+ghost use Rattle.camel_vlr.specs.Store.{fresh_session, submission_refusal, with_accepted, with_all_published};
 
 pub(crate) mod closing;
 pub(crate) mod dropping;
@@ -43,8 +43,8 @@ pub const MAX_PLACES: usize = 64;
 /// The store's one writer. It takes updates, and publishes them.
 ///
 /// Contracts see which store it is, with the most updates that it takes and its profile, the lists of the updates that
-/// are published and pending, and whether it is known that no look holds up the next publication. It can't be dropped:
-/// [`Vlr::close`] or [`Vlr::end`] ends it.
+/// are published and pending, and what is known of the next publication. It can't be dropped: [`Vlr::close`] or
+/// [`Vlr::end`] ends it.
 pub struct Vlr<W: Publisher = LeftRightWriter> {
     writer: W,
     history: History,
@@ -60,6 +60,8 @@ pub struct Vlr<W: Publisher = LeftRightWriter> {
     is_ahead: bool,
     /// Whether it is known that no look holds up the next publication.
     free: Snapshot<bool>,
+    /// Whether a look was found that holds it up.
+    held: Snapshot<bool>,
 }
 
 impl<W: Publisher> Model for Vlr<W> {
@@ -77,7 +79,7 @@ impl<W: Publisher> Vlr<W> {
     /// So many sessions, none of which has seen or learnt anything.
     pub(crate) fn seat_all(&mut self, places: usize) -> Result<Vec<Session<W::Place>>, Refusal>
         requires empty { self.old.updates.published ≡ [] }
-        requires free { self.old.free ≡ false }
+        requires free { (self.old.free ≡ false) × (self.old.held ≡ false) }
         ensures same { self.new ≡ self.old }
         ensures places { IfOk result (λ sessions. vec_len sessions ≡ places) }
         ensures sessions { IfOk result (λ sessions. All (λ s. s ≡ fresh_session self.new.store) sessions.items) }
@@ -93,7 +95,7 @@ impl<W: Publisher> Vlr<W> {
     /// A session that knows which store it is of.
     fn seat(&mut self) -> Result<Session<W::Place>, Refusal>
         requires empty { self.old.updates.published ≡ [] }
-        requires free { self.old.free ≡ false }
+        requires free { (self.old.free ≡ false) × (self.old.held ≡ false) }
         ensures same { self.new ≡ self.old }
         ensures session { IfOk result (λ s. s ≡ fresh_session self.new.store) }
         ensures only { IfErr result (λ why. (why ≡ Refusal.OutOfMemory) ⊎ (why ≡ Refusal.NoPlace)) }
@@ -153,12 +155,12 @@ impl<W: Publisher> Vlr<W> {
     pub(crate) fn publish_by<H: Drop>(&mut self, by: H) -> Result<(), W::Why>
     where
         W: Publishes<H>,
-        ensures published { OnOk result (self.new
-            ≡ record self.old { updates = all_published self.old.updates; free = false }) }
-        ensures unchanged { OnErr result (self.new ≡ self.old) }
+        ensures published { OnOk result (self.new ≡ with_all_published self.old) }
+        ensures unchanged { OnErr result (self.new ≡ record self.old { held = false; ahead = self.new.ahead }) }
         ensures held { self.old.free ≡ true → IfErr result (λ why. W.is_held why → ⊥) }
         ensures known { self.old.free ≡ true → (writer : W) × W.free writer }
     {
+        self.held = Snapshot::of(&false);
         // What the updates need is asked for before the history has them, so that they can be dropped if it is refused.
         let Ok(()) = make_room(&mut self.writer, &mut self.pending) else {
             return Err(W::out_of_memory());
@@ -183,6 +185,21 @@ impl<W: Publisher> Vlr<W> {
         ensures front { IsFront self.now.store.limit self.now.updates.published }
     {
         self.writer.published().receipt()
+    }
+
+    /// A law, of which the call is only for its clauses: no front that anybody has seen goes beyond what the store has
+    /// published. So no session has seen an update that is pending or was dropped. Of what a session saw last,
+    /// [`Session::seen`] gives a receipt.
+    ///
+    /// If a publication has failed once its front was made, it is shown for the accepted updates only; what is pending
+    /// can't be dropped then. It changes nothing, takes no memory, and does not wait.
+    pub fn bounds(&mut self, receipt: &Receipt)
+        requires { receipt.now.store ≡ self.old.store }
+        ensures same { self.new ≡ self.old }
+        ensures published { self.old.ahead ≡ false → Extends self.old.updates.published receipt.now.updates }
+        ensures accepted { Extends (accepted_updates self.old.updates) receipt.now.updates }
+    {
+        self.history.bounds(&receipt.prefix);
     }
 
     /// The profile under which its sessions decide: that with which it was opened.

@@ -1,22 +1,24 @@
 //! What the promises of a session come to for a caller: after a receipt was learnt, the front of the next look extends
-//! the receipt's, and a second look extends the first.
+//! the receipt's, and a second look extends the first. And what was dropped is in no front.
 
-ghost use Rattle.std.specs.Prelude.{◌≡◌, ◌≤◌, length, IfOk, IfSome, OnSome};
+ghost use Rattle.std.specs.Prelude.{◌≡◌, ◌≤◌, length, true, IfOk, IfSome, OnSome};
 ghost use Rattle.camel_rows.specs.Front.{Extends};
 ghost use Rattle.camel_vlr.specs.Session.{ExtendsAll};
+ghost use Rattle.camel_vlr.specs.Store.{with_none_pending};
 
 use crate::bases::{opened, opened_wait_free};
 use camel_criteria::Refusal;
 use camel_fixtures::imsi_of;
 use camel_rows::Update;
 use camel_tbcd::Imsi;
-use camel_vlr::{Receipt, Session, Vlr, WaitFreeSession};
+use camel_vlr::{Receipt, Session, Vlr, WaitFreeSession, WaitFreeVlr};
 use std::alloc::Global;
 use std::sync::Wait;
 use std::test::Fail;
 
 /// How many updates the front of a look has. It extends the front of the look before, and all that was learnt.
 fn front_of_look(session: &mut Session) -> Option<u64>
+    ensures same { session.new.store ≡ session.old.store }
     ensures count { IfSome result (λ front. front ≡ length session.new.seen) }
     ensures later { Extends session.new.seen session.old.seen }
     ensures told { OnSome result (ExtendsAll session.new.seen session.old.told) }
@@ -119,5 +121,70 @@ fn learnt_of_new_wait_free(alloc: Global, imsi: Imsi) -> Result<(bool, bool, boo
 fn a_look_after_a_receipt_has_seen_it(rt: HostRuntime) -> Result<(), Fail> {
     let learnt = learnt_of_new_wait_free(rt.alloc(), imsi_of(1)?)?;
     assert!(rt; learnt == (false, true, true));
+    Ok(())
+}
+
+// Drops what is pending, and looks. Whatever was dropped, the front that the session saw last is of updates that were
+// published before.
+fn dropped_and_looked(store: &mut Vlr, session: &mut Session) -> Option<u64>
+    requires { session.old.store ≡ store.old.store }
+    ensures dropped { OnSome result (store.new ≡ with_none_pending store.old) }
+    ensures published { OnSome result (Extends store.old.updates.published session.new.seen) }
+{
+    store.drop_pending().ok()?;
+    let front = front_of_look(session)?;
+    store.bounds(&session.seen());
+    Some(front)
+}
+
+// The same over the base whose writer does not wait.
+fn dropped_and_looked_wait_free(
+    store: &mut WaitFreeVlr,
+    session: &mut WaitFreeSession,
+) -> Option<u64>
+    requires { session.old.store ≡ store.old.store }
+    ensures dropped { OnSome result (store.new ≡ with_none_pending store.old) }
+    ensures published { OnSome result (Extends store.old.updates.published session.new.seen) }
+{
+    store.drop_pending().ok()?;
+    if !session.enter() {
+        return None;
+    }
+    let front = session.front();
+    session.leave();
+    store.bounds(&session.seen());
+    Some(front)
+}
+
+// The front that is seen once an update is published and a second one dropped.
+fn front_behind_a_drop<R: Wait>(rt: &R, alloc: Global, imsi: Imsi) -> Result<Option<u64>, Refusal> {
+    let (mut store, mut session, _other) = opened(rt, alloc)?;
+    let front = match published_once(rt, &mut store, imsi) {
+        Ok(_) if store.submit(Update::Register { imsi }).is_ok() => {
+            dropped_and_looked(&mut store, &mut session)
+        }
+        _ => None,
+    };
+    store.end(rt);
+    Ok(front)
+}
+
+fn front_behind_a_drop_wait_free(alloc: Global, imsi: Imsi) -> Result<Option<u64>, Refusal> {
+    let (mut store, mut session, _other) = opened_wait_free(alloc)?;
+    let is_published = store.submit(Update::Register { imsi }).is_ok() && store.publish().is_ok();
+    let front = if is_published && store.submit(Update::Register { imsi }).is_ok() {
+        dropped_and_looked_wait_free(&mut store, &mut session)
+    } else {
+        None
+    };
+    store.abandon();
+    Ok(front)
+}
+
+#[test]
+fn what_was_dropped_is_in_no_front(rt: HostRuntime) -> Result<(), Fail> {
+    let imsi = imsi_of(1)?;
+    assert!(rt; front_behind_a_drop(&rt, rt.alloc(), imsi)? == Some(1));
+    assert!(rt; front_behind_a_drop_wait_free(rt.alloc(), imsi)? == Some(1));
     Ok(())
 }

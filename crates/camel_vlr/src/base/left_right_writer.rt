@@ -43,6 +43,13 @@ impl Publisher for LeftRightWriter {
     // A publication waits for the looks that hold it up, so it is never known that there is none.
     ghost free = { λ _. ⊥ };
 
+    // It waits for such a look.
+    ghost held = { λ _. ⊥ };
+
+    ghost always_droppable = { ⊥ };
+
+    ghost ready = { λ _. Unit {0} };
+
     fn published(&self) -> &PublishedCopy {
         Writer::published(self)
     }

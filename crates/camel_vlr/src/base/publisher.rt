@@ -50,6 +50,15 @@ pub trait Publisher: Sized {
     /// No look holds up the next publication, whatever sessions do until then.
     ghost free: { Self → Type 0 };
 
+    /// A look was found that holds up the next publication.
+    ghost held: { Self → Type 0 };
+
+    /// Whatever is pending can be dropped, at any time.
+    ghost always_droppable: { Type 0 };
+
+    /// What is pending needs no memory any more that could be asked for without publishing it.
+    ghost ready: { Self → Type 0 };
+
     /// The copy that is published.
     fn published(&self) -> &PublishedCopy
         ensures { result.now ≡ shown self.now };
@@ -67,11 +76,12 @@ pub trait Publisher: Sized {
         ensures shown { shown self.new ≡ shown self.old }
         ensures tells { KnowsNoLess tells self.old self.new }
         ensures pending { pending self.new ≡ pending self.old }
+        ensures ready { OnOk result (ready self.new) }
         ensures free { free self.old → free self.new };
 
     /// The operations that are pending, if the base shows them and can drop them.
     fn handed_over(&self) -> HandedOver<'_>
-        ensures { IsHandedOver result (pending self.now) (droppable self.now) };
+        ensures { IsHandedOver result (pending self.now) (droppable self.now) always_droppable };
 
     /// Drops all that is pending.
     fn drop_pending(&mut self)
@@ -79,7 +89,8 @@ pub trait Publisher: Sized {
         ensures shown { shown self.new ≡ shown self.old }
         ensures tells { KnowsNoLess tells self.old self.new }
         ensures none { pending self.new ≡ [] }
-        ensures free { free self.old → free self.new };
+        ensures free { free self.old → free self.new }
+        ensures held { held self.old → held self.new };
 
     /// A place for a session, at which all is known that is known to the writer. It fails with `OutOfMemory` (102) if
     /// memory was refused, and with `NoPlace` (103) if there is none.

@@ -16,7 +16,7 @@ use two_copies::{Copies, NoReader, Unpublished};
 pub type TwoCopiesWriter = Copies<PublishedCopy, Operation, FrontsGrow>;
 
 impl Publisher for TwoCopiesWriter {
-    ghost use Rattle.two_copies.specs.Copies.{IsFree, pending_of, shown_by};
+    ghost use Rattle.two_copies.specs.Copies.{IsFree, IsReady, pending_of, shown_by};
     ghost use Rattle.camel_vlr.specs.Rule.{IsPrefixOf};
 
     type Place = TwoCopiesSeat;
@@ -30,6 +30,12 @@ impl Publisher for TwoCopiesWriter {
     ghost droppable = { λ _. Unit {0} };
 
     ghost free = { IsFree };
+
+    ghost held = { λ writer. IsFree writer → ⊥ };
+
+    ghost always_droppable = { Unit {0} };
+
+    ghost ready = { IsReady };
 
     fn published(&self) -> &PublishedCopy {
         self.shown()

@@ -1,10 +1,10 @@
 //! Dropping what is pending.
 
-ghost use Rattle.std.specs.Prelude.{◌≡◌, [], ◌∷◌, ◌++◌, true, IfErr, OnErr, OnOk};
-ghost use Rattle.camel_vlr.specs.Dropping.{AllLeave, HasAll, IsAdmissionOver, IsRestored};
+ghost use Rattle.std.specs.Prelude.{◌≡◌, ◌↔◌, [], ◌∷◌, ◌++◌, false, true, IfErr, IsOk, IsTrue, OnErr, OnOk};
+ghost use Rattle.camel_vlr.specs.Dropping.{HasAll, IsAdmissionOver, IsRestored};
 ghost use Rattle.camel_vlr.specs.Operation.{updates_among};
 ghost use Rattle.camel_vlr.specs.PublishedCopy.{IsOfItsFront};
-ghost use Rattle.camel_vlr.specs.Store.{with_none_pending};
+ghost use Rattle.camel_vlr.specs.Store.{AllLeave, with_none_pending};
 
 use crate::base::publisher::{HandedOver, Publisher};
 use crate::published_copy::PublishedCopy;
@@ -25,6 +25,8 @@ impl<W: Publisher> Vlr<W> {
     /// `left_right` has failed, since that base keeps what it was handed; then all is pending as before.
     pub fn drop_pending(&mut self) -> Result<(), Refusal>
         ensures dropped { OnOk result (self.new ≡ with_none_pending self.old) }
+        ensures level { OnOk result (self.old.ahead ≡ false) }
+        ensures droppable { W.always_droppable → self.old.ahead ≡ false → AllLeave self.old.updates.pending → IsOk result }
         ensures unchanged { OnErr result (self.new ≡ self.old) }
         ensures only { IfErr result (λ why. why ≡ Refusal.OutOfMemory) }
     {
@@ -51,6 +53,7 @@ fn restore_admission<W: Publisher>(
     requires over { IsAdmissionOver (W.shown writer.now).front admission.old (updates_among (W.pending writer.now ++ pending.now.items)) }
     ensures over { OnOk result (IsAdmissionOver (W.shown writer.now).front admission.new []) }
     ensures droppable { OnOk result (W.droppable writer.now) }
+    ensures leave { W.always_droppable → AllLeave (updates_among (W.pending writer.now ++ pending.now.items)) → IsOk result }
     ensures unchanged { OnErr result (admission.new ≡ admission.old) }
     ensures only { IfErr result (λ why. why ≡ Refusal.OutOfMemory) }
 {
@@ -74,6 +77,7 @@ fn restore_from(
     requires shown { IsOfItsFront published.now }
     requires over { IsAdmissionOver published.now.front admission.old (updates_among (first.now.items ++ second.now.items)) }
     ensures over { OnOk result (IsAdmissionOver published.now.front admission.new []) }
+    ensures leave { AllLeave (updates_among (first.now.items ++ second.now.items)) → IsOk result }
     ensures unchanged { OnErr result (admission.new ≡ admission.old) }
     ensures only { IfErr result (λ why. why ≡ Refusal.OutOfMemory) }
 {
@@ -89,7 +93,8 @@ fn restore_from(
 
 /// Whether each update of a list leaves a record.
 fn leave_records(operations: &VecDeque<Operation, Global>) -> bool
-    ensures { result ≡ true → AllLeave (updates_among operations.now.items) }
+    ensures yes { result ≡ true → AllLeave (updates_among operations.now.items) }
+    ensures no { AllLeave (updates_among operations.now.items) → result ≡ true }
 {
     let mut at = 0;
     while at < operations.len() {

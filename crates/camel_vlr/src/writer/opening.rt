@@ -2,8 +2,8 @@
 
 ghost use Rattle.std.specs.Prelude.{◌≡◌, ◌≤◌, ◌⊎◌, false, vec_len, All, IfErr, IfOk, OnErr, OnOk};
 ghost use Rattle.camel_rows.specs.Front.{IsFront};
-ghost use Rattle.camel_rows.specs.Store.{all_published, no_updates};
-ghost use Rattle.camel_vlr.specs.Store.{fresh_session};
+ghost use Rattle.camel_rows.specs.Store.{no_updates};
+ghost use Rattle.camel_vlr.specs.Store.{fresh_session, with_all_published};
 
 use crate::base::left_right_writer::publish_all;
 use crate::history::History;
@@ -47,6 +47,7 @@ impl Vlr {
         ensures empty { IfOk result (λ r. (r.0.updates ≡ no_updates) × (r.0.store.limit ≡ limit)) }
         ensures profile { IfOk result (λ r. r.0.store.profile ≡ profile) }
         ensures places { IfOk result (λ r. vec_len r.1 ≡ places) }
+        ensures level { IfOk result (λ r. r.0.ahead ≡ false) }
         ensures sessions { IfOk result (λ r. All (λ s. s ≡ fresh_session r.0.store) r.1.items) }
         ensures only { IfErr result (λ why. (why ≡ Refusal.OutOfMemory) ⊎ (why ≡ Refusal.NoPlace)) }
     {
@@ -68,6 +69,7 @@ impl Vlr {
         ensures empty { IfOk result (λ r. (r.0.updates ≡ no_updates) × (r.0.store.limit ≡ limit)) }
         ensures profile { IfOk result (λ r. r.0.store.profile ≡ profile) }
         ensures places { IfOk result (λ r. vec_len r.1 ≡ places) }
+        ensures level { IfOk result (λ r. r.0.ahead ≡ false) }
         ensures sessions { IfOk result (λ r. All (λ s. s ≡ fresh_session r.0.store) r.1.items) }
         ensures only { IfErr result (λ why. (why ≡ Refusal.OutOfMemory) ⊎ (why ≡ Refusal.NoPlace)) }
     {
@@ -93,7 +95,7 @@ impl Vlr {
         requires limit { (1 ≤ terms.limit) × (terms.limit ≤ MAX_UPDATES) }
         ensures empty { IfOk result (λ r. (r.updates ≡ no_updates) × (r.store.limit ≡ terms.limit)) }
         ensures profile { IfOk result (λ r. r.store.profile ≡ terms.profile) }
-        ensures free { IfOk result (λ r. r.free ≡ false) }
+        ensures free { IfOk result (λ r. (r.free ≡ false) × (r.held ≡ false) × (r.ahead ≡ false)) }
         ensures only { IfErr result (λ why. why ≡ Refusal.OutOfMemory) }
     {
         let history = History::new(terms);
@@ -116,6 +118,7 @@ impl Vlr {
                 alloc,
                 is_ahead: false,
                 free: Snapshot::of(&false),
+                held: Snapshot::of(&false),
             }),
             Err(_) => {
                 drop(writer.take(rt));
@@ -131,10 +134,10 @@ impl Vlr {
     /// It fails with `OutOfMemory` (102) if memory was refused: nothing was published, all is pending as before, and
     /// it may be tried again.
     pub fn publish<R: Wait>(&mut self, rt: &R) -> Result<Receipt, Refusal>
-        ensures published { OnOk result (self.new ≡ record self.old { updates = all_published self.old.updates }) }
+        ensures published { OnOk result (self.new ≡ with_all_published self.old) }
         ensures receipt { IfOk result (λ receipt. receipt ≡ record { store = self.old.store; updates = self.new.updates.published }) }
         ensures front { OnOk result (IsFront self.new.store.limit self.new.updates.published) }
-        ensures unchanged { OnErr result (self.new ≡ self.old) }
+        ensures unchanged { OnErr result (self.new ≡ record self.old { held = false; ahead = self.new.ahead }) }
         ensures only { IfErr result (λ why. why ≡ Refusal.OutOfMemory) }
     {
         self.publish_by(rt)?;
@@ -153,6 +156,7 @@ impl Vlr {
             alloc: _alloc,
             is_ahead: _is_ahead,
             free: _free,
+            held: _held,
         } = self;
         drop(writer.take(rt));
     }

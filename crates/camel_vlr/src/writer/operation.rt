@@ -1,5 +1,5 @@
-ghost use Rattle.std.specs.Prelude.{◌≡◌, [], ◌∷◌, true, All};
-ghost use Rattle.camel_rows.specs.Update.{leaves_record};
+ghost use Rattle.std.specs.Prelude.{◌≡◌, [], ◌∷◌, true};
+ghost use Rattle.camel_vlr.specs.Store.{AllLeave};
 ghost use Rattle.camel_vlr.specs.Operation.{updates_among};
 
 use crate::history::prefix::Prefix;
@@ -18,7 +18,8 @@ pub enum Operation {
 impl Operation {
     /// Whether its update leaves a record, if it is accepted; a front has none.
     pub(crate) fn leaves_record(&self) -> bool
-        ensures { result ≡ true → All (λ update. leaves_record update ≡ true) (updates_among (self.now ∷ [])) }
+        ensures yes { result ≡ true → AllLeave (updates_among (self.now ∷ [])) }
+        ensures no { AllLeave (updates_among (self.now ∷ [])) → result ≡ true }
     {
         match self {
             Operation::Update(update) => update.leaves_record(),

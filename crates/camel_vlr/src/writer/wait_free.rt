@@ -1,10 +1,10 @@
 //! A store over `two_copies`, whose writer does not wait: how it begins, publishes and ends.
 
-ghost use Rattle.std.specs.Prelude.{◌≡◌, ◌≢◌, ◌==◌, ◌≤◌, ◌⊎◌, true, false, vec_len, All, Err, IfErr, IfOk, MatchResult, OnErr, OnOk};
+ghost use Rattle.std.specs.Prelude.{◌≡◌, ◌≢◌, ◌==◌, ◌≤◌, ◌⊎◌, not, true, false, vec_len, All, Err, IfErr, IfOk, MatchResult, OnErr, OnOk};
 ghost use Rattle.camel_rows.specs.Front.{IsFront};
-ghost use Rattle.camel_rows.specs.Store.{all_published, no_updates};
+ghost use Rattle.camel_rows.specs.Store.{no_updates};
 ghost use Rattle.camel_rows.specs.Update.{records_of};
-ghost use Rattle.camel_vlr.specs.Store.{fresh_session};
+ghost use Rattle.camel_vlr.specs.Store.{fresh_session, with_all_published};
 
 use crate::base::two_copies_seat::{FrontsGrow, TwoCopiesSeat};
 use crate::base::two_copies_writer::TwoCopiesWriter;
@@ -58,6 +58,7 @@ impl Vlr<TwoCopiesWriter> {
         ensures empty { IfOk result (λ r. (r.0.updates ≡ no_updates) × (r.0.store.limit ≡ limit)) }
         ensures profile { IfOk result (λ r. r.0.store.profile ≡ profile) }
         ensures places { IfOk result (λ r. vec_len r.1 ≡ places) }
+        ensures level { IfOk result (λ r. r.0.ahead ≡ false) }
         ensures sessions { IfOk result (λ r. All (λ s. s ≡ fresh_session r.0.store) r.1.items) }
         ensures only { IfErr result (λ why. (why ≡ Refusal.OutOfMemory) ⊎ (why ≡ Refusal.NoPlace)) }
     {
@@ -75,7 +76,7 @@ impl Vlr<TwoCopiesWriter> {
         requires limit { (1 ≤ terms.limit) × (terms.limit ≤ MAX_UPDATES) }
         ensures empty { IfOk result (λ r. (r.updates ≡ no_updates) × (r.store.limit ≡ terms.limit)) }
         ensures profile { IfOk result (λ r. r.store.profile ≡ terms.profile) }
-        ensures free { IfOk result (λ r. r.free ≡ false) }
+        ensures free { IfOk result (λ r. (r.free ≡ false) × (r.held ≡ false) × (r.ahead ≡ false)) }
     {
         let history = History::new(terms);
         let front = history.prefix();
@@ -91,6 +92,7 @@ impl Vlr<TwoCopiesWriter> {
             alloc,
             is_ahead: false,
             free: Snapshot::of(&false),
+            held: Snapshot::of(&false),
         })
     }
 
@@ -98,19 +100,23 @@ impl Vlr<TwoCopiesWriter> {
     /// pending. The receipt is of all that is published then. It does not wait.
     ///
     /// It fails with `Held` if a look keeps the copy that is to be changed, before any memory is asked for, and with
-    /// `OutOfMemory` if memory was refused. Either way nothing was published, all is pending as before, and it may be
-    /// tried again.
+    /// `OutOfMemory` if memory was refused; then it is known that no look keeps that copy. Either way nothing was
+    /// published, all is pending as before, and it may be tried again.
     pub fn publish(&mut self) -> Result<Receipt, Unpublished>
-        ensures published { OnOk result (self.new
-            ≡ record self.old { updates = all_published self.old.updates; free = false }) }
+        ensures published { OnOk result (self.new ≡ with_all_published self.old) }
         ensures receipt { IfOk result (λ receipt. receipt ≡ record { store = self.old.store; updates = self.new.updates.published }) }
         ensures front { OnOk result (IsFront self.new.store.limit self.new.updates.published) }
-        ensures unchanged { OnErr result (self.new ≡ self.old) }
-        ensures held { self.old.free ≡ true → result ≢ Err Unpublished.Held }
+        ensures held { result ≡ Err Unpublished.Held → self.new ≡ record self.old { held = true } }
+        ensures refused { result ≡ Err Unpublished.OutOfMemory
+            → self.new ≡ record self.old { free = true; held = false; ahead = self.new.ahead } }
+        ensures free { self.old.free ≡ true → result ≢ Err Unpublished.Held }
     {
         if !self.writer.is_free() {
+            self.held = Snapshot::of(&true);
             return Err(Unpublished::Held);
         }
+        self.free = Snapshot::of(&true);
+        self.held = Snapshot::of(&false);
         if let Err(why) = self.publish_by(()) {
             return Err(why);
         }
@@ -120,11 +126,12 @@ impl Vlr<TwoCopiesWriter> {
     /// Whether no look keeps the copy that is to be changed: then the next publication is not `Held`, whatever sessions
     /// do meanwhile. It takes a step at the place of each session, up to the first that is held, and no memory.
     pub fn is_free(&mut self) -> bool
-        ensures known { self.new ≡ record self.old { free = result } }
+        ensures known { self.new ≡ record self.old { free = result; held = not result } }
         ensures keeps { self.old.free ≡ true → result ≡ true }
     {
         let is_free = self.writer.is_free();
         self.free = Snapshot::of(&is_free);
+        self.held = Snapshot::of(&!is_free);
         is_free
     }
 
@@ -132,11 +139,12 @@ impl Vlr<TwoCopiesWriter> {
     /// set if the first session that [`Vlr::open_wait_free`] returned does, and so on in their order. 0 is returned
     /// exactly if [`Vlr::is_free`] would return true. It takes a step at the place of each session, and no memory.
     pub fn holders(&mut self) -> u64
-        ensures known { self.new ≡ record self.old { free = result == 0 } }
+        ensures known { self.new ≡ record self.old { free = result == 0; held = not (result == 0) } }
         ensures keeps { self.old.free ≡ true → result ≡ 0 }
     {
         let holders = self.writer.holders();
         self.free = Snapshot::of(&(holders == 0));
+        self.held = Snapshot::of(&(holders != 0));
         holders
     }
 
@@ -159,6 +167,7 @@ impl Vlr<TwoCopiesWriter> {
             alloc: _alloc,
             is_ahead: _is_ahead,
             free: _free,
+            held: _held,
         } = self;
         match writer.end() {
             Ok(copy) => Ok(copy.records),

@@ -15,6 +15,6 @@ returns-in-Ok-fill_all-clause-opened c =
     c.in-Ok.ensures.0.1 ∙ ap (λ (s : Stage). Some (object.Store (record { stage = s }))) c.of.ensures in (
       live,
       made,
-      record { number = refl; updates = e.empty.0; limit = e.empty.1; profile = e.profile; held = refl },
+      record { number = refl; updates = e.empty.0; limit = e.empty.1; profile = e.profile; level = e.level; held = refl },
       c.in-Ok-fill_all.ensures.filled (fresh_session live.vlr.store) e.sessions,
     )

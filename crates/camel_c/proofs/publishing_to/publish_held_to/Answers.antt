@@ -1,7 +1,7 @@
 use Rattle.std.proofs.Common.{◌≡◌, ◌∙◌, ◌⊎◌, length, inl, inr, ⊎_elim, sym, ap, subst, refl}
 use Rattle.std.specs.Prelude.{Some}
 use Rattle.camel_c.specs.Object.{HoldsFreeStore, live_store}
-use Rattle.camel_c.specs.Publication.{AllReady, AreReady, FirstUnready}
+use Rattle.camel_c.specs.Publication.{AllReady, AreReady, FirstUnready, IsAsBefore}
 use Rattle.camel_c.specs.declared.object.LiveStore.{LiveStore}
 use Rattle.camel_c.specs.declared.object.Object.TheVariants as object
 use Rattle.camel_c.proofs.PublicationLemmas.{free_of, ready_of, same_live}
@@ -16,18 +16,20 @@ returns-in-Live c =
     let held : Some c.args.held.now ≡ Some (live_store live) =
     ap Some (c.in-Store.is ∙ ap (λ s. object.Store (record { stage = s })) c.in-Live.is) in
     let whole : LiveStore → _ = λ l. Some (live_store l) in
+    let ready : AreReady (Some c.args.held.now) sessions → AllReady live.number sessions =
+    λ all. ready_of live sessions (subst (λ h. AreReady h sessions) held all) in
     record {
       published = λ done. (live, held, ap whole (ensures.published done));
       learnt = λ done. (record { store = left.number; front = length left.vlr.updates.published }, (left, refl, refl), ensures.learnt done);
-      failed = λ failed. ⊎_elim
-          (λ e. inl (e.0, ⊎_elim (λ same. inl (ap whole same ∙ sym held)) (λ up. inr (up.0, (live, held, ap whole up.1))) e.1))
-          (λ e. inr (e.0, (live, held, ap whole e.1), e.2))
-          (ensures.failed failed);
-      only = λ few ready. ensures.only (ready_of live sessions (subst (λ h. AreReady h sessions) held ready));
-      free = λ free ready. ensures.free (free_of live (subst HoldsFreeStore held free))
-          (ready_of live sessions (subst (λ h. AreReady h sessions) held ready));
+      held = λ all up. let e = ensures.held (ready all) up in ((live, held, ap whole e.0), e.1);
+      refused = λ all refused. let e = ensures.refused (ready all) refused in ((live, left, held, refl, e.0), e.1);
+      unseen = λ all unseen. let e = ensures.unseen (ready all) unseen in ((live, held, ap whole e.0), e.1);
+      only = λ few all. ensures.only (ready all);
+      free = λ free all. ensures.free (free_of live (subst HoldsFreeStore held free)) (ready all);
       many = inl c.requires;
       wrong = λ few. inl (live, held);
-      unready = λ few other is. subst (λ (l : LiveStore). AllReady l.number sessions ⊎ FirstUnready l.number sessions c.publish_to.result)
-          (sym (same_live live other (sym held ∙ is))) ensures.unready;
+      unready = λ few other is. subst (λ (l : LiveStore). AllReady l.number sessions
+          ⊎ (FirstUnready l.number sessions c.publish_to.result × IsAsBefore (Some c.args.held.now) (whole left) sessions c.publish_to.new.sessions))
+          (sym (same_live live other (sym held ∙ is)))
+          (⊎_elim inl (λ e. inr (e.0, (ap whole e.1 ∙ sym held, e.2))) ensures.unready);
     }

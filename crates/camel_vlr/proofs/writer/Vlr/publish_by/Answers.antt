@@ -1,8 +1,9 @@
 use base.Growing.{prefix_refl}
-use Rattle.std.proofs.Common.{◌≡◌, ◌∙◌, ◌++◌, ap, refl}
+use Rattle.std.proofs.Common.{◌≡◌, ◌∙◌, ◌++◌, false, true, ap, refl}
 use Rattle.camel_vlr.proofs.FieldsLemmas.{fields}
 use Rattle.camel_vlr.proofs.OperationLemmas.{updates_among-front}
 use Rattle.camel_vlr.specs.Operation.{updates_among}
+use Rattle.camel_vlr.specs.Store.{StoreData}
 use Rattle.camel_vlr.specs.StoreFields.{limit_in, pending_in, published_in, store_of}
 use Rattle.camel_vlr.proofs.writer.Vlr.publish_by.Given.{Over}
 use Rattle.camel_vlr.proofs.writer.Vlr.publish_by.Goals.{In-Err, In-Ok-hand_over}
@@ -50,9 +51,10 @@ invariant_of-self-in-Err g c =
       profile = rw shown i.profile;
       ahead = λ level. absurd (cc);
       free = λ known. c.in-Err.ensures.free (handed.free (room.free (i.free known)));
+      held = λ known. absurd cc;
     }
 
 pub returns-in-Err-clause-unchanged : goal.returns-in-Err-clause-unchanged
 returns-in-Err-clause-unchanged g c =
     let shown = c.in-Err.ensures.unchanged.0 ∙ (c.in-Ok-hand_over.ensures.shown ∙ c.in-Ok.ensures.shown) in
-    rw (store_of, fields, shown, still g c) c.self.view_is
+    rw (store_of, fields, shown, still g c, c.of.ensures) (ap (λ (store : StoreData). record store { held = false; ahead = true }) c.self.view_is)

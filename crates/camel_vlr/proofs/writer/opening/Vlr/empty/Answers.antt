@@ -23,7 +23,7 @@ invariant_of-result g c =
     begins _ _ shown.0 same (ap (λ x. x.updates) same ∙ c.new-history.ensures.updates) pending
     (subst (λ (n : ℕ). n ≤ MAX_UPDATES) (sym limit) c.requires.limit.1) (rw (c.seeded.ensures, limit) (IsAdmissionOf-empty c.args.terms.limit))
     (subst (λ (x : PrefixData). Knows (view writer.desk.place) x) (sym shown.1) (IfOk-at_ok _ c.in-Ok.is e.seat))
-    (sym c.new-history.ensures.profile) (search rules)
+    (sym c.new-history.ensures.profile) (search rules) (search rules)
 
 pub publish_all-writer-requires-clause-last : goal.publish_all-writer-requires-clause-last
 publish_all-writer-requires-clause-last g c =

@@ -25,4 +25,4 @@ invariant_of-result c =
     } in
     begins _ _ shown same none pending (subst (λ (n : ℕ). n ≤ MAX_UPDATES) (sym limit) c.requires.limit.1)
     (rw (c.seeded.ensures, limit) (IsAdmissionOf-empty c.args.terms.limit)) (refl, prefix_refl copy.front.updates)
-    (sym c.new-history.ensures.profile) (search rules)
+    (sym c.new-history.ensures.profile) (search rules) (search rules)

@@ -14,5 +14,6 @@ invariant_of-self c = record {
   within = search rules;
   beyond = search rules;
   ahead = search rules;
+  held = search rules;
   free = λ known. absurd (let free_after_all = c.if-not-is_free.ensures.keeps (c.self.invariant.free known) in cc);
 }
