@@ -250,6 +250,32 @@ static void fields_of_parts(void)
     camel_free(&update);
 }
 
+/* A record of more octets than one octet counts, as ten numbers in each of two entries make it. */
+static void encoded_long_record(void)
+{
+    static const uint8_t number[] = { 0x91, 0x94, 0x71, 0x16, 0x32, 0x54, 0x76, 0x98, 0x10 };
+    camel_store store = CAMEL_EMPTY;
+    camel_session session = CAMEL_EMPTY;
+    camel_imsi imsi = imsi_of(1);
+    camel_row rows[] = { row_of(2, 1), row_of(4, 2) };
+    camel_o_criteria entries[] = { { .dp = 2 }, { .dp = 4 } };
+    camel_argument argument = { 0 };
+    bool is_there = false;
+
+    for (unsigned at = 0; at < 20; at++)
+        entries[at / 10].number.numbers[at % 10] = isdn_of(number, sizeof number);
+    for (unsigned at = 0; at < 2; at++)
+        entries[at].has_number = true, entries[at].number.number_count = 10;
+    RETURNS(CAMEL_OK, camel_open(&store, &session, 1, 9, 1, 1));
+    RETURNS(CAMEL_OK, camel_submit_register(&store, &imsi));
+    RETURNS(CAMEL_OK, insert(&store, 1, rows, 2, entries, 2, NULL, 0, NULL, 0));
+    RETURNS(CAMEL_OK, camel_publish(&store));
+    RETURNS(CAMEL_OK, camel_encode_record(&session, &imsi, &argument, &is_there));
+    IS(is_there && argument.count > 255);
+    camel_free(&session);
+    RETURNS(CAMEL_OK, camel_close(&store));
+}
+
 int main(void)
 {
     camel_store store = CAMEL_EMPTY;
@@ -273,6 +299,7 @@ int main(void)
     bare_criteria_come_back(&store, &session);
     received_handlings(&store, &session);
     fields_of_parts();
+    encoded_long_record();
     camel_free(&session);
     RETURNS(CAMEL_OK, camel_close(&store));
     return ended("layouts");
