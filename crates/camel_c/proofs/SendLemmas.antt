@@ -55,7 +55,7 @@ inside_send = declared_send (Inside.the_type writer Seat.the_row publisher seat)
             search (sendable, crosses),
             (
               search sendable,
-              (search (sendable, crosses), (search (sendable, crosses), tt)),
+              (search (sendable, crosses), tt),
             ),
           ),
         ),

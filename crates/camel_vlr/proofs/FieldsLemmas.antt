@@ -7,7 +7,7 @@ use Rattle.camel_rows.specs.Update.{records_of}
 use Rattle.camel_rows.specs.declared.subscriber.update.Update.{Update}
 use Rattle.camel_vlr.proofs.AcceptanceLemmas.{IsOf, with_pending}
 use Rattle.camel_vlr.specs.PublishedCopy.{IsOfItsFront}
-use Rattle.camel_vlr.specs.StoreFields.{IsStore, limit_in, operations_in, pending_in, published_in, store_of, updates_in}
+use Rattle.camel_vlr.specs.StoreFields.{IsStore, known_free, known_held, limit_in, operations_in, pending_in, published_in, store_of, updates_in}
 use Rattle.camel_vlr.specs.declared.base.publisher.Publisher.{Ghosts}
 use Rattle.camel_vlr.specs.declared.writer.TheConstants.{MAX_UPDATES}
 use Rattle.camel_vlr.specs.declared.writer.Vlr.TheInside.{Inside}
@@ -43,7 +43,7 @@ module _ {W S : Type 0} (g : Ghosts W S) (a : Inside W S) where
   pub begins : IsOfItsFront (g.shown a.writer) → (g.shown a.writer).front ≡ a.history → published_in g a ≡ [] → pending_in g a ≡ []
       → limit_in g a ≤ MAX_UPDATES → IsAdmissionOf a.admission (limit_in g a) (length {A = Update} []) (records_of [])
       → g.tells a.writer (g.shown a.writer).front
-      → a.profile ≡ a.history.store.profile → a.free.value ≡ false → a.held.value ≡ false → IsStore g a
+      → a.profile ≡ a.history.store.profile → known_free a ≡ false → known_held a ≡ false → IsStore g a
   begins shown same none pending greatest admits tells profile free held =
       let all : published_in g a ++ pending_in g a ≡ published_in g a = ap (λ x. published_in g a ++ x) pending ∙ append-nil (published_in g a) in
       record {

@@ -1,5 +1,5 @@
 -- The data of a store from its fields, and what the fields keep.
-use Rattle.std.specs.Prelude.{◌≡◌, ℕ, ◌≤◌, List, ◌++◌, true, false}
+use Rattle.std.specs.Prelude.{◌≡◌, ℕ, ◌≤◌, Bool, List, ◌++◌, not, true, false, unwrap_or}
 use Rattle.camel_rows.specs.Front.{Extends, IsFront}
 use Rattle.camel_rows.specs.Store.{IsAdmissionOfUpdates, Updates, accepted_updates}
 use Rattle.camel_rows.specs.declared.subscriber.update.Update.{Update}
@@ -27,9 +27,15 @@ updates_in g a = record { published = published_in g a; pending = pending_in g a
 abbrev pub limit_in : {W S : Type 0} → Ghosts W S → Inside W S → ℕ
 limit_in g a = (g.shown a.writer).front.store.limit
 
+abbrev pub known_free : {W S : Type 0} → Inside W S → Bool
+known_free a = unwrap_or a.is_free.value false
+
+abbrev pub known_held : {W S : Type 0} → Inside W S → Bool
+known_held a = not (unwrap_or a.is_free.value true)
+
 abbrev pub store_of : {W S : Type 0} → Ghosts W S → Inside W S → StoreData
 store_of g a =
-    record { store = (g.shown a.writer).front.store; updates = updates_in g a; free = a.free.value; held = a.held.value; ahead = a.is_ahead }
+    record { store = (g.shown a.writer).front.store; updates = updates_in g a; free = known_free a; held = known_held a; ahead = a.is_ahead }
 
 pub record IsStore {W S : Type 0} (g : Ghosts W S) (a : Inside W S) : Type 0 where
   pub shown : IsOfItsFront (g.shown a.writer)
@@ -43,5 +49,5 @@ pub record IsStore {W S : Type 0} (g : Ghosts W S) (a : Inside W S) : Type 0 whe
   pub within : Extends (accepted_updates (updates_in g a)) a.history.updates
   pub beyond : Extends a.history.updates (published_in g a)
   pub ahead : a.is_ahead ≡ false → a.history.updates ≡ published_in g a
-  pub free : a.free.value ≡ true → g.free a.writer
-  pub held : a.held.value ≡ true → g.held a.writer
+  pub free : known_free a ≡ true → g.free a.writer
+  pub held : known_held a ≡ true → g.held a.writer

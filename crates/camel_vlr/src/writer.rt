@@ -58,10 +58,9 @@ pub struct Vlr<W: Publisher = LeftRightWriter> {
     alloc: Global,
     /// Whether the history has updates that are not published.
     is_ahead: bool,
-    /// Whether it is known that no look holds up the next publication.
-    free: Snapshot<bool>,
-    /// Whether a look was found that holds it up.
-    held: Snapshot<bool>,
+    /// Whether no look holds up the next publication, as far as it is known. One field: the writer is to be sent to
+    /// another thread, and the check's own search for that gives up at nine.
+    is_free: Snapshot<Option<bool>>,
 }
 
 impl<W: Publisher> Model for Vlr<W> {
@@ -155,12 +154,12 @@ impl<W: Publisher> Vlr<W> {
     pub(crate) fn publish_by<H: Drop>(&mut self, by: H) -> Result<(), W::Why>
     where
         W: Publishes<H>,
+        requires { self.old.held ≡ false }
         ensures published { OnOk result (self.new ≡ with_all_published self.old) }
-        ensures unchanged { OnErr result (self.new ≡ record self.old { held = false; ahead = self.new.ahead }) }
+        ensures unchanged { OnErr result (self.new ≡ record self.old { ahead = self.new.ahead }) }
         ensures held { self.old.free ≡ true → IfErr result (λ why. W.is_held why → ⊥) }
         ensures known { self.old.free ≡ true → (writer : W) × W.free writer }
     {
-        self.held = Snapshot::of(&false);
         // What the updates need is asked for before the history has them, so that they can be dropped if it is refused.
         let Ok(()) = make_room(&mut self.writer, &mut self.pending) else {
             return Err(W::out_of_memory());
@@ -175,7 +174,7 @@ impl<W: Publisher> Vlr<W> {
             return Err(why);
         }
         self.is_ahead = false;
-        self.free = Snapshot::of(&false);
+        self.is_free = Snapshot::of(&None);
         Ok(())
     }
 

@@ -54,7 +54,7 @@ pub(crate) trait AnySession: Drop + Send {
 }
 
 /// A store of either base, whose writer has the handle `R`.
-pub(crate) trait AnyStore<R>: Sized {
+pub(crate) trait AnyStore<R>: Send + Sized {
     type Session: AnySession;
 
     /// An empty store, and two sessions of it.

@@ -195,13 +195,13 @@ fn are_seen_beside<R: Threads + Sync, W: AnyStore<R>>(
     };
     thread::join(
         rt,
+        || publishes_each(rt, store, imsi, &beside),
         || thread::join(
             rt,
             || watches_each(first, call, &beside),
             || watches_each(second, call, &beside),
         ),
-        || publishes_each(rt, store, imsi, &beside),
-    ) == ((true, true), Ok(()))
+    ) == (Ok(()), (true, true))
 }
 
 // Behind the threads no look is held, so a publication goes through, and each session sees it.

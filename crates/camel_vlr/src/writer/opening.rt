@@ -117,8 +117,7 @@ impl Vlr {
                 profile: terms.profile,
                 alloc,
                 is_ahead: false,
-                free: Snapshot::of(&false),
-                held: Snapshot::of(&false),
+                is_free: Snapshot::of(&None),
             }),
             Err(_) => {
                 drop(writer.take(rt));
@@ -137,11 +136,19 @@ impl Vlr {
         ensures published { OnOk result (self.new ≡ with_all_published self.old) }
         ensures receipt { IfOk result (λ receipt. receipt ≡ record { store = self.old.store; updates = self.new.updates.published }) }
         ensures front { OnOk result (IsFront self.new.store.limit self.new.updates.published) }
-        ensures unchanged { OnErr result (self.new ≡ record self.old { held = false; ahead = self.new.ahead }) }
+        ensures unchanged { OnErr result (self.new ≡ record self.old { ahead = self.new.ahead }) }
         ensures only { IfErr result (λ why. why ≡ Refusal.OutOfMemory) }
     {
+        self.is_never_held();
         self.publish_by(rt)?;
         Ok(self.receipt())
+    }
+
+    /// A law, of which the call is only for its clause: the writer waits for looks, so it is never told of one.
+    fn is_never_held(&self)
+        ensures { self.now.held ≡ false }
+    {
+        let _writer = &self.writer;
     }
 
     /// Ends the store, and gives nothing. What is pending is dropped. It waits for the looks that are held; that it
@@ -155,8 +162,7 @@ impl Vlr {
             profile: _profile,
             alloc: _alloc,
             is_ahead: _is_ahead,
-            free: _free,
-            held: _held,
+            is_free: _is_free,
         } = self;
         drop(writer.take(rt));
     }

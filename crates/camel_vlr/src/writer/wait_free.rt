@@ -91,8 +91,7 @@ impl Vlr<TwoCopiesWriter> {
             profile: terms.profile,
             alloc,
             is_ahead: false,
-            free: Snapshot::of(&false),
-            held: Snapshot::of(&false),
+            is_free: Snapshot::of(&None),
         })
     }
 
@@ -111,12 +110,9 @@ impl Vlr<TwoCopiesWriter> {
             → self.new ≡ record self.old { free = true; held = false; ahead = self.new.ahead } }
         ensures free { self.old.free ≡ true → result ≢ Err Unpublished.Held }
     {
-        if !self.writer.is_free() {
-            self.held = Snapshot::of(&true);
+        if !self.is_free() {
             return Err(Unpublished::Held);
         }
-        self.free = Snapshot::of(&true);
-        self.held = Snapshot::of(&false);
         if let Err(why) = self.publish_by(()) {
             return Err(why);
         }
@@ -130,8 +126,7 @@ impl Vlr<TwoCopiesWriter> {
         ensures keeps { self.old.free ≡ true → result ≡ true }
     {
         let is_free = self.writer.is_free();
-        self.free = Snapshot::of(&is_free);
-        self.held = Snapshot::of(&!is_free);
+        self.is_free = Snapshot::of(&Some(is_free));
         is_free
     }
 
@@ -143,8 +138,7 @@ impl Vlr<TwoCopiesWriter> {
         ensures keeps { self.old.free ≡ true → result ≡ 0 }
     {
         let holders = self.writer.holders();
-        self.free = Snapshot::of(&(holders == 0));
-        self.held = Snapshot::of(&(holders != 0));
+        self.is_free = Snapshot::of(&Some(holders == 0));
         holders
     }
 
@@ -166,8 +160,7 @@ impl Vlr<TwoCopiesWriter> {
             profile: _profile,
             alloc: _alloc,
             is_ahead: _is_ahead,
-            free: _free,
-            held: _held,
+            is_free: _is_free,
         } = self;
         match writer.end() {
             Ok(copy) => Ok(copy.records),

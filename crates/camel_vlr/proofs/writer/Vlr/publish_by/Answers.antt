@@ -1,5 +1,5 @@
 use base.Growing.{prefix_refl}
-use Rattle.std.proofs.Common.{◌≡◌, ◌∙◌, ◌++◌, false, true, ap, refl}
+use Rattle.std.proofs.Common.{◌≡◌, ◌∙◌, ◌++◌, true, true≢false, ap, refl, sym}
 use Rattle.camel_vlr.proofs.FieldsLemmas.{fields}
 use Rattle.camel_vlr.proofs.OperationLemmas.{updates_among-front}
 use Rattle.camel_vlr.specs.Operation.{updates_among}
@@ -51,10 +51,10 @@ invariant_of-self-in-Err g c =
       profile = rw shown i.profile;
       ahead = λ level. absurd (cc);
       free = λ known. c.in-Err.ensures.free (handed.free (room.free (i.free known)));
-      held = λ known. absurd cc;
+      held = λ known. absurd (true≢false (sym known ∙ (ap (λ (store : StoreData). store.held) c.self.view_is ∙ c.requires)));
     }
 
 pub returns-in-Err-clause-unchanged : goal.returns-in-Err-clause-unchanged
 returns-in-Err-clause-unchanged g c =
     let shown = c.in-Err.ensures.unchanged.0 ∙ (c.in-Ok-hand_over.ensures.shown ∙ c.in-Ok.ensures.shown) in
-    rw (store_of, fields, shown, still g c, c.of.ensures) (ap (λ (store : StoreData). record store { held = false; ahead = true }) c.self.view_is)
+    rw (store_of, fields, shown, still g c) (ap (λ (store : StoreData). record store { ahead = true }) c.self.view_is)
