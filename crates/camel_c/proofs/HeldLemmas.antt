@@ -6,9 +6,7 @@ use Rattle.std.specs.Result.{IsErrAnd}
 use Rattle.camel_rows.specs.declared.subscriber.update.Update.{Update}
 use Rattle.camel_rows.specs.declared.subscriber.update.Update.TheVariants as update
 use Rattle.camel_c.specs.HeldUpdates.{HoldUpdates, update_held}
-use Rattle.camel_c.specs.Holding.{with_object}
 use Rattle.camel_c.specs.declared.handle.CamelHandle.{CamelHandle}
-use Rattle.camel_c.specs.declared.object.Object.{Object}
 
 -- none of them holds no update
 pub held_at : (handles : List CamelHandle) (held : List Update) (at : ℕ) (other : CamelHandle)
@@ -43,9 +41,3 @@ pub held_once : (handles : List CamelHandle) (one other : List Update)
     → HoldUpdates handles one → HoldUpdates handles other → one ≡ other
 held_once handles one other is also =
     sym (each_whole one) ∙ ap (λ (l : List (Option Update)). map update_or l) (sym is ∙ also) ∙ each_whole other
-
--- a handle whose object was only looked at
-pub looked_at : (handle before : CamelHandle) (object : Object)
-    → handle.value ≡ Some object → handle ≡ before → with_object handle object ≡ before
-looked_at handle before object holds same =
-    ap (λ (held : Option Object). record { at = handle.at; is_full = handle.is_full; value = held }) (sym holds) ∙ same

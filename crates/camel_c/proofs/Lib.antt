@@ -7,6 +7,7 @@ pub mod HeldLemmas
 pub mod HoldingLemmas
 pub mod InsertLemmas
 pub mod LayoutLemmas
+pub mod LendingLemmas
 pub mod ListsLemmas
 pub mod ObjectDrop
 pub mod OctetsLemmas

@@ -8,7 +8,8 @@ ghost use Rattle.camel_c.specs.declared.thread_session.ThreadSession.{ThreadSess
 
 use crate::failure::Failure;
 use crate::handle::CamelHandle;
-use crate::object::{Object, Stage};
+use crate::object::LiveStore;
+use crate::thread_session::ThreadSession;
 use camel_c_data::{CamelCounts, CamelDecisions};
 
 /// Writes how many subscribers have a record in what is published, how many updates are published and pending, and how
@@ -23,33 +24,16 @@ pub extern "C" fn camel_counts_of(store: &mut CamelHandle, counts: &mut CamelCou
     ensures only { HoldsLiveStore store.old.value → result ≡ 0 }
     ensures wrong { HoldsLiveStore store.old.value ⊎ (result ≡ 503) }
 {
-    if !store.is_full() {
+    let Some(live) = store.lend::<LiveStore>() else {
         return Failure::WrongHandle.code();
-    }
-    count_held(store.get_mut(), counts)
-}
-
-fn count_held(held: &Object, counts: &mut CamelCounts) -> u32
-    ensures counted { result ≡ 0 → Counts (Some held.now) counts.new }
-    ensures unwritten { result ≢ 0 → counts.new ≡ counts.old }
-    ensures only { HoldsLiveStore (Some held.now) → result ≡ 0 }
-    ensures wrong { HoldsLiveStore (Some held.now) ⊎ (result ≡ 503) }
-{
-    match held {
-        Object::Store(store) => match &store.stage {
-            Stage::Live(live) => {
-                *counts = CamelCounts {
-                    subscribers: live.vlr.subscribers() as u64,
-                    published: live.vlr.published(),
-                    pending: live.vlr.pending(),
-                    held: live.held,
-                };
-                0
-            }
-            Stage::Closing(_) | Stage::Closed => Failure::WrongHandle.code(),
-        },
-        _ => Failure::WrongHandle.code(),
-    }
+    };
+    *counts = CamelCounts {
+        subscribers: live.vlr.subscribers() as u64,
+        published: live.vlr.published(),
+        pending: live.vlr.pending(),
+        held: live.held,
+    };
+    0
 }
 
 /// Writes how many events a session has decided with each reason.
@@ -67,24 +51,9 @@ pub extern "C" fn camel_decisions_of(
     ensures only { HoldsAnySession session.old.value → result ≡ 0 }
     ensures wrong { HoldsAnySession session.old.value ⊎ (result ≡ 503) }
 {
-    if !session.is_full() {
+    let Some(own) = session.lend::<ThreadSession>() else {
         return Failure::WrongHandle.code();
-    }
-    write_decisions(session.get_mut(), decisions)
-}
-
-fn write_decisions(held: &Object, decisions: &mut CamelDecisions) -> u32
-    ensures counted { result ≡ 0 → (own : ThreadSession) × (Some held.now ≡ Some (object.Session own))
-        × (decisions.new ≡ own.decisions) }
-    ensures unwritten { result ≢ 0 → decisions.new ≡ decisions.old }
-    ensures only { HoldsAnySession (Some held.now) → result ≡ 0 }
-    ensures wrong { HoldsAnySession (Some held.now) ⊎ (result ≡ 503) }
-{
-    match held {
-        Object::Session(own) => {
-            *decisions = own.decisions;
-            0
-        }
-        _ => Failure::WrongHandle.code(),
-    }
+    };
+    *decisions = own.decisions;
+    0
 }

@@ -11,9 +11,8 @@ ghost use Rattle.camel_c.specs.Shows.{Looks};
 
 use crate::failure::Failure;
 use crate::handle::CamelHandle;
-use crate::object::Object;
 use crate::thread_session::ThreadSession;
-use camel_c_data::{CamelAnswer, CamelDecisions, CamelEvent};
+use camel_c_data::{CamelAnswer, CamelEvent};
 use camel_criteria::Refusal;
 use camel_rows::Event;
 
@@ -37,22 +36,10 @@ pub extern "C" fn camel_decide(
     let Ok(asked) = event.lend() else {
         return Failure::Malformed.code();
     };
-    if !session.is_full() {
+    let Some(own) = session.lend::<ThreadSession>() else {
         return Failure::WrongHandle.code();
-    }
-    decide_held(session.get_mut(), &asked, answer)
-}
-
-fn decide_held(held: &mut Object, event: &Event, answer: &mut CamelAnswer) -> u32
-    ensures looks { Looks ⊥
-        (λ own shown left. (given : Answer) × ShowsAnswer given answer.new × Decides (event_data event.now) given own shown left)
-        result (Some held.old) (Some held.new) }
-    ensures unwritten { result ≢ 0 → answer.new ≡ answer.old }
-{
-    match held {
-        Object::Session(own) => own.decide(event, answer),
-        _ => Failure::WrongHandle.code(),
-    }
+    };
+    own.decide(&asked, answer)
 }
 
 impl ThreadSession {

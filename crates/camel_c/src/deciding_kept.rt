@@ -10,7 +10,7 @@ ghost use Rattle.camel_c.specs.declared.object.Object.TheVariants as object;
 
 use crate::failure::Failure;
 use crate::handle::CamelHandle;
-use crate::object::Object;
+use crate::kept_subscriber::KeptSubscriber;
 use camel_c_data::{CamelAnswer, CamelEvent};
 use camel_rows::Event;
 
@@ -36,24 +36,17 @@ pub extern "C" fn camel_decide_kept(
     let Ok(asked) = event.lend() else {
         return Failure::Malformed.code();
     };
-    if !subscriber.is_full() {
+    let Some(kept) = subscriber.lend::<KeptSubscriber>() else {
         return Failure::WrongHandle.code();
-    }
-    decide_kept(subscriber.get_mut(), &asked, answer)
+    };
+    kept.decide(&asked, answer);
+    0
 }
 
-fn decide_kept(held: &Object, event: &Event, answer: &mut CamelAnswer) -> u32
-    ensures decided { result ≡ 0 → (kept : KeptSubscriber) × (Some held.now ≡ Some (object.Kept kept))
-        × ShowsAnswer (answer_by kept (event_data event.now)) answer.new }
-    ensures unwritten { result ≢ 0 → answer.new ≡ answer.old }
-    ensures only { HoldsKept (Some held.now) → result ≡ 0 }
-    ensures wrong { HoldsKept (Some held.now) ⊎ (result ≡ 503) }
-{
-    match held {
-        Object::Kept(kept) => {
-            answer.write(kept.front, &kept.subscriber.decide(event, kept.profile));
-            0
-        }
-        _ => Failure::WrongHandle.code(),
+impl KeptSubscriber {
+    fn decide(&self, event: &Event, answer: &mut CamelAnswer)
+        ensures { ShowsAnswer (answer_by self.now (event_data event.now)) answer.new }
+    {
+        answer.write(self.front, &self.subscriber.decide(event, self.profile));
     }
 }

@@ -6,7 +6,7 @@ ghost use Rattle.camel_c.specs.Object.{HoldsDroppable, HoldsLevelStore, HoldsLiv
 
 use crate::failure::Failure;
 use crate::handle::CamelHandle;
-use crate::object::{Object, Stage};
+use crate::object::LiveStore;
 
 /// Drops all that is pending, as if it had not been submitted: the accepted updates are the published ones again, which
 /// count for the limit. It may follow a publication that failed. It takes no memory if each pending update leaves a
@@ -23,28 +23,11 @@ pub extern "C" fn camel_drop_pending(store: &mut CamelHandle) -> u32
     ensures only { HoldsLiveStore store.old.value → (result ≡ 0) ⊎ (result ≡ 102) }
     ensures wrong { HoldsLiveStore store.old.value ⊎ (result ≡ 503) }
 {
-    if !store.is_full() {
+    let Some(live) = store.lend::<LiveStore>() else {
         return Failure::WrongHandle.code();
-    }
-    drop_held(store.get_mut())
-}
-
-fn drop_held(held: &mut Object) -> u32
-    ensures dropped { result ≡ 0 → ChangesStore with_dropped (Some held.old) (Some held.new) }
-    ensures droppable { HoldsDroppable (Some held.old) → result ≡ 0 }
-    ensures level { result ≡ 0 → HoldsLevelStore (Some held.new) }
-    ensures unchanged { result ≢ 0 → held.new ≡ held.old }
-    ensures only { HoldsLiveStore (Some held.old) → (result ≡ 0) ⊎ (result ≡ 102) }
-    ensures wrong { HoldsLiveStore (Some held.old) ⊎ (result ≡ 503) }
-{
-    match held {
-        Object::Store(store) => match &mut store.stage {
-            Stage::Live(live) => match live.vlr.drop_pending() {
-                Ok(()) => 0,
-                Err(why) => u32::from(why.code()),
-            },
-            Stage::Closing(_) | Stage::Closed => Failure::WrongHandle.code(),
-        },
-        _ => Failure::WrongHandle.code(),
+    };
+    match live.vlr.drop_pending() {
+        Ok(()) => 0,
+        Err(why) => u32::from(why.code()),
     }
 }

@@ -1,6 +1,6 @@
 //! Encoding the record of a subscriber.
 
-ghost use Rattle.std.specs.Prelude.{◌≡◌, ◌≢◌, ◌⊎◌, Ok, IsErr, List, Option, ℕ, true};
+ghost use Rattle.std.specs.Prelude.{◌≡◌, ◌≢◌, ◌⊎◌, Ok, IsErr, List, ℕ, true};
 ghost use Rattle.camel_vlr.specs.Session.{SessionData};
 ghost use Rattle.camel_c_data.specs.Imsi.{imsi_in};
 ghost use Rattle.camel_c.specs.Argument.{MakesRecord};
@@ -11,7 +11,6 @@ ghost use Rattle.camel_c.specs.Shows.{Shows, ShowsWritten};
 use crate::argument::CamelArgument;
 use crate::failure::Failure;
 use crate::handle::CamelHandle;
-use crate::object::Object;
 use crate::showing::write;
 use crate::thread_session::ThreadSession;
 use camel_c_data::CamelImsi;
@@ -43,29 +42,10 @@ pub extern "C" fn camel_encode_record(
     let Ok(asked) = imsi.read() else {
         return Failure::Malformed.code();
     };
-    if !session.is_full() {
+    let Some(own) = session.lend::<ThreadSession>() else {
         return Failure::WrongHandle.code();
-    }
-    encode_held(alloc, session.get_mut(), &asked, argument, is_there)
-}
-
-fn encode_held(
-    alloc: Global,
-    held: &mut Object,
-    imsi: &Imsi,
-    argument: &mut CamelArgument,
-    is_there: &mut u8,
-) -> u32
-    ensures fetches { Fetches ⊥ (Unit {0})
-        (λ own shown left. Shows own shown left
-        × ShowsWritten (MakesRecord imsi.now) (record_shown shown imsi.now) argument.old argument.new is_there.new)
-        result (Some held.old) (Some held.new) }
-    ensures unwritten { result ≢ 0 → (argument.new ≡ argument.old) × (is_there.new ≡ is_there.old) }
-{
-    match held {
-        Object::Session(own) => own.encode(alloc, imsi, argument, is_there),
-        _ => Failure::WrongHandle.code(),
-    }
+    };
+    own.encode(alloc, &asked, argument, is_there)
 }
 
 impl ThreadSession {

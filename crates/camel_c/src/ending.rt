@@ -8,7 +8,7 @@ ghost use Rattle.camel_c.specs.declared.object.Stage.TheVariants as stage;
 use crate::failure::Failure;
 use crate::filling::camel_empty;
 use crate::handle::CamelHandle;
-use crate::object::{Object, Stage};
+use crate::object::{Stage, Store};
 use core::mem::replace_with;
 use std::alloc::Global;
 
@@ -24,31 +24,14 @@ pub extern "C" fn camel_close(alloc: Global, store: &mut CamelHandle) -> u32
     ensures only { HoldsStore store.old.value → (result ≡ 0) ⊎ (result ≡ 501) }
     ensures wrong { HoldsStore store.old.value ⊎ ((result ≡ 503) × (store.new.value ≡ store.old.value)) }
 {
-    if !store.is_full() {
+    let Some(held) = store.lend::<Store>() else {
         return Failure::WrongHandle.code();
+    };
+    if !replace_with(&mut held.stage, (), close_stage) {
+        return Failure::Held.code();
     }
-    let done = close_held(store.get_mut());
-    if done == 0 {
-        camel_empty(alloc, store);
-    }
-    done
-}
-
-fn close_held(held: &mut Object) -> u32
-    ensures held { result ≡ 501 → IsHeldUp (Some held.old) (Some held.new) }
-    ensures only { HoldsStore (Some held.old) → (result ≡ 0) ⊎ (result ≡ 501) }
-    ensures wrong { HoldsStore (Some held.old) ⊎ ((result ≡ 503) × (held.new ≡ held.old)) }
-{
-    match held {
-        Object::Store(store) => {
-            if replace_with(&mut store.stage, (), close_stage) {
-                0
-            } else {
-                Failure::Held.code()
-            }
-        }
-        _ => Failure::WrongHandle.code(),
-    }
+    camel_empty(alloc, store);
+    0
 }
 
 /// Ends a store, and tells whether it has ended.

@@ -5,7 +5,7 @@ ghost use Rattle.std.specs.Coded.{coded_option};
 ghost use Rattle.camel_c.specs.contracts.object.Object.{the_row};
 ghost use Rattle.camel_c.specs.declared.object.Object.{Object};
 
-use crate::object::Object;
+use crate::object::{Kind, Object};
 use std::alloc::Global;
 use std::marker::Model;
 use std::ptr::null_mut;
@@ -29,7 +29,8 @@ impl Model for CamelHandle {
 }
 
 impl CamelHandle {
-    ghost use Rattle.std.specs.Borrow.{Lends, sem};
+    ghost use Rattle.std.specs.Borrow.{Lends, LendsIf, sem};
+    ghost use Rattle.std.specs.Option.{option_copied_mut};
     ghost use Rattle.camel_c.specs.Holding.{with_object};
     ghost use Rattle.camel_c.specs.contracts.handle.CamelHandle.{the_row as handle_row};
 
@@ -69,6 +70,20 @@ impl CamelHandle {
         ensures value { self.old.value ≡ Some result.now }
     {
         unsafe { &mut *(self.at as *mut Object) }
+    }
+
+    /// What a handle holds, if it is of this kind, borrowed where it is.
+    #[inline]
+    pub(crate) fn lend<K: Kind>(&mut self) -> Option<&mut K>
+        ensures* writes_back { sem 𝓛 (LendsIf handle_row K.row self.entry result (λ own. with_object self.entry.now (K.whole own)) self.entry.now) }
+        ensures value { MatchOption (option_copied_mut result)
+            ((own : K) × (self.old.value ≡ Some (K.whole own)) → ⊥) (λ own. self.old.value ≡ Some (K.whole own)) }
+    {
+        if !self.is_full() {
+            return None;
+        }
+        let held = self.get_mut();
+        K::within(held)
     }
 
     /// The box of a full handle. A `Global` takes no bytes, so C passes none, and whichever is given frees the box.

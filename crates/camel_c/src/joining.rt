@@ -6,7 +6,6 @@ ghost use Rattle.camel_c.specs.declared.object.Object.TheVariants as object;
 
 use crate::failure::Failure;
 use crate::handle::CamelHandle;
-use crate::object::Object;
 use camel_map::Arrival;
 use std::alloc::Global;
 
@@ -31,26 +30,13 @@ pub extern "C" fn camel_update_join(
     ensures same { next.new.value ≡ next.old.value }
     ensures wrong { (HoldsUpdate update.old.value × HoldsUpdate next.old.value) ⊎ (result ≡ 503) }
 {
-    if !update.is_full() || !next.is_full() {
-        return Failure::WrongHandle.code();
-    }
-    join_held(alloc, update.get_mut(), next.get_mut())
-}
-
-fn join_held(alloc: Global, held: &mut Object, next: &Object) -> u32
-    ensures joins { (one other : Arrival) → Some held.old ≡ Some (object.Update one)
-        → Some next.now ≡ Some (object.Update other)
-        → (left : Arrival) × (Some held.new ≡ Some (object.Update left)) × JoinsNext one other result left }
-    ensures unchanged { result ≢ 0 → held.new ≡ held.old }
-    ensures wrong { (HoldsUpdate (Some held.old) × HoldsUpdate (Some next.now)) ⊎ (result ≡ 503) }
-{
-    let Object::Update(arrival) = held else {
+    let Some(one) = update.lend::<Arrival>() else {
         return Failure::WrongHandle.code();
     };
-    let Object::Update(next) = next else {
+    let Some(other) = next.lend::<Arrival>() else {
         return Failure::WrongHandle.code();
     };
-    join_next(alloc, arrival, next)
+    join_next(alloc, one, other)
 }
 
 /// Puts the join of an Insert and the next one in the place of the first, and gives the status.

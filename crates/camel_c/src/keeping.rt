@@ -1,11 +1,11 @@
 //! Keeping the record of a subscriber.
 
-ghost use Rattle.std.specs.Prelude.{◌≡◌, ◌≢◌, ◌⊎◌, Ok, None, Some, IfErr, IfOk, IsErr, OnErr, OnOk, List, Option, ℕ, true};
+ghost use Rattle.std.specs.Prelude.{◌≡◌, ◌≢◌, ◌⊎◌, Ok, None, Some, IfErr, IsErr, OnErr, OnOk, List, ℕ, true};
 ghost use Rattle.camel_criteria.specs.declared.refusal.Refusal.TheVariants as refusal;
 ghost use Rattle.camel_vlr.specs.Session.{SessionData};
 ghost use Rattle.camel_c_data.specs.Imsi.{imsi_in};
 ghost use Rattle.camel_c.specs.Fetches.{Fetches};
-ghost use Rattle.camel_c.specs.Kept.{FillsKept, KeepsShown};
+ghost use Rattle.camel_c.specs.Kept.{FillsKept};
 ghost use Rattle.camel_c.specs.Shown.{record_shown};
 ghost use Rattle.camel_c.specs.Shows.{Shows};
 
@@ -46,33 +46,13 @@ pub extern "C" fn camel_keep(
     let Ok(asked) = imsi.read() else {
         return Failure::Malformed.code();
     };
-    if !session.is_full() {
-        return Failure::WrongHandle.code();
-    }
-    keep_held(alloc, session.get_mut(), &asked, subscriber, is_there)
-}
-
-fn keep_held(
-    alloc: Global,
-    held: &mut Object,
-    imsi: &Imsi,
-    subscriber: &mut CamelHandle,
-    is_there: &mut u8,
-) -> u32
-    ensures fetches { Fetches ⊥ (subscriber.old.value ≡ None)
-        (λ own shown left. Shows own shown left
-        × FillsKept shown (record_shown shown imsi.now) subscriber.old.value subscriber.new.value is_there.new)
-        result (Some held.old) (Some held.new) }
-    ensures unwritten { result ≢ 0
-        → (subscriber.new.value ≡ subscriber.old.value) × (is_there.new ≡ is_there.old) }
-{
-    let Object::Session(own) = held else {
+    let Some(own) = session.lend::<ThreadSession>() else {
         return Failure::WrongHandle.code();
     };
     if subscriber.is_full() {
         return Failure::FullHandle.code();
     }
-    own.keep(alloc, imsi, subscriber, is_there)
+    own.keep(alloc, &asked, subscriber, is_there)
 }
 
 impl ThreadSession {

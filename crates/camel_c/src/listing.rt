@@ -34,19 +34,7 @@ pub extern "C" fn camel_imsis_of(
         result session.old.value session.new.value }
     ensures unwritten { result ≢ 0 → imsis.new.value ≡ imsis.old.value }
 {
-    if !session.is_full() {
-        return Failure::WrongHandle.code();
-    }
-    list_held(alloc, session.get_mut(), imsis)
-}
-
-fn list_held(alloc: Global, held: &mut Object, imsis: &mut CamelHandle) -> u32
-    ensures fetches { Fetches ⊥ (imsis.old.value ≡ None)
-        (λ own shown left. Shows own shown left × FillsImsis shown imsis.old.value imsis.new.value)
-        result (Some held.old) (Some held.new) }
-    ensures unwritten { result ≢ 0 → imsis.new.value ≡ imsis.old.value }
-{
-    let Object::Session(own) = held else {
+    let Some(own) = session.lend::<ThreadSession>() else {
         return Failure::WrongHandle.code();
     };
     if imsis.is_full() {
@@ -96,28 +84,11 @@ pub extern "C" fn camel_next_imsi(
     ensures only { HoldsImsis imsis.old.value → result ≡ 0 }
     ensures wrong { HoldsImsis imsis.old.value ⊎ (result ≡ 503) }
 {
-    if !imsis.is_full() {
+    let Some(listed) = imsis.lend::<ImsiList>() else {
         return Failure::WrongHandle.code();
-    }
-    tell_next(imsis.get_mut(), imsi, is_there)
-}
-
-fn tell_next(held: &mut Object, imsi: &mut CamelImsi, is_there: &mut u8) -> u32
-    ensures told { result ≡ 0 → (listed left : List (List ℕ)) × (next : Option (List ℕ))
-        × (Some held.old ≡ Some (object.Imsis listed)) × (Some held.new ≡ Some (object.Imsis left))
-        × TellsNext next listed left imsi.old imsi.new is_there.new }
-    ensures unchanged { result ≢ 0 → held.new ≡ held.old }
-    ensures unwritten { result ≢ 0 → (imsi.new ≡ imsi.old) × (is_there.new ≡ is_there.old) }
-    ensures only { HoldsImsis (Some held.old) → result ≡ 0 }
-    ensures wrong { HoldsImsis (Some held.old) ⊎ (result ≡ 503) }
-{
-    match held {
-        Object::Imsis(imsis) => {
-            write_next(imsis, imsi, is_there);
-            0
-        }
-        _ => Failure::WrongHandle.code(),
-    }
+    };
+    write_next(listed, imsi, is_there);
+    0
 }
 
 /// Takes the next IMSI out of a list, if there is one, and writes it.

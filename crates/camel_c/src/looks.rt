@@ -6,7 +6,6 @@ ghost use Rattle.camel_c.specs.Object.{HoldsAnySession, HoldsLook, HoldsSession}
 
 use crate::failure::Failure;
 use crate::handle::CamelHandle;
-use crate::object::Object;
 use crate::thread_session::ThreadSession;
 use camel_criteria::Refusal;
 
@@ -23,30 +22,15 @@ pub extern "C" fn camel_look(session: &mut CamelHandle) -> u32
     ensures held { HoldsLook session.old.value → result ≡ 501 }
     ensures wrong { HoldsAnySession session.old.value ⊎ (result ≡ 503) }
 {
-    if !session.is_full() {
+    let Some(own) = session.lend::<ThreadSession>() else {
         return Failure::WrongHandle.code();
-    }
-    begin_look(session.get_mut())
-}
-
-fn begin_look(held: &mut Object) -> u32
-    ensures began { result ≡ 0 → BeginsLook (Some held.old) (Some held.new) }
-    ensures unchanged { result ≢ 0 → held.new ≡ held.old }
-    ensures only { HoldsSession (Some held.old) → (result ≡ 0) ⊎ (result ≡ 104) }
-    ensures held { HoldsLook (Some held.old) → result ≡ 501 }
-    ensures wrong { HoldsAnySession (Some held.old) ⊎ (result ≡ 503) }
-{
-    match held {
-        Object::Session(ThreadSession { session, .. }) => {
-            if session.is_looking() {
-                Failure::Held.code()
-            } else if session.enter() {
-                0
-            } else {
-                Failure::Refused(Refusal::NoGuard).code()
-            }
-        }
-        _ => Failure::WrongHandle.code(),
+    };
+    if own.session.is_looking() {
+        Failure::Held.code()
+    } else if own.session.enter() {
+        0
+    } else {
+        Failure::Refused(Refusal::NoGuard).code()
     }
 }
 
@@ -60,23 +44,9 @@ pub extern "C" fn camel_leave(session: &mut CamelHandle) -> u32
     ensures only { HoldsAnySession session.old.value → result ≡ 0 }
     ensures wrong { HoldsAnySession session.old.value ⊎ (result ≡ 503) }
 {
-    if !session.is_full() {
+    let Some(own) = session.lend::<ThreadSession>() else {
         return Failure::WrongHandle.code();
-    }
-    end_look(session.get_mut())
-}
-
-fn end_look(held: &mut Object) -> u32
-    ensures left { result ≡ 0 → IsWithoutLook (Some held.old) (Some held.new) }
-    ensures unchanged { result ≢ 0 → held.new ≡ held.old }
-    ensures only { HoldsAnySession (Some held.old) → result ≡ 0 }
-    ensures wrong { HoldsAnySession (Some held.old) ⊎ (result ≡ 503) }
-{
-    match held {
-        Object::Session(own) => {
-            own.session.leave();
-            0
-        }
-        _ => Failure::WrongHandle.code(),
-    }
+    };
+    own.session.leave();
+    0
 }

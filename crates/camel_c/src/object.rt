@@ -1,6 +1,8 @@
 //! What a handle of C may hold.
 
-ghost use Rattle.std.specs.Prelude.{◌≡◌};
+ghost use Rattle.std.specs.Prelude.{◌≡◌, ◌≢◌, MatchOption};
+ghost use Rattle.camel_c.specs.Object.{live_store};
+ghost use Rattle.camel_c.specs.declared.object.Object.TheVariants as object;
 
 use crate::imsi_list::ImsiList;
 use crate::kept_subscriber::KeptSubscriber;
@@ -78,6 +80,98 @@ pub enum Object {
     Update(Arrival),
     /// IMSIs that are still to be told.
     Imsis(ImsiList),
+}
+
+/// What a handle may be asked for: a kind of object, or a part of one.
+pub(crate) trait Kind: Sized {
+    ghost use Rattle.std.specs.Borrow.{LendsIf, sem};
+    ghost use Rattle.std.specs.Option.{option_copied_mut};
+    ghost use Rattle.camel_c.specs.contracts.object.Object.{the_row};
+    ghost use Rattle.camel_c.specs.declared.object.Object.{Object};
+
+    /// The object that has it.
+    ghost whole: { Self → Object };
+
+    /// What an object has of this kind, borrowed where it is.
+    fn within(held: &mut Object) -> Option<&mut Self>
+        ensures* writes_back { sem 𝓛 (LendsIf the_row Self.row held.entry result whole held.entry.now) }
+        ensures value { MatchOption (option_copied_mut result) ((own : Self) → held.old ≢ whole own) (λ own. held.old ≡ whole own) };
+}
+
+impl Kind for Store {
+    ghost whole = { object.Store };
+
+    #[inline]
+    fn within(held: &mut Object) -> Option<&mut Store> {
+        match held {
+            Object::Store(own) => Some(own),
+            _ => None,
+        }
+    }
+}
+
+impl Kind for ThreadSession {
+    ghost whole = { object.Session };
+
+    #[inline]
+    fn within(held: &mut Object) -> Option<&mut ThreadSession> {
+        match held {
+            Object::Session(own) => Some(own),
+            _ => None,
+        }
+    }
+}
+
+impl Kind for KeptSubscriber {
+    ghost whole = { object.Kept };
+
+    #[inline]
+    fn within(held: &mut Object) -> Option<&mut KeptSubscriber> {
+        match held {
+            Object::Kept(own) => Some(own),
+            _ => None,
+        }
+    }
+}
+
+impl Kind for Arrival {
+    ghost whole = { object.Update };
+
+    #[inline]
+    fn within(held: &mut Object) -> Option<&mut Arrival> {
+        match held {
+            Object::Update(own) => Some(own),
+            _ => None,
+        }
+    }
+}
+
+impl Kind for ImsiList {
+    ghost whole = { object.Imsis };
+
+    #[inline]
+    fn within(held: &mut Object) -> Option<&mut ImsiList> {
+        match held {
+            Object::Imsis(own) => Some(own),
+            _ => None,
+        }
+    }
+}
+
+/// A store that takes updates.
+impl Kind for LiveStore {
+    ghost whole = { live_store };
+
+    #[inline]
+    fn within(held: &mut Object) -> Option<&mut LiveStore> {
+        match held {
+            Object::Store(store) => match &mut store.stage {
+                Stage::Live(live) => Some(live),
+                Stage::Closing(_) | Stage::Closed => None,
+            },
+            _ => None,
+        }
+    }
 }
 
 /// That this is proved shows that each kind of object is `Send`: C may hand any handle to another thread.

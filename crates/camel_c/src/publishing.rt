@@ -6,7 +6,7 @@ ghost use Rattle.camel_c.specs.Object.{HoldsFreeStore, HoldsLiveStore};
 
 use crate::failure::Failure;
 use crate::handle::CamelHandle;
-use crate::object::{LiveStore, Object, Stage};
+use crate::object::LiveStore;
 use camel_criteria::Refusal;
 use camel_vlr::Unpublished;
 
@@ -27,28 +27,10 @@ pub extern "C" fn camel_publish(store: &mut CamelHandle) -> u32
     ensures only { HoldsLiveStore store.old.value → (result ≡ 0) ⊎ ((result ≡ 102) ⊎ (result ≡ 501)) }
     ensures wrong { HoldsLiveStore store.old.value ⊎ (result ≡ 503) }
 {
-    if !store.is_full() {
+    let Some(live) = store.lend::<LiveStore>() else {
         return Failure::WrongHandle.code();
-    }
-    publish_held(store.get_mut())
-}
-
-fn publish_held(held: &mut Object) -> u32
-    ensures published { result ≡ 0 → ChangesStore with_published (Some held.old) (Some held.new) }
-    ensures held { result ≡ 501 → ChangesStore with_held (Some held.old) (Some held.new) }
-    ensures free { HoldsFreeStore (Some held.old) → result ≢ 501 }
-    ensures refused { result ≡ 102 → RefusesStore (Some held.old) (Some held.new) }
-    ensures unchanged { result ≡ 503 → held.new ≡ held.old }
-    ensures only { HoldsLiveStore (Some held.old) → (result ≡ 0) ⊎ ((result ≡ 102) ⊎ (result ≡ 501)) }
-    ensures wrong { HoldsLiveStore (Some held.old) ⊎ (result ≡ 503) }
-{
-    match held {
-        Object::Store(store) => match &mut store.stage {
-            Stage::Live(live) => live.publish(),
-            Stage::Closing(_) | Stage::Closed => Failure::WrongHandle.code(),
-        },
-        _ => Failure::WrongHandle.code(),
-    }
+    };
+    live.publish()
 }
 
 impl LiveStore {
@@ -83,27 +65,9 @@ pub extern "C" fn camel_holders(store: &mut CamelHandle, sessions: &mut u64) -> 
     ensures only { HoldsLiveStore store.old.value → result ≡ 0 }
     ensures wrong { HoldsLiveStore store.old.value ⊎ (result ≡ 503) }
 {
-    if !store.is_full() {
+    let Some(live) = store.lend::<LiveStore>() else {
         return Failure::WrongHandle.code();
-    }
-    tell_holders(store.get_mut(), sessions)
-}
-
-fn tell_holders(held: &mut Object, sessions: &mut u64) -> u32
-    ensures told { result ≡ 0 → ChangesStore (with_free (sessions.new == 0)) (Some held.old) (Some held.new) }
-    ensures none { HoldsFreeStore (Some held.old) → sessions.new ≡ 0 }
-    ensures unchanged { result ≢ 0 → (held.new ≡ held.old) × (sessions.new ≡ sessions.old) }
-    ensures only { HoldsLiveStore (Some held.old) → result ≡ 0 }
-    ensures wrong { HoldsLiveStore (Some held.old) ⊎ (result ≡ 503) }
-{
-    match held {
-        Object::Store(store) => match &mut store.stage {
-            Stage::Live(live) => {
-                *sessions = live.vlr.holders();
-                0
-            }
-            Stage::Closing(_) | Stage::Closed => Failure::WrongHandle.code(),
-        },
-        _ => Failure::WrongHandle.code(),
-    }
+    };
+    *sessions = live.vlr.holders();
+    0
 }

@@ -1,13 +1,14 @@
 //! Publishing what is pending, and telling sessions of it.
 
-ghost use Rattle.std.specs.Prelude.{◌≡◌, ◌≢◌, ◌⊎◌, ◌≤◌, length, Some, true};
+ghost use Rattle.std.specs.Prelude.{◌≡◌, ◌≢◌, ◌⊎◌, length, Some, true};
 ghost use Rattle.camel_c.specs.Change.{IsRefused, with_held, with_published};
-ghost use Rattle.camel_c.specs.Publication.{AllLearn, AllMayLook, AllReady, FirstUnready, IsHeldReady, IsReady, IsUnready, PublishesTo};
+ghost use Rattle.camel_c.specs.Publication.{AllLearn, AllMayLook, AllReady, FirstUnready, IsReady, IsUnready, PublishesTo};
 
 use crate::failure::Failure;
 use crate::handle::CamelHandle;
-use crate::object::{LiveStore, Object, Stage};
+use crate::object::LiveStore;
 use crate::receipts::camel_learn;
+use crate::thread_session::ThreadSession;
 use camel_c_data::CamelReceipt;
 use camel_vlr::MAX_PLACES;
 
@@ -25,23 +26,10 @@ pub extern "C" fn camel_publish_to(store: &mut CamelHandle, sessions: &mut [Came
     if MAX_PLACES < sessions.len() {
         return Failure::Malformed.code();
     }
-    if !store.is_full() {
+    let Some(live) = store.lend::<LiveStore>() else {
         return Failure::WrongHandle.code();
-    }
-    publish_held_to(store.get_mut(), sessions)
-}
-
-fn publish_held_to(held: &mut Object, sessions: &mut [CamelHandle]) -> u32
-    requires { length sessions.old ≤ 64 }
-    ensures { PublishesTo result (Some held.old) (Some held.new) sessions.old sessions.new }
-{
-    match held {
-        Object::Store(store) => match &mut store.stage {
-            Stage::Live(live) => live.publish_to(sessions),
-            Stage::Closing(_) | Stage::Closed => Failure::WrongHandle.code(),
-        },
-        _ => Failure::WrongHandle.code(),
-    }
+    };
+    live.publish_to(sessions)
 }
 
 impl LiveStore {
@@ -64,13 +52,7 @@ impl LiveStore {
     {
         match first_unready(sessions, self.number) {
             0 => match self.publish() {
-                0 => {
-                    let receipt = CamelReceipt {
-                        store: self.number,
-                        front: self.vlr.published(),
-                    };
-                    learn_all(sessions, &receipt)
-                }
+                0 => learn_all(sessions, &self.receipt()),
                 why => why,
             },
             why => why,
@@ -101,22 +83,15 @@ fn unready(handle: &mut CamelHandle, number: u64) -> u32
     ensures why { (result ≡ 0) ⊎ IsUnready number handle.old.value result }
     ensures same { handle.new ≡ handle.old }
 {
-    if !handle.is_full() {
+    let Some(own) = handle.lend::<ThreadSession>() else {
         return Failure::WrongHandle.code();
-    }
-    unready_held(handle.get_mut(), number)
-}
-
-fn unready_held(held: &Object, number: u64) -> u32
-    ensures ready { result ≡ 0 → IsHeldReady number (Some held.now) }
-    ensures only { IsHeldReady number (Some held.now) → result ≡ 0 }
-    ensures why { (result ≡ 0) ⊎ IsUnready number (Some held.now) result }
-{
-    match held {
-        Object::Session(own) if own.session.is_looking() => Failure::Held.code(),
-        Object::Session(own) if own.store != number => Failure::OtherStore.code(),
-        Object::Session(_) => 0,
-        _ => Failure::WrongHandle.code(),
+    };
+    if own.session.is_looking() {
+        Failure::Held.code()
+    } else if own.store != number {
+        Failure::OtherStore.code()
+    } else {
+        0
     }
 }
 

@@ -10,7 +10,7 @@ ghost use Rattle.camel_c.specs.declared.thread_session.ThreadSession.{ThreadSess
 
 use crate::failure::Failure;
 use crate::handle::CamelHandle;
-use crate::object::{Object, Stage};
+use crate::object::LiveStore;
 use crate::thread_session::ThreadSession;
 use camel_c_data::CamelReceipt;
 use camel_criteria::Refusal;
@@ -26,30 +26,22 @@ pub extern "C" fn camel_receipt_of(store: &mut CamelHandle, receipt: &mut CamelR
     ensures only { HoldsLiveStore store.old.value → result ≡ 0 }
     ensures wrong { HoldsLiveStore store.old.value ⊎ (result ≡ 503) }
 {
-    if !store.is_full() {
+    let Some(live) = store.lend::<LiveStore>() else {
         return Failure::WrongHandle.code();
-    }
-    write_receipt(store.get_mut(), receipt)
+    };
+    *receipt = live.receipt();
+    0
 }
 
-fn write_receipt(held: &Object, receipt: &mut CamelReceipt) -> u32
-    ensures given { result ≡ 0 → GivesReceipt (Some held.now) receipt.new }
-    ensures unwritten { result ≢ 0 → receipt.new ≡ receipt.old }
-    ensures only { HoldsLiveStore (Some held.now) → result ≡ 0 }
-    ensures wrong { HoldsLiveStore (Some held.now) ⊎ (result ≡ 503) }
-{
-    match held {
-        Object::Store(store) => match &store.stage {
-            Stage::Live(live) => {
-                *receipt = CamelReceipt {
-                    store: live.number,
-                    front: live.vlr.published(),
-                };
-                0
-            }
-            Stage::Closing(_) | Stage::Closed => Failure::WrongHandle.code(),
-        },
-        _ => Failure::WrongHandle.code(),
+impl LiveStore {
+    /// A receipt of all that is published.
+    pub(crate) fn receipt(&self) -> CamelReceipt
+        ensures { result ≡ record { store = self.now.number; front = length self.now.vlr.updates.published } }
+    {
+        CamelReceipt {
+            store: self.number,
+            front: self.vlr.published(),
+        }
     }
 }
 
@@ -72,33 +64,19 @@ pub extern "C" fn camel_learn(session: &mut CamelHandle, receipt: &CamelReceipt)
     ensures held { HoldsLook session.old.value → result ≡ 501 }
     ensures wrong { HoldsAnySession session.old.value ⊎ (result ≡ 503) }
 {
-    if !session.is_full() {
+    let Some(own) = session.lend::<ThreadSession>() else {
         return Failure::WrongHandle.code();
+    };
+    if own.session.is_looking() {
+        return Failure::Held.code();
     }
-    learn_held(session.get_mut(), receipt)
-}
-
-fn learn_held(held: &mut Object, receipt: &CamelReceipt) -> u32
-    ensures learnt { result ≡ 0 → (own : ThreadSession) × (shown : SessionData) × (left : ThreadSession)
-        × (Some held.old ≡ Some (object.Session own)) × (Some held.new ≡ Some (object.Session left))
-        × LearnsReceipt receipt.now own shown left }
-    ensures other { result ≡ 505 → RejectsReceipt receipt.now (Some held.old) (Some held.new) }
-    ensures foreign { IsForeign receipt.now (Some held.old) → result ≡ 505 }
-    ensures unchanged { result ≢ 0 → result ≢ 505 → held.new ≡ held.old }
-    ensures looked { MayLook (Some held.old) (Some held.new) }
-    ensures only { HoldsSession (Some held.old) → (result ≡ 0) ⊎ ((result ≡ 104) ⊎ (result ≡ 505)) }
-    ensures held { HoldsLook (Some held.old) → result ≡ 501 }
-    ensures wrong { HoldsAnySession (Some held.old) ⊎ (result ≡ 503) }
-{
-    match held {
-        Object::Session(own) if own.session.is_looking() => Failure::Held.code(),
-        Object::Session(own) if own.store != receipt.store => Failure::OtherStore.code(),
-        Object::Session(own) => match own.see() {
-            None => Failure::Refused(Refusal::NoGuard).code(),
-            Some(front) if front < receipt.front => Failure::OtherStore.code(),
-            Some(_) => 0,
-        },
-        _ => Failure::WrongHandle.code(),
+    if own.store != receipt.store {
+        return Failure::OtherStore.code();
+    }
+    match own.see() {
+        None => Failure::Refused(Refusal::NoGuard).code(),
+        Some(front) if front < receipt.front => Failure::OtherStore.code(),
+        Some(_) => 0,
     }
 }
 

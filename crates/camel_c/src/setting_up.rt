@@ -1,7 +1,6 @@
 //! The set-up of a call: its decision, and the record that decides its later detection points, over one front.
 
-ghost use Rattle.std.specs.Prelude.{◌≡◌, ◌≢◌, ◌⊎◌, Ok, None, Some, IsErr, Option, true};
-ghost use Rattle.camel_rows.specs.declared.trigger.outcome.Answer.{Answer};
+ghost use Rattle.std.specs.Prelude.{◌≡◌, ◌≢◌, ◌⊎◌, Ok, None, Some, IsErr, true};
 ghost use Rattle.camel_rows.specs.Event.{EventData, event_data};
 ghost use Rattle.camel_vlr.specs.Session.{SessionData};
 ghost use Rattle.camel_c_data.specs.Event.{event_in};
@@ -12,7 +11,6 @@ ghost use Rattle.camel_c.specs.Shows.{Shows};
 use crate::failure::Failure;
 use crate::handle::CamelHandle;
 use crate::keeping::keep_shown;
-use crate::object::Object;
 use crate::thread_session::ThreadSession;
 use camel_c_data::{CamelAnswer, CamelEvent};
 use camel_criteria::Refusal;
@@ -45,40 +43,13 @@ pub extern "C" fn camel_set_up(
     let Ok(asked) = event.lend() else {
         return Failure::Malformed.code();
     };
-    if !session.is_full() {
-        return Failure::WrongHandle.code();
-    }
-    set_up_held(
-        alloc,
-        session.get_mut(),
-        &asked,
-        answer,
-        subscriber,
-        is_there,
-    )
-}
-
-fn set_up_held(
-    alloc: Global,
-    held: &mut Object,
-    event: &Event,
-    answer: &mut CamelAnswer,
-    subscriber: &mut CamelHandle,
-    is_there: &mut u8,
-) -> u32
-    ensures fetches { Fetches ⊥ (subscriber.old.value ≡ None)
-        (SetsUp (event_data event.now) answer.new subscriber.old.value subscriber.new.value is_there.new)
-        result (Some held.old) (Some held.new) }
-    ensures unwritten { result ≢ 0 → (answer.new ≡ answer.old)
-        × (subscriber.new.value ≡ subscriber.old.value) × (is_there.new ≡ is_there.old) }
-{
-    let Object::Session(own) = held else {
+    let Some(own) = session.lend::<ThreadSession>() else {
         return Failure::WrongHandle.code();
     };
     if subscriber.is_full() {
         return Failure::FullHandle.code();
     }
-    own.set_up(alloc, event, answer, subscriber, is_there)
+    own.set_up(alloc, &asked, answer, subscriber, is_there)
 }
 
 impl ThreadSession {

@@ -10,7 +10,6 @@ ghost use Rattle.camel_c.specs.Shows.{Looks, Shows, ShowsWritten, Writes};
 
 use crate::failure::Failure;
 use crate::handle::CamelHandle;
-use crate::object::Object;
 use crate::shown_at::ShownAt;
 use crate::thread_session::ThreadSession;
 use camel_c_data::{CamelImsi, CamelOCriteria, CamelRow, CamelTCriteria};
@@ -104,29 +103,10 @@ fn show_at<C: ShownAt>(
     let Ok(asked) = imsi.read() else {
         return Failure::Malformed.code();
     };
-    if !session.is_full() {
+    let Some(own) = session.lend::<ThreadSession>() else {
         return Failure::WrongHandle.code();
-    }
-    show_held(session.get_mut(), &asked, dp, place, is_there)
-}
-
-fn show_held<C: ShownAt>(
-    held: &mut Object,
-    imsi: &Imsi,
-    dp: u8,
-    place: &mut C,
-    is_there: &mut u8,
-) -> u32
-    ensures looks { Looks ⊥
-        (λ own shown left. Shows own shown left × (found : Option C)
-        × C.is_found shown imsi.now dp found × Writes found place.old place.new is_there.new)
-        result (Some held.old) (Some held.new) }
-    ensures unwritten { result ≢ 0 → (place.new ≡ place.old) × (is_there.new ≡ is_there.old) }
-{
-    match held {
-        Object::Session(own) => own.show(imsi, dp, place, is_there),
-        _ => Failure::WrongHandle.code(),
-    }
+    };
+    own.show(&asked, dp, place, is_there)
 }
 
 impl ThreadSession {

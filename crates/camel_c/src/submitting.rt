@@ -7,7 +7,7 @@ ghost use Rattle.camel_c.specs.Submission.{ReadsAndSubmits, Submits, cancel_in, 
 
 use crate::failure::Failure;
 use crate::handle::CamelHandle;
-use crate::object::{Object, Stage};
+use crate::object::LiveStore;
 use camel_c_data::{CamelImsi, CamelInsert, CamelWithdrawal, DataFault};
 use camel_rows::Update;
 use std::alloc::Global;
@@ -96,28 +96,15 @@ pub(crate) fn read_cancel(imsi: &CamelImsi) -> Result<Update, DataFault>
 pub(crate) fn submit(store: &mut CamelHandle, read: Result<Update, DataFault>) -> u32
     ensures { Submits read result store.old.value store.new.value }
 {
-    match read {
-        Ok(update) => {
-            if !store.is_full() {
-                return Failure::WrongHandle.code();
-            }
-            submit_to_held(store.get_mut(), update)
-        }
-        Err(fault) => u32::from(fault.code()),
-    }
-}
-
-fn submit_to_held(held: &mut Object, update: Update) -> u32
-    ensures { Submits (Ok update) result (Some held.old) (Some held.new) }
-{
-    match held {
-        Object::Store(store) => match &mut store.stage {
-            Stage::Live(live) => match live.vlr.submit(update) {
-                Ok(_) => 0,
-                Err(why) => u32::from(why.code()),
-            },
-            Stage::Closing(_) | Stage::Closed => Failure::WrongHandle.code(),
-        },
-        _ => Failure::WrongHandle.code(),
+    let update = match read {
+        Ok(update) => update,
+        Err(fault) => return u32::from(fault.code()),
+    };
+    let Some(live) = store.lend::<LiveStore>() else {
+        return Failure::WrongHandle.code();
+    };
+    match live.vlr.submit(update) {
+        Ok(_) => 0,
+        Err(why) => u32::from(why.code()),
     }
 }

@@ -7,7 +7,7 @@ ghost use Rattle.camel_c.specs.declared.failure.Failure.TheVariants as failure;
 
 use crate::failure::Failure;
 use crate::handle::CamelHandle;
-use crate::object::{LiveStore, Object, Stage};
+use crate::object::LiveStore;
 use crate::submitting_held::{copy_of, holds_update};
 use camel_criteria::Refusal;
 use camel_rows::Update;
@@ -83,23 +83,10 @@ fn submit_copies(store: &mut CamelHandle, updates: Vec<Update>, rejected: &mut u
     ensures { SubmitsAll updates.items result rejected.new store.old.value store.new.value }
 {
     *rejected = updates.len();
-    if !store.is_full() {
+    let Some(live) = store.lend::<LiveStore>() else {
         return Failure::WrongHandle.code();
-    }
-    submit_all_to_held(store.get_mut(), updates, rejected)
-}
-
-fn submit_all_to_held(held: &mut Object, updates: Vec<Update>, rejected: &mut usize) -> u32
-    requires { rejected.old ≡ length updates.items }
-    ensures { SubmitsAll updates.items result rejected.new (Some held.old) (Some held.new) }
-{
-    match held {
-        Object::Store(store) => match &mut store.stage {
-            Stage::Live(live) => submit_all_to_live(live, updates, rejected),
-            Stage::Closing(_) | Stage::Closed => Failure::WrongHandle.code(),
-        },
-        _ => Failure::WrongHandle.code(),
-    }
+    };
+    submit_all_to_live(live, updates, rejected)
 }
 
 fn submit_all_to_live(live: &mut LiveStore, updates: Vec<Update>, rejected: &mut usize) -> u32

@@ -6,8 +6,8 @@ ghost use Rattle.camel_c.specs.Submission.{ReadsAndSubmits};
 
 use crate::failure::Failure;
 use crate::handle::CamelHandle;
-use crate::object::Object;
 use crate::submitting::submit;
+use camel_map::Arrival;
 use camel_rows::Update;
 
 /// Submits a copy of an update. The handle keeps the update, which may be submitted again.
@@ -35,13 +35,10 @@ pub(crate) fn holds_update(handle: &mut CamelHandle) -> bool
     ensures told { result ≡ is_some (update_held handle.old.value) }
     ensures same { handle.new ≡ handle.old }
 {
-    handle.is_full() && is_update(handle.get_mut())
-}
-
-fn is_update(held: &Object) -> bool
-    ensures { result ≡ is_some (update_held (Some held.now)) }
-{
-    matches!(held, Object::Update(_))
+    match handle.lend::<Arrival>() {
+        Some(_) => true,
+        None => false,
+    }
 }
 
 /// A copy of the update that a handle holds. Fails with `WrongHandle` (503) if it holds none, and with `OutOfMemory`
@@ -51,21 +48,11 @@ pub(crate) fn copy_of(handle: &mut CamelHandle) -> Result<Update, Failure>
     ensures only { IfErr result (IsNoCopy (update_held handle.old.value)) }
     ensures same { handle.new ≡ handle.old }
 {
-    if !handle.is_full() {
+    let Some(arrival) = handle.lend::<Arrival>() else {
         return Err(Failure::WrongHandle);
-    }
-    copy_held(handle.get_mut())
-}
-
-fn copy_held(held: &Object) -> Result<Update, Failure>
-    ensures copied { IfOk result (λ copied. update_held (Some held.now) ≡ Some copied) }
-    ensures only { IfErr result (IsNoCopy (update_held (Some held.now))) }
-{
-    match held {
-        Object::Update(arrival) => match arrival.update.copy() {
-            Ok(copied) => Ok(copied),
-            Err(why) => Err(Failure::Refused(why)),
-        },
-        _ => Err(Failure::WrongHandle),
+    };
+    match arrival.update.copy() {
+        Ok(copied) => Ok(copied),
+        Err(why) => Err(Failure::Refused(why)),
     }
 }

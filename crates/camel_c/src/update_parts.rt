@@ -7,7 +7,6 @@ ghost use Rattle.camel_c.specs.declared.object.Object.TheVariants as object;
 
 use crate::failure::Failure;
 use crate::handle::CamelHandle;
-use crate::object::Object;
 use camel_c_data::{CamelImsi, CamelWithdrawal};
 use camel_map::Arrival;
 use camel_rows::Update;
@@ -132,26 +131,9 @@ pub extern "C" fn camel_update_parts_of(
     ensures only { HoldsUpdate update.old.value → result ≡ 0 }
     ensures wrong { HoldsUpdate update.old.value ⊎ (result ≡ 503) }
 {
-    if !update.is_full() {
+    let Some(arrival) = update.lend::<Arrival>() else {
         return Failure::WrongHandle.code();
-    }
-    write_parts(update.get_mut(), parts)
-}
-
-fn write_parts(held: &Object, parts: &mut CamelUpdateParts) -> u32
-    ensures told { result ≡ 0
-        → (arrival : Arrival) × (Some held.now ≡ Some (object.Update arrival)) × (parts.new ≡ parts_of arrival) }
-    ensures counts { (kept : Arrival) → Some held.now ≡ Some (object.Update kept) → IsOfLists kept
-        → TellsCounts kept.counts parts.new }
-    ensures unwritten { result ≢ 0 → parts.new ≡ parts.old }
-    ensures only { HoldsUpdate (Some held.now) → result ≡ 0 }
-    ensures wrong { HoldsUpdate (Some held.now) ⊎ (result ≡ 503) }
-{
-    match held {
-        Object::Update(arrival) => {
-            *parts = CamelUpdateParts::of(arrival);
-            0
-        }
-        _ => Failure::WrongHandle.code(),
-    }
+    };
+    *parts = CamelUpdateParts::of(arrival);
+    0
 }

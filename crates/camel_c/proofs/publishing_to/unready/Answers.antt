@@ -1,6 +1,11 @@
-use Rattle.camel_c.proofs.HeldLemmas.{looked_at}
+use Rattle.camel_c.proofs.LendingLemmas.{looked_at}
 use Rattle.camel_c.proofs.publishing_to.unready.Goals as goal
 
-pub returns-clause-same : goal.returns-clause-same
-returns-clause-same c =
-    looked_at c.is_full.new.self c.args.handle.now c.get_mut.result.now c.get_mut.ensures.value c.is_full.ensures.1
+pub returns-then-is_looking-clause-same : goal.returns-then-is_looking-clause-same
+returns-then-is_looking-clause-same c = looked_at c.args.handle.now _ c.in-Some.ensures.value
+
+pub returns-then-own-number-clause-same : goal.returns-then-own-number-clause-same
+returns-then-own-number-clause-same c = looked_at c.args.handle.now _ c.in-Some.ensures.value
+
+pub returns-else-own-number-clause-same : goal.returns-else-own-number-clause-same
+returns-else-own-number-clause-same c = looked_at c.args.handle.now _ c.in-Some.ensures.value

@@ -1,6 +1,8 @@
-use Rattle.camel_c.proofs.HeldLemmas.{looked_at}
+use Rattle.camel_c.proofs.LendingLemmas.{looked_at}
 use Rattle.camel_c.proofs.submitting_held.copy_of.Goals as goal
 
-pub returns-clause-same : goal.returns-clause-same
-returns-clause-same c =
-    looked_at c.is_full.new.self c.args.handle.now c.get_mut.result.now c.get_mut.ensures.value c.is_full.ensures.1
+pub returns-in-Ok-clause-same : goal.returns-in-Ok-clause-same
+returns-in-Ok-clause-same c = looked_at c.args.handle.now _ c.in-Some.ensures.value
+
+pub returns-in-Err-clause-same : goal.returns-in-Err-clause-same
+returns-in-Err-clause-same c = looked_at c.args.handle.now _ c.in-Some.ensures.value

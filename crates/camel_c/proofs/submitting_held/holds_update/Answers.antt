@@ -1,6 +1,5 @@
-use Rattle.camel_c.proofs.HeldLemmas.{looked_at}
+use Rattle.camel_c.proofs.LendingLemmas.{looked_at}
 use Rattle.camel_c.proofs.submitting_held.holds_update.Goals as goal
 
-pub returns-then-is_full-clause-same : goal.returns-then-is_full-clause-same
-returns-then-is_full-clause-same c =
-    looked_at c.is_full.new.self c.args.handle.now c.get_mut.result.now c.get_mut.ensures.value c.is_full.ensures.1
+pub returns-in-Some-clause-same : goal.returns-in-Some-clause-same
+returns-in-Some-clause-same c = looked_at c.args.handle.now _ c.in-Some.ensures.value

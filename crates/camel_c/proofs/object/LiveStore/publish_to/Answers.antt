@@ -7,6 +7,7 @@ use Rattle.camel_c.proofs.object.LiveStore.publish_to.Goals as goal
 -- the publication has changed neither the number of the store nor the sessions
 pub learn_all-requires : goal.learn_all-requires
 learn_all-requires c =
-    subst (λ (l : LiveStore). AllReady l.number c.first_unready.new.sessions) (sym (c.publish.ensures.published c.in-0-publish.is))
+    rw (c.receipt.ensures)
+    (subst (λ (l : LiveStore). AllReady l.number c.first_unready.new.sessions) (sym (c.publish.ensures.published c.in-0-publish.is))
     (subst (λ (handles : List CamelHandle). AllReady c.args.self.now.number handles) (sym c.first_unready.ensures.same)
-    (c.first_unready.ensures.ready c.in-0.is))
+    (c.first_unready.ensures.ready c.in-0.is)))
