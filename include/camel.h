@@ -6,8 +6,8 @@
  * x86-64-v2, and needs the C library only.
  *
  * Handles. A handle is some words of the caller's memory, empty if its fields are 0 (CAMEL_EMPTY). The library fills
- * it, and camel_free or camel_close empties it. Never write its fields, and never copy a full one: to move it, copy its
- * bytes and forget the old ones. All else is plain data, which may be copied.
+ * it, and camel_free or camel_close empties it. Never write its fields, and never copy a full one: camel_move moves it.
+ * All else is plain data, which may be copied.
  *
  * Statuses. A call that fails has done nothing, but what is said of it. It looks at data first, field by field and item
  * by item in their order, and the first fault is told, as CAMEL_MALFORMED and what it says of them; then at the handle
@@ -61,6 +61,13 @@ extern "C" {
 #define CAMEL_CALL __attribute__((warn_unused_result, nonnull))
 #else
 #define CAMEL_CALL
+#endif
+
+/* What this header has in itself. */
+#ifdef __cplusplus
+#define CAMEL_INLINE inline
+#else
+#define CAMEL_INLINE static inline
 #endif
 
 /* What a call returns: CAMEL_OK, or why it did nothing. */
@@ -291,7 +298,7 @@ typedef struct { uint8_t count; char characters[16]; } camel_imsi_digits;
 typedef struct { uint8_t count; uint8_t octets[8]; } camel_imsi_tbcd; /* 0xff behind these */
 
 CAMEL_CALL
-static inline camel_status camel_digits_of_imsi(const camel_imsi *imsi, camel_imsi_digits *digits)
+CAMEL_INLINE camel_status camel_digits_of_imsi(const camel_imsi *imsi, camel_imsi_digits *digits)
 {
     camel_imsi_digits made = { 0, { 0 } };
     uint64_t value = imsi->number & 0xffffffffffffff;
@@ -309,7 +316,7 @@ static inline camel_status camel_digits_of_imsi(const camel_imsi *imsi, camel_im
 }
 
 CAMEL_CALL
-static inline camel_status camel_tbcd_of_imsi(const camel_imsi *imsi, camel_imsi_tbcd *tbcd)
+CAMEL_INLINE camel_status camel_tbcd_of_imsi(const camel_imsi *imsi, camel_imsi_tbcd *tbcd)
 {
     camel_imsi_digits digits;
     uint64_t nibbles = UINT64_MAX; /* the first digit lowest, and fillers */
@@ -327,7 +334,7 @@ static inline camel_status camel_tbcd_of_imsi(const camel_imsi *imsi, camel_imsi
 
 /* Writes a seed for camel_open, of the system's random source. Returns false if there is none; then it writes nothing. */
 CAMEL_CALL
-static inline bool camel_random_seed(uint64_t *seed)
+CAMEL_INLINE bool camel_random_seed(uint64_t *seed)
 {
     uint64_t random;
 
@@ -344,7 +351,7 @@ CAMEL_CALL
 camel_status camel_open_version(uint32_t abi_version, camel_store *store, camel_session *sessions, size_t session_count,
                                 uint64_t limit, uint8_t profile, uint64_t seed);
 CAMEL_CALL
-static inline camel_status camel_open(camel_store *store, camel_session *sessions, size_t session_count, uint64_t limit,
+CAMEL_INLINE camel_status camel_open(camel_store *store, camel_session *sessions, size_t session_count, uint64_t limit,
                                       uint8_t profile, uint64_t seed)
 {
     return camel_open_version(CAMEL_ABI_VERSION, store, sessions, session_count, limit, profile, seed);
@@ -364,7 +371,7 @@ camel_status camel_submit_clear_all(camel_store *store);
 
 /* The same lists without NULL: a list whose pointer is NULL has no items, and nothing is read of what stands for it. */
 CAMEL_CALL
-static inline camel_insert camel_without_null(const camel_insert *sent)
+CAMEL_INLINE camel_insert camel_without_null(const camel_insert *sent)
 {
     static camel_row row;
     static camel_o_criteria o;
@@ -393,7 +400,7 @@ static inline camel_insert camel_without_null(const camel_insert *sent)
 CAMEL_CALL
 camel_status camel_submit_lists(camel_store *store, const camel_imsi *imsi, const camel_insert *sent);
 CAMEL_CALL
-static inline camel_status camel_submit_insert(camel_store *store, const camel_imsi *imsi, const camel_insert *sent)
+CAMEL_INLINE camel_status camel_submit_insert(camel_store *store, const camel_imsi *imsi, const camel_insert *sent)
 {
     camel_insert lists = camel_without_null(sent);
     return camel_submit_lists(store, imsi, &lists);
@@ -424,7 +431,7 @@ camel_status camel_update_of_clear_all(camel_update *update);
 CAMEL_CALL
 camel_status camel_update_of_lists(const camel_imsi *imsi, const camel_insert *sent, camel_update *update);
 CAMEL_CALL
-static inline camel_status camel_update_of_insert(const camel_imsi *imsi, const camel_insert *sent,
+CAMEL_INLINE camel_status camel_update_of_insert(const camel_imsi *imsi, const camel_insert *sent,
                                                   camel_update *update)
 {
     camel_insert lists = camel_without_null(sent);
@@ -569,18 +576,73 @@ camel_status camel_encode_record(camel_session *session, const camel_imsi *imsi,
 CAMEL_CALL
 camel_status camel_close(camel_store *store);
 
-/* Frees what a handle of any kind holds, and empties it; an empty one stays so, and so does NULL. A session leaves its
- * look, and no other takes its place. A store ends as by camel_close, and its data are freed when the last look that is
- * held is left. */
+/* What camel_free does for a handle of any kind that is not NULL: call that. */
 void camel_empty(void *handle);
-static inline void camel_free(void *handle)
+
+/* What an HLR is answered about an update of this status (TS 29.002, ITU-T Q.773): 0, that it is done, or a user error of
+ * MAP, which is 5, 35 or 36, or else CAMEL_MAP_REJECT with the problem of an invoke. The second of these is of the
+ * switch: try the update again, and answer so once that takes too long. It comes of each status that says nothing of
+ * what the HLR has sent. */
+enum {
+    CAMEL_MAP_REJECT = 0x100,
+    CAMEL_MAP_MISTYPED_PARAMETER = CAMEL_MAP_REJECT | 2,
+    CAMEL_MAP_RESOURCE_LIMITATION = CAMEL_MAP_REJECT | 3
+};
+CAMEL_INLINE uint16_t camel_map_error_of(camel_status status)
 {
-    if (handle)
-        camel_empty(handle);
+    switch (status) {
+    case CAMEL_OK: return 0;
+    case CAMEL_UNIDENTIFIED_SUBSCRIBER: return 5;
+    case CAMEL_DATA_MISSING: return 35;
+    case CAMEL_UNEXPECTED_DATA_VALUE:
+    case CAMEL_OTHER_IMSI:
+    case CAMEL_MALFORMED: return 36;
+    case CAMEL_MALFORMED_OCTETS:
+    case CAMEL_MISSING_FIELD:
+    case CAMEL_FIELD_TWICE:
+    case CAMEL_WRONG_TAG:
+    case CAMEL_WRONG_LENGTH:
+    case CAMEL_NO_IMSI: return CAMEL_MAP_MISTYPED_PARAMETER;
+    default: return CAMEL_MAP_RESOURCE_LIMITATION;
+    }
+}
+
+/* The basic service of a call, by the contents of its bearer capability from octet 3 on (TS 24.008 10.5.4.5). With none,
+ * as with one of speech, it is telephony. A pointer may be NULL with a count of 0. */
+CAMEL_INLINE camel_basic_service camel_basic_service_of(const uint8_t *octets, size_t octet_count)
+{
+    camel_basic_service service = { false, 0x11 };
+    unsigned capability = octet_count > 0 ? octets[0] & 7U : 0;
+    size_t at = 0;
+
+    if (capability == 3)
+        service.code = 0x62; /* facsimile group 3 */
+    if (capability != 1 && capability != 2 && capability != 5)
+        return service;
+    /* Octets 3, 4 and 5, each with those that extend it: the last one has bit 8. */
+    for (unsigned octet = 3; octet < 6 && at < octet_count; at++)
+        octet += octets[at] >> 7;
+    service.is_bearer = true;
+    service.code = at < octet_count && (octets[at] & 1) ? 0x17 : 0x1f; /* asynchronous, or synchronous */
+    return service;
+}
+
+/* The same of a call with two bearer capabilities: facsimile group 3 and alternate speech, or else that of the
+ * first. */
+CAMEL_INLINE camel_basic_service camel_basic_service_of_two(const uint8_t *octets, size_t octet_count,
+                                                            const uint8_t *other, size_t other_octet_count)
+{
+    camel_basic_service service = camel_basic_service_of(octets, octet_count);
+    unsigned one = octet_count > 0 ? octets[0] & 7U : 0;
+    unsigned two = other_octet_count > 0 ? other[0] & 7U : 0;
+
+    if (octet_count > 0 && other_octet_count > 0 && one + two == 3 && (one == 3 || two == 3))
+        service.code = 0x61;
+    return service;
 }
 
 /* The name of a status, as in this file; "CAMEL_?" of no status. */
-static inline const char *camel_status_name(camel_status status)
+CAMEL_INLINE const char *camel_status_name(camel_status status)
 {
     switch (status) {
     case CAMEL_OK: return "CAMEL_OK";
@@ -611,7 +673,7 @@ static inline const char *camel_status_name(camel_status status)
 }
 
 /* The name of a reason, as in this file; "CAMEL_REASON_?" of no reason. */
-static inline const char *camel_reason_name(uint8_t reason)
+CAMEL_INLINE const char *camel_reason_name(uint8_t reason)
 {
     switch (reason) {
     case CAMEL_REASON_NONE: return "CAMEL_REASON_NONE";
@@ -626,6 +688,58 @@ static inline const char *camel_reason_name(uint8_t reason)
 
 #ifdef __cplusplus
 }
+#define CAMEL_OF(call, kind) call
+#else
+#define CAMEL_OF(call, kind) call##_##kind
+#endif
+
+/* camel_free(handle) frees what a handle holds, and empties it; an empty one stays so, and so does NULL (in C++ nullptr).
+ * A session leaves its look, and no other takes its place. A store ends as by camel_close, and its data are freed when
+ * the last look that is held is left.
+ *
+ * camel_move(to, from) moves what a handle holds into another one of its kind, and empties it. CAMEL_FULL_HANDLE: the
+ * other one is not empty, and both are as before. */
+#define CAMEL_OF_EACH_HANDLE(kind)                                                                                  \
+    CAMEL_INLINE void CAMEL_OF(camel_free, kind)(camel_##kind * handle)                                             \
+    {                                                                                                               \
+        if (handle)                                                                                                 \
+            camel_empty(handle);                                                                                    \
+    }                                                                                                               \
+    CAMEL_CALL CAMEL_INLINE camel_status CAMEL_OF(camel_move, kind)(camel_##kind * to, camel_##kind * from)         \
+    {                                                                                                               \
+        if (to->is_full)                                                                                            \
+            return CAMEL_FULL_HANDLE;                                                                               \
+        *to = *from;                                                                                                \
+        from->at = NULL;                                                                                            \
+        from->is_full = false;                                                                                      \
+        return CAMEL_OK;                                                                                            \
+    }
+CAMEL_OF_EACH_HANDLE(store)
+CAMEL_OF_EACH_HANDLE(session)
+CAMEL_OF_EACH_HANDLE(subscriber)
+CAMEL_OF_EACH_HANDLE(update)
+CAMEL_OF_EACH_HANDLE(imsis)
+#undef CAMEL_OF_EACH_HANDLE
+#undef CAMEL_OF
+
+#ifdef __cplusplus
+inline void camel_free(decltype(nullptr)) {}
+#else
+/* Another pointer does not compile, such as a void pointer, which may be to anything. NULL is told from one by the type
+ * that a conditional expression has with it. */
+struct camel_no_handle;
+CAMEL_INLINE void camel_free_null(struct camel_no_handle *handle)
+{
+    (void)handle;
+}
+#define CAMEL_BY_KIND(call)                                                                                 \
+    camel_store *: call##_store, camel_session *: call##_session, camel_subscriber *: call##_subscriber,            \
+        camel_update *: call##_update, camel_imsis *: call##_imsis
+#define camel_free(handle)                                                                                          \
+    _Generic((handle), CAMEL_BY_KIND(camel_free),                                                           \
+             void *: _Generic(1 ? (struct camel_no_handle *)0 : _Generic((handle), void *: (handle), default: NULL), \
+             struct camel_no_handle *: camel_free_null))(handle)
+#define camel_move(to, from) _Generic((to), CAMEL_BY_KIND(camel_move))(to, from)
 #endif
 
 #endif

@@ -43,11 +43,7 @@ static const char *const NAMES[KINDS] = {
 
 #include "refusing.h"
 
-static camel_status freed(void *handle)
-{
-    camel_free(handle);
-    return CAMEL_OK;
-}
+#define FREED(handle) (camel_free(handle), CAMEL_OK)
 
 enum { LIMIT = 110, SUBSCRIBERS = 40, SHOWN = 7, FURTHER = 90, STRANGER = 91 };
 
@@ -211,9 +207,9 @@ static void update_location(unsigned number)
     NONE(CAMEL_FULL_HANDLE, camel_update_of_register(&imsi, &next));
     NONE(CAMEL_WRONG_HANDLE, camel_submit(&store, &empty));
     NONE(CAMEL_NO_INSERT, camel_update_join(&updates[1], &updates[0]));
-    NONE(CAMEL_OK, freed(&updates[0]));
-    NONE(CAMEL_OK, freed(&updates[1]));
-    NONE(CAMEL_OK, freed(&next));
+    NONE(CAMEL_OK, FREED(&updates[0]));
+    NONE(CAMEL_OK, FREED(&updates[1]));
+    NONE(CAMEL_OK, FREED(&next));
 }
 
 /* Updates that are made, and not submitted. */
@@ -223,11 +219,11 @@ static void make_updates(unsigned number)
     camel_imsi imsi = imsi_of(number);
     camel_withdrawal what = { .o = true };
     AGAIN(UPDATE_PLAIN, camel_update_of_delete(&imsi, &what, &update), !update.is_full);
-    NONE(CAMEL_OK, freed(&update));
+    NONE(CAMEL_OK, FREED(&update));
     AGAIN(UPDATE_PLAIN, camel_update_of_cancel(&imsi, &update), !update.is_full);
-    NONE(CAMEL_OK, freed(&update));
+    NONE(CAMEL_OK, FREED(&update));
     AGAIN(UPDATE_PLAIN, camel_update_of_clear_all(&update), !update.is_full);
-    NONE(CAMEL_OK, freed(&update));
+    NONE(CAMEL_OK, FREED(&update));
 }
 
 /* Lists all records, and encodes the longest one. Returns a number of its octets. */
@@ -247,7 +243,7 @@ static uint64_t list_records(void)
     for (; is_there; count += is_there)
         NONE(CAMEL_OK, camel_next_imsi(&imsis, &imsi, &is_there));
     IS(count == counts_of(&store).subscribers);
-    NONE(CAMEL_OK, freed(&imsis));
+    NONE(CAMEL_OK, FREED(&imsis));
     digest = START;
     add_octets(&argument, sizeof argument);
     return digest;
@@ -396,9 +392,9 @@ static void end_store(void)
     NONE(CAMEL_NO_LOOK, camel_imsis_of(&sessions[0], &imsis));
     NONE(CAMEL_OK, camel_decisions_of(&sessions[1], &decisions));
     IS(decisions.by_reason[CAMEL_REASON_NONE] > 0);
-    NONE(CAMEL_OK, freed(NULL));
-    NONE(CAMEL_OK, freed(&sessions[0]));
-    NONE(CAMEL_OK, freed(&sessions[1]));
+    NONE(CAMEL_OK, FREED(NULL));
+    NONE(CAMEL_OK, FREED(&sessions[0]));
+    NONE(CAMEL_OK, FREED(&sessions[1]));
     IS(blocks == 0);
 }
 
@@ -439,7 +435,7 @@ static uint64_t live(void)
     fill();
     publish(PUBLISH_NOTHING);
     end += shown();
-    NONE(CAMEL_OK, freed(&kept));
+    NONE(CAMEL_OK, FREED(&kept));
     end_store();
     return end;
 }

@@ -33,7 +33,7 @@ static void set_up(void)
     RETURNS(CAMEL_OK, camel_decisions_of(&sessions[0], &after));
     IS(is_there && answer.is_trigger && answer.front == accepted);
     IS(after.by_reason[CAMEL_REASON_NONE] == before.by_reason[CAMEL_REASON_NONE] + 1);
-    NONE(CAMEL_OK, freed(&kept));
+    NONE(CAMEL_OK, FREED(&kept));
 }
 
 #endif
