@@ -76,10 +76,24 @@ private:
     camel_status status_ = CAMEL_OK;
 };
 
-/* What is there, or nothing, or the status that says why neither is known. It is true also if nothing is there: that is
- * asked of its value. */
+/* What is there, or nothing, or the status that says why neither is known. It has no truth of its own, which could be of
+ * either: `ok` says whether it is known, and `is_there` whether there is a value, which whoever asks for it has to know. */
 template <class T>
-using Maybe = Result<Optional<T>>;
+class [[nodiscard]] Maybe : private Optional<T> {
+public:
+    Maybe(Optional<T> found) noexcept : Optional<T>(std::move(found)) {}
+    Maybe(Failure failure) noexcept : status_(failure.status) {}
+
+    using Optional<T>::value;
+    using Optional<T>::operator*;
+    using Optional<T>::operator->;
+    bool ok() const noexcept { return status_ == CAMEL_OK; }
+    bool is_there() const noexcept { return Optional<T>::operator bool(); }
+    camel_status status() const noexcept { return status_; }
+
+private:
+    camel_status status_ = CAMEL_OK;
+};
 
 /* Whether a call without a value did what it is for. */
 template <>

@@ -28,6 +28,14 @@ T get(camel::Result<T> result)
     return *std::move(result);
 }
 
+/* What is there, or nothing, where that is known. */
+template <class T>
+camel::Optional<T> get(camel::Maybe<T> found)
+{
+    CHECK(found.ok());
+    return found.is_there() ? camel::Optional<T>(*std::move(found)) : camel::Optional<T>();
+}
+
 inline camel_imsi imsi() { return get(camel::imsi_of_digits("262010000000001")); }
 
 inline camel_event event_at(uint8_t dp)

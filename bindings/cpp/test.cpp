@@ -262,10 +262,11 @@ static void no_value_is_none()
     const camel_imsi unknown = get(camel::imsi_of_digits("262010000000002"));
     CHECK(ends_the_program([] { (void)*camel::imsi_of_digits(""); }));
     CHECK(ends_the_program([] { (void)camel::imsi_of_digits("").value(); }));
-    CHECK(session.row_at(unknown, 2) && !*session.row_at(unknown, 2));
-    CHECK(ends_the_program([&] { (void)(*session.row_at(unknown, 2))->key; }));
-    CHECK(ends_the_program([&] { (void)**session.keep(unknown); }));
-    CHECK(!ends_the_program([&] { (void)(*session.row_at(imsi(), 2))->key; }));
+    CHECK(session.row_at(unknown, 2).ok() && !session.row_at(unknown, 2).is_there());
+    CHECK(ends_the_program([&] { (void)session.row_at(unknown, 2)->key; }));
+    CHECK(ends_the_program([&] { (void)*session.keep(unknown); }));
+    CHECK(!ends_the_program([&] { (void)session.row_at(imsi(), 2)->key; }));
+    static_assert(!std::is_constructible_v<bool, camel::Maybe<camel_row>>);
 }
 
 /* An object that is moved from holds nothing, and what was held where it is moved to is freed. */
