@@ -162,9 +162,25 @@ typedef struct {
 } camel_o_criteria;
 typedef struct { uint8_t dp; camel_basic_services basic; camel_causes causes; } camel_t_criteria;
 
-/* What an Insert sends of each CSI. The items of a list that is not sent are not looked at. One that is sent has 1 to
- * 10 items: CAMEL_DATA_MISSING of none, CAMEL_UNEXPECTED_DATA_VALUE of more, whatever they are, and of two of a
- * detection point of the CSI. The pointer of a list with no items may be NULL, and each pointer is to be set. */
+/* What an Insert sends of each CSI. A list is sent if its pointer is not NULL, and has 1 to 10 items then:
+ * CAMEL_DATA_MISSING of none, and of a count whose pointer is NULL; CAMEL_UNEXPECTED_DATA_VALUE of more, whatever they
+ * are, and of two of a detection point of the CSI. */
+typedef struct {
+    const camel_row *rows;
+    size_t row_count;
+    const camel_o_criteria *criteria;
+    size_t criteria_count;
+} camel_sent_o_csi;
+typedef struct {
+    const camel_row *rows;
+    size_t row_count;
+    const camel_t_criteria *criteria;
+    size_t criteria_count;
+} camel_sent_vt_csi;
+typedef struct { camel_sent_o_csi o; camel_sent_vt_csi vt; } camel_insert;
+
+/* The same as the library takes it, of which camel_lists_of makes it: whether each list is sent, and no pointer that is
+ * NULL. The items of a list that is not sent are not looked at. */
 typedef struct {
     const camel_row *rows;
     size_t row_count;
@@ -172,7 +188,7 @@ typedef struct {
     size_t criteria_count;
     bool has_rows;
     bool has_criteria;
-} camel_sent_o_csi;
+} camel_o_lists;
 typedef struct {
     const camel_row *rows;
     size_t row_count;
@@ -180,8 +196,8 @@ typedef struct {
     size_t criteria_count;
     bool has_rows;
     bool has_criteria;
-} camel_sent_vt_csi;
-typedef struct { camel_sent_o_csi o; camel_sent_vt_csi vt; } camel_insert;
+} camel_vt_lists;
+typedef struct { camel_o_lists o; camel_vt_lists vt; } camel_lists;
 
 /* The local codes of the operations of MAP by which an HLR changes subscriber data (TS 29.002). */
 enum { CAMEL_CANCEL_LOCATION = 3, CAMEL_INSERT_SUBSCRIBER_DATA = 7, CAMEL_DELETE_SUBSCRIBER_DATA = 8 };
@@ -369,40 +385,47 @@ camel_status camel_submit_cancel(camel_store *store, const camel_imsi *imsi);
 CAMEL_CALL
 camel_status camel_submit_clear_all(camel_store *store);
 
-/* The same lists without NULL: a list whose pointer is NULL has no items, and nothing is read of what stands for it. */
+/* The lists of an Insert, as the library takes them: none is read of what stands for NULL. */
 CAMEL_CALL
-CAMEL_INLINE camel_insert camel_without_null(const camel_insert *sent)
+CAMEL_INLINE camel_lists camel_lists_of(const camel_insert *sent)
 {
     static camel_row row;
     static camel_o_criteria o;
     static camel_t_criteria t;
-    camel_insert lists = *sent;
+    camel_lists lists = {
+        { sent->o.rows, sent->o.row_count, sent->o.criteria, sent->o.criteria_count, true, true },
+        { sent->vt.rows, sent->vt.row_count, sent->vt.criteria, sent->vt.criteria_count, true, true },
+    };
     if (!lists.o.rows) {
+        lists.o.has_rows = lists.o.row_count > 0;
         lists.o.rows = &row;
         lists.o.row_count = 0;
     }
     if (!lists.o.criteria) {
+        lists.o.has_criteria = lists.o.criteria_count > 0;
         lists.o.criteria = &o;
         lists.o.criteria_count = 0;
     }
     if (!lists.vt.rows) {
+        lists.vt.has_rows = lists.vt.row_count > 0;
         lists.vt.rows = &row;
         lists.vt.row_count = 0;
     }
     if (!lists.vt.criteria) {
+        lists.vt.has_criteria = lists.vt.criteria_count > 0;
         lists.vt.criteria = &t;
         lists.vt.criteria_count = 0;
     }
     return lists;
 }
 
-/* Submits what an Insert sends. For camel_submit_lists no pointer is NULL, also that of a list with no items. */
+/* Submits what an Insert sends. */
 CAMEL_CALL
-camel_status camel_submit_lists(camel_store *store, const camel_imsi *imsi, const camel_insert *sent);
+camel_status camel_submit_lists(camel_store *store, const camel_imsi *imsi, const camel_lists *lists);
 CAMEL_CALL
 CAMEL_INLINE camel_status camel_submit_insert(camel_store *store, const camel_imsi *imsi, const camel_insert *sent)
 {
-    camel_insert lists = camel_without_null(sent);
+    camel_lists lists = camel_lists_of(sent);
     return camel_submit_lists(store, imsi, &lists);
 }
 
@@ -418,8 +441,8 @@ camel_status camel_submit_map(camel_store *store, uint8_t operation, const camel
 
 /* Updates in handles, which are of no store. Each of these calls fills an empty handle with the update that the call
  * camel_submit_* of its name submits, and returns the same statuses for its data, then CAMEL_FULL_HANDLE or
- * CAMEL_OUT_OF_MEMORY. After a status other than CAMEL_OK the handle is as before. For camel_update_of_lists no pointer
- * is NULL, and place is that of camel_submit_map. */
+ * CAMEL_OUT_OF_MEMORY. After a status other than CAMEL_OK the handle is as before. The place is that of
+ * camel_submit_map. */
 CAMEL_CALL
 camel_status camel_update_of_register(const camel_imsi *imsi, camel_update *update);
 CAMEL_CALL
@@ -429,12 +452,12 @@ camel_status camel_update_of_cancel(const camel_imsi *imsi, camel_update *update
 CAMEL_CALL
 camel_status camel_update_of_clear_all(camel_update *update);
 CAMEL_CALL
-camel_status camel_update_of_lists(const camel_imsi *imsi, const camel_insert *sent, camel_update *update);
+camel_status camel_update_of_lists(const camel_imsi *imsi, const camel_lists *lists, camel_update *update);
 CAMEL_CALL
 CAMEL_INLINE camel_status camel_update_of_insert(const camel_imsi *imsi, const camel_insert *sent,
                                                   camel_update *update)
 {
-    camel_insert lists = camel_without_null(sent);
+    camel_lists lists = camel_lists_of(sent);
     return camel_update_of_lists(imsi, &lists, update);
 }
 CAMEL_CALL

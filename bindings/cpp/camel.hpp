@@ -236,15 +236,15 @@ template <class Sent, class Criteria>
 Sent sent_of(const std::optional<std::vector<camel_row>> &rows,
              const std::optional<std::vector<Criteria>> &criteria) noexcept
 {
+    static constexpr camel_row no_row{}; /* a vector of none may have no place, and comes all the same */
+    static constexpr Criteria no_criteria{};
     Sent sent{};
     if (rows) {
-        sent.has_rows = true;
-        sent.rows = rows->data();
+        sent.rows = rows->empty() ? &no_row : rows->data();
         sent.row_count = rows->size();
     }
     if (criteria) {
-        sent.has_criteria = true;
-        sent.criteria = criteria->data();
+        sent.criteria = criteria->empty() ? &no_criteria : criteria->data();
         sent.criteria_count = criteria->size();
     }
     return sent;

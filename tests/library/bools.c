@@ -90,27 +90,27 @@ static unsigned lists_of(camel_session *session, unsigned number)
     return has[0] | has[1] << 1 | has[2] << 2 | has[3] << 3;
 }
 
-/* An Insert of all four lists, with this octet in the place of one of their bools. */
+/* All four lists of an Insert, with this octet in the place of one of their bools. */
 static camel_status send_lists(camel_store *store, unsigned number, size_t at, uint8_t octet)
 {
     camel_row o = row_of(2, 100), vt = row_of(13, 101);
     camel_o_criteria o_criteria = { .dp = 2, .has_call_type = true };
     camel_t_criteria t_criteria = { .dp = 13, .causes = { 1, { 17 } } };
     camel_imsi imsi = imsi_of(number);
-    camel_insert sent = { { &o, 1, &o_criteria, 1, true, true }, { &vt, 1, &t_criteria, 1, true, true } };
+    camel_lists lists = { { &o, 1, &o_criteria, 1, true, true }, { &vt, 1, &t_criteria, 1, true, true } };
 
-    put(&sent, at, octet);
-    return camel_submit_insert(store, &imsi, &sent);
+    put(&lists, at, octet);
+    return camel_submit_lists(store, &imsi, &lists);
 }
 
 /* A list came if the bool that says so is any octet but 0. Criteria without rows are rejected: none are stored. */
 static void bools_of_inserts(camel_store *store, camel_session *session)
 {
     static const struct { size_t at; camel_status without; unsigned left; } lists[] = {
-        { offsetof(camel_insert, o.has_rows), CAMEL_DATA_MISSING, 0 },
-        { offsetof(camel_insert, o.has_criteria), CAMEL_OK, 13 },
-        { offsetof(camel_insert, vt.has_rows), CAMEL_DATA_MISSING, 0 },
-        { offsetof(camel_insert, vt.has_criteria), CAMEL_OK, 7 },
+        { offsetof(camel_lists, o.has_rows), CAMEL_DATA_MISSING, 0 },
+        { offsetof(camel_lists, o.has_criteria), CAMEL_OK, 13 },
+        { offsetof(camel_lists, vt.has_rows), CAMEL_DATA_MISSING, 0 },
+        { offsetof(camel_lists, vt.has_criteria), CAMEL_OK, 7 },
     };
 
     for (size_t at = 0; at < 4; at++) {
@@ -140,7 +140,7 @@ static void bools_of_deletes(camel_store *store, camel_session *session)
         for (int octet = -1; octet < TRUES; octet++) {
             camel_withdrawal what = { 0 };
             begin(store, 1);
-            RETURNS(CAMEL_OK, send_lists(store, 1, offsetof(camel_insert, o.has_rows), 1));
+            RETURNS(CAMEL_OK, send_lists(store, 1, offsetof(camel_lists, o.has_rows), 1));
             put(&what, names[at].at, octet < 0 ? 0 : TRUE[octet]);
             RETURNS(CAMEL_OK, camel_submit_delete(store, &imsi, &what));
             publish(store, session);
@@ -156,11 +156,11 @@ static void bools_of_held_inserts(const camel_imsi *imsi, size_t place, unsigned
     camel_t_criteria t_criteria = { .dp = 13 };
 
     for (int octet = -1; octet < TRUES; octet++) {
-        camel_insert sent = { { &o, 1, &o_criteria, 1, false, false }, { &vt, 1, &t_criteria, 1, false, false } };
+        camel_lists lists = { { &o, 1, &o_criteria, 1, false, false }, { &vt, 1, &t_criteria, 1, false, false } };
         camel_update update = CAMEL_EMPTY;
         camel_update_parts parts = { .kind = 7 };
-        put(&sent, place, octet < 0 ? 0 : TRUE[octet]);
-        RETURNS(CAMEL_OK, camel_update_of_insert(imsi, &sent, &update));
+        put(&lists, place, octet < 0 ? 0 : TRUE[octet]);
+        RETURNS(CAMEL_OK, camel_update_of_lists(imsi, &lists, &update));
         RETURNS(CAMEL_OK, camel_update_parts_of(&update, &parts));
         IS(parts.o_rows == (list == 0 && octet >= 0) && parts.o_criteria == (list == 1 && octet >= 0));
         IS(parts.vt_rows == (list == 2 && octet >= 0) && parts.t_criteria == (list == 3 && octet >= 0));
@@ -189,8 +189,8 @@ static void bools_of_held_deletes(const camel_imsi *imsi, size_t place)
 static void bools_of_updates(void)
 {
     static const size_t lists[] = {
-        offsetof(camel_insert, o.has_rows), offsetof(camel_insert, o.has_criteria),
-        offsetof(camel_insert, vt.has_rows), offsetof(camel_insert, vt.has_criteria),
+        offsetof(camel_lists, o.has_rows), offsetof(camel_lists, o.has_criteria),
+        offsetof(camel_lists, vt.has_rows), offsetof(camel_lists, vt.has_criteria),
     };
     camel_imsi imsi = imsi_of(1);
 

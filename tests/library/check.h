@@ -62,15 +62,15 @@ static inline camel_event event_of(unsigned number, uint8_t dp)
     return event;
 }
 
-/* An Insert of these lists; a list of none is not sent. */
+/* An Insert of these lists; one that is NULL is not sent. */
 static inline camel_status insert(camel_store *store, unsigned number, const camel_row *o, size_t o_count,
                                   const camel_o_criteria *o_criteria, size_t o_criteria_count, const camel_row *vt,
                                   size_t vt_count, const camel_t_criteria *t_criteria, size_t t_criteria_count)
 {
     camel_imsi imsi = imsi_of(number);
     camel_insert sent = {
-        .o = { o, o_count, o_criteria, o_criteria_count, o_count > 0, o_criteria_count > 0 },
-        .vt = { vt, vt_count, t_criteria, t_criteria_count, vt_count > 0, t_criteria_count > 0 },
+        .o = { o, o_count, o_criteria, o_criteria_count },
+        .vt = { vt, vt_count, t_criteria, t_criteria_count },
     };
     return camel_submit_insert(store, &imsi, &sent);
 }

@@ -132,21 +132,22 @@ static void f_submit_lists(void)
 {
     unsigned slot = pick(STORE);
     camel_imsi imsi = any_imsi();
-    camel_insert sent = any_insert();
+    camel_lists lists = any_lists();
     note_update(slot, INSERT_STATUSES,
-                camel_submit_lists(AS(store, slot), at_edge(0, &imsi, sizeof imsi), at_edge(5, &sent, sizeof sent)));
+                camel_submit_lists(AS(store, slot), at_edge(0, &imsi, sizeof imsi), at_edge(5, &lists, sizeof lists)));
 }
 
-/* A list whose pointer is NULL has no items, whatever its count says: to send it is a fault of the data. */
+/* A list whose pointer is NULL is not sent, and has no count: one that has is a fault of the data. */
 static void f_submit_insert(void)
 {
     unsigned slot = pick(STORE);
     camel_imsi imsi = any_imsi();
-    camel_insert sent = any_insert();
-    bool is_empty_sent = false;
+    camel_lists lists = any_lists();
+    camel_insert sent = insert_of(&lists);
+    bool is_without_items = false;
     for (unsigned times = below(4); times > 0; times--)
-        is_empty_sent |= take_pointer(&sent);
-    note_update(slot, is_empty_sent ? MALFORMED | MISSING | UNEXPECTED : INSERT_STATUSES,
+        is_without_items |= take_pointer(&sent);
+    note_update(slot, is_without_items ? MALFORMED | MISSING | UNEXPECTED : INSERT_STATUSES,
                 camel_submit_insert(AS(store, slot), at_edge(0, &imsi, sizeof imsi), at_edge(5, &sent, sizeof sent)));
 }
 

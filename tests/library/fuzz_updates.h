@@ -59,14 +59,6 @@ static void f_update_of_clear_all(void)
     note_made(to, was_full, (camel_update_parts){ .kind = CAMEL_UPDATE_CLEAR_ALL }, OK | FULL_HANDLE, status);
 }
 
-/* C reads no bool that is neither 0 nor 1, so its octet is read. */
-static bool is_true(const bool *place)
-{
-    uint8_t octet;
-    memcpy(&octet, place, 1);
-    return octet != 0;
-}
-
 static void f_update_of_delete(void)
 {
     unsigned to = pick_to_fill(UPDATE + below(4));
@@ -82,24 +74,22 @@ static void f_update_of_delete(void)
     note_made(to, was_full, parts, MAKES, status);
 }
 
-static camel_update_parts parts_of_lists(camel_imsi imsi, const camel_insert *sent)
+static camel_update_parts parts_of_insert(camel_imsi imsi, const camel_insert *sent)
 {
-    camel_update_parts parts = { .imsi = imsi, .kind = CAMEL_UPDATE_INSERT };
-    if (is_true(&sent->o.has_rows))
-        parts.o_rows = (uint8_t)sent->o.row_count;
-    if (is_true(&sent->o.has_criteria))
-        parts.o_criteria = (uint8_t)sent->o.criteria_count;
-    if (is_true(&sent->vt.has_rows))
-        parts.vt_rows = (uint8_t)sent->vt.row_count;
-    if (is_true(&sent->vt.has_criteria))
-        parts.t_criteria = (uint8_t)sent->vt.criteria_count;
-    return parts;
+    return (camel_update_parts){
+        .imsi = imsi,
+        .kind = CAMEL_UPDATE_INSERT,
+        .o_rows = sent->o.rows ? (uint8_t)sent->o.row_count : 0,
+        .o_criteria = sent->o.criteria ? (uint8_t)sent->o.criteria_count : 0,
+        .vt_rows = sent->vt.rows ? (uint8_t)sent->vt.row_count : 0,
+        .t_criteria = sent->vt.criteria ? (uint8_t)sent->vt.criteria_count : 0,
+    };
 }
 
 /* Has one list be sent at most, so that Inserts may be joined. */
-static void leave_one(camel_insert *sent)
+static void leave_one(camel_lists *lists)
 {
-    bool *has[] = { &sent->o.has_rows, &sent->o.has_criteria, &sent->vt.has_rows, &sent->vt.has_criteria };
+    bool *has[] = { &lists->o.has_rows, &lists->o.has_criteria, &lists->vt.has_rows, &lists->vt.has_criteria };
     unsigned left = below(4);
     for (unsigned at = 0; at < 4; at++)
         if (at != left)
@@ -111,26 +101,28 @@ static void f_update_of_lists(void)
     unsigned to = pick_to_fill(UPDATE + below(4));
     bool was_full = handles[to].is_full;
     camel_imsi imsi = any_of_few();
-    camel_insert sent = any_insert();
+    camel_lists lists = any_lists();
     if (toss())
-        leave_one(&sent);
-    camel_status status = camel_update_of_lists(at_edge(0, &imsi, sizeof imsi), at_edge(5, &sent, sizeof sent),
+        leave_one(&lists);
+    camel_insert sent = insert_of(&lists);
+    camel_status status = camel_update_of_lists(at_edge(0, &imsi, sizeof imsi), at_edge(5, &lists, sizeof lists),
                                                 AS(update, to));
-    note_made(to, was_full, parts_of_lists(imsi, &sent), MAKES_LISTS, status);
+    note_made(to, was_full, parts_of_insert(imsi, &sent), MAKES_LISTS, status);
 }
 
 static void f_update_of_insert(void)
 {
     unsigned to = pick_to_fill(UPDATE + below(4));
-    bool was_full = handles[to].is_full, is_empty_sent = false;
+    bool was_full = handles[to].is_full, is_without_items = false;
     camel_imsi imsi = any_of_few();
-    camel_insert sent = any_insert();
+    camel_lists lists = any_lists();
+    camel_insert sent = insert_of(&lists);
     for (unsigned times = below(4); times > 0; times--)
-        is_empty_sent |= take_pointer(&sent);
+        is_without_items |= take_pointer(&sent);
     camel_status status = camel_update_of_insert(at_edge(0, &imsi, sizeof imsi), at_edge(5, &sent, sizeof sent),
                                                  AS(update, to));
-    note_made(to, was_full, parts_of_lists(imsi, &sent),
-              is_empty_sent ? MALFORMED | MISSING | UNEXPECTED : MAKES_LISTS, status);
+    note_made(to, was_full, parts_of_insert(imsi, &sent),
+              is_without_items ? MALFORMED | MISSING | UNEXPECTED : MAKES_LISTS, status);
 }
 
 /* What an operation of MAP brings. */

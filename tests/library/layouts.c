@@ -13,9 +13,9 @@ _Static_assert(sizeof(camel_causes) == 6, "camel_causes");
 _Static_assert(sizeof(camel_number_criterion) == 106, "camel_number_criterion");
 _Static_assert(sizeof(camel_o_criteria) == 127, "camel_o_criteria");
 _Static_assert(sizeof(camel_t_criteria) == 18, "camel_t_criteria");
-_Static_assert(sizeof(camel_sent_o_csi) == 40, "camel_sent_o_csi");
-_Static_assert(sizeof(camel_sent_vt_csi) == 40, "camel_sent_vt_csi");
-_Static_assert(sizeof(camel_insert) == 80, "camel_insert");
+_Static_assert(sizeof(camel_o_lists) == 40, "camel_o_lists");
+_Static_assert(sizeof(camel_vt_lists) == 40, "camel_vt_lists");
+_Static_assert(sizeof(camel_lists) == 80, "camel_lists");
 _Static_assert(sizeof(camel_withdrawal) == 3, "camel_withdrawal");
 _Static_assert(sizeof(camel_event) == 40, "camel_event");
 _Static_assert(sizeof(camel_answer) == 32, "camel_answer");
@@ -29,10 +29,10 @@ _Static_assert(offsetof(camel_row, handling) == 20, "camel_row");
 _Static_assert(offsetof(camel_number_criterion, numbers) == 6, "camel_number_criterion");
 _Static_assert(offsetof(camel_o_criteria, number) == 2, "camel_o_criteria");
 _Static_assert(offsetof(camel_o_criteria, causes) == 121, "camel_o_criteria");
-_Static_assert(offsetof(camel_sent_o_csi, criteria) == 16, "camel_sent_o_csi");
-_Static_assert(offsetof(camel_sent_o_csi, has_criteria) == 33, "camel_sent_o_csi");
-_Static_assert(offsetof(camel_sent_vt_csi, has_criteria) == 33, "camel_sent_vt_csi");
-_Static_assert(offsetof(camel_insert, vt) == 40, "camel_insert");
+_Static_assert(offsetof(camel_o_lists, criteria) == 16, "camel_o_lists");
+_Static_assert(offsetof(camel_o_lists, has_criteria) == 33, "camel_o_lists");
+_Static_assert(offsetof(camel_vt_lists, has_criteria) == 33, "camel_vt_lists");
+_Static_assert(offsetof(camel_lists, vt) == 40, "camel_lists");
 _Static_assert(offsetof(camel_event, basic) == 29 && offsetof(camel_event, cause) == 33, "camel_event");
 _Static_assert(offsetof(camel_answer, scf) == 12 && offsetof(camel_answer, reason) == 25, "camel_answer");
 _Static_assert(offsetof(camel_counts, held) == 24, "camel_counts");
@@ -283,8 +283,8 @@ int main(void)
     static const uint32_t sizes[] = {
         sizeof(camel_receipt), sizeof(camel_imsi), sizeof(camel_address), sizeof(camel_isdn_address),
         sizeof(camel_basic_service), sizeof(camel_row), sizeof(camel_basic_services), sizeof(camel_causes),
-        sizeof(camel_number_criterion), sizeof(camel_o_criteria), sizeof(camel_t_criteria), sizeof(camel_sent_o_csi),
-        sizeof(camel_sent_vt_csi), sizeof(camel_insert), sizeof(camel_withdrawal), sizeof(camel_event),
+        sizeof(camel_number_criterion), sizeof(camel_o_criteria), sizeof(camel_t_criteria), sizeof(camel_o_lists),
+        sizeof(camel_vt_lists), sizeof(camel_lists), sizeof(camel_withdrawal), sizeof(camel_event),
         sizeof(camel_answer), sizeof(camel_counts), sizeof(camel_decisions), sizeof(camel_update_parts),
         sizeof(camel_argument), sizeof(camel_store),
     };

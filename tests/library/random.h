@@ -152,9 +152,9 @@ static inline size_t any_count(void)
 }
 
 /* Lists of any items, each at the edge of memory that may not be touched. */
-static inline camel_insert any_insert(void)
+static inline camel_lists any_lists(void)
 {
-    camel_insert sent = {
+    camel_lists sent = {
         .o = { .row_count = any_count(), .criteria_count = any_count() },
         .vt = { .row_count = any_count(), .criteria_count = any_count() },
     };
@@ -178,20 +178,38 @@ static inline camel_insert any_insert(void)
     return sent;
 }
 
-/* Has the pointer of a list be NULL, and tells whether the list is sent. C reads no bool that is neither 0 nor 1, so
- * its octet is read. */
+/* C reads no bool that is neither 0 nor 1, so its octet is read. */
+static inline bool is_true(const bool *place)
+{
+    uint8_t octet;
+    memcpy(&octet, place, 1);
+    return octet != 0;
+}
+
+/* The Insert that sends these lists. */
+static inline camel_insert insert_of(const camel_lists *lists)
+{
+    camel_insert sent = { 0 };
+    if (is_true(&lists->o.has_rows))
+        sent.o.rows = lists->o.rows, sent.o.row_count = lists->o.row_count;
+    if (is_true(&lists->o.has_criteria))
+        sent.o.criteria = lists->o.criteria, sent.o.criteria_count = lists->o.criteria_count;
+    if (is_true(&lists->vt.has_rows))
+        sent.vt.rows = lists->vt.rows, sent.vt.row_count = lists->vt.row_count;
+    if (is_true(&lists->vt.has_criteria))
+        sent.vt.criteria = lists->vt.criteria, sent.vt.criteria_count = lists->vt.criteria_count;
+    return sent;
+}
+
+/* Has the pointer of a list be NULL, and tells whether its count says that it has items. */
 static inline bool take_pointer(camel_insert *sent)
 {
-    const bool *has;
-    uint8_t octet;
     switch (below(4)) {
-    case 0: sent->o.rows = NULL, has = &sent->o.has_rows; break;
-    case 1: sent->o.criteria = NULL, has = &sent->o.has_criteria; break;
-    case 2: sent->vt.rows = NULL, has = &sent->vt.has_rows; break;
-    default: sent->vt.criteria = NULL, has = &sent->vt.has_criteria;
+    case 0: sent->o.rows = NULL; return sent->o.row_count > 0;
+    case 1: sent->o.criteria = NULL; return sent->o.criteria_count > 0;
+    case 2: sent->vt.rows = NULL; return sent->vt.row_count > 0;
+    default: sent->vt.criteria = NULL; return sent->vt.criteria_count > 0;
     }
-    memcpy(&octet, has, 1);
-    return octet != 0;
 }
 
 /* The octets of an argument as they come, or with some that are changed, left out or added. */

@@ -173,8 +173,8 @@ static void make_parts(unsigned number, camel_update *update, camel_update *next
     camel_o_criteria many[] = { o_criteria_of(2, 10), o_criteria_of(4, 4) };
     camel_t_criteria causes = CAUSES;
     camel_insert sent = {
-        .o = { .criteria = many, .criteria_count = 2, .has_criteria = true },
-        .vt = { vt, 2, &causes, 1, true, true },
+        .o = { .criteria = many, .criteria_count = 2 },
+        .vt = { vt, 2, &causes, 1 },
     };
     camel_imsi imsi = imsi_of(number);
     uint64_t place = 99;

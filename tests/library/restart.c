@@ -152,8 +152,8 @@ static void come(camel_store *store, uint64_t number)
     camel_imsi imsi = imsi_at(number);
     RETURNS(CAMEL_OK, camel_submit_register(store, &imsi));
     for (int times = 0; times < 8; times++) {
-        camel_insert sent = any_insert();
-        if (camel_submit_lists(store, &imsi, &sent) == CAMEL_OK && toss())
+        camel_lists lists = any_lists();
+        if (camel_submit_lists(store, &imsi, &lists) == CAMEL_OK && toss())
             return;
     }
 }

@@ -64,33 +64,29 @@ static void malformed_opening(void)
     IS(!sessions[1].is_full);
 }
 
-/* A list of which the pointer is NULL has no items, whatever its count says. If it is sent, it has too few; one that is
- * not sent is not looked at. */
+/* A list of which the pointer is NULL is not sent, and has no count: one that has is a list of no items, as one with a
+ * pointer and without a count is. */
 static void lists_of_none(camel_store *store, const camel_imsi *imsi)
 {
     camel_row many[11], o = row_of(2, 100), vt = row_of(12, 100);
     camel_insert none = { 0 };
-    camel_insert counted = {
-        .o = { .row_count = 3, .criteria_count = 3 }, .vt = { .row_count = 3, .criteria_count = SIZE_MAX }
-    };
+    camel_o_criteria o_criteria = { .dp = 2 };
+    camel_t_criteria t_criteria = { .dp = 12 };
     camel_insert empty[] = {
-        { .o = { .has_rows = true } }, { .o = { .has_criteria = true } },
-        { .vt = { .has_rows = true } }, { .vt = { .has_criteria = true } },
-        { .o = { .has_rows = true, .row_count = 3 } }, { .vt = { .has_rows = true, .row_count = 3 } },
-        { .o = { &o, 1, NULL, 3, true, true } }, { .vt = { &vt, 1, NULL, 3, true, true } },
-        { .o = { .has_rows = true, .row_count = SIZE_MAX } },
+        { .o = { .rows = &o } }, { .o = { .criteria = &o_criteria } },
+        { .vt = { .rows = &vt } }, { .vt = { .criteria = &t_criteria } },
+        { .o = { .row_count = 3 } }, { .vt = { .row_count = 3 } },
+        { .o = { &o, 1, NULL, 3 } }, { .vt = { &vt, 1, NULL, 3 } },
+        { .o = { .row_count = SIZE_MAX } }, { .vt = { .criteria_count = SIZE_MAX } },
     };
 
     for (size_t at = 0; at < sizeof empty / sizeof empty[0]; at++)
         RETURNS(CAMEL_DATA_MISSING, camel_submit_insert(store, imsi, &empty[at]));
     RETURNS(CAMEL_OK, camel_submit_insert(store, imsi, &none));
-    RETURNS(CAMEL_OK, camel_submit_insert(store, imsi, &counted));
     for (size_t at = 0; at < 11; at++)
         many[at] = row_of(3, 100);
-    none.o.rows = none.vt.rows = many;
-    none.o.row_count = none.vt.row_count = 11;
-    RETURNS(CAMEL_OK, camel_submit_insert(store, imsi, &none));
-    none.o.has_rows = true;
+    none.o.rows = many;
+    none.o.row_count = 11;
     RETURNS(CAMEL_UNEXPECTED_DATA_VALUE, camel_submit_insert(store, imsi, &none));
     /* The items of a list that is too long are not looked at: one of these has no address. */
     many[3].scf.length = 0;
@@ -106,7 +102,7 @@ static void rejected_updates(camel_store *store)
     camel_withdrawal what = { .o = true };
     camel_row row = row_of(2, 100), many = row_of(2, 0x80000000u), nowhere = { .key = 1, .dp = 2 };
     camel_o_criteria criteria = { .dp = 2 }, causes = { .dp = 2, .causes = { 1, { 17 } } };
-    camel_insert sent = { .o = { .rows = &row, .has_rows = true } };
+    camel_insert sent = { .o = { .rows = &row } };
 
     RETURNS(CAMEL_MALFORMED, camel_submit_register(store, &none));
     RETURNS(CAMEL_MALFORMED, camel_submit_insert(store, &none, &sent));
@@ -379,7 +375,7 @@ int main(void)
     malformed_opening();
     other_versions();
     order_of_keep();
-    RETURNS(CAMEL_OK, camel_open(&store, sessions, 2, 6, 1, 1));
+    RETURNS(CAMEL_OK, camel_open(&store, sessions, 2, 4, 1, 1));
     rejected_updates(&store);
     submitted_arguments();
     wrong_handles(&store, &sessions[0]);

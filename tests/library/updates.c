@@ -49,8 +49,8 @@ static void malformed_data(camel_update *to)
     camel_imsi none = { 0 }, imsi = imsi_of(1);
     camel_withdrawal what = { .o = true };
     camel_row row = row_of(2, 0x80000000u);
-    camel_insert sent = { .o = { .rows = &row, .row_count = 1, .has_rows = true } };
-    camel_insert empty = { .vt = { .has_criteria = true, .criteria_count = 3 } };
+    camel_insert sent = { .o = { .rows = &row, .row_count = 1 } };
+    camel_insert empty = { .vt = { .criteria_count = 3 } };
 
     RETURNS(CAMEL_MALFORMED, camel_update_of_register(&none, to));
     RETURNS(CAMEL_MALFORMED, camel_update_of_delete(&none, &what, to));
@@ -164,7 +164,7 @@ static void parts_of_lists(void)
     camel_update_parts parts = parts_of(&update);
     camel_imsi imsi = imsi_of(1);
     camel_row rows[] = { row_of(13, 100), row_of(3, 100) };
-    camel_insert sent = { .o = { .row_count = 3 }, .vt = { .rows = rows, .row_count = 2, .has_rows = true } };
+    camel_insert sent = { .vt = { .rows = rows, .row_count = 2 } };
 
     IS(parts.o_rows == 4 && parts.o_criteria == 0 && parts.vt_rows == 0 && parts.t_criteria == 0);
     IS(parts.has_o_capability && parts.o_capability == 3 && !parts.has_vt_capability && parts.vt_capability == 0);
@@ -219,7 +219,7 @@ static void joined_updates(camel_store *store, camel_session *session)
     camel_update update = rows_in(1, first, 2, 2), next = rows_in(1, second, 1, 3), criteria = CAMEL_EMPTY;
     camel_imsi imsi = imsi_of(1);
     camel_o_criteria entry = { .dp = 4 };
-    camel_insert sent = { .o = { .criteria = &entry, .criteria_count = 1, .has_criteria = true } };
+    camel_insert sent = { .o = { .criteria = &entry, .criteria_count = 1 } };
     camel_update_parts parts;
 
     RETURNS(CAMEL_OK, camel_update_join(&update, &next));

@@ -177,14 +177,12 @@ static void submit(camel_store *store, const struct update *update)
         expect_ok(camel_submit_register(store, &update->imsi));
     camel_insert sent = {
         .o = {
-            .rows = update->o,
+            .rows = update->has_o ? update->o : NULL,
             .row_count = update->o_count,
-            .criteria = &update->o_criteria,
+            .criteria = update->o_criteria_count > 0 ? &update->o_criteria : NULL,
             .criteria_count = update->o_criteria_count,
-            .has_rows = update->has_o,
-            .has_criteria = update->o_criteria_count > 0,
         },
-        .vt = { .rows = update->vt, .row_count = update->vt_count, .has_rows = update->has_vt },
+        .vt = { .rows = update->has_vt ? update->vt : NULL, .row_count = update->vt_count },
     };
     expect_ok(camel_submit_insert(store, &update->imsi, &sent));
 }
