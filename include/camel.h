@@ -45,6 +45,7 @@ extern "C" {
 /* The version of this header, and that of the layouts and of the functions below. camel_open compares the latter with
  * that of the library, which camel_abi_version returns. */
 #define CAMEL_VERSION "0.6.0"
+#define CAMEL_VERSION_NUMBER 0x000600 /* an octet for each of its numbers */
 #define CAMEL_ABI_VERSION 3
 
 /* The most sessions that a store has, the most updates that it takes in its life, and the most octets of an argument
@@ -99,38 +100,38 @@ enum {
 };
 
 /* Handles. They have one layout, and each has a type of its own so that a compiler tells them apart. */
-typedef struct { void *at; bool is_full; } camel_store;
-typedef struct { void *at; bool is_full; } camel_session;
-typedef struct { void *at; bool is_full; } camel_subscriber;
-typedef struct { void *at; bool is_full; } camel_update;
-typedef struct { void *at; bool is_full; } camel_imsis;
+typedef struct camel_store { void *at; bool is_full; } camel_store;
+typedef struct camel_session { void *at; bool is_full; } camel_session;
+typedef struct camel_subscriber { void *at; bool is_full; } camel_subscriber;
+typedef struct camel_update { void *at; bool is_full; } camel_update;
+typedef struct camel_imsis { void *at; bool is_full; } camel_imsis;
 #define CAMEL_EMPTY { 0, 0 }
 
 /* Which updates a store has published: its number, which is its seed, and how many they are. So a receipt is neither
  * sent nor logged. */
-typedef struct { uint64_t store; uint64_t front; } camel_receipt;
+typedef struct camel_receipt { uint64_t store; uint64_t front; } camel_receipt;
 
 /* An IMSI as one number: how many digits it has, 5 to 15, in the highest octet, and below it their decimal value, as in
  * 15ULL << 56 | 262010000000001. Two are equal if their numbers are. The number 0 is no IMSI. */
-typedef struct { uint64_t number; } camel_imsi;
+typedef struct camel_imsi { uint64_t number; } camel_imsi;
 
 /* An AddressString of TS 29.002, as the destination of a call: the first `length` octets, 1 to 20. */
-typedef struct { uint8_t length; uint8_t octets[20]; } camel_address;
+typedef struct camel_address { uint8_t length; uint8_t octets[20]; } camel_address;
 
 /* An ISDN-AddressString, as a gsmSCF address or a number of a criterion: the first `length` octets, 1 to 9. What is
  * behind these of an address is not looked at, and may be any octets when the library writes one: compare so many
  * octets. */
-typedef struct { uint8_t length; uint8_t octets[9]; } camel_isdn_address;
+typedef struct camel_isdn_address { uint8_t length; uint8_t octets[9]; } camel_isdn_address;
 
 /* In all data a bool is false if it is 0, and true if it is any other octet. */
 
 /* A basic service: the first octet of its code, which is that of a bearer service, or else of a teleservice. Telephony
  * is the teleservice 0x11. */
-typedef struct { bool is_bearer; uint8_t code; } camel_basic_service;
+typedef struct camel_basic_service { bool is_bearer; uint8_t code; } camel_basic_service;
 
 /* A row of a CSI. Service keys are at most 2147483647. The default call handling is given as it was received: 0 and 2
  * to 31 are continue, 1 and all others release (TS 29.002). */
-typedef struct {
+typedef struct camel_row {
     uint8_t dp;
     uint32_t key;
     camel_isdn_address scf;
@@ -138,11 +139,11 @@ typedef struct {
 } camel_row;
 
 /* The criteria of an entry. A list of none is absent. */
-typedef struct { uint8_t count; camel_basic_service services[5]; } camel_basic_services;
-typedef struct { uint8_t count; uint8_t causes[5]; } camel_causes;
+typedef struct camel_basic_services { uint8_t count; camel_basic_service services[5]; } camel_basic_services;
+typedef struct camel_causes { uint8_t count; uint8_t causes[5]; } camel_causes;
 
 /* The destination number criterion: up to 10 numbers, up to 3 lengths of 1 to 15 digits, and one of either at least. */
-typedef struct {
+typedef struct camel_number_criterion {
     bool is_enabling; /* else the criterion is met by a destination that is not listed */
     uint8_t number_count;
     uint8_t length_count;
@@ -151,7 +152,7 @@ typedef struct {
 } camel_number_criterion;
 
 /* The criteria of a detection point of the O-CSI, and of the VT-CSI. */
-typedef struct {
+typedef struct camel_o_criteria {
     uint8_t dp;
     bool has_number;
     camel_number_criterion number;
@@ -160,28 +161,28 @@ typedef struct {
     bool is_forwarded; /* the call type criterion asks for forwarded calls; else for those that are not */
     camel_causes causes;
 } camel_o_criteria;
-typedef struct { uint8_t dp; camel_basic_services basic; camel_causes causes; } camel_t_criteria;
+typedef struct camel_t_criteria { uint8_t dp; camel_basic_services basic; camel_causes causes; } camel_t_criteria;
 
 /* What an Insert sends of each CSI. A list is sent if its pointer is not NULL, and has 1 to 10 items then:
  * CAMEL_DATA_MISSING of none, and of a count whose pointer is NULL; CAMEL_UNEXPECTED_DATA_VALUE of more, whatever they
  * are, and of two of a detection point of the CSI. */
-typedef struct {
+typedef struct camel_sent_o_csi {
     const camel_row *rows;
     size_t row_count;
     const camel_o_criteria *criteria;
     size_t criteria_count;
 } camel_sent_o_csi;
-typedef struct {
+typedef struct camel_sent_vt_csi {
     const camel_row *rows;
     size_t row_count;
     const camel_t_criteria *criteria;
     size_t criteria_count;
 } camel_sent_vt_csi;
-typedef struct { camel_sent_o_csi o; camel_sent_vt_csi vt; } camel_insert;
+typedef struct camel_insert { camel_sent_o_csi o; camel_sent_vt_csi vt; } camel_insert;
 
 /* The same as the library takes it, of which camel_lists_of makes it: whether each list is sent, and no pointer that is
  * NULL. The items of a list that is not sent are not looked at. */
-typedef struct {
+typedef struct camel_o_lists {
     const camel_row *rows;
     size_t row_count;
     const camel_o_criteria *criteria;
@@ -189,7 +190,7 @@ typedef struct {
     bool has_rows;
     bool has_criteria;
 } camel_o_lists;
-typedef struct {
+typedef struct camel_vt_lists {
     const camel_row *rows;
     size_t row_count;
     const camel_t_criteria *criteria;
@@ -197,17 +198,17 @@ typedef struct {
     bool has_rows;
     bool has_criteria;
 } camel_vt_lists;
-typedef struct { camel_o_lists o; camel_vt_lists vt; } camel_lists;
+typedef struct camel_lists { camel_o_lists o; camel_vt_lists vt; } camel_lists;
 
 /* The local codes of the operations of MAP by which an HLR changes subscriber data (TS 29.002). */
 enum { CAMEL_CANCEL_LOCATION = 3, CAMEL_INSERT_SUBSCRIBER_DATA = 7, CAMEL_DELETE_SUBSCRIBER_DATA = 8 };
 
 /* What a Delete removes, each with its criteria. */
-typedef struct { bool o; bool vt; bool everything; } camel_withdrawal;
+typedef struct camel_withdrawal { bool o; bool vt; bool everything; } camel_withdrawal;
 
 /* A call event. The destination and is_forwarded are read at detection points 2 and 4, the cause (0 to 127) at 4, 13
  * and 14. */
-typedef struct {
+typedef struct camel_event {
     camel_imsi imsi;
     camel_address destination;
     camel_basic_service basic;
@@ -240,7 +241,7 @@ enum {
 
 /* An answer. If a service is invoked, key, scf, dp and is_release are those of the row, and reason is 0; else those
  * four are 0, with no octets of an address. */
-typedef struct {
+typedef struct camel_answer {
     uint64_t front; /* how many updates the data have by which it was decided */
     uint32_t key;
     camel_isdn_address scf;
@@ -251,7 +252,7 @@ typedef struct {
 } camel_answer;
 
 /* Counts of a store. */
-typedef struct {
+typedef struct camel_counts {
     uint64_t subscribers; /* who have a record in what is published */
     uint64_t published;   /* updates */
     uint64_t pending;     /* updates */
@@ -260,7 +261,7 @@ typedef struct {
 
 /* How many events a session has decided with each reason; with CAMEL_REASON_NONE a service was invoked. They are
  * counted modulo 2^64. */
-typedef struct { uint64_t by_reason[CAMEL_REASONS]; } camel_decisions;
+typedef struct camel_decisions { uint64_t by_reason[CAMEL_REASONS]; } camel_decisions;
 
 /* What an update is. */
 enum {
@@ -274,7 +275,7 @@ enum {
 /* What came with an update. Of an Insert: how many items came in each list, ignored ones among them, 1 to 10, or 0 if
  * the list did not come; and the camelCapabilityHandling of each CSI, by which a switch chooses the version of CAP: the
  * phase of CAMEL, 1 to 16 by TS 29.002. The withdrawal is what a Delete names. What the update does not have is 0. */
-typedef struct {
+typedef struct camel_update_parts {
     camel_imsi imsi; /* its number is 0 of a ClearAll */
     uint8_t kind;    /* CAMEL_UPDATE_REGISTER to CAMEL_UPDATE_CLEAR_ALL */
     uint8_t o_rows;
@@ -289,7 +290,7 @@ typedef struct {
 } camel_update_parts;
 
 /* An argument of MAP: the first `count` octets, and 0 behind them. */
-typedef struct { uint16_t count; uint8_t octets[CAMEL_MAX_ARGUMENT]; } camel_argument;
+typedef struct camel_argument { uint16_t count; uint8_t octets[CAMEL_MAX_ARGUMENT]; } camel_argument;
 
 uint32_t camel_abi_version(void);
 
@@ -310,8 +311,8 @@ camel_status camel_isdn_address_of(const uint8_t *octets, size_t octet_count, ca
 
 /* The digits of an IMSI: as characters 0 to 9 with 0 octets behind them, and as the first `count` of TBCD octets.
  * CAMEL_MALFORMED: it is none, and nothing is written. */
-typedef struct { uint8_t count; char characters[16]; } camel_imsi_digits;
-typedef struct { uint8_t count; uint8_t octets[8]; } camel_imsi_tbcd; /* 0xff behind these */
+typedef struct camel_imsi_digits { uint8_t count; char characters[16]; } camel_imsi_digits;
+typedef struct camel_imsi_tbcd { uint8_t count; uint8_t octets[8]; } camel_imsi_tbcd; /* 0xff behind these */
 
 CAMEL_CALL
 CAMEL_INLINE camel_status camel_digits_of_imsi(const camel_imsi *imsi, camel_imsi_digits *digits)
@@ -348,7 +349,7 @@ CAMEL_INLINE camel_status camel_tbcd_of_imsi(const camel_imsi *imsi, camel_imsi_
     return CAMEL_OK;
 }
 
-/* Writes a seed for camel_open, of the system's random source. Returns false if there is none; then it writes nothing. */
+/* Writes a seed for camel_open, of the system's random source. Returns false if there is none, and writes nothing. */
 CAMEL_CALL
 CAMEL_INLINE bool camel_random_seed(uint64_t *seed)
 {
@@ -602,10 +603,10 @@ camel_status camel_close(camel_store *store);
 /* What camel_free does for a handle of any kind that is not NULL: call that. */
 void camel_empty(void *handle);
 
-/* What an HLR is answered about an update of this status (TS 29.002, ITU-T Q.773): 0, that it is done, or a user error of
- * MAP, which is 5, 35 or 36, or else CAMEL_MAP_REJECT with the problem of an invoke. The second of these is of the
- * switch: try the update again, and answer so once that takes too long. It comes of each status that says nothing of
- * what the HLR has sent. */
+/* What an HLR is answered about an update of this status (TS 29.002, ITU-T Q.773): 0, that it is done, or 5, 35 or 36,
+ * a user error of MAP, or else CAMEL_MAP_REJECT with the problem of an invoke. The second of these is of the switch:
+ * try the update again, and answer so once that takes too long. It comes of each status that says nothing of what the
+ * HLR has sent. */
 enum {
     CAMEL_MAP_REJECT = 0x100,
     CAMEL_MAP_MISTYPED_PARAMETER = CAMEL_MAP_REJECT | 2,
@@ -630,8 +631,8 @@ CAMEL_INLINE uint16_t camel_map_error_of(camel_status status)
     }
 }
 
-/* The basic service of a call, by the contents of its bearer capability from octet 3 on (TS 24.008 10.5.4.5). With none,
- * as with one of speech, it is telephony. A pointer may be NULL with a count of 0. */
+/* The basic service of a call, by the contents of its bearer capability from octet 3 on (TS 24.008 10.5.4.5). With
+ * none, as with one of speech, it is telephony. A pointer may be NULL with a count of 0. */
 CAMEL_INLINE camel_basic_service camel_basic_service_of(const uint8_t *octets, size_t octet_count)
 {
     camel_basic_service service = { false, 0x11 };
@@ -716,9 +717,9 @@ CAMEL_INLINE const char *camel_reason_name(uint8_t reason)
 #define CAMEL_OF(call, kind) call##_##kind
 #endif
 
-/* camel_free(handle) frees what a handle holds, and empties it; an empty one stays so, and so does NULL (in C++ nullptr).
- * A session leaves its look, and no other takes its place. A store ends as by camel_close, and its data are freed when
- * the last look that is held is left.
+/* camel_free(handle) frees what a handle holds, and empties it; an empty one stays so, and so does NULL (in C++
+ * nullptr). A session leaves its look, and no other takes its place. A store ends as by camel_close, and its data are
+ * freed when the last look that is held is left.
  *
  * camel_move(to, from) moves what a handle holds into another one of its kind, and empties it. CAMEL_FULL_HANDLE: the
  * other one is not empty, and both are as before. */

@@ -76,8 +76,9 @@ private:
     camel_status status_ = CAMEL_OK;
 };
 
-/* What is there, or nothing, or the status that says why neither is known. It has no truth of its own, which could be of
- * either: `ok` says whether it is known, and `is_there` whether there is a value, which whoever asks for it has to know. */
+/* What is there, or nothing, or the status that says why neither is known. It has no truth of its own, which could be
+ * of either: `ok` says whether it is known, and `is_there` whether there is a value, which whoever asks for it has to
+ * know. */
 template <class T>
 class [[nodiscard]] Maybe : private Optional<T> {
 public:
@@ -142,16 +143,19 @@ private:
 /* Whether octets were submitted. */
 using MapResult = Decoded<void>;
 
-/* Whether updates were submitted. `rejected` is the index of the one that the store rejects, or how many they are if it
- * rejects none, as when memory is refused. */
+/* Whether updates were submitted. `rejected` is the index of the one that the store rejects, if it rejects one, and not
+ * when memory is refused. */
 class [[nodiscard]] AllResult : public Result<void> {
 public:
-    AllResult(camel_status status, size_t rejected) noexcept : Result(Failure{ status }), rejected_(rejected) {}
+    AllResult(camel_status status, std::optional<size_t> rejected) noexcept
+        : Result(Failure{ status }), rejected_(rejected)
+    {
+    }
 
-    size_t rejected() const noexcept { return rejected_; }
+    std::optional<size_t> rejected() const noexcept { return rejected_; }
 
 private:
-    size_t rejected_;
+    std::optional<size_t> rejected_;
 };
 
 namespace detail {
@@ -620,7 +624,7 @@ public:
         size_t rejected = updates.count;
         camel_status status =
             camel_submit_all(handle_.at(), reinterpret_cast<const camel_update *>(first), updates.count, &rejected);
-        return AllResult(status, rejected);
+        return AllResult(status, rejected == updates.count ? std::nullopt : std::optional(rejected));
     }
 
     /* Publishes all that is pending, also if nothing is, and gives a receipt of all that is published. */

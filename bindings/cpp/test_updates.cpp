@@ -116,7 +116,7 @@ static void updates_are_all_submitted_or_none()
     updates.push_back(inserted(imsi(), ROWS));
     for (uint64_t times = 1; times <= 2; times++) {
         camel::AllResult all = store.submit_all({ updates.data(), updates.size() });
-        CHECK(all && all.rejected() == 2 && get(store.counts()).pending == 2 * times);
+        CHECK(all && !all.rejected() && get(store.counts()).pending == 2 * times);
     }
     updates.push_back(inserted(other, ROWS));
     camel::AllResult all = store.submit_all({ updates.data(), updates.size() });
@@ -125,7 +125,7 @@ static void updates_are_all_submitted_or_none()
     CHECK(store.submit_all({ updates.data(), updates.size() }).status() == CAMEL_UNEXPECTED_DATA_VALUE);
     updates[2] = Update();
     all = store.submit_all({ updates.data(), updates.size() });
-    CHECK(all.status() == CAMEL_WRONG_HANDLE && all.rejected() == 3);
+    CHECK(all.status() == CAMEL_WRONG_HANDLE && !all.rejected());
     CHECK(store.submit_all({ nullptr, 0 }) && camel::Store().submit_all({ nullptr, 0 }).status() == CAMEL_WRONG_HANDLE);
     CHECK(get(store.counts()).pending == 4);
     CHECK(bool(sessions[0].learn(get(store.publish()))));

@@ -11,7 +11,9 @@ fn an_imsi_is_its_digits() {
     let octets = Imsi::from_tbcd(&[0x62, 0x02, 0x01, 0, 0, 0, 0, 0xf1]).unwrap();
     assert_eq!(digits, octets);
     assert_eq!("262010000000001".parse(), Ok(digits));
-    assert_ne!(Imsi::from_digits("00001"), Imsi::from_digits("000001"));
+    let imsis =
+        ["00001", "99999", "000001", "000002"].map(|digits| Imsi::from_digits(digits).unwrap());
+    assert!(imsis.is_sorted_by(|one, next| one < next));
     for wrong in ["", "2620", "2620100000000011", "26201000000000a"] {
         assert_eq!(Imsi::from_digits(wrong), Err(Error::Malformed), "{wrong}");
     }
