@@ -319,7 +319,7 @@ int main()
 {
     static const uint8_t cancel[] = { 0xa3, 0x0a, 0x04, 0x08, 0x62, 0x02, 0x01, 0x00, 0x00, 0x00, 0x00, 0xf1 };
     std::random_device random;
-    Loop loop(*camel::Store::open(1, camel::MAX_UPDATES, CAMEL_PROFILE_1, uint64_t(random()) << 32 | random()));
+    Loop loop(*camel::Store::open(1, camel::MAX_UPDATES, camel::Profile::One, uint64_t(random()) << 32 | random()));
     Subscriber subscriber{ *camel::imsi_of_digits("262010000000001") };
     Subscriber other{ *camel::imsi_of_digits("262010000000002") };
     update_location(loop, subscriber);

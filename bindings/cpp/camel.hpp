@@ -123,6 +123,26 @@ enum class Operation : uint8_t {
     DeleteSubscriberData = CAMEL_DELETE_SUBSCRIBER_DATA
 };
 
+/* The profiles under which a store decides, the detection points at which calls are asked (TS 23.078), and why no
+ * service is invoked. */
+enum class Profile : uint8_t { One = CAMEL_PROFILE_1, Two = CAMEL_PROFILE_2 };
+enum class DetectionPoint : uint8_t {
+    CollectedInfo = CAMEL_DP_COLLECTED_INFO,
+    RouteSelectFailure = CAMEL_DP_ROUTE_SELECT_FAILURE,
+    TermAttemptAuthorized = CAMEL_DP_TERM_ATTEMPT_AUTHORIZED,
+    TBusy = CAMEL_DP_T_BUSY,
+    TNoAnswer = CAMEL_DP_T_NO_ANSWER
+};
+enum class Reason : uint8_t {
+    None = CAMEL_REASON_NONE, /* one is */
+    Unknown = CAMEL_REASON_UNKNOWN,
+    NoCsi = CAMEL_REASON_NO_CSI,
+    NotArmed = CAMEL_REASON_NOT_ARMED,
+    Emergency = CAMEL_REASON_EMERGENCY,
+    Criteria = CAMEL_REASON_CRITERIA
+};
+inline Reason reason_of(const camel_answer &answer) noexcept { return static_cast<Reason>(answer.reason); }
+
 /* What is made of the octets of an argument. If nothing is, `place` is the octet of the argument, from 0, at which its
  * first fault is, or empty if the fault is none of the argument. */
 template <class T>
@@ -445,19 +465,19 @@ public:
     Result<Look> look() noexcept;
 
     /* The row of a subscriber at a detection point, if there is one. Its handling is 0, continue, or 1, release. */
-    Maybe<camel_row> row_at(camel_imsi imsi, uint8_t dp) noexcept
+    Maybe<camel_row> row_at(camel_imsi imsi, DetectionPoint dp) noexcept
     {
-        return detail::find<camel_row>(camel_row_at, handle_.at(), &imsi, dp);
+        return detail::find<camel_row>(camel_row_at, handle_.at(), &imsi, static_cast<uint8_t>(dp));
     }
 
     /* The criteria of a subscriber at a detection point of the O-CSI, or of the VT-CSI, if there are any. */
-    Maybe<camel_o_criteria> o_criteria_at(camel_imsi imsi, uint8_t dp) noexcept
+    Maybe<camel_o_criteria> o_criteria_at(camel_imsi imsi, DetectionPoint dp) noexcept
     {
-        return detail::find<camel_o_criteria>(camel_o_criteria_at, handle_.at(), &imsi, dp);
+        return detail::find<camel_o_criteria>(camel_o_criteria_at, handle_.at(), &imsi, static_cast<uint8_t>(dp));
     }
-    Maybe<camel_t_criteria> t_criteria_at(camel_imsi imsi, uint8_t dp) noexcept
+    Maybe<camel_t_criteria> t_criteria_at(camel_imsi imsi, DetectionPoint dp) noexcept
     {
-        return detail::find<camel_t_criteria>(camel_t_criteria_at, handle_.at(), &imsi, dp);
+        return detail::find<camel_t_criteria>(camel_t_criteria_at, handle_.at(), &imsi, static_cast<uint8_t>(dp));
     }
 
     /* Keeps the record of a subscriber, if there is one. If memory is refused, the session may have seen a later
@@ -529,12 +549,12 @@ public:
     }
 
     Result<camel_answer> decide(const camel_event &event) noexcept { return ask(&Session::decide, event); }
-    Maybe<camel_row> row_at(camel_imsi imsi, uint8_t dp) noexcept { return ask(&Session::row_at, imsi, dp); }
-    Maybe<camel_o_criteria> o_criteria_at(camel_imsi imsi, uint8_t dp) noexcept
+    Maybe<camel_row> row_at(camel_imsi imsi, DetectionPoint dp) noexcept { return ask(&Session::row_at, imsi, dp); }
+    Maybe<camel_o_criteria> o_criteria_at(camel_imsi imsi, DetectionPoint dp) noexcept
     {
         return ask(&Session::o_criteria_at, imsi, dp);
     }
-    Maybe<camel_t_criteria> t_criteria_at(camel_imsi imsi, uint8_t dp) noexcept
+    Maybe<camel_t_criteria> t_criteria_at(camel_imsi imsi, DetectionPoint dp) noexcept
     {
         return ask(&Session::t_criteria_at, imsi, dp);
     }
@@ -579,7 +599,7 @@ public:
 
     /* Opens a store of 1 to MAX_SESSIONS sessions, which takes 1 to MAX_UPDATES updates and decides under profile 1 or
      * 2. The seed is secret and random. */
-    static Result<Opened> open(size_t session_count, uint64_t limit, uint8_t profile, uint64_t seed);
+    static Result<Opened> open(size_t session_count, uint64_t limit, Profile profile, uint64_t seed);
 
     Result<void> submit_register(camel_imsi imsi) noexcept
     {
@@ -675,7 +695,7 @@ struct Store::Opened {
     std::vector<Session> sessions;
 };
 
-inline Result<Store::Opened> Store::open(size_t session_count, uint64_t limit, uint8_t profile, uint64_t seed)
+inline Result<Store::Opened> Store::open(size_t session_count, uint64_t limit, Profile profile, uint64_t seed)
 {
     if (session_count < 1 || session_count > MAX_SESSIONS)
         return Failure{ CAMEL_MALFORMED };
@@ -683,7 +703,8 @@ inline Result<Store::Opened> Store::open(size_t session_count, uint64_t limit, u
     sessions.reserve(session_count);
     camel_store raw{};
     std::array<camel_session, MAX_SESSIONS> places{};
-    if (camel_status status = camel_open(&raw, places.data(), session_count, limit, profile, seed))
+    uint8_t number = static_cast<uint8_t>(profile);
+    if (camel_status status = camel_open(&raw, places.data(), session_count, limit, number, seed))
         return Failure{ status };
     Store store(raw);
     for (size_t at = 0; at < session_count; at++)

@@ -36,6 +36,8 @@ camel::Optional<T> get(camel::Maybe<T> found)
     return found.is_there() ? camel::Optional<T>(*std::move(found)) : camel::Optional<T>();
 }
 
+using Dp = camel::DetectionPoint;
+
 inline camel_imsi imsi() { return get(camel::imsi_of_digits("262010000000001")); }
 
 inline camel_event event_at(uint8_t dp)
@@ -76,7 +78,7 @@ inline camel::Csis csis_of(uint32_t key)
 /* A store of which two updates are published, and whose two sessions learnt it. */
 inline camel::Store::Opened open(uint64_t seed = 0x5eed)
 {
-    camel::Store::Opened opened = get(camel::Store::open(2, camel::MAX_UPDATES, 1, seed));
+    camel::Store::Opened opened = get(camel::Store::open(2, camel::MAX_UPDATES, camel::Profile::One, seed));
     CHECK(bool(opened.store.submit_register(imsi())));
     CHECK(bool(opened.store.submit_insert(imsi(), csis_of(7))));
     CHECK(get(opened.store.counts()).pending == 2);

@@ -63,9 +63,9 @@ static void data_are_made_or_refused()
     CHECK(get(camel::address_of(octets, 20)).length == 20);
     CHECK(camel::address_of(octets, 21).status() == CAMEL_MALFORMED);
     CHECK(camel::isdn_address_of(octets, 10).status() == CAMEL_MALFORMED);
-    CHECK(camel::Store::open(0, 1, 1, 1).status() == CAMEL_MALFORMED);
-    CHECK(camel::Store::open(65, 1, 1, 1).status() == CAMEL_MALFORMED);
-    CHECK(camel::Store::open(1, 1, 3, 1).status() == CAMEL_MALFORMED);
+    CHECK(camel::Store::open(0, 1, camel::Profile::One, 1).status() == CAMEL_MALFORMED);
+    CHECK(camel::Store::open(65, 1, camel::Profile::One, 1).status() == CAMEL_MALFORMED);
+    CHECK(camel::Store::open(1, 1, camel::Profile(3), 1).status() == CAMEL_MALFORMED);
 }
 
 /* The digits that an IMSI was made of come back, of each count of digits. */
@@ -103,11 +103,11 @@ static void a_session_reads()
     camel_decisions decisions = get(session.decisions());
     CHECK(decisions.by_reason[CAMEL_REASON_NONE] == 2 && decisions.by_reason[CAMEL_REASON_NOT_ARMED] == 1);
     CHECK(decisions.by_reason[CAMEL_REASON_CRITERIA] == 2 && get(sessions[1].decisions()).by_reason[0] == 0);
-    CHECK(get(session.row_at(imsi(), 13))->key == 7);
-    CHECK(!get(session.row_at(imsi(), 4)));
-    CHECK(get(session.o_criteria_at(imsi(), 2))->has_call_type);
-    CHECK(get(session.t_criteria_at(imsi(), 13))->causes.count == 1);
-    CHECK(!get(session.o_criteria_at(imsi(), 13)) && !get(session.t_criteria_at(imsi(), 2)));
+    CHECK(get(session.row_at(imsi(), Dp::TBusy))->key == 7);
+    CHECK(!get(session.row_at(imsi(), Dp::RouteSelectFailure)));
+    CHECK(get(session.o_criteria_at(imsi(), Dp::CollectedInfo))->has_call_type);
+    CHECK(get(session.t_criteria_at(imsi(), Dp::TBusy))->causes.count == 1);
+    CHECK(!get(session.o_criteria_at(imsi(), Dp::TBusy)) && !get(session.t_criteria_at(imsi(), Dp::CollectedInfo)));
     CHECK(!get(session.keep(get(camel::imsi_of_digits("26201")))));
     CHECK(store.submit_insert(get(camel::imsi_of_digits("26201")), camel::Csis{}).status()
           == CAMEL_UNIDENTIFIED_SUBSCRIBER);
@@ -184,8 +184,8 @@ static void a_look_is_of_one_front()
     camel_counts counts = get(store.counts());
     CHECK(counts.published == 3 && counts.pending == 1 && counts.subscribers == 1 && counts.held == 1);
     CHECK(get(look.decide(event_at(2))).front == 2);
-    CHECK(get(look.row_at(imsi(), 2))->key == 7);
-    CHECK(get(look.o_criteria_at(imsi(), 2)) && get(look.t_criteria_at(imsi(), 13)));
+    CHECK(get(look.row_at(imsi(), Dp::CollectedInfo))->key == 7);
+    CHECK(get(look.o_criteria_at(imsi(), Dp::CollectedInfo)) && get(look.t_criteria_at(imsi(), Dp::TBusy)));
     CHECK(bool(look.leave()));
     CHECK(get(store.holders()) == 0);
     CHECK(look.decide(event_at(2)).status() == CAMEL_WRONG_HANDLE);
@@ -205,7 +205,7 @@ static void a_call_is_set_up_over_one_front()
     CHECK(store.publish_to({ of_other.data(), of_other.size() }).status() == CAMEL_OTHER_STORE);
     CHECK(get(store.counts()).pending == 1);
     CHECK(bool(store.publish_to({ sessions.data(), sessions.size() })));
-    CHECK(get(sessions[1].decide(event_at(2))).reason == CAMEL_REASON_NO_CSI);
+    CHECK(camel::reason_of(get(sessions[1].decide(event_at(2)))) == camel::Reason::NoCsi);
     CHECK(get(set_up->kept->decide(event_at(13))).key == 7);
     camel::Look look = get(sessions[1].look());
     CHECK(get(look.set_up(event_at(2))).answer.front == 3);
@@ -262,10 +262,10 @@ static void no_value_is_none()
     const camel_imsi unknown = get(camel::imsi_of_digits("262010000000002"));
     CHECK(ends_the_program([] { (void)*camel::imsi_of_digits(""); }));
     CHECK(ends_the_program([] { (void)camel::imsi_of_digits("").value(); }));
-    CHECK(session.row_at(unknown, 2).ok() && !session.row_at(unknown, 2).is_there());
-    CHECK(ends_the_program([&] { (void)session.row_at(unknown, 2)->key; }));
+    CHECK(session.row_at(unknown, Dp::CollectedInfo).ok() && !session.row_at(unknown, Dp::CollectedInfo).is_there());
+    CHECK(ends_the_program([&] { (void)session.row_at(unknown, Dp::CollectedInfo)->key; }));
     CHECK(ends_the_program([&] { (void)*session.keep(unknown); }));
-    CHECK(!ends_the_program([&] { (void)session.row_at(imsi(), 2)->key; }));
+    CHECK(!ends_the_program([&] { (void)session.row_at(imsi(), Dp::CollectedInfo)->key; }));
     static_assert(!std::is_constructible_v<bool, camel::Maybe<camel_row>>);
 }
 
@@ -335,7 +335,7 @@ static void a_store_that_goes_away_ends_for_a_look()
 static void the_last_look_frees_the_data()
 {
     constexpr uint64_t SUBSCRIBERS = 1000;
-    auto [store, sessions] = *camel::Store::open(1, camel::MAX_UPDATES, 1, 1);
+    auto [store, sessions] = *camel::Store::open(1, camel::MAX_UPDATES, camel::Profile::One, 1);
     for (uint64_t subscriber = 0; subscriber < SUBSCRIBERS; subscriber++)
         CHECK(bool(store.submit_register(camel_imsi{ 15ULL << 56 | subscriber })));
     CHECK(bool(store.publish()));

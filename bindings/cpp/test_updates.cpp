@@ -159,7 +159,7 @@ static void records_are_restored()
 {
     using camel::Update;
     auto [store, sessions] = open();
-    auto [restored, of_restored] = get(camel::Store::open(1, camel::MAX_UPDATES, 1, 7));
+    auto [restored, of_restored] = get(camel::Store::open(1, camel::MAX_UPDATES, camel::Profile::One, 7));
     camel::Look look = get(sessions[0].look());
     camel::Imsis imsis = get(look.imsis());
     CHECK(bool(store.submit_cancel(imsi())) && bool(store.publish()));
