@@ -73,24 +73,18 @@ static struct dialogue on_begin(struct subscriber *subscriber, bool is_location_
     return dialogue;
 }
 
-/* Makes one Insert of what the dialogue has brought and of a further operation. A join changes its first update, so it
- * begins with an Insert of nothing: if the operation is refused, the dialogue keeps what it has. */
+/* Makes one Insert of what the dialogue has brought, which it keeps, and of a further operation. */
 static camel_status join(const struct dialogue *dialogue, const uint8_t *argument, size_t count, camel_update *all)
 {
-    static const camel_insert nothing;
     const camel_imsi *imsi = &dialogue->subscriber->imsi;
     camel_update next = CAMEL_EMPTY;
     uint64_t place;
     camel_status status = camel_update_of_map(CAMEL_INSERT_SUBSCRIBER_DATA, imsi, argument, count, &next, &place);
-    if (status || !dialogue->insert.is_full) {
-        *all = next; /* moved, and not freed */
+    if (status)
         return status;
-    }
-    status = camel_update_of_insert(imsi, &nothing, all);
-    if (!status)
-        status = camel_update_join(all, &dialogue->insert);
-    if (!status)
-        status = camel_update_join(all, &next);
+    if (!dialogue->insert.is_full)
+        return camel_move(all, &next);
+    status = camel_update_join(&dialogue->insert, &next, all);
     camel_free(&next);
     return status;
 }
@@ -111,9 +105,8 @@ static camel_status on_insert(struct loop *loop, struct dialogue *dialogue, cons
     if (!status)
         status = publish(loop);
     if (!status) {
-        camel_update before = dialogue->insert;
-        dialogue->insert = updates[1];
-        updates[1] = before;
+        camel_free(&dialogue->insert);
+        status = camel_move(&dialogue->insert, &updates[1]);
     }
     camel_free(&updates[0]);
     camel_free(&updates[1]);

@@ -47,22 +47,14 @@ static Dialogue on_begin(Subscriber &subscriber, bool is_location_update)
     return { subscriber, is_location_update };
 }
 
-/* Makes one Insert of what the dialogue has brought and of a further operation. A join changes its first update, so it
- * begins with an Insert of nothing: if the operation is refused, the dialogue keeps what it has. */
+/* Makes one Insert of what the dialogue has brought, which it keeps, and of a further operation. */
 static camel::Result<Update> join(const Dialogue &dialogue, Octets argument)
 {
     camel_imsi imsi = dialogue.subscriber.imsi;
     camel::Result<Update> next = Update::of_map(Operation::InsertSubscriberData, imsi, argument);
     if (!next || !dialogue.insert)
         return next;
-    camel::Result<Update> all = Update::of_insert(imsi, {});
-    if (!all)
-        return all;
-    if (Status joined = all->join(*dialogue.insert); !joined)
-        return camel::Failure{ joined.status() };
-    if (Status joined = all->join(*next); !joined)
-        return camel::Failure{ joined.status() };
-    return all;
+    return dialogue.insert->join(*next);
 }
 
 static void say(const char *what, const camel_answer &answer)

@@ -136,15 +136,15 @@ static const uint8_t CRITERIA[] = {
  * published. Here both operations have come in one TCAP message; event_loop.c also takes one after the other. */
 static void update_location(camel_store *store, const camel_imsi *imsi)
 {
-    camel_update updates[2] = { CAMEL_EMPTY, CAMEL_EMPTY }, next = CAMEL_EMPTY;
+    camel_update updates[2] = { CAMEL_EMPTY, CAMEL_EMPTY }, rows = CAMEL_EMPTY, criteria = CAMEL_EMPTY;
     camel_update_parts parts;
     uint64_t place;
     size_t rejected;
 
     OK(camel_update_of_register(imsi, &updates[0]));
-    OK(camel_update_of_map(CAMEL_INSERT_SUBSCRIBER_DATA, imsi, ROWS, sizeof ROWS, &updates[1], &place));
-    OK(camel_update_of_map(CAMEL_INSERT_SUBSCRIBER_DATA, imsi, CRITERIA, sizeof CRITERIA, &next, &place));
-    OK(camel_update_join(&updates[1], &next));
+    OK(camel_update_of_map(CAMEL_INSERT_SUBSCRIBER_DATA, imsi, ROWS, sizeof ROWS, &rows, &place));
+    OK(camel_update_of_map(CAMEL_INSERT_SUBSCRIBER_DATA, imsi, CRITERIA, sizeof CRITERIA, &criteria, &place));
+    OK(camel_update_join(&rows, &criteria, &updates[1]));
     OK(camel_submit_all(store, updates, 2, &rejected));
     OK(camel_publish(store));
     OK(camel_update_parts_of(&updates[1], &parts));
@@ -152,7 +152,8 @@ static void update_location(camel_store *store, const camel_imsi *imsi)
            parts.o_capability);
     camel_free(&updates[0]);
     camel_free(&updates[1]);
-    camel_free(&next);
+    camel_free(&rows);
+    camel_free(&criteria);
 }
 
 /* Publishes, and hands each thread the receipt. */

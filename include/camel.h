@@ -465,13 +465,14 @@ CAMEL_CALL
 camel_status camel_update_of_map(uint8_t operation, const camel_imsi *imsi, const uint8_t *argument,
                                  size_t argument_octet_count, camel_update *update, uint64_t *place);
 
-/* Joins two Inserts of one dialogue, over which an HLR has split the lists of a subscriber: `update` becomes what one
- * operation brings that has the lists of both, with the items of `next` behind its own. Of a camelCapabilityHandling in
- * both, that of `next` stands. `next` is another handle, and stays as it is. CAMEL_WRONG_HANDLE: one of them holds no
- * update. CAMEL_NO_INSERT, CAMEL_OTHER_SUBSCRIBER. CAMEL_UNEXPECTED_DATA_VALUE: a list has more than 10 items then, or
- * two of a detection point of the CSI. CAMEL_OUT_OF_MEMORY. After these `update` is as before too. */
+/* Fills an empty handle with the join of two Inserts of one dialogue, over which an HLR has split the lists of a
+ * subscriber: what one operation brings that has the lists of both, with the items of `next` behind those of `one`. Of a
+ * camelCapabilityHandling in both, that of `next` stands. The two are different handles, and stay as they are.
+ * CAMEL_WRONG_HANDLE: one of them holds no update. CAMEL_FULL_HANDLE. CAMEL_NO_INSERT, CAMEL_OTHER_SUBSCRIBER.
+ * CAMEL_UNEXPECTED_DATA_VALUE: a list has more than 10 items then, or two of a detection point of the CSI.
+ * CAMEL_OUT_OF_MEMORY. */
 CAMEL_CALL
-camel_status camel_update_join(camel_update *update, const camel_update *next);
+camel_status camel_update_join(const camel_update *one, const camel_update *next, camel_update *joined);
 
 /* Writes what came with an update. CAMEL_WRONG_HANDLE: the handle holds none, and the parts are as before. */
 CAMEL_CALL

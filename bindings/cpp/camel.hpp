@@ -360,12 +360,12 @@ public:
         return Decoded<Update>(std::move(update));
     }
 
-    /* Becomes the join of itself and the next Insert of its dialogue: what one operation brings that has the lists of
-     * both. CAMEL_NO_INSERT, CAMEL_OTHER_SUBSCRIBER, CAMEL_UNEXPECTED_DATA_VALUE, CAMEL_OUT_OF_MEMORY: both are as
-     * before. The next one is another object. */
-    Result<void> join(const Update &next) noexcept
+    /* The join of this Insert and the next one of its dialogue, which is another object: what one operation brings
+     * that has the lists of both. CAMEL_NO_INSERT, CAMEL_OTHER_SUBSCRIBER, CAMEL_UNEXPECTED_DATA_VALUE,
+     * CAMEL_OUT_OF_MEMORY. */
+    Result<Update> join(const Update &next) const noexcept
     {
-        return detail::done(camel_update_join(handle_.at(), next.handle_.at()));
+        return made(camel_update_join, handle_.at(), next.handle_.at());
     }
 
     /* What came with it: which lists, and the camelCapabilityHandling of each CSI. */

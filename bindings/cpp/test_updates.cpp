@@ -59,8 +59,7 @@ static void inserts_are_joined()
 {
     using camel::Update;
     const camel_imsi other = get(camel::imsi_of_digits("262010000000002"));
-    Update update = inserted(imsi(), ROWS);
-    CHECK(bool(update.join(inserted(imsi(), CRITERIA))));
+    Update update = get(inserted(imsi(), ROWS).join(inserted(imsi(), CRITERIA)));
     camel_update_parts parts = get(update.parts());
     CHECK(parts.o_rows == 1 && parts.o_criteria == 1 && parts.has_o_capability && parts.o_capability == 3);
     CHECK(update.join(inserted(imsi(), CRITERIA)).status() == CAMEL_UNEXPECTED_DATA_VALUE);
@@ -84,12 +83,12 @@ static bool update_location(camel::Store &store, camel_imsi imsi, camel::Octets 
 {
     using camel::Operation;
     using camel::Update;
-    Update insert = *Update::of_map(Operation::InsertSubscriberData, imsi, first);
-    camel::Result<void> joined = insert.join(*Update::of_map(Operation::InsertSubscriberData, imsi, second));
-    Update updates[] = { *Update::of_register(imsi), std::move(insert) };
+    Update rows = *Update::of_map(Operation::InsertSubscriberData, imsi, first);
+    Update criteria = *Update::of_map(Operation::InsertSubscriberData, imsi, second);
+    Update updates[] = { *Update::of_register(imsi), *rows.join(criteria) };
     camel::AllResult all = store.submit_all({ updates, 2 });
     camel::Result<camel::Receipt> published = store.publish();
-    return joined && all && published;
+    return all && published;
 }
 
 /* What came before a location update, and does not come in it, is gone. */

@@ -254,18 +254,15 @@ void msc_camel_procedure_ended(struct vlr_subscr *vsub, const struct osmo_fsm_in
 static camel_status join(const struct msc_camel_location *location, const struct osmo_gsup_message *gsup,
 			 camel_update *all, uint64_t *place)
 {
-	static const camel_insert nothing;
-	const camel_imsi *imsi = &location->imsi;
 	camel_update next = CAMEL_EMPTY;
-	camel_status status = camel_update_of_map(CAMEL_INSERT_SUBSCRIBER_DATA, imsi, gsup->ss_info, gsup->ss_info_len,
-						  &next, place);
+	camel_status status = camel_update_of_map(CAMEL_INSERT_SUBSCRIBER_DATA, &location->imsi, gsup->ss_info,
+						  gsup->ss_info_len, &next, place);
 
-	if (status == CAMEL_OK)
-		status = camel_update_of_insert(imsi, &nothing, all);
-	if (status == CAMEL_OK && location->insert.is_full)
-		status = camel_update_join(all, &location->insert);
-	if (status == CAMEL_OK)
-		status = camel_update_join(all, &next);
+	if (status != CAMEL_OK)
+		return status;
+	if (!location->insert.is_full)
+		return camel_move(all, &next);
+	status = camel_update_join(&location->insert, &next, all);
 	camel_free(&next);
 	return status;
 }
@@ -288,8 +285,7 @@ static camel_status insert_anew(struct vlr_subscr *vsub, const struct osmo_gsup_
 	if (status == CAMEL_OK) {
 		own(vsub, &location->imsi);
 		camel_free(&location->insert);
-		memcpy(&location->insert, &updates[1], sizeof(updates[1]));
-		memset(&updates[1], 0, sizeof(updates[1]));
+		status = camel_move(&location->insert, &updates[1]);
 	}
 	camel_free(&updates[0]);
 	camel_free(&updates[1]);

@@ -166,11 +166,13 @@ static void f_update_parts_of(void)
 }
 
 /* The status of a join, but that two items may be of one detection point. */
-static camel_status status_of_join(unsigned to, unsigned from)
+static camel_status status_of_join(unsigned first, unsigned from, bool was_full)
 {
-    const camel_update_parts *one = &slots[to].parts, *next = &slots[from].parts;
-    if (!holds_update(to) || !holds_update(from))
+    const camel_update_parts *one = &slots[first].parts, *next = &slots[from].parts;
+    if (!holds_update(first) || !holds_update(from))
         return CAMEL_WRONG_HANDLE;
+    if (was_full)
+        return CAMEL_FULL_HANDLE;
     if (one->kind != CAMEL_UPDATE_INSERT || next->kind != CAMEL_UPDATE_INSERT)
         return CAMEL_NO_INSERT;
     if (one->imsi.number != next->imsi.number)
@@ -192,13 +194,16 @@ static void note_join(camel_update_parts *one, const camel_update_parts *next)
 
 static void f_update_join(void)
 {
-    unsigned to = pick_update(), from = pick_update();
-    if (to == from)
+    unsigned one = pick_update(), from = pick_update(), to = pick_to_fill(UPDATE + below(4));
+    if (one == from || one == to || from == to)
         return;
-    camel_status wanted = status_of_join(to, from), status = camel_update_join(AS(update, to), AS(update, from));
+    bool was_full = handles[to].is_full;
+    camel_status wanted = status_of_join(one, from, was_full);
+    camel_status status = camel_update_join(AS(update, one), AS(update, from), AS(update, to));
     IS(status == wanted || (wanted == CAMEL_OK && status == CAMEL_UNEXPECTED_DATA_VALUE));
-    if (is_ok(OK | WRONG_HANDLE | NO_INSERT | OTHER_SUBSCRIBER | UNEXPECTED, status))
-        note_join(&slots[to].parts, &slots[from].parts);
+    camel_update_parts parts = slots[one].parts;
+    note_join(&parts, &slots[from].parts);
+    note_made(to, was_full, parts, OK | WRONG_HANDLE | FULL_HANDLE | NO_INSERT | OTHER_SUBSCRIBER | UNEXPECTED, status);
 }
 
 /* What a store may return of an update, but for its limit and the handles. */

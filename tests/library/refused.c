@@ -166,7 +166,7 @@ static bool has_items(const camel_update *update, unsigned rows, unsigned criter
 }
 
 /* What comes of a subscriber in two operations: a row of the O-CSI, and behind it criteria and a VT-CSI. */
-static void make_parts(unsigned number, camel_update *update, camel_update *next)
+static void make_parts(unsigned number, camel_update *update, camel_update *next, camel_update *joined)
 {
     struct argument argument = ARGUMENT[O_CSI];
     camel_row vt[] = { row_of(12, 102), row_of(13, 103) };
@@ -184,20 +184,20 @@ static void make_parts(unsigned number, camel_update *update, camel_update *next
           camel_update_of_map(argument.operation, &imsi, argument.octets, argument.count, update, &place),
           !update->is_full && place == CAMEL_NO_OCTET);
     AGAIN(UPDATE_LISTS, camel_update_of_insert(&imsi, &sent, next), !next->is_full);
-    AGAIN(JOIN, camel_update_join(update, next), has_items(update, 1, 0) && has_items(next, 0, 2));
-    IS(has_items(update, 1, 2) && has_items(next, 0, 2));
+    AGAIN(JOIN, camel_update_join(update, next, joined), !joined->is_full);
+    IS(has_items(update, 1, 0) && has_items(next, 0, 2) && has_items(joined, 1, 2));
 }
 
 /* A location update of a subscriber who is unknown: both updates are accepted or none is. The Insert comes twice. */
 static void update_location(unsigned number)
 {
-    camel_update updates[2] = { CAMEL_EMPTY, CAMEL_EMPTY }, next = CAMEL_EMPTY, empty = CAMEL_EMPTY;
+    camel_update updates[2] = { CAMEL_EMPTY, CAMEL_EMPTY }, one = CAMEL_EMPTY, next = CAMEL_EMPTY, empty = CAMEL_EMPTY;
     camel_imsi imsi = imsi_of(number), none = { 0 };
     uint64_t before = shown();
     size_t rejected = 99;
 
     AGAIN(UPDATE_PLAIN, camel_update_of_register(&imsi, &updates[0]), !updates[0].is_full);
-    make_parts(number, &updates[1], &next);
+    make_parts(number, &one, &next, &updates[1]);
     AGAIN(SUBMIT_ALL, camel_submit_all(&store, updates, 2, &rejected),
           shown() == before && rejected == 2 && is_unknown(number));
     before = shown();
@@ -206,7 +206,9 @@ static void update_location(unsigned number)
     NONE(CAMEL_MALFORMED, camel_update_of_register(&none, &empty));
     NONE(CAMEL_FULL_HANDLE, camel_update_of_register(&imsi, &next));
     NONE(CAMEL_WRONG_HANDLE, camel_submit(&store, &empty));
-    NONE(CAMEL_NO_INSERT, camel_update_join(&updates[1], &updates[0]));
+    NONE(CAMEL_NO_INSERT, camel_update_join(&updates[1], &updates[0], &empty));
+    NONE(CAMEL_FULL_HANDLE, camel_update_join(&one, &next, &updates[1]));
+    NONE(CAMEL_OK, FREED(&one));
     NONE(CAMEL_OK, FREED(&updates[0]));
     NONE(CAMEL_OK, FREED(&updates[1]));
     NONE(CAMEL_OK, FREED(&next));

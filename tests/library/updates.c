@@ -181,20 +181,22 @@ static void refused_joins(void)
     static const uint8_t one[] = { 2 }, same[] = { 2 }, many[] = { 3, 3, 3, 3, 3, 3, 3, 3, 3, 3 };
     camel_imsi imsi = imsi_of(1);
     camel_update update = rows_in(1, one, 1, 3), twice = rows_in(1, same, 1, 3), eleven = rows_in(1, many, 10, 3);
-    camel_update other = rows_in(2, many, 1, 3), cancel = CAMEL_EMPTY, empty = CAMEL_EMPTY;
+    camel_update other = rows_in(2, many, 1, 3), cancel = CAMEL_EMPTY, empty = CAMEL_EMPTY, joined = CAMEL_EMPTY;
     camel_update_parts before = parts_of(&update), after;
 
     RETURNS(CAMEL_OK, camel_update_of_cancel(&imsi, &cancel));
-    RETURNS(CAMEL_NO_INSERT, camel_update_join(&update, &cancel));
-    RETURNS(CAMEL_NO_INSERT, camel_update_join(&cancel, &update));
-    RETURNS(CAMEL_NO_INSERT, camel_update_join(&cancel, &other));
-    RETURNS(CAMEL_OTHER_SUBSCRIBER, camel_update_join(&update, &other));
-    RETURNS(CAMEL_UNEXPECTED_DATA_VALUE, camel_update_join(&update, &twice));
-    RETURNS(CAMEL_UNEXPECTED_DATA_VALUE, camel_update_join(&update, &eleven));
-    RETURNS(CAMEL_WRONG_HANDLE, camel_update_join(&update, &empty));
-    RETURNS(CAMEL_WRONG_HANDLE, camel_update_join(&empty, &update));
+    RETURNS(CAMEL_NO_INSERT, camel_update_join(&update, &cancel, &joined));
+    RETURNS(CAMEL_NO_INSERT, camel_update_join(&cancel, &update, &joined));
+    RETURNS(CAMEL_NO_INSERT, camel_update_join(&cancel, &other, &joined));
+    RETURNS(CAMEL_OTHER_SUBSCRIBER, camel_update_join(&update, &other, &joined));
+    RETURNS(CAMEL_UNEXPECTED_DATA_VALUE, camel_update_join(&update, &twice, &joined));
+    RETURNS(CAMEL_UNEXPECTED_DATA_VALUE, camel_update_join(&update, &eleven, &joined));
+    RETURNS(CAMEL_WRONG_HANDLE, camel_update_join(&update, &empty, &joined));
+    RETURNS(CAMEL_WRONG_HANDLE, camel_update_join(&empty, &update, &joined));
+    RETURNS(CAMEL_WRONG_HANDLE, camel_update_join(&empty, &joined, &update));
+    RETURNS(CAMEL_FULL_HANDLE, camel_update_join(&cancel, &other, &update));
     after = parts_of(&update);
-    IS(is_same_parts(&before, &after) && !empty.is_full);
+    IS(is_same_parts(&before, &after) && !empty.is_full && !joined.is_full);
     IS(parts_of(&cancel).kind == CAMEL_UPDATE_CANCEL && parts_of(&eleven).o_rows == 10);
     camel_free(&update), camel_free(&twice), camel_free(&eleven), camel_free(&other), camel_free(&cancel);
 }
@@ -216,17 +218,19 @@ static camel_answer decided(camel_store *store, camel_session *session, uint8_t 
 static void joined_updates(camel_store *store, camel_session *session)
 {
     static const uint8_t first[] = { 2, 3 }, second[] = { 4 };
-    camel_update update = rows_in(1, first, 2, 2), next = rows_in(1, second, 1, 3), criteria = CAMEL_EMPTY;
+    camel_update one = rows_in(1, first, 2, 2), next = rows_in(1, second, 1, 3), criteria = CAMEL_EMPTY;
+    camel_update rows = CAMEL_EMPTY, update = CAMEL_EMPTY;
     camel_imsi imsi = imsi_of(1);
     camel_o_criteria entry = { .dp = 4 };
     camel_insert sent = { .o = { .criteria = &entry, .criteria_count = 1 } };
     camel_update_parts parts;
 
-    RETURNS(CAMEL_OK, camel_update_join(&update, &next));
-    parts = parts_of(&update);
-    IS(parts.o_rows == 3 && parts.has_o_capability && parts.o_capability == 3 && parts_of(&next).o_rows == 1);
+    RETURNS(CAMEL_OK, camel_update_join(&one, &next, &rows));
+    parts = parts_of(&rows);
+    IS(parts.o_rows == 3 && parts.has_o_capability && parts.o_capability == 3);
+    IS(parts_of(&one).o_rows == 2 && parts_of(&one).o_capability == 2 && parts_of(&next).o_rows == 1);
     RETURNS(CAMEL_OK, camel_update_of_insert(&imsi, &sent, &criteria));
-    RETURNS(CAMEL_OK, camel_update_join(&update, &criteria));
+    RETURNS(CAMEL_OK, camel_update_join(&rows, &criteria, &update));
     parts = parts_of(&update);
     IS(parts.o_rows == 3 && parts.o_criteria == 1 && parts.has_o_capability && parts.o_capability == 3);
     IS(!parts_of(&criteria).has_o_capability);

@@ -93,19 +93,14 @@ impl Subscriber {
 }
 
 impl Dialogue {
-    /// Makes one Insert of what the dialogue has brought and of a further operation. A join changes its first update,
-    /// so it begins with an Insert of nothing: if the operation is refused, the dialogue keeps what it has.
+    /// Makes one Insert of what the dialogue has brought, which it keeps, and of a further operation.
     fn join(&self, argument: &[u8]) -> Result<PreparedUpdate, Error> {
-        let imsi = self.imsi;
-        let next = PreparedUpdate::from_map(Operation::InsertSubscriberData, Some(imsi), argument)?;
-        let Some(kept) = &self.insert else {
-            return Ok(next);
-        };
-        let csis = Csis::default();
-        let mut all = PreparedUpdate::new(&Update::Insert { imsi, csis })?;
-        all.join(kept)?;
-        all.join(&next)?;
-        Ok(all)
+        let imsi = Some(self.imsi);
+        let next = PreparedUpdate::from_map(Operation::InsertSubscriberData, imsi, argument)?;
+        match &self.insert {
+            Some(kept) => kept.join(&next),
+            None => Ok(next),
+        }
     }
 }
 

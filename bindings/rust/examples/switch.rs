@@ -140,8 +140,7 @@ fn decode(imsi: Imsi, argument: &[u8]) -> Result<PreparedUpdate, MapFault> {
 /// both operations have come in one TCAP message; `event_loop.rs` also takes one after the other.
 fn update_location(store: &mut Store, imsi: Imsi) -> Outcomes<()> {
     let register = PreparedUpdate::new(&Update::Register { imsi })?;
-    let mut insert = decode(imsi, ROWS)?;
-    insert.join(&decode(imsi, CRITERIA)?)?;
+    let insert = decode(imsi, ROWS)?.join(&decode(imsi, CRITERIA)?)?;
     let updates = [register, insert];
     store.submit_all(&updates)?;
     store.publish()?;

@@ -411,7 +411,11 @@ unsafe extern "C" {
         update: *mut Update,
         place: *mut u64,
     ) -> Status;
-    pub fn camel_update_join(update: *mut Update, next: *const Update) -> Status;
+    pub fn camel_update_join(
+        one: *const Update,
+        next: *const Update,
+        joined: *mut Update,
+    ) -> Status;
     pub fn camel_update_parts_of(update: *const Update, parts: *mut UpdateParts) -> Status;
     pub fn camel_submit(store: *mut Store, update: *const Update) -> Status;
     pub fn camel_submit_all(

@@ -21,7 +21,8 @@ use std::fmt;
 ///     let register = PreparedUpdate::new(&Update::Register { imsi })?;
 ///     let mut insert = PreparedUpdate::from_map(Operation::InsertSubscriberData, Some(imsi), first)?;
 ///     if let Some(second) = second {
-///         insert.join(&PreparedUpdate::from_map(Operation::InsertSubscriberData, Some(imsi), second)?)?;
+///         let next = PreparedUpdate::from_map(Operation::InsertSubscriberData, Some(imsi), second)?;
+///         insert = insert.join(&next)?;
 ///     }
 ///     Ok(store.submit_all(&[register, insert])?)
 /// }
@@ -36,15 +37,20 @@ pub struct PreparedUpdate {
 unsafe impl Sync for PreparedUpdate {}
 
 impl PreparedUpdate {
+    /// One that is still to be filled.
+    fn empty() -> PreparedUpdate {
+        PreparedUpdate {
+            handle: Owned::empty(),
+        }
+    }
+
     /// Reads an update.
     ///
     /// # Errors
     /// [`Error::DataMissing`] and [`Error::UnexpectedDataValue`] of its data, as those of
     /// [`Store::submit`](crate::Store::submit). [`Error::OutOfMemory`]: try again.
     pub fn new(update: &Update) -> Result<PreparedUpdate, Error> {
-        let made = PreparedUpdate {
-            handle: Owned::empty(),
-        };
+        let made = PreparedUpdate::empty();
         let handle = made.handle.at();
         // SAFETY: the handle is empty, and in no other call; each IMSI and withdrawal lives as long as the call, and so
         // do the lists, which are as `Csis::raw` says.
@@ -75,25 +81,27 @@ impl PreparedUpdate {
         imsi: Option<Imsi>,
         argument: &[u8],
     ) -> Result<PreparedUpdate, MapFault> {
-        let mut made = PreparedUpdate {
-            handle: Owned::empty(),
-        };
+        let mut made = PreparedUpdate::empty();
         map::prepare(&mut made.handle, operation, imsi, argument)?;
         Ok(made)
     }
 
-    /// Joins the next Insert of the same dialogue to this one. An HLR may split the lists of a subscriber over several
-    /// operations: this becomes what one operation brings that has the lists of both, with the items of the next one
-    /// behind its own. Of a camelCapabilityHandling that came in both, that of the next one stands.
+    /// The join of this Insert and the next one of the same dialogue. An HLR may split the lists of a subscriber over
+    /// several operations: it is what one operation brings that has the lists of both, with the items of the next one
+    /// behind those of this one. Of a camelCapabilityHandling that came in both, that of the next one stands.
     ///
     /// # Errors
-    /// Both are as before. [`Error::NoInsert`]: one of the two is no Insert. [`Error::OtherSubscriber`]: they are of
+    /// [`Error::NoInsert`]: one of the two is no Insert. [`Error::OtherSubscriber`]: they are of
     /// different subscribers. [`Error::UnexpectedDataValue`]: a list has more than 10 items then, or two of a detection
     /// point of the CSI. [`Error::OutOfMemory`]: try again.
-    pub fn join(&mut self, next: &PreparedUpdate) -> Result<(), Error> {
-        // SAFETY: both handles are fit for a call, as `Owned` says, and apart from each other, since this one is
-        // borrowed by `&mut`.
-        done(unsafe { ffi::camel_update_join(self.handle.at(), next.handle.at()) })
+    pub fn join(&self, next: &PreparedUpdate) -> Result<PreparedUpdate, Error> {
+        let joined = PreparedUpdate::empty();
+        // SAFETY: the handles are fit for a call that reads them, as `Owned` says, and the one to be filled is apart
+        // from both.
+        done(unsafe {
+            ffi::camel_update_join(self.handle.at(), next.handle.at(), joined.handle.at())
+        })?;
+        Ok(joined)
     }
 
     /// What came with it: of an Insert, which lists and how many items, and the camelCapabilityHandling of each CSI.

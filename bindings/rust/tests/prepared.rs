@@ -118,9 +118,9 @@ fn parts_of_dialogue(o_criteria: u8) -> UpdateParts {
 #[test]
 fn inserts_of_a_dialogue_are_joined() {
     let (mut store, mut session) = open();
-    let mut insert = inserted(imsi(), ROWS);
-    assert_eq!(insert.parts(), Ok(parts_of_dialogue(0)));
-    insert.join(&inserted(imsi(), CRITERIA)).unwrap();
+    let rows = inserted(imsi(), ROWS);
+    let insert = rows.join(&inserted(imsi(), CRITERIA)).unwrap();
+    assert_eq!(rows.parts(), Ok(parts_of_dialogue(0)));
     assert_eq!(insert.parts(), Ok(parts_of_dialogue(1)));
     store.submit_all(&[register(imsi()), insert]).unwrap();
     assert_eq!(
@@ -132,23 +132,20 @@ fn inserts_of_a_dialogue_are_joined() {
 
 #[test]
 fn what_is_not_joined_stays() {
-    let mut insert = inserted(imsi(), ROWS);
+    let insert = inserted(imsi(), ROWS);
     let cancel = PreparedUpdate::new(&Update::Cancel { imsi: imsi() }).unwrap();
-    assert_eq!(insert.join(&cancel), Err(Error::NoInsert));
+    let refused = |one: &PreparedUpdate, next: &PreparedUpdate| one.join(next).map(|_| ());
+    assert_eq!(refused(&insert, &cancel), Err(Error::NoInsert));
     assert_eq!(
-        insert.join(&inserted(other(), CRITERIA)),
+        refused(&insert, &inserted(other(), CRITERIA)),
         Err(Error::OtherSubscriber)
     );
     assert_eq!(
-        insert.join(&inserted(imsi(), ROWS)),
+        refused(&insert, &inserted(imsi(), ROWS)),
         Err(Error::UnexpectedDataValue)
     );
     assert_eq!(insert.parts(), Ok(parts_of_dialogue(0)));
-    assert_eq!(
-        register(imsi()).join(&insert),
-        Err(Error::NoInsert),
-        "a Register"
-    );
+    assert_eq!(refused(&register(imsi()), &insert), Err(Error::NoInsert));
 }
 
 #[test]

@@ -12,6 +12,7 @@ use Rattle.camel_map.specs.declared.arrival.ItemCounts.{ItemCounts}
 use Rattle.camel_map.specs.declared.join.JoinFault.{JoinFault}
 use Rattle.camel_c_data.specs.Flag.{flag_of}
 use Rattle.camel_c_data.specs.declared.update.CamelWithdrawal.{CamelWithdrawal}
+use Rattle.camel_c.specs.Filling.{Fills}
 use Rattle.camel_c.specs.declared.failure.Failure.{Failure}
 use Rattle.camel_c.specs.declared.failure.Failure.TheVariants as failure
 use Rattle.camel_c.specs.declared.handle.CamelHandle.{CamelHandle}
@@ -81,23 +82,13 @@ pub record TellsCounts (counts : ItemCounts) (parts : CamelUpdateParts) : Type 0
   pub vt_rows : parts.vt_rows ≡ counts.vt
   pub t_criteria : parts.t_criteria ≡ counts.t_criteria
 
--- the status of a join
-abbrev pub join_status : Result Arrival JoinFault → ℕ
-join_status (Ok joined) = 0
-join_status (Err why) = join_fault_code why
-
--- what is in the place of an update after a join
-abbrev pub join_leaves : Arrival → Result Arrival JoinFault → Arrival
-join_leaves one (Ok joined) = joined
-join_leaves one (Err why) = one
-
--- An Insert becomes its join with the next one, or stays: this is the status, and this is in its place.
-pub record JoinsNext (one other : Arrival) (status : ℕ) (after : Arrival) : Type 0 where
+-- An empty handle is filled with the join of an Insert and the next one, and this is the status.
+pub record JoinsInto (one other : Arrival) (status : ℕ) (before after : Option Object) : Type 0 where
   pub answer : Result Arrival JoinFault
-  pub told : status ≡ join_status answer
-  pub left : after ≡ join_leaves one answer
   -- the lists of both are as those that one operation brings
   pub joined : IsJoin one other answer
   pub fault : IfSome (join_fault one.update other.update) (λ why. answer ≡ Err why)
   -- so it may be joined with the next one of the dialogue
   pub received : IsOfLists one → IsOfLists other → IfOk answer IsOfLists
+  pub refused : (why : JoinFault) → answer ≡ Err why → status ≡ join_fault_code why
+  pub filled : (made : Arrival) → answer ≡ Ok made → Fills (object.Update made) status before after

@@ -1,54 +1,59 @@
 //! Joining the Inserts of a dialogue.
 
-ghost use Rattle.std.specs.Prelude.{◌≡◌, ◌≢◌, ◌⊎◌, Some};
-ghost use Rattle.camel_c.specs.HeldUpdates.{HoldsUpdate, JoinsNext};
+ghost use Rattle.std.specs.Prelude.{◌≡◌, ◌≢◌, ◌⊎◌, None, Some};
+ghost use Rattle.camel_c.specs.HeldUpdates.{HoldsUpdate, JoinsInto};
 ghost use Rattle.camel_c.specs.declared.object.Object.TheVariants as object;
 
 use crate::failure::Failure;
+use crate::filling::put;
 use crate::handle::CamelHandle;
+use crate::object::Object;
 use camel_map::Arrival;
 use std::alloc::Global;
 
-/// Joins an Insert with the next one of its dialogue, which stays: an HLR may split the lists of a subscriber over
-/// several operations (TS 29.002). A list that comes in both is the first one with the items of the next one behind it,
-/// and all rules of received lists hold for the whole. Of a camelCapabilityHandling that came in both, the one of the
-/// next stands.
+/// Fills an empty handle with the join of an Insert and the next one of its dialogue, which stay: an HLR may split the
+/// lists of a subscriber over several operations (TS 29.002). A list that comes in both is the first one with the items
+/// of the next one behind it, and all rules of received lists hold for the whole. Of a camelCapabilityHandling that came
+/// in both, the one of the next stands.
 ///
-/// It fails with 503 if a handle holds no update, with 408 if one of the two is no Insert, with 409 if they are of
-/// different subscribers, with 36 for a list of more than 10 items or of two of one detection point, and with 102 if
-/// memory was refused. Then both are as before.
+/// It fails with 503 if one of the first two handles holds no update, with 504 if the one to be filled is not empty, with
+/// 408 if one of the two is no Insert, with 409 if they are of different subscribers, with 36 for a list of more than 10
+/// items or of two of one detection point, and with 102 if memory was refused. Then the handle is as before.
 #[unsafe(no_mangle)]
 pub extern "C" fn camel_update_join(
     alloc: Global,
-    update: &mut CamelHandle,
+    one: &mut CamelHandle,
     next: &mut CamelHandle,
+    joined: &mut CamelHandle,
 ) -> u32
-    ensures joins { (one other : Arrival) → update.old.value ≡ Some (object.Update one)
-        → next.old.value ≡ Some (object.Update other)
-        → (left : Arrival) × (update.new.value ≡ Some (object.Update left)) × JoinsNext one other result left }
-    ensures unchanged { result ≢ 0 → update.new.value ≡ update.old.value }
-    ensures same { next.new.value ≡ next.old.value }
-    ensures wrong { (HoldsUpdate update.old.value × HoldsUpdate next.old.value) ⊎ (result ≡ 503) }
+    ensures joins { (first other : Arrival) → one.old.value ≡ Some (object.Update first)
+        → next.old.value ≡ Some (object.Update other) → joined.old.value ≡ None
+        → JoinsInto first other result joined.old.value joined.new.value }
+    ensures same { (one.new.value ≡ one.old.value) × (next.new.value ≡ next.old.value) }
+    ensures unchanged { result ≢ 0 → joined.new.value ≡ joined.old.value }
+    ensures wrong { (HoldsUpdate one.old.value × HoldsUpdate next.old.value) ⊎ (result ≡ 503) }
+    ensures full { (joined.old.value ≡ None) ⊎ ((result ≡ 503) ⊎ (result ≡ 504)) }
 {
-    let Some(one) = update.lend::<Arrival>() else {
+    let Some(first) = one.lend::<Arrival>() else {
         return Failure::WrongHandle.code();
     };
     let Some(other) = next.lend::<Arrival>() else {
         return Failure::WrongHandle.code();
     };
-    join_next(alloc, one, other)
+    if joined.is_full() {
+        return Failure::FullHandle.code();
+    }
+    join_into(alloc, first, other, joined)
 }
 
-/// Puts the join of an Insert and the next one in the place of the first, and gives the status.
-fn join_next(alloc: Global, arrival: &mut Arrival, next: &Arrival) -> u32
-    ensures joins { JoinsNext arrival.old next.now result arrival.new }
-    ensures unchanged { result ≢ 0 → arrival.new ≡ arrival.old }
+/// Fills an empty handle with the join of two updates, and gives the status.
+fn join_into(alloc: Global, one: &Arrival, next: &Arrival, joined: &mut CamelHandle) -> u32
+    requires { joined.old.value ≡ None }
+    ensures joins { JoinsInto one.now next.now result joined.old.value joined.new.value }
+    ensures unchanged { result ≢ 0 → joined.new.value ≡ joined.old.value }
 {
-    match arrival.join(alloc, next) {
-        Ok(joined) => {
-            *arrival = joined;
-            0
-        }
+    match one.join(alloc, next) {
+        Ok(made) => put(alloc, joined, Object::Update(made)),
         Err(why) => u32::from(why.code()),
     }
 }
