@@ -46,8 +46,8 @@ endef
 
 .PHONY: help try try-explain try-map replay explain explain-check program check script capture crate pages try-make \
 	proofs edits must-not-compile examples scripts streams coprocess refusals fuzz map-check map-program library install \
-	library-test library-c library-cpp library-as-shipped library-installed library-deb library-rust deb osmo-check \
-	osmo-source soak fuzz-c bench bench-program bench-peers bench-loop bench-map count-vlr test
+	library-test library-c library-cpp library-as-shipped library-installed library-deb library-rust tools deb \
+	osmo-check osmo-source soak fuzz-c bench bench-program bench-peers bench-loop bench-map count-vlr test
 # In order, so that what is missing is said before anything is built.
 .NOTPARALLEL:
 .SECONDEXPANSION:
@@ -188,7 +188,11 @@ library: begin-$$@
 install: begin-$$@
 	@scripts/install "$$PREFIX"
 
-## Makes Debian packages of the library that is built, in out/deb: seconds.
+## Proves and builds the programs of the package wenqolo-tools, into out/tools: LONG_TIME.
+tools: begin-$$@ $(PROGRAM) $(EXPLAIN) $(MAP_CHECK)
+	@scripts/tools
+
+## Makes Debian packages of what is built of library and tools, in out/deb: seconds.
 deb: begin-$$@
 	@scripts/deb
 
@@ -209,7 +213,7 @@ library-as-shipped: begin-$$@ library
 library-installed: begin-$$@ library
 	@scripts/library-test installed
 
-library-deb: begin-$$@ library
+library-deb: begin-$$@ library tools
 	@scripts/library-test deb
 
 library-rust: DECISIONS ?= 1000000
