@@ -24,7 +24,7 @@ MAP_CHECK := crates/camel_map_check/out/camel_map_check
 EXPLAIN := crates/camel_explain/out/camel_explain
 
 # The shell reads these, and not make, so that a name may have spaces.
-export SCRIPT LIMIT THREADS PROFILE CAPTURE CRATE PREFIX DESTDIR LIBDIR PARTS SANITIZE JOBS LIBRARY
+export SCRIPT LIMIT THREADS PROFILE CAPTURE CRATE PREFIX DESTDIR LIBDIR PARTS SANITIZE JOBS LIBRARY SUITE MIRROR
 OPTIONS = --limit "$$LIMIT" $(if $(THREADS),--threads "$$THREADS") $(if $(PROFILE),--profile "$$PROFILE")
 # As in the options of programs, `-` is standard input.
 READ_SCRIPT := [ "$$SCRIPT" = - ] || exec < "$$SCRIPT";
@@ -47,7 +47,8 @@ endef
 .PHONY: help try try-explain try-map replay explain explain-check program check script capture crate pages try-make \
 	proofs edits must-not-compile examples scripts streams coprocess refusals fuzz map-check map-program library install \
 	library-test library-c library-cpp library-as-shipped library-installed library-deb library-rust tools deb \
-	osmo-check osmo-source soak fuzz-c bench bench-program bench-peers bench-loop bench-map count-vlr test
+	deb-check deb-root osmo-check osmo-source soak fuzz-c bench bench-program bench-peers bench-loop bench-map count-vlr \
+	test
 # In order, so that what is missing is said before anything is built.
 .NOTPARALLEL:
 .SECONDEXPANSION:
@@ -195,6 +196,15 @@ tools: begin-$$@ $(PROGRAM) $(EXPLAIN) $(MAP_CHECK)
 ## Makes Debian packages of what is built of library and tools, in out/deb: seconds.
 deb: begin-$$@
 	@scripts/deb
+
+# It needs root and the network. The fresh Debian is of SUITE, trixie if it is not given, by the package sources of
+# MIRROR.
+## Installs, uses and removes the packages in a fresh Debian: some minutes, once library and tools are built.
+deb-check: begin-$$@ deb-root library tools
+	@scripts/deb-check run
+
+deb-root: begin-deb-check
+	@scripts/deb-check root
 
 # Each part of it may be left out of `make test`. The soak makes DECISIONS, and COUNT calls have random fields.
 ## Compiles and runs the tests, the examples and the bindings of the library: a minute, once it is built.
