@@ -1,8 +1,9 @@
 /* What a switch with one event loop waits for: the longest location update, publication and set-up of a call, at so
  * many subscribers as are named. Each subscriber has a row and a listed number at detection point 2. An update is a
  * decoded InsertSubscriberData behind a Register, submitted as one, published, and seen by the one session, as
- * examples/event_loop.c does it of a dialogue with one operation. The subscribers are updated in no order, and each
- * tenth one is new. Times are by the clock of the thread's processor time, so that other programs do not count. */
+ * camel_commit does it in examples/event_loop.c of a dialogue with one operation. The subscribers are updated in no
+ * order, and each tenth one is new. Times are by the clock of the thread's processor time, so that other programs do
+ * not count. */
 #define _GNU_SOURCE
 #include "camel.h"
 
@@ -66,11 +67,12 @@ static camel_imsi imsi_of(uint64_t subscriber)
 /* A Register and the Insert that is decoded, submitted as one. */
 static void submit(struct loop *loop, camel_imsi imsi)
 {
+    camel_change change = { .kind = CAMEL_UPDATE_REGISTER, .imsi = imsi };
     camel_update updates[2] = { CAMEL_EMPTY, CAMEL_EMPTY };
     uint64_t place;
     size_t rejected;
 
-    OK(camel_update_of_register(&imsi, &updates[0]));
+    OK(camel_update_of(&change, &updates[0]));
     OK(camel_update_of_map(CAMEL_INSERT_SUBSCRIBER_DATA, &imsi, ARGUMENT, sizeof ARGUMENT, &updates[1], &place));
     OK(camel_submit_all(&loop->store, updates, 2, &rejected));
     camel_free(&updates[0]);

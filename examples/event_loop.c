@@ -10,7 +10,6 @@
 struct loop {
     camel_store store;
     camel_session session;
-    bool has_rest; /* pending updates that could not be dropped */
 };
 
 /* A call: its event, and the record of its set-up, which decides its later detection points. */
@@ -49,19 +48,19 @@ static void expect(const char *what, bool is_so)
 
 #define EXPECT(condition) expect(#condition, condition)
 
-/* What the HLR is answered as refused must not be shown later: it is dropped. If that is refused memory too, as only a
- * Cancel or a ClearAll may meet, the next handler drops it before it submits anything. */
-static camel_status begin(struct loop *loop)
+/* Publishes updates, and the session shows them from here on. What the HLR is answered as refused is never shown. */
+static camel_status commit(struct loop *loop, const camel_update *updates, size_t count)
 {
-    camel_status status = loop->has_rest ? camel_drop_pending(&loop->store) : CAMEL_OK;
-    loop->has_rest = status != CAMEL_OK;
-    return status;
+    size_t rejected;
+    return camel_commit(&loop->store, updates, count, &loop->session, 1, &rejected);
 }
 
-static camel_status publish(struct loop *loop)
+/* Publishes an update by itself, if the status of its data is CAMEL_OK, and frees it. */
+static camel_status commit_one(struct loop *loop, camel_update *update, camel_status status)
 {
-    camel_status status = camel_publish_to(&loop->store, &loop->session, 1);
-    loop->has_rest = status != CAMEL_OK && camel_drop_pending(&loop->store) != CAMEL_OK;
+    if (!status)
+        status = commit(loop, update, 1);
+    camel_free(update);
     return status;
 }
 
@@ -92,18 +91,15 @@ static camel_status join(const struct dialogue *dialogue, const uint8_t *argumen
 /* An InsertSubscriberData: the HLR is answered by the status. In a location update a Register goes before it. */
 static camel_status on_insert(struct loop *loop, struct dialogue *dialogue, const uint8_t *argument, size_t count)
 {
+    camel_change change = { .kind = CAMEL_UPDATE_REGISTER, .imsi = dialogue->subscriber->imsi };
     camel_update updates[2] = { CAMEL_EMPTY, CAMEL_EMPTY };
-    size_t rejected, first = dialogue->is_location_update ? 0 : 1;
-    camel_status status = begin(loop);
+    size_t first = dialogue->is_location_update ? 0 : 1;
+    camel_status status = camel_update_of(&change, &updates[0]);
     dialogue->has_come = true;
-    if (!status)
-        status = camel_update_of_register(&dialogue->subscriber->imsi, &updates[0]);
     if (!status)
         status = join(dialogue, argument, count, &updates[1]);
     if (!status)
-        status = camel_submit_all(&loop->store, &updates[first], 2 - first, &rejected);
-    if (!status)
-        status = publish(loop);
+        status = commit(loop, &updates[first], 2 - first);
     if (!status) {
         camel_free(&dialogue->insert);
         status = camel_move(&dialogue->insert, &updates[1]);
@@ -117,11 +113,9 @@ static camel_status on_insert(struct loop *loop, struct dialogue *dialogue, cons
 static camel_status on_operation(struct loop *loop, uint8_t operation, const camel_imsi *imsi, const uint8_t *argument,
                                  size_t count)
 {
+    camel_update update = CAMEL_EMPTY;
     uint64_t place;
-    camel_status status = begin(loop);
-    if (!status)
-        status = camel_submit_map(&loop->store, operation, imsi, argument, count, &place);
-    return status ? status : publish(loop);
+    return commit_one(loop, &update, camel_update_of_map(operation, imsi, argument, count, &update, &place));
 }
 
 static void say(const char *what, const camel_answer *answer)
@@ -194,14 +188,12 @@ static void take_up(struct loop *loop, struct subscriber *subscriber)
  * subscriber has no CSI. If one came and was refused, the record that was there stays. */
 static camel_status end_location_update(struct loop *loop, const struct dialogue *dialogue, enum end end)
 {
-    const camel_imsi *imsi = &dialogue->subscriber->imsi;
-    camel_status status;
+    uint8_t kind = end == ERROR ? CAMEL_UPDATE_CANCEL : CAMEL_UPDATE_REGISTER;
+    camel_change change = { .kind = kind, .imsi = dialogue->subscriber->imsi };
+    camel_update update = CAMEL_EMPTY;
     if (end == ABORT || (end == RESULT && dialogue->has_come))
         return CAMEL_OK;
-    status = begin(loop);
-    if (!status)
-        status = end == ERROR ? camel_submit_cancel(&loop->store, imsi) : camel_submit_register(&loop->store, imsi);
-    return status ? status : publish(loop);
+    return commit_one(loop, &update, camel_update_of(&change, &update));
 }
 
 /* The end of a dialogue. If its status is not CAMEL_OK, a location update has failed. */
@@ -220,13 +212,13 @@ static camel_status on_end(struct loop *loop, struct dialogue *dialogue, enum en
 }
 
 /* A call that finds no way before it is answered, or ends busy or not answered, by what happened. */
-static void on_failure(struct call *call, uint8_t dp, uint8_t cause)
+static void on_failure(struct loop *loop, struct call *call, uint8_t dp, uint8_t cause)
 {
     camel_answer answer;
     call->event.dp = dp;
     call->event.cause = cause;
     if (call->kept.is_full) {
-        EXPECT(camel_decide_kept(&call->kept, &call->event, &answer) == CAMEL_OK);
+        EXPECT(camel_decide_kept(&loop->session, &call->kept, &call->event, &answer) == CAMEL_OK);
         say("failure", &answer);
     }
     camel_free(&call->kept);
@@ -351,7 +343,7 @@ static void refuse_location_update(struct loop *loop, struct subscriber *subscri
 int main(void)
 {
     static const uint8_t cancel[] = { 0xa3, 0x0a, 0x04, 0x08, 0x62, 0x02, 0x01, 0x00, 0x00, 0x00, 0x00, 0xf1 };
-    struct loop loop = { CAMEL_EMPTY, CAMEL_EMPTY, false };
+    struct loop loop = { CAMEL_EMPTY, CAMEL_EMPTY };
     struct subscriber subscriber = { .held = NULL }, other = { .held = NULL };
     struct call call;
     uint64_t seed;
@@ -365,7 +357,7 @@ int main(void)
     abort_location_update(&loop, &subscriber);
     insert_outside(&loop, &subscriber, &other);
     refuse_location_update(&loop, &subscriber);
-    on_failure(&call, CAMEL_DP_ROUTE_SELECT_FAILURE, 3);
+    on_failure(&loop, &call, CAMEL_DP_ROUTE_SELECT_FAILURE, 3);
     print("cancel", on_operation(&loop, CAMEL_CANCEL_LOCATION, &subscriber.imsi, cancel, sizeof cancel));
     camel_free(&loop.session);
     EXPECT(camel_close(&loop.store) == CAMEL_OK);

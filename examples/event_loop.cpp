@@ -66,6 +66,15 @@ static void say(const char *what, const camel_answer &answer)
         std::printf("no trigger, reason %u\n", answer.reason);
 }
 
+/* Either side clears a call, which may be held. */
+static void on_clear(Subscriber &subscriber, unsigned number)
+{
+    for (std::vector<Call> *calls : { &subscriber.held, &subscriber.calls }) {
+        auto is_cleared = [=](const Call &call) { return call.number == number; };
+        calls->erase(std::remove_if(calls->begin(), calls->end(), is_cleared), calls->end());
+    }
+}
+
 class Loop {
 public:
     explicit Loop(camel::Store::Opened opened)
@@ -77,17 +86,13 @@ public:
     Status on_insert(Dialogue &dialogue, Octets argument)
     {
         dialogue.has_come = true;
-        if (Status begun = begin(); !begun)
-            return begun;
         camel::Result<Update> anew = Update::of_register(dialogue.subscriber.imsi);
         camel::Result<Update> insert = join(dialogue, argument);
         if (!anew || !insert)
             return camel::Failure{ anew ? insert.status() : anew.status() };
         Update updates[] = { *std::move(anew), *std::move(insert) };
         size_t first = dialogue.is_location_update ? 0 : 1;
-        Status status = store_.submit_all({ updates + first, 2 - first });
-        if (status)
-            status = publish();
+        Status status = store_.commit({ updates + first, 2 - first }, { &session_, 1 });
         if (status)
             dialogue.insert = std::move(updates[1]);
         return status;
@@ -96,10 +101,7 @@ public:
     /* Any other operation, as a CancelLocation. */
     Status on_operation(Operation operation, camel_imsi imsi, Octets argument)
     {
-        if (Status begun = begin(); !begun)
-            return begun;
-        Status submitted = store_.submit_map(operation, imsi, argument);
-        return submitted ? publish() : submitted;
+        return commit(Update::of_map(operation, imsi, argument));
     }
 
     /* The end of a dialogue. If its status is not CAMEL_OK, a location update has failed. */
@@ -132,21 +134,26 @@ public:
             std::puts("updateLocation"); /* the switch sends it, and calls on_begin */
     }
 
-private:
-    /* What the HLR is answered as refused must not be shown later: it is dropped. If that is refused memory too, as
-     * only a Cancel or a ClearAll may meet, the next handler drops it before it submits anything. */
-    Status begin()
+    /* A call that finds no way before it is answered, or ends busy or not answered, by what happened. */
+    void on_failure(Subscriber &subscriber, unsigned number, uint8_t dp, uint8_t cause)
     {
-        Status status = has_rest_ ? store_.drop_pending() : Status();
-        has_rest_ = !status;
-        return status;
+        for (Call &call : subscriber.calls) {
+            if (call.number != number || !call.kept)
+                continue;
+            call.event.dp = dp;
+            call.event.cause = cause;
+            say("failure", *call.kept->decide(session_, call.event));
+        }
+        on_clear(subscriber, number);
     }
 
-    Status publish()
+private:
+    /* Shows an update from here on, or nothing of it, so the HLR is answered by the status. */
+    Status commit(const camel::Result<Update> &update)
     {
-        Status status = store_.publish_to({ &session_, 1 });
-        has_rest_ = !status && !store_.drop_pending();
-        return status;
+        if (!update)
+            return camel::Failure{ update.status() };
+        return store_.commit({ &update.value(), 1 }, { &session_, 1 });
     }
 
     /* An error of the HLR, as unknownSubscriber, removes the record. If all went well and no InsertSubscriberData came,
@@ -156,10 +163,7 @@ private:
         camel_imsi imsi = dialogue.subscriber.imsi;
         if (end == End::Abort || (end == End::Result && dialogue.has_come))
             return {};
-        if (Status begun = begin(); !begun)
-            return begun;
-        Status submitted = end == End::Error ? store_.submit_cancel(imsi) : store_.submit_register(imsi);
-        return submitted ? publish() : submitted;
+        return commit(end == End::Error ? Update::of_cancel(imsi) : Update::of_register(imsi));
     }
 
     /* Takes up the calls that waited. No call is set up by unconfirmed data: the record may have only a part of what
@@ -192,30 +196,7 @@ private:
 
     camel::Store store_;
     camel::Session session_;
-    bool has_rest_ = false; /* pending updates that could not be dropped */
 };
-
-/* Either side clears a call, which may be held. */
-static void on_clear(Subscriber &subscriber, unsigned number)
-{
-    for (std::vector<Call> *calls : { &subscriber.held, &subscriber.calls }) {
-        auto is_cleared = [=](const Call &call) { return call.number == number; };
-        calls->erase(std::remove_if(calls->begin(), calls->end(), is_cleared), calls->end());
-    }
-}
-
-/* A call that finds no way before it is answered, or ends busy or not answered, by what happened. */
-static void on_failure(Subscriber &subscriber, unsigned number, uint8_t dp, uint8_t cause)
-{
-    for (Call &call : subscriber.calls) {
-        if (call.number != number || !call.kept)
-            continue;
-        call.event.dp = dp;
-        call.event.cause = cause;
-        say("failure", *call.kept->decide(call.event));
-    }
-    on_clear(subscriber, number);
-}
 
 /* Arguments of InsertSubscriberData, as event_loop.c explains them: an O-CSI with rows of detection points 2 and 4, the
  * criteria of 2, for destinations that begin with +4917, and those of 4, for cause 3. */
@@ -318,6 +299,6 @@ int main()
     abort_location_update(loop, subscriber);
     insert_outside(loop, subscriber, other);
     refuse_location_update(loop, subscriber);
-    on_failure(subscriber, 1, CAMEL_DP_ROUTE_SELECT_FAILURE, 3);
+    loop.on_failure(subscriber, 1, CAMEL_DP_ROUTE_SELECT_FAILURE, 3);
     print("cancel", loop.on_operation(Operation::CancelLocation, subscriber.imsi, { cancel, sizeof cancel }));
 }

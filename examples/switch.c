@@ -136,12 +136,13 @@ static const uint8_t CRITERIA[] = {
  * published. Here both operations have come in one TCAP message; event_loop.c also takes one after the other. */
 static void update_location(camel_store *store, const camel_imsi *imsi)
 {
+    camel_change change = { .kind = CAMEL_UPDATE_REGISTER, .imsi = *imsi };
     camel_update updates[2] = { CAMEL_EMPTY, CAMEL_EMPTY }, rows = CAMEL_EMPTY, criteria = CAMEL_EMPTY;
     camel_update_parts parts;
     uint64_t place;
     size_t rejected;
 
-    OK(camel_update_of_register(imsi, &updates[0]));
+    OK(camel_update_of(&change, &updates[0]));
     OK(camel_update_of_map(CAMEL_INSERT_SUBSCRIBER_DATA, imsi, ROWS, sizeof ROWS, &rows, &place));
     OK(camel_update_of_map(CAMEL_INSERT_SUBSCRIBER_DATA, imsi, CRITERIA, sizeof CRITERIA, &criteria, &place));
     OK(camel_update_join(&rows, &criteria, &updates[1]));
@@ -169,11 +170,13 @@ static void publish_to(camel_store *store, struct caller *callers)
 /* A look lets the first publication through, and holds up the second one. */
 static void hold_publications(camel_store *store, camel_session *session, const camel_imsi *other)
 {
+    camel_change change = { .kind = CAMEL_UPDATE_REGISTER, .imsi = *other };
     uint64_t holders = 0;
     OK(camel_look(session));
-    OK(camel_submit_register(store, other));
+    OK(camel_submit_change(store, &change));
     OK(camel_publish(store));
-    OK(camel_submit_cancel(store, other));
+    change.kind = CAMEL_UPDATE_CANCEL;
+    OK(camel_submit_change(store, &change));
     expect("a publication behind a look", camel_publish(store), CAMEL_HELD);
     OK(camel_holders(store, &holders));
     if (holders != (uint64_t)1 << THREADS) {
@@ -215,11 +218,12 @@ static size_t dump(camel_session *session, struct record *records)
 /* Submits a Register and the Insert of a record. */
 static void restore(camel_store *store, const struct record *record)
 {
+    camel_change change = { .kind = CAMEL_UPDATE_REGISTER, .imsi = record->imsi };
     camel_update updates[2] = { CAMEL_EMPTY, CAMEL_EMPTY };
     uint64_t place;
     size_t rejected;
 
-    OK(camel_update_of_register(&record->imsi, &updates[0]));
+    OK(camel_update_of(&change, &updates[0]));
     OK(camel_update_of_map(CAMEL_INSERT_SUBSCRIBER_DATA, &record->imsi, record->argument.octets,
                            record->argument.count, &updates[1], &place));
     OK(camel_submit_all(store, updates, 2, &rejected));
@@ -253,15 +257,15 @@ static void keep_data(camel_store *store, camel_session *session, const camel_im
 {
     camel_event set_up = event_of(imsi, 2), failure = event_of(imsi, 4);
     camel_subscriber kept = CAMEL_EMPTY;
-    camel_withdrawal everything = { .everything = true };
+    camel_change change = { .kind = CAMEL_UPDATE_DELETE, .imsi = *imsi, .withdrawal = { .everything = true } };
     camel_answer answer;
     bool is_there = false;
 
     OK(camel_set_up(session, &set_up, &answer, &kept, &is_there));
     say("set-up", &answer);
-    OK(camel_submit_delete(store, imsi, &everything));
+    OK(camel_submit_change(store, &change));
     OK(camel_publish(store));
-    OK(camel_decide_kept(&kept, &failure, &answer));
+    OK(camel_decide_kept(session, &kept, &failure, &answer));
     say("route select failure, by the data of the set-up", &answer);
     OK(camel_decide(session, &failure, &answer));
     say("the same by a new look", &answer);

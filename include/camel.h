@@ -22,14 +22,17 @@
  *
  * Memory. The library calls malloc, realloc and free. A call that is refused memory returns CAMEL_OUT_OF_MEMORY, has
  * changed nothing, but that a session which looks may have seen a later front, and may be made again. Only camel_open,
- * camel_update_of_* and camel_update_join, camel_submit and camel_submit_*, camel_publish, camel_publish_to,
- * camel_drop_pending, camel_keep, camel_set_up, camel_imsis_of and camel_encode_record ask for any, and a publication
- * that returns CAMEL_HELD for none.
+ * camel_update_of, camel_update_of_map and camel_update_join, camel_submit and camel_submit_*, camel_publish,
+ * camel_publish_to, camel_commit, camel_drop_pending, camel_keep, camel_set_up, camel_imsis_of and camel_encode_record
+ * ask for any, and a publication that returns CAMEL_HELD for none.
  *
- * What nothing checks. A handle is empty or as the library left it; a pointer is not null, but where NULL is named,
- * even one to no octets, and points to as much as is said; what is passed does not overlap; stores whose
- * receipts are told apart have different seeds; no call is made from a signal handler, or from the forked child of a
- * process with threads; malloc, realloc and free are of one allocator. */
+ * Octets and lists. A pointer that is passed with a count may be NULL with a count of 0. With another count nothing is
+ * read of it: it is no octets, and of handles CAMEL_WRONG_HANDLE, or CAMEL_MALFORMED of camel_open.
+ *
+ * What nothing checks. A handle is empty or as the library left it; a pointer without a count is not null, and one with
+ * a count points to as many; what is passed does not overlap; stores whose receipts are told apart have different
+ * seeds; no call is made from a signal handler, or from the forked child of a process with threads; malloc, realloc and
+ * free are of one allocator. */
 #ifndef CAMEL_H
 #define CAMEL_H
 
@@ -44,9 +47,9 @@ extern "C" {
 
 /* The version of this header, and that of the layouts and of the functions below. camel_open compares the latter with
  * that of the library, which camel_abi_version returns. */
-#define CAMEL_VERSION "0.6.0"
-#define CAMEL_VERSION_NUMBER 0x000600 /* an octet for each of its numbers */
-#define CAMEL_ABI_VERSION 3
+#define CAMEL_VERSION "0.7.0"
+#define CAMEL_VERSION_NUMBER 0x000700 /* an octet for each of its numbers */
+#define CAMEL_ABI_VERSION 4
 
 /* The most sessions that a store has, the most updates that it takes in its life, and the most octets of an argument
  * that camel_encode_record writes. */
@@ -57,10 +60,12 @@ extern "C" {
 /* What is written as the place of a fault where no octet of the argument is at fault. */
 #define CAMEL_NO_OCTET UINT64_MAX
 
-/* What a call returns is to be looked at, and no pointer that is passed to it is null. */
+/* What a call returns is to be looked at. No pointer that is passed to CAMEL_CALL is null. */
 #if defined(__GNUC__)
+#define CAMEL_RESULT __attribute__((warn_unused_result))
 #define CAMEL_CALL __attribute__((warn_unused_result, nonnull))
 #else
+#define CAMEL_RESULT
 #define CAMEL_CALL
 #endif
 
@@ -105,7 +110,7 @@ typedef struct camel_session { void *at; bool is_full; } camel_session;
 typedef struct camel_subscriber { void *at; bool is_full; } camel_subscriber;
 typedef struct camel_update { void *at; bool is_full; } camel_update;
 typedef struct camel_imsis { void *at; bool is_full; } camel_imsis;
-#define CAMEL_EMPTY { 0, 0 }
+#define CAMEL_EMPTY { NULL, false }
 
 /* Which updates a store has published: its number, which is its seed, and how many they are. So a receipt is neither
  * sent nor logged. */
@@ -151,8 +156,9 @@ typedef struct camel_number_criterion {
     camel_isdn_address numbers[10];
 } camel_number_criterion;
 
-/* The criteria of a detection point of the O-CSI, and of the VT-CSI. */
-typedef struct camel_o_criteria {
+/* The criteria of a detection point. Those of the VT-CSI have neither a number nor a call type:
+ * CAMEL_UNEXPECTED_DATA_VALUE if an Insert sends one. */
+typedef struct camel_criteria {
     uint8_t dp;
     bool has_number;
     camel_number_criterion number;
@@ -160,51 +166,43 @@ typedef struct camel_o_criteria {
     bool has_call_type;
     bool is_forwarded; /* the call type criterion asks for forwarded calls; else for those that are not */
     camel_causes causes;
-} camel_o_criteria;
-typedef struct camel_t_criteria { uint8_t dp; camel_basic_services basic; camel_causes causes; } camel_t_criteria;
+} camel_criteria;
 
 /* What an Insert sends of each CSI. A list is sent if its pointer is not NULL, and has 1 to 10 items then:
  * CAMEL_DATA_MISSING of none, and of a count whose pointer is NULL; CAMEL_UNEXPECTED_DATA_VALUE of more, whatever they
  * are, and of two of a detection point of the CSI. */
-typedef struct camel_sent_o_csi {
+typedef struct camel_sent_csi {
     const camel_row *rows;
     size_t row_count;
-    const camel_o_criteria *criteria;
+    const camel_criteria *criteria;
     size_t criteria_count;
-} camel_sent_o_csi;
-typedef struct camel_sent_vt_csi {
-    const camel_row *rows;
-    size_t row_count;
-    const camel_t_criteria *criteria;
-    size_t criteria_count;
-} camel_sent_vt_csi;
-typedef struct camel_insert { camel_sent_o_csi o; camel_sent_vt_csi vt; } camel_insert;
-
-/* The same as the library takes it, of which camel_lists_of makes it: whether each list is sent, and no pointer that is
- * NULL. The items of a list that is not sent are not looked at. */
-typedef struct camel_o_lists {
-    const camel_row *rows;
-    size_t row_count;
-    const camel_o_criteria *criteria;
-    size_t criteria_count;
-    bool has_rows;
-    bool has_criteria;
-} camel_o_lists;
-typedef struct camel_vt_lists {
-    const camel_row *rows;
-    size_t row_count;
-    const camel_t_criteria *criteria;
-    size_t criteria_count;
-    bool has_rows;
-    bool has_criteria;
-} camel_vt_lists;
-typedef struct camel_lists { camel_o_lists o; camel_vt_lists vt; } camel_lists;
+} camel_sent_csi;
+typedef struct camel_insert { camel_sent_csi o; camel_sent_csi vt; } camel_insert;
 
 /* The local codes of the operations of MAP by which an HLR changes subscriber data (TS 29.002). */
 enum { CAMEL_CANCEL_LOCATION = 3, CAMEL_INSERT_SUBSCRIBER_DATA = 7, CAMEL_DELETE_SUBSCRIBER_DATA = 8 };
 
 /* What a Delete removes, each with its criteria. */
 typedef struct camel_withdrawal { bool o; bool vt; bool everything; } camel_withdrawal;
+
+/* What an update is: a Register makes an empty record, also of one that is there, an Insert and a Delete change one, a
+ * Cancel removes one, and a ClearAll all. */
+enum {
+    CAMEL_UPDATE_REGISTER = 1,
+    CAMEL_UPDATE_INSERT = 2,
+    CAMEL_UPDATE_DELETE = 3,
+    CAMEL_UPDATE_CANCEL = 4,
+    CAMEL_UPDATE_CLEAR_ALL = 5
+};
+
+/* A change of subscriber data, as `{ .kind = CAMEL_UPDATE_REGISTER, .imsi = imsi }`. What is not of its kind is not
+ * looked at. */
+typedef struct camel_change {
+    uint8_t kind;                /* CAMEL_UPDATE_REGISTER to CAMEL_UPDATE_CLEAR_ALL */
+    camel_imsi imsi;             /* of all but a ClearAll */
+    camel_withdrawal withdrawal; /* of a Delete */
+    camel_insert insert;         /* of an Insert */
+} camel_change;
 
 /* A call event. The destination and is_forwarded are read at detection points 2 and 4, the cause (0 to 127) at 4, 13
  * and 14. */
@@ -256,21 +254,12 @@ typedef struct camel_counts {
     uint64_t subscribers; /* who have a record in what is published */
     uint64_t published;   /* updates */
     uint64_t pending;     /* updates */
-    uint64_t held;        /* publications that have returned CAMEL_HELD, modulo 2^64 */
+    uint64_t held;        /* publications that a look held up, but that of a session to be told, modulo 2^64 */
 } camel_counts;
 
-/* How many events a session has decided with each reason; with CAMEL_REASON_NONE a service was invoked. They are
- * counted modulo 2^64. */
-typedef struct camel_decisions { uint64_t by_reason[CAMEL_REASONS]; } camel_decisions;
-
-/* What an update is. */
-enum {
-    CAMEL_UPDATE_REGISTER = 1,
-    CAMEL_UPDATE_INSERT = 2,
-    CAMEL_UPDATE_DELETE = 3,
-    CAMEL_UPDATE_CANCEL = 4,
-    CAMEL_UPDATE_CLEAR_ALL = 5
-};
+/* How many events a session has decided, by camel_decide, camel_set_up and camel_decide_kept, at each detection point
+ * with each reason, modulo 2^64: by[CAMEL_DP_T_BUSY][CAMEL_REASON_NONE] is how often a service was invoked at busy. */
+typedef struct camel_decisions { uint64_t by[CAMEL_DP_T_NO_ANSWER + 1][CAMEL_REASONS]; } camel_decisions;
 
 /* What came with an update. Of an Insert: how many items came in each list, ignored ones among them, 1 to 10, or 0 if
  * the list did not come; and the camelCapabilityHandling of each CSI, by which a switch chooses the version of CAP: the
@@ -294,20 +283,128 @@ typedef struct camel_argument { uint16_t count; uint8_t octets[CAMEL_MAX_ARGUMEN
 
 uint32_t camel_abi_version(void);
 
-/* The sizes with which the library was built, of the structures from camel_receipt to camel_argument in their order,
- * in which camel_update_parts and camel_argument are behind camel_decisions, and then of a handle: writes as many as
- * there is room for, and returns how many there are. */
+/* The sizes with which the library was built, of camel_receipt, camel_imsi, camel_address, camel_isdn_address,
+ * camel_basic_service, camel_row, camel_basic_services, camel_causes, camel_number_criterion, camel_criteria,
+ * camel_csi_lists, camel_lists, camel_withdrawal, camel_event, camel_answer, camel_counts, camel_decisions,
+ * camel_update_parts, camel_argument and a handle: writes as many as there is room for, and returns how many there
+ * are. */
 uint32_t camel_layouts(uint32_t *sizes, size_t size_count);
 
+/* What the inline calls below make of NULL, and what they call then: whether each list of an Insert is sent, and
+ * pointers that are not null. Nothing else calls these. */
+typedef struct camel_csi_lists {
+    const camel_row *rows;
+    size_t row_count;
+    const camel_criteria *criteria;
+    size_t criteria_count;
+    bool has_rows;
+    bool has_criteria;
+} camel_csi_lists;
+typedef struct camel_lists { camel_csi_lists o; camel_csi_lists vt; } camel_lists;
+
+CAMEL_CALL
+camel_status camel_imsi_of_tbcd_nonnull(const uint8_t *octets, size_t octet_count, camel_imsi *imsi);
+CAMEL_CALL
+camel_status camel_imsi_of_digits_nonnull(const uint8_t *digits, size_t digit_count, camel_imsi *imsi);
+CAMEL_CALL
+camel_status camel_address_of_nonnull(const uint8_t *octets, size_t octet_count, camel_address *address);
+CAMEL_CALL
+camel_status camel_isdn_address_of_nonnull(const uint8_t *octets, size_t octet_count, camel_isdn_address *address);
+CAMEL_CALL
+camel_status camel_open_version(uint32_t abi_version, camel_store *store, camel_session *sessions, size_t session_count,
+                                uint64_t limit, uint8_t profile, uint64_t seed);
+CAMEL_CALL
+camel_status camel_submit_change_nonnull(camel_store *store, uint8_t kind, const camel_imsi *imsi,
+                                         const camel_withdrawal *withdrawal, const camel_lists *lists);
+CAMEL_CALL
+camel_status camel_submit_map_nonnull(camel_store *store, uint8_t operation, const camel_imsi *imsi,
+                                      const uint8_t *argument, size_t argument_octet_count, uint64_t *place);
+CAMEL_CALL
+camel_status camel_update_of_nonnull(uint8_t kind, const camel_imsi *imsi, const camel_withdrawal *withdrawal,
+                                     const camel_lists *lists, camel_update *update);
+CAMEL_CALL
+camel_status camel_update_of_map_nonnull(uint8_t operation, const camel_imsi *imsi, const uint8_t *argument,
+                                         size_t argument_octet_count, camel_update *update, uint64_t *place);
+CAMEL_CALL
+camel_status camel_submit_all_nonnull(camel_store *store, const camel_update *updates, size_t update_count,
+                                      size_t *rejected);
+CAMEL_CALL
+camel_status camel_publish_to_nonnull(camel_store *store, camel_session *sessions, size_t session_count);
+CAMEL_CALL
+camel_status camel_commit_nonnull(camel_store *store, const camel_update *updates, size_t update_count,
+                                  camel_session *sessions, size_t session_count, size_t *rejected);
+
+CAMEL_INLINE camel_csi_lists camel_csi_lists_of(const camel_sent_csi *sent)
+{
+    static camel_row row;
+    static camel_criteria criteria;
+    camel_csi_lists lists = { &row, 0, &criteria, 0, sent->rows || sent->row_count > 0,
+                              sent->criteria || sent->criteria_count > 0 };
+    if (sent->rows) {
+        lists.rows = sent->rows;
+        lists.row_count = sent->row_count;
+    }
+    if (sent->criteria) {
+        lists.criteria = sent->criteria;
+        lists.criteria_count = sent->criteria_count;
+    }
+    return lists;
+}
+
+CAMEL_INLINE camel_lists camel_lists_of(const camel_insert *sent)
+{
+    camel_lists lists = { camel_csi_lists_of(&sent->o), camel_csi_lists_of(&sent->vt) };
+    return lists;
+}
+
+/* A pointer that is not null: of no octets where it was, */
+CAMEL_INLINE const uint8_t *camel_octets_at(const uint8_t *octets, size_t *octet_count)
+{
+    static const uint8_t none = 0;
+    if (octets)
+        return octets;
+    *octet_count = 0;
+    return &none;
+}
+
+/* and of one empty handle if there are to be some. */
+CAMEL_INLINE const camel_update *camel_updates_at(const camel_update *updates, size_t *update_count)
+{
+    static const camel_update none = CAMEL_EMPTY;
+    if (updates)
+        return updates;
+    *update_count = *update_count > 0;
+    return &none;
+}
+
 /* Data, made once per call. CAMEL_MALFORMED: they are none, and what was to be written is as before. */
-CAMEL_CALL
-camel_status camel_imsi_of_tbcd(const uint8_t *octets, size_t octet_count, camel_imsi *imsi);
-CAMEL_CALL
-camel_status camel_imsi_of_digits(const uint8_t *digits, size_t digit_count, camel_imsi *imsi); /* characters 0 to 9 */
-CAMEL_CALL
-camel_status camel_address_of(const uint8_t *octets, size_t octet_count, camel_address *address);
-CAMEL_CALL
-camel_status camel_isdn_address_of(const uint8_t *octets, size_t octet_count, camel_isdn_address *address);
+CAMEL_RESULT
+CAMEL_INLINE camel_status camel_imsi_of_tbcd(const uint8_t *octets, size_t octet_count, camel_imsi *imsi)
+{
+    const uint8_t *at = camel_octets_at(octets, &octet_count);
+    return camel_imsi_of_tbcd_nonnull(at, octet_count, imsi);
+}
+
+CAMEL_RESULT /* characters 0 to 9 */
+CAMEL_INLINE camel_status camel_imsi_of_digits(const uint8_t *digits, size_t digit_count, camel_imsi *imsi)
+{
+    const uint8_t *at = camel_octets_at(digits, &digit_count);
+    return camel_imsi_of_digits_nonnull(at, digit_count, imsi);
+}
+
+CAMEL_RESULT
+CAMEL_INLINE camel_status camel_address_of(const uint8_t *octets, size_t octet_count, camel_address *address)
+{
+    const uint8_t *at = camel_octets_at(octets, &octet_count);
+    return camel_address_of_nonnull(at, octet_count, address);
+}
+
+CAMEL_RESULT
+CAMEL_INLINE camel_status camel_isdn_address_of(const uint8_t *octets, size_t octet_count, camel_isdn_address *address)
+{
+    const uint8_t *at = camel_octets_at(octets, &octet_count);
+    return camel_isdn_address_of_nonnull(at, octet_count, address);
+}
 
 /* The digits of an IMSI: as characters 0 to 9 with 0 octets behind them, and as the first `count` of TBCD octets.
  * CAMEL_MALFORMED: it is none, and nothing is written. */
@@ -364,70 +461,27 @@ CAMEL_INLINE bool camel_random_seed(uint64_t *seed)
 /* Opens a store that takes at most `limit` updates in its life (1 to 2^63 - 1; a great limit takes no memory), with 1
  * to 64 sessions, which decide under profile 1 or 2. The seed is secret and random. All handles are filled, or none is:
  * CAMEL_OTHER_VERSION, CAMEL_MALFORMED, CAMEL_FULL_HANDLE, CAMEL_OUT_OF_MEMORY, CAMEL_NO_PLACE. */
-CAMEL_CALL
-camel_status camel_open_version(uint32_t abi_version, camel_store *store, camel_session *sessions, size_t session_count,
-                                uint64_t limit, uint8_t profile, uint64_t seed);
-CAMEL_CALL
+CAMEL_RESULT
 CAMEL_INLINE camel_status camel_open(camel_store *store, camel_session *sessions, size_t session_count, uint64_t limit,
                                       uint8_t profile, uint64_t seed)
 {
-    return camel_open_version(CAMEL_ABI_VERSION, store, sessions, session_count, limit, profile, seed);
+    camel_session none = CAMEL_EMPTY;
+    if (!sessions)
+        session_count = 0;
+    return camel_open_version(CAMEL_ABI_VERSION, store, sessions ? sessions : &none, session_count, limit, profile,
+                              seed);
 }
 
-/* The writer. No call sees an update before it is published. Each returns CAMEL_MALFORMED, CAMEL_UNEXPECTED_DATA_VALUE
- * or CAMEL_DATA_MISSING for its data, which are looked at first, and CAMEL_UNIDENTIFIED_SUBSCRIBER, CAMEL_DATA_MISSING,
- * CAMEL_HISTORY_FULL or CAMEL_OUT_OF_MEMORY if the store rejects it. */
-CAMEL_CALL
-camel_status camel_submit_register(camel_store *store, const camel_imsi *imsi);
-CAMEL_CALL
-camel_status camel_submit_delete(camel_store *store, const camel_imsi *imsi, const camel_withdrawal *what);
-CAMEL_CALL
-camel_status camel_submit_cancel(camel_store *store, const camel_imsi *imsi);
-CAMEL_CALL
-camel_status camel_submit_clear_all(camel_store *store);
+/* The writer. No call sees an update before it is published. */
 
-/* The lists of an Insert, as the library takes them: none is read of what stands for NULL. */
+/* Submits a change. CAMEL_MALFORMED, CAMEL_UNEXPECTED_DATA_VALUE or CAMEL_DATA_MISSING: of its data, which are looked
+ * at first. CAMEL_UNIDENTIFIED_SUBSCRIBER, CAMEL_DATA_MISSING, CAMEL_HISTORY_FULL or CAMEL_OUT_OF_MEMORY: the store
+ * rejects it. */
 CAMEL_CALL
-CAMEL_INLINE camel_lists camel_lists_of(const camel_insert *sent)
+CAMEL_INLINE camel_status camel_submit_change(camel_store *store, const camel_change *change)
 {
-    static camel_row row;
-    static camel_o_criteria o;
-    static camel_t_criteria t;
-    camel_lists lists = {
-        { sent->o.rows, sent->o.row_count, sent->o.criteria, sent->o.criteria_count, true, true },
-        { sent->vt.rows, sent->vt.row_count, sent->vt.criteria, sent->vt.criteria_count, true, true },
-    };
-    if (!lists.o.rows) {
-        lists.o.has_rows = lists.o.row_count > 0;
-        lists.o.rows = &row;
-        lists.o.row_count = 0;
-    }
-    if (!lists.o.criteria) {
-        lists.o.has_criteria = lists.o.criteria_count > 0;
-        lists.o.criteria = &o;
-        lists.o.criteria_count = 0;
-    }
-    if (!lists.vt.rows) {
-        lists.vt.has_rows = lists.vt.row_count > 0;
-        lists.vt.rows = &row;
-        lists.vt.row_count = 0;
-    }
-    if (!lists.vt.criteria) {
-        lists.vt.has_criteria = lists.vt.criteria_count > 0;
-        lists.vt.criteria = &t;
-        lists.vt.criteria_count = 0;
-    }
-    return lists;
-}
-
-/* Submits what an Insert sends. */
-CAMEL_CALL
-camel_status camel_submit_lists(camel_store *store, const camel_imsi *imsi, const camel_lists *lists);
-CAMEL_CALL
-CAMEL_INLINE camel_status camel_submit_insert(camel_store *store, const camel_imsi *imsi, const camel_insert *sent)
-{
-    camel_lists lists = camel_lists_of(sent);
-    return camel_submit_lists(store, imsi, &lists);
+    camel_lists lists = camel_lists_of(&change->insert);
+    return camel_submit_change_nonnull(store, change->kind, &change->imsi, &change->withdrawal, &lists);
 }
 
 /* Submits what an operation of MAP brings, by the octets of its argument: the parameter of the TCAP invoke, in BER. A
@@ -436,38 +490,35 @@ CAMEL_INLINE camel_status camel_submit_insert(camel_store *store, const camel_im
  * call returns CAMEL_MALFORMED_OCTETS to CAMEL_OTHER_IMSI, CAMEL_DATA_MISSING or CAMEL_UNEXPECTED_DATA_VALUE, and place
  * is the octet, from 0, at which its first fault is. Else place is CAMEL_NO_OCTET, and it is always written.
  * CAMEL_MALFORMED is of the operation or the IMSI, and a store rejects an update as above. */
-CAMEL_CALL
-camel_status camel_submit_map(camel_store *store, uint8_t operation, const camel_imsi *imsi, const uint8_t *argument,
-                              size_t argument_octet_count, uint64_t *place);
-
-/* Updates in handles, which are of no store. Each of these calls fills an empty handle with the update that the call
- * camel_submit_* of its name submits, and returns the same statuses for its data, then CAMEL_FULL_HANDLE or
- * CAMEL_OUT_OF_MEMORY. After a status other than CAMEL_OK the handle is as before. The place is that of
- * camel_submit_map. */
-CAMEL_CALL
-camel_status camel_update_of_register(const camel_imsi *imsi, camel_update *update);
-CAMEL_CALL
-camel_status camel_update_of_delete(const camel_imsi *imsi, const camel_withdrawal *what, camel_update *update);
-CAMEL_CALL
-camel_status camel_update_of_cancel(const camel_imsi *imsi, camel_update *update);
-CAMEL_CALL
-camel_status camel_update_of_clear_all(camel_update *update);
-CAMEL_CALL
-camel_status camel_update_of_lists(const camel_imsi *imsi, const camel_lists *lists, camel_update *update);
-CAMEL_CALL
-CAMEL_INLINE camel_status camel_update_of_insert(const camel_imsi *imsi, const camel_insert *sent,
-                                                  camel_update *update)
+CAMEL_RESULT
+CAMEL_INLINE camel_status camel_submit_map(camel_store *store, uint8_t operation, const camel_imsi *imsi,
+                                           const uint8_t *argument, size_t argument_octet_count, uint64_t *place)
 {
-    camel_lists lists = camel_lists_of(sent);
-    return camel_update_of_lists(imsi, &lists, update);
+    const uint8_t *at = camel_octets_at(argument, &argument_octet_count);
+    return camel_submit_map_nonnull(store, operation, imsi, at, argument_octet_count, place);
 }
+
+/* Updates in handles, which are of no store: fills an empty handle with the update that camel_submit_change or
+ * camel_submit_map submits, and returns the same statuses for its data, then CAMEL_FULL_HANDLE or CAMEL_OUT_OF_MEMORY.
+ * After a status other than CAMEL_OK the handle is as before. The place is that of camel_submit_map. */
 CAMEL_CALL
-camel_status camel_update_of_map(uint8_t operation, const camel_imsi *imsi, const uint8_t *argument,
-                                 size_t argument_octet_count, camel_update *update, uint64_t *place);
+CAMEL_INLINE camel_status camel_update_of(const camel_change *change, camel_update *update)
+{
+    camel_lists lists = camel_lists_of(&change->insert);
+    return camel_update_of_nonnull(change->kind, &change->imsi, &change->withdrawal, &lists, update);
+}
+
+CAMEL_RESULT
+CAMEL_INLINE camel_status camel_update_of_map(uint8_t operation, const camel_imsi *imsi, const uint8_t *argument,
+                                              size_t argument_octet_count, camel_update *update, uint64_t *place)
+{
+    const uint8_t *at = camel_octets_at(argument, &argument_octet_count);
+    return camel_update_of_map_nonnull(operation, imsi, at, argument_octet_count, update, place);
+}
 
 /* Fills an empty handle with the join of two Inserts of one dialogue, over which an HLR has split the lists of a
- * subscriber: what one operation brings that has the lists of both, with the items of `next` behind those of `one`. Of a
- * camelCapabilityHandling in both, that of `next` stands. The two are different handles, and stay as they are.
+ * subscriber: what one operation brings that has the lists of both, with the items of `next` behind those of `one`. Of
+ * a camelCapabilityHandling in both, that of `next` stands. The two are different handles, and stay as they are.
  * CAMEL_WRONG_HANDLE: one of them holds no update. CAMEL_FULL_HANDLE. CAMEL_NO_INSERT, CAMEL_OTHER_SUBSCRIBER.
  * CAMEL_UNEXPECTED_DATA_VALUE: a list has more than 10 items then, or two of a detection point of the CSI.
  * CAMEL_OUT_OF_MEMORY. */
@@ -478,23 +529,80 @@ camel_status camel_update_join(const camel_update *one, const camel_update *next
 CAMEL_CALL
 camel_status camel_update_parts_of(const camel_update *update, camel_update_parts *parts);
 
-/* Submits a copy of an update, which the handle keeps: it may be submitted again. CAMEL_UNIDENTIFIED_SUBSCRIBER,
- * CAMEL_DATA_MISSING or CAMEL_HISTORY_FULL if the store rejects it, and CAMEL_OUT_OF_MEMORY, also for the copy. */
-CAMEL_CALL
-camel_status camel_submit(camel_store *store, const camel_update *update);
+/* Submits copies of updates in their order, as those of a location update: all are accepted, or none is. The handles
+ * keep the updates, which may be submitted again. CAMEL_UNIDENTIFIED_SUBSCRIBER, CAMEL_DATA_MISSING or
+ * CAMEL_HISTORY_FULL: the store rejects one, as if those before it were accepted. CAMEL_UNEXPECTED_DATA_VALUE: of
+ * several one is a Cancel or a ClearAll, which leaves no record. CAMEL_OUT_OF_MEMORY. CAMEL_WRONG_HANDLE: the store's
+ * handle holds none, or one of these no update. `rejected` is the index of the first update that the store rejects, and
+ * update_count if it rejects none, as when memory is refused or a handle is wrong. It is always written. */
+CAMEL_RESULT
+CAMEL_INLINE camel_status camel_submit_all(camel_store *store, const camel_update *updates, size_t update_count,
+                                           size_t *rejected)
+{
+    size_t count = update_count;
+    const camel_update *at = camel_updates_at(updates, &count);
+    camel_status status = camel_submit_all_nonnull(store, at, count, rejected);
+    if (!updates)
+        *rejected = update_count;
+    return status;
+}
 
-/* Submits copies of several updates in their order, as those of a location update: all are accepted, or none is. It
- * returns what camel_submit does, of each as if those before it were accepted, and CAMEL_UNEXPECTED_DATA_VALUE of a
- * Cancel or a ClearAll, which leaves no record. CAMEL_WRONG_HANDLE: the store's handle holds none, or one of these no
- * update. `rejected` is the index of the first update that the store rejects, and update_count if it rejects none, as
- * when memory is refused or a handle is wrong. It is always written. */
+/* The same of one update, which may be of any kind. */
 CAMEL_CALL
-camel_status camel_submit_all(camel_store *store, const camel_update *updates, size_t update_count, size_t *rejected);
+CAMEL_INLINE camel_status camel_submit(camel_store *store, const camel_update *update)
+{
+    size_t rejected;
+    return camel_submit_all_nonnull(store, update, 1, &rejected);
+}
 
-/* Publishes all that is pending, also if nothing is. CAMEL_HELD: a look that began before the last publication is held.
- * CAMEL_OUT_OF_MEMORY. After both all is pending as before. */
+/* Publishes all that is pending, also if nothing is, and has these sessions of the store learn it, as camel_learn does:
+ * from then on each shows it. The sessions are in no other call meanwhile: those of other threads learn a receipt.
+ * CAMEL_MALFORMED: there are more than CAMEL_MAX_SESSIONS. CAMEL_WRONG_HANDLE, CAMEL_HELD or CAMEL_OTHER_STORE: the
+ * first session that cannot learn is none, has begun a look, or is of another store. CAMEL_HELD: a look that began
+ * before the last publication is held. CAMEL_OUT_OF_MEMORY. After each of these all is pending as before. No run meets
+ * CAMEL_NO_LOOK, or CAMEL_OTHER_STORE of a session of the store: only then all is published, and that session does not
+ * show it. */
+CAMEL_RESULT
+CAMEL_INLINE camel_status camel_publish_to(camel_store *store, camel_session *sessions, size_t session_count)
+{
+    camel_session none = CAMEL_EMPTY;
+    if (!sessions)
+        session_count = session_count > 0;
+    return camel_publish_to_nonnull(store, sessions ? sessions : &none, session_count);
+}
+
+/* The same without a session to tell. */
 CAMEL_CALL
-camel_status camel_publish(camel_store *store);
+CAMEL_INLINE camel_status camel_publish(camel_store *store)
+{
+    camel_session none = CAMEL_EMPTY;
+    return camel_publish_to_nonnull(store, &none, 0);
+}
+
+/* What a switch with one event loop does with the updates of an operation: submits copies of them, as camel_submit_all
+ * does, publishes them, and has these sessions learn it, as camel_publish_to does. After any status but CAMEL_OK none
+ * of it is shown, so the HLR may be answered with an error. What was pending before the call is dropped: a switch that
+ * commits submits nothing else.
+ *
+ * It returns the statuses of both calls, with the index of the update that the store rejects, or update_count. After
+ * one of the updates, or CAMEL_HELD of the publication, which is counted, nothing is pending. After one of the
+ * sessions, or CAMEL_MALFORMED or CAMEL_WRONG_HANDLE, all is as before. After CAMEL_OUT_OF_MEMORY some may be pending,
+ * which the next camel_commit drops. */
+CAMEL_RESULT
+CAMEL_INLINE camel_status camel_commit(camel_store *store, const camel_update *updates, size_t update_count,
+                                       camel_session *sessions, size_t session_count, size_t *rejected)
+{
+    size_t count = update_count;
+    const camel_update *at = camel_updates_at(updates, &count);
+    camel_session none = CAMEL_EMPTY;
+    camel_status status;
+    if (!sessions)
+        session_count = session_count > 0;
+    status = camel_commit_nonnull(store, at, count, sessions ? sessions : &none, session_count, rejected);
+    if (!updates)
+        *rejected = update_count;
+    return status;
+}
 
 /* Drops all that is pending, as if it had not been submitted: the accepted updates are the published ones again, which
  * also count for the limit. So a switch that answers the HLR with an error, after camel_publish has returned
@@ -519,21 +627,12 @@ camel_status camel_receipt_of(const camel_store *store, camel_receipt *receipt);
 CAMEL_CALL
 camel_status camel_learn(camel_session *session, const camel_receipt *receipt);
 
-/* Publishes all that is pending, as camel_publish does, and has these sessions of the store learn it, as camel_learn
- * does: from then on each shows it. So a switch with one event loop needs no receipt. The sessions are in no other call
- * meanwhile. CAMEL_MALFORMED: there are more than CAMEL_MAX_SESSIONS. CAMEL_WRONG_HANDLE, CAMEL_HELD or
- * CAMEL_OTHER_STORE: the first session that cannot learn is none, has begun a look, or is of another store. Then
- * nothing is published, as after a status of camel_publish. No run meets CAMEL_NO_LOOK, or CAMEL_OTHER_STORE of a
- * session of the store: only then all is published, and that session does not show it. */
-CAMEL_CALL
-camel_status camel_publish_to(camel_store *store, camel_session *sessions, size_t session_count);
-
 /* Decides an event, over the look that has begun, or else by a look of its own. CAMEL_MALFORMED: the event is none.
  * CAMEL_NO_LOOK: the store has ended; so it is with the other calls that look. */
 CAMEL_CALL
 camel_status camel_decide(camel_session *session, const camel_event *event, camel_answer *answer);
 
-/* What the session has decided, by camel_decide and camel_set_up. What camel_decide_kept decides is not counted. */
+/* What the session has decided. */
 CAMEL_CALL
 camel_status camel_decisions_of(const camel_session *session, camel_decisions *decisions);
 
@@ -550,14 +649,11 @@ camel_status camel_leave(camel_session *session);
 CAMEL_CALL
 camel_status camel_row_at(camel_session *session, const camel_imsi *imsi, uint8_t dp, camel_row *row, bool *is_there);
 
-/* The criteria of a subscriber at a detection point of the O-CSI, or of the VT-CSI, as camel_row_at. They are there
- * even if there is no row, and have no effect then. What is behind the items of a list, and what is absent, is 0. */
+/* The criteria of a subscriber at a detection point, as camel_row_at. They are there even if there is no row, and have
+ * no effect then. What is behind the items of a list, and what is absent, is 0. */
 CAMEL_CALL
-camel_status camel_o_criteria_at(camel_session *session, const camel_imsi *imsi, uint8_t dp,
-                                 camel_o_criteria *criteria, bool *is_there);
-CAMEL_CALL
-camel_status camel_t_criteria_at(camel_session *session, const camel_imsi *imsi, uint8_t dp,
-                                 camel_t_criteria *criteria, bool *is_there);
+camel_status camel_criteria_at(camel_session *session, const camel_imsi *imsi, uint8_t dp, camel_criteria *criteria,
+                               bool *is_there);
 
 /* Fills a handle with a copy of the record of a subscriber, which a call keeps from its set-up to its later detection
  * points; is_there tells whether there is a record, and if there is none, the handle stays empty. What is decided by it
@@ -565,8 +661,16 @@ camel_status camel_t_criteria_at(camel_session *session, const camel_imsi *imsi,
  * is refused, the session may have seen a later front. */
 CAMEL_CALL
 camel_status camel_keep(camel_session *session, const camel_imsi *imsi, camel_subscriber *subscriber, bool *is_there);
+
+/* Decides by the copy, and has a session count it, which is that of the calling thread, of whichever store, also of one
+ * that has ended. */
 CAMEL_CALL
-camel_status camel_decide_kept(const camel_subscriber *subscriber, const camel_event *event, camel_answer *answer);
+camel_status camel_decide_kept(camel_session *session, const camel_subscriber *subscriber, const camel_event *event,
+                               camel_answer *answer);
+
+/* The row of the copy at a detection point, as camel_row_at. */
+CAMEL_CALL
+camel_status camel_kept_row_at(const camel_subscriber *subscriber, uint8_t dp, camel_row *row, bool *is_there);
 
 /* The set-up of a call: decides the event, as camel_decide does, and keeps the record of its subscriber, as camel_keep
  * does, over one front. Set-ups are at detection points 2 and 12; an event of another one is decided and kept likewise.
@@ -597,7 +701,8 @@ camel_status camel_encode_record(camel_session *session, const camel_imsi *imsi,
 
 /* Ends the store and empties its handle; what is pending is dropped. Each look that is held goes on until it is left,
  * and no session begins another: CAMEL_NO_LOOK. CAMEL_HELD: a look is held. Then the store has ended all the same, but
- * its handle stays full: it is to be closed again, or freed, and the writer's other calls return CAMEL_WRONG_HANDLE. */
+ * its handle stays full: it is to be closed again, or freed, and the writer's other calls return CAMEL_WRONG_HANDLE.
+ * Behind one more camel_publish, camel_holders names each session whose look would hold the end up. */
 CAMEL_CALL
 camel_status camel_close(camel_store *store);
 
@@ -607,7 +712,7 @@ void camel_empty(void *handle);
 /* What an HLR is answered about an update of this status (TS 29.002, ITU-T Q.773): 0, that it is done, or 5, 35 or 36,
  * a user error of MAP, or else CAMEL_MAP_REJECT with the problem of an invoke. The second of these is of the switch:
  * try the update again, and answer so once that takes too long. It comes of each status that says nothing of what the
- * HLR has sent. */
+ * HLR has sent. A status by which the switch itself is wrong, as of an operation that is none, is not told apart. */
 enum {
     CAMEL_MAP_REJECT = 0x100,
     CAMEL_MAP_MISTYPED_PARAMETER = CAMEL_MAP_REJECT | 2,
@@ -621,6 +726,7 @@ CAMEL_INLINE uint16_t camel_map_error_of(camel_status status)
     case CAMEL_DATA_MISSING: return 35;
     case CAMEL_UNEXPECTED_DATA_VALUE:
     case CAMEL_OTHER_IMSI:
+    case CAMEL_OTHER_SUBSCRIBER:
     case CAMEL_MALFORMED: return 36;
     case CAMEL_MALFORMED_OCTETS:
     case CAMEL_MISSING_FIELD:
@@ -633,22 +739,22 @@ CAMEL_INLINE uint16_t camel_map_error_of(camel_status status)
 }
 
 /* The basic service of a call, by the contents of its bearer capability from octet 3 on (TS 24.008 10.5.4.5). With
- * none, as with one of speech, it is telephony. A pointer may be NULL with a count of 0. */
+ * none, as with one of speech, it is telephony. */
 CAMEL_INLINE camel_basic_service camel_basic_service_of(const uint8_t *octets, size_t octet_count)
 {
     camel_basic_service service = { false, 0x11 };
-    unsigned capability = octet_count > 0 ? octets[0] & 7U : 0;
-    size_t at = 0;
+    size_t count = octets ? octet_count : 0, at = 0;
+    unsigned capability = count > 0 ? octets[0] & 7U : 0;
 
     if (capability == 3)
         service.code = 0x62; /* facsimile group 3 */
     if (capability != 1 && capability != 2 && capability != 5)
         return service;
     /* Octets 3, 4 and 5, each with those that extend it: the last one has bit 8. */
-    for (unsigned octet = 3; octet < 6 && at < octet_count; at++)
+    for (unsigned octet = 3; octet < 6 && at < count; at++)
         octet += octets[at] >> 7;
     service.is_bearer = true;
-    service.code = at < octet_count && (octets[at] & 1) ? 0x17 : 0x1f; /* asynchronous, or synchronous */
+    service.code = at < count && (octets[at] & 1) ? 0x17 : 0x1f; /* asynchronous, or synchronous */
     return service;
 }
 
@@ -658,10 +764,11 @@ CAMEL_INLINE camel_basic_service camel_basic_service_of_two(const uint8_t *octet
                                                             const uint8_t *other, size_t other_octet_count)
 {
     camel_basic_service service = camel_basic_service_of(octets, octet_count);
-    unsigned one = octet_count > 0 ? octets[0] & 7U : 0;
-    unsigned two = other_octet_count > 0 ? other[0] & 7U : 0;
+    size_t count = octets ? octet_count : 0, other_count = other ? other_octet_count : 0;
+    unsigned one = count > 0 ? octets[0] & 7U : 0;
+    unsigned two = other_count > 0 ? other[0] & 7U : 0;
 
-    if (octet_count > 0 && other_octet_count > 0 && one + two == 3 && (one == 3 || two == 3))
+    if (count > 0 && other_count > 0 && one + two == 3 && (one == 3 || two == 3))
         service.code = 0x61;
     return service;
 }

@@ -163,8 +163,8 @@ private:
 /* Whether octets were submitted. */
 using MapResult = Decoded<void>;
 
-/* Whether updates were submitted. `rejected` is the index of the one that the store rejects, if it rejects one, and not
- * when memory is refused. */
+/* Whether updates were submitted, or committed. `rejected` is the index of the one that the store rejects, if it
+ * rejects one, and not when memory is refused. */
 class [[nodiscard]] AllResult : public Result<void> {
 public:
     AllResult(camel_status status, std::optional<size_t> rejected) noexcept
@@ -197,13 +197,6 @@ Result<T> read(Call call, Given... given) noexcept
     return value;
 }
 
-/* A pointer that is not null, also to no octets. */
-inline const uint8_t *somewhere(const uint8_t *octets, size_t count) noexcept
-{
-    static constexpr uint8_t none = 0;
-    return count == 0 ? &none : octets;
-}
-
 /* Makes a call of the library by the octets of an argument, the operation and the IMSI of the dialogue. */
 template <class Call>
 MapResult by_argument(Operation operation, std::optional<camel_imsi> imsi, Octets argument, Call call) noexcept
@@ -212,8 +205,7 @@ MapResult by_argument(Operation operation, std::optional<camel_imsi> imsi, Octet
         return MapResult(CAMEL_MALFORMED, {});
     camel_imsi given = imsi.value_or(camel_imsi{ 0 });
     uint64_t place = CAMEL_NO_OCTET;
-    const uint8_t *octets = somewhere(argument.data, argument.count);
-    camel_status status = call(static_cast<uint8_t>(operation), &given, octets, argument.count, &place);
+    camel_status status = call(static_cast<uint8_t>(operation), &given, argument.data, argument.count, &place);
     if (status == CAMEL_OK)
         return MapResult();
     return MapResult(status, place == CAMEL_NO_OCTET ? std::nullopt : std::optional(place));
@@ -255,23 +247,21 @@ private:
     Raw raw_{};
 };
 
-/* The lists that came of a CSI, where they lie. */
-template <class Sent, class Criteria>
-Sent sent_of(const std::optional<std::vector<camel_row>> &rows,
-             const std::optional<std::vector<Criteria>> &criteria) noexcept
+/* Where a list lies, or null if it did not come. A vector of none may lie nowhere, and comes all the same. */
+template <class Item>
+const Item *items_of(const std::optional<std::vector<Item>> &list) noexcept
 {
-    static constexpr camel_row no_row{}; /* a vector of none may have no place, and comes all the same */
-    static constexpr Criteria no_criteria{};
-    Sent sent{};
-    if (rows) {
-        sent.rows = rows->empty() ? &no_row : rows->data();
-        sent.row_count = rows->size();
-    }
-    if (criteria) {
-        sent.criteria = criteria->empty() ? &no_criteria : criteria->data();
-        sent.criteria_count = criteria->size();
-    }
-    return sent;
+    static constexpr Item none{};
+    if (!list)
+        return nullptr;
+    return list->empty() ? &none : list->data();
+}
+
+/* The lists that came of a CSI, where they lie. */
+inline camel_sent_csi sent_of(const std::optional<std::vector<camel_row>> &rows,
+                              const std::optional<std::vector<camel_criteria>> &criteria) noexcept
+{
+    return { items_of(rows), rows ? rows->size() : 0, items_of(criteria), criteria ? criteria->size() : 0 };
 }
 
 } // namespace detail
@@ -279,23 +269,23 @@ Sent sent_of(const std::optional<std::vector<camel_row>> &rows,
 /* Data, made once per call: CAMEL_MALFORMED if they are none. */
 inline Result<camel_imsi> imsi_of_tbcd(const uint8_t *octets, size_t count) noexcept
 {
-    return detail::read<camel_imsi>(camel_imsi_of_tbcd, detail::somewhere(octets, count), count);
+    return detail::read<camel_imsi>(camel_imsi_of_tbcd, octets, count);
 }
 
 inline Result<camel_imsi> imsi_of_digits(std::string_view digits) noexcept
 {
     auto characters = reinterpret_cast<const uint8_t *>(digits.data());
-    return detail::read<camel_imsi>(camel_imsi_of_digits, detail::somewhere(characters, digits.size()), digits.size());
+    return detail::read<camel_imsi>(camel_imsi_of_digits, characters, digits.size());
 }
 
 inline Result<camel_address> address_of(const uint8_t *octets, size_t count) noexcept
 {
-    return detail::read<camel_address>(camel_address_of, detail::somewhere(octets, count), count);
+    return detail::read<camel_address>(camel_address_of, octets, count);
 }
 
 inline Result<camel_isdn_address> isdn_address_of(const uint8_t *octets, size_t count) noexcept
 {
-    return detail::read<camel_isdn_address>(camel_isdn_address_of, detail::somewhere(octets, count), count);
+    return detail::read<camel_isdn_address>(camel_isdn_address_of, octets, count);
 }
 
 /* The digits of an IMSI: as characters with a 0 behind them, and as TBCD octets. CAMEL_MALFORMED if it is none. */
@@ -309,12 +299,13 @@ inline Result<camel_imsi_tbcd> tbcd_of_imsi(camel_imsi imsi) noexcept
     return detail::read<camel_imsi_tbcd>(camel_tbcd_of_imsi, &imsi);
 }
 
-/* The lists of an Insert. One that is not there did not come, and one that came has 1 to 10 items. */
+/* The lists of an Insert. One that is not there did not come, and one that came has 1 to 10 items. Those of t_criteria
+ * have neither a number nor a call type. */
 struct Csis {
     std::optional<std::vector<camel_row>> o;
-    std::optional<std::vector<camel_o_criteria>> o_criteria;
+    std::optional<std::vector<camel_criteria>> o_criteria;
     std::optional<std::vector<camel_row>> vt;
-    std::optional<std::vector<camel_t_criteria>> t_criteria;
+    std::optional<std::vector<camel_criteria>> t_criteria;
 };
 
 namespace detail {
@@ -322,7 +313,7 @@ namespace detail {
 /* What an Insert sends, where its lists lie. */
 inline camel_insert insert_of(const Csis &csis) noexcept
 {
-    return { sent_of<camel_sent_o_csi>(csis.o, csis.o_criteria), sent_of<camel_sent_vt_csi>(csis.vt, csis.t_criteria) };
+    return { sent_of(csis.o, csis.o_criteria), sent_of(csis.vt, csis.t_criteria) };
 }
 
 } // namespace detail
@@ -333,18 +324,17 @@ class Update {
 public:
     Update() = default;
 
-    static Result<Update> of_register(camel_imsi imsi) noexcept { return made(camel_update_of_register, &imsi); }
+    static Result<Update> of_register(camel_imsi imsi) noexcept { return of({ CAMEL_UPDATE_REGISTER, imsi, {}, {} }); }
     static Result<Update> of_insert(camel_imsi imsi, const Csis &csis) noexcept
     {
-        camel_insert sent = detail::insert_of(csis);
-        return made(camel_update_of_insert, &imsi, &sent);
+        return of({ CAMEL_UPDATE_INSERT, imsi, {}, detail::insert_of(csis) });
     }
     static Result<Update> of_delete(camel_imsi imsi, camel_withdrawal what) noexcept
     {
-        return made(camel_update_of_delete, &imsi, &what);
+        return of({ CAMEL_UPDATE_DELETE, imsi, what, {} });
     }
-    static Result<Update> of_cancel(camel_imsi imsi) noexcept { return made(camel_update_of_cancel, &imsi); }
-    static Result<Update> of_clear_all() noexcept { return made(camel_update_of_clear_all); }
+    static Result<Update> of_cancel(camel_imsi imsi) noexcept { return of({ CAMEL_UPDATE_CANCEL, imsi, {}, {} }); }
+    static Result<Update> of_clear_all() noexcept { return of({ CAMEL_UPDATE_CLEAR_ALL, {}, {}, {} }); }
 
     /* The update that an operation of MAP brings, by the octets of its argument, as Store::submit_map. */
     static Decoded<Update> of_map(Operation operation, std::optional<camel_imsi> imsi, Octets argument) noexcept
@@ -377,6 +367,8 @@ public:
 private:
     friend class Store;
 
+    static Result<Update> of(const camel_change &change) noexcept { return made(camel_update_of, &change); }
+
     template <class Call, class... Given>
     static Result<Update> made(Call call, Given... given) noexcept
     {
@@ -398,16 +390,22 @@ struct Updates {
 /* Which updates a store has published, as plain data. */
 using Receipt = camel_receipt;
 
+class Session;
+
 /* The record of a subscriber, which a call keeps from its set-up to its later detection points. */
 class Subscriber {
 public:
     Subscriber() = default;
 
     /* Decides an event of the record's own subscriber, whose IMSI is not compared, over the front of the look in which
-     * it was kept. */
-    Result<camel_answer> decide(const camel_event &event) const noexcept
+     * it was kept. The session counts it, which is that of the calling thread, of whichever store, also of one that has
+     * ended. */
+    Result<camel_answer> decide(Session &session, const camel_event &event) const noexcept;
+
+    /* The row of the record at a detection point, as Session::row_at. */
+    Maybe<camel_row> row_at(DetectionPoint dp) const noexcept
     {
-        return detail::read<camel_answer>(camel_decide_kept, handle_.at(), &event);
+        return detail::find<camel_row>(camel_kept_row_at, handle_.at(), static_cast<uint8_t>(dp));
     }
 
 private:
@@ -454,7 +452,8 @@ public:
      * session's own store has ended. */
     Result<void> learn(const Receipt &receipt) noexcept { return detail::done(camel_learn(handle_.at(), &receipt)); }
 
-    /* How many events `decide` has decided, also that of looks, by reason. */
+    /* How many events the session has decided by `decide`, `set_up` and Subscriber::decide, also by looks, at each
+     * detection point with each reason: by[dp][reason]. */
     Result<camel_decisions> decisions() const noexcept
     {
         return detail::read<camel_decisions>(camel_decisions_of, handle_.at());
@@ -470,14 +469,10 @@ public:
         return detail::find<camel_row>(camel_row_at, handle_.at(), &imsi, static_cast<uint8_t>(dp));
     }
 
-    /* The criteria of a subscriber at a detection point of the O-CSI, or of the VT-CSI, if there are any. */
-    Maybe<camel_o_criteria> o_criteria_at(camel_imsi imsi, DetectionPoint dp) noexcept
+    /* The criteria of a subscriber at a detection point, if there are any. */
+    Maybe<camel_criteria> criteria_at(camel_imsi imsi, DetectionPoint dp) noexcept
     {
-        return detail::find<camel_o_criteria>(camel_o_criteria_at, handle_.at(), &imsi, static_cast<uint8_t>(dp));
-    }
-    Maybe<camel_t_criteria> t_criteria_at(camel_imsi imsi, DetectionPoint dp) noexcept
-    {
-        return detail::find<camel_t_criteria>(camel_t_criteria_at, handle_.at(), &imsi, static_cast<uint8_t>(dp));
+        return detail::find<camel_criteria>(camel_criteria_at, handle_.at(), &imsi, static_cast<uint8_t>(dp));
     }
 
     /* Keeps the record of a subscriber, if there is one. If memory is refused, the session may have seen a later
@@ -523,10 +518,16 @@ public:
 private:
     friend class Store;
     friend class Look;
+    friend class Subscriber;
     explicit Session(camel_session &raw) noexcept : handle_(raw) {}
 
     detail::Owned<camel_session> handle_;
 };
+
+inline Result<camel_answer> Subscriber::decide(Session &session, const camel_event &event) const noexcept
+{
+    return detail::read<camel_answer>(camel_decide_kept, session.handle_.at(), handle_.at(), &event);
+}
 
 /* A look of a session: all that it returns is of one front. It is left at its end, or before by `leave`; what is asked
  * of it afterwards is CAMEL_WRONG_HANDLE. */
@@ -550,13 +551,9 @@ public:
 
     Result<camel_answer> decide(const camel_event &event) noexcept { return ask(&Session::decide, event); }
     Maybe<camel_row> row_at(camel_imsi imsi, DetectionPoint dp) noexcept { return ask(&Session::row_at, imsi, dp); }
-    Maybe<camel_o_criteria> o_criteria_at(camel_imsi imsi, DetectionPoint dp) noexcept
+    Maybe<camel_criteria> criteria_at(camel_imsi imsi, DetectionPoint dp) noexcept
     {
-        return ask(&Session::o_criteria_at, imsi, dp);
-    }
-    Maybe<camel_t_criteria> t_criteria_at(camel_imsi imsi, DetectionPoint dp) noexcept
-    {
-        return ask(&Session::t_criteria_at, imsi, dp);
+        return ask(&Session::criteria_at, imsi, dp);
     }
     Maybe<Subscriber> keep(camel_imsi imsi) noexcept { return ask(&Session::keep, imsi); }
     Result<SetUp> set_up(const camel_event &event) noexcept { return ask(&Session::set_up, event); }
@@ -603,22 +600,18 @@ public:
 
     Result<void> submit_register(camel_imsi imsi) noexcept
     {
-        return detail::done(camel_submit_register(handle_.at(), &imsi));
+        return submit_of({ CAMEL_UPDATE_REGISTER, imsi, {}, {} });
+    }
+    Result<void> submit_insert(camel_imsi imsi, const Csis &csis) noexcept
+    {
+        return submit_of({ CAMEL_UPDATE_INSERT, imsi, {}, detail::insert_of(csis) });
     }
     Result<void> submit_delete(camel_imsi imsi, camel_withdrawal what) noexcept
     {
-        return detail::done(camel_submit_delete(handle_.at(), &imsi, &what));
+        return submit_of({ CAMEL_UPDATE_DELETE, imsi, what, {} });
     }
-    Result<void> submit_cancel(camel_imsi imsi) noexcept
-    {
-        return detail::done(camel_submit_cancel(handle_.at(), &imsi));
-    }
-    Result<void> submit_clear_all() noexcept { return detail::done(camel_submit_clear_all(handle_.at())); }
-    Result<void> submit_insert(camel_imsi imsi, const Csis &csis) noexcept
-    {
-        camel_insert sent = detail::insert_of(csis);
-        return detail::done(camel_submit_insert(handle_.at(), &imsi, &sent));
-    }
+    Result<void> submit_cancel(camel_imsi imsi) noexcept { return submit_of({ CAMEL_UPDATE_CANCEL, imsi, {}, {} }); }
+    Result<void> submit_clear_all() noexcept { return submit_of({ CAMEL_UPDATE_CLEAR_ALL, {}, {}, {} }); }
 
     /* Submits what an operation of MAP brings, by the octets of its argument: the parameter of the TCAP invoke. The
      * IMSI is that of the dialogue, if the dialogue has one. */
@@ -634,17 +627,11 @@ public:
         return detail::done(camel_submit(handle_.at(), update.handle_.at()));
     }
 
-    /* Submits copies of updates in their order, as those of a location update: all are accepted, or none is. */
+    /* Submits copies of updates in their order, as those of a location update: all are accepted, or none is. A
+     * single one may be of any kind; of several, none is a Cancel or a ClearAll. */
     AllResult submit_all(Updates updates) noexcept
     {
-        /* An Update is its handle and nothing else, so they lie as the handles do. */
-        static_assert(std::is_standard_layout_v<Update> && sizeof(Update) == sizeof(camel_update));
-        const Update none;
-        const Update *first = updates.count == 0 ? &none : updates.data;
-        size_t rejected = updates.count;
-        camel_status status =
-            camel_submit_all(handle_.at(), reinterpret_cast<const camel_update *>(first), updates.count, &rejected);
-        return AllResult(status, rejected == updates.count ? std::nullopt : std::optional(rejected));
+        return over(updates, [this](auto... given) { return camel_submit_all(handle_.at(), given...); });
     }
 
     /* Publishes all that is pending, also if nothing is, and gives a receipt of all that is published. */
@@ -659,12 +646,19 @@ public:
      * then nothing is published. */
     Result<void> publish_to(Sessions sessions) noexcept
     {
-        /* A Session is its handle and nothing else, so they lie as the handles do. */
-        static_assert(std::is_standard_layout_v<Session> && sizeof(Session) == sizeof(camel_session));
-        Session none;
-        Session *first = sessions.count == 0 ? &none : sessions.data;
-        return detail::done(
-            camel_publish_to(handle_.at(), reinterpret_cast<camel_session *>(first), sessions.count));
+        return detail::done(camel_publish_to(handle_.at(), handles_of(sessions), sessions.count));
+    }
+
+    /* Submits copies of updates as submit_all, publishes them, and has these sessions learn it as publish_to. What was
+     * pending before is dropped: a switch that commits submits nothing else. After any status but CAMEL_OK none of the
+     * updates is shown, so the HLR may be answered with an error. After one of the updates, or CAMEL_HELD of the
+     * publication, nothing is pending. After one of the sessions, CAMEL_MALFORMED or CAMEL_WRONG_HANDLE, all is as
+     * before. After CAMEL_OUT_OF_MEMORY some may be pending, which the next commit drops. */
+    AllResult commit(Updates updates, Sessions sessions) noexcept
+    {
+        return over(updates, [this, sessions](const camel_update *at, size_t count, size_t *rejected) {
+            return camel_commit(handle_.at(), at, count, handles_of(sessions), sessions.count, rejected);
+        });
     }
 
     /* Drops all that is pending, as if it had not been submitted, so that it is not shown later. It returns
@@ -685,6 +679,29 @@ public:
 
 private:
     explicit Store(camel_store &raw) noexcept : handle_(raw) {}
+
+    Result<void> submit_of(const camel_change &change) noexcept
+    {
+        return detail::done(camel_submit_change(handle_.at(), &change));
+    }
+
+    /* A Session is its handle and nothing else, so sessions lie as the handles do. So it is with Updates. */
+    static camel_session *handles_of(Sessions sessions) noexcept
+    {
+        static_assert(std::is_standard_layout_v<Session> && sizeof(Session) == sizeof(camel_session));
+        return reinterpret_cast<camel_session *>(sessions.data);
+    }
+
+    /* Makes a call over updates, which writes the index of the one that the store rejects, or else their count. */
+    template <class Call>
+    static AllResult over(Updates updates, Call call) noexcept
+    {
+        static_assert(std::is_standard_layout_v<Update> && sizeof(Update) == sizeof(camel_update));
+        auto first = reinterpret_cast<const camel_update *>(updates.data);
+        size_t rejected = updates.count;
+        camel_status status = call(first, updates.count, &rejected);
+        return AllResult(status, rejected == updates.count ? std::nullopt : std::optional(rejected));
+    }
 
     detail::Owned<camel_store> handle_;
 };

@@ -60,10 +60,9 @@ inline camel::Csis csis_of(uint32_t key)
     o.scf = vt.scf = get(camel::isdn_address_of(scf, sizeof scf));
     o.dp = 2;
     vt.dp = 13;
-    camel_o_criteria o_criteria{};
+    camel_criteria o_criteria{}, t_criteria{};
     o_criteria.dp = 2;
     o_criteria.has_call_type = true;
-    camel_t_criteria t_criteria{};
     t_criteria.dp = 13;
     t_criteria.causes.count = 1;
     t_criteria.causes.causes[0] = 17;

@@ -4,6 +4,7 @@
 #include "check.hpp"
 
 #include <cstddef>
+#include <cstring>
 #include <malloc.h>
 #include <sys/wait.h>
 #include <thread>
@@ -13,16 +14,15 @@
 static_assert(sizeof(camel_receipt) == 16 && sizeof(camel_imsi) == 8);
 static_assert(sizeof(camel_address) == 21 && sizeof(camel_isdn_address) == 10);
 static_assert(sizeof(camel_basic_service) == 2 && sizeof(camel_row) == 24 && sizeof(camel_number_criterion) == 106);
-static_assert(sizeof(camel_basic_services) == 11 && sizeof(camel_causes) == 6 && sizeof(camel_o_criteria) == 127);
-static_assert(sizeof(camel_t_criteria) == 18 && sizeof(camel_withdrawal) == 3);
-static_assert(sizeof(camel_o_lists) == 40 && sizeof(camel_vt_lists) == 40 && sizeof(camel_lists) == 80);
+static_assert(sizeof(camel_basic_services) == 11 && sizeof(camel_causes) == 6 && sizeof(camel_criteria) == 127);
+static_assert(sizeof(camel_withdrawal) == 3 && sizeof(camel_csi_lists) == 40 && sizeof(camel_lists) == 80);
 static_assert(sizeof(camel_event) == 40 && sizeof(camel_answer) == 32);
-static_assert(sizeof(camel_counts) == 32 && sizeof(camel_decisions) == 48);
+static_assert(sizeof(camel_counts) == 32 && sizeof(camel_decisions) == 15 * 6 * 8);
 static_assert(sizeof(camel_update_parts) == 32 && sizeof(camel_argument) == 2 + camel::MAX_ARGUMENT);
 static_assert(offsetof(camel_update_parts, o_capability) == 16 && offsetof(camel_update_parts, withdrawal) == 24);
 static_assert(offsetof(camel_row, scf) == 8 && offsetof(camel_row, handling) == 20);
-static_assert(offsetof(camel_number_criterion, numbers) == 6 && offsetof(camel_o_criteria, causes) == 121);
-static_assert(offsetof(camel_o_lists, has_criteria) == 33 && offsetof(camel_lists, vt) == 40);
+static_assert(offsetof(camel_number_criterion, numbers) == 6 && offsetof(camel_criteria, causes) == 121);
+static_assert(offsetof(camel_csi_lists, has_criteria) == 33 && offsetof(camel_lists, vt) == 40);
 static_assert(offsetof(camel_event, cause) == 33 && offsetof(camel_answer, reason) == 25);
 static_assert(sizeof(camel_store) == 2 * sizeof(void *) && sizeof(camel_session) == sizeof(camel_store));
 static_assert(sizeof(camel_subscriber) == sizeof(camel_store) && sizeof(camel_update) == sizeof(camel_store));
@@ -47,10 +47,14 @@ static_assert(noexcept(camel::digits_of_imsi(camel_imsi{})) && noexcept(camel::t
 static_assert(noexcept(std::declval<const camel::Store &>().receipt()));
 static_assert(noexcept(std::declval<const camel::Store &>().counts()));
 static_assert(noexcept(std::declval<const camel::Session &>().decisions()));
-static_assert(noexcept(std::declval<const camel::Subscriber &>().decide(std::declval<camel_event>())));
+static_assert(noexcept(
+    std::declval<const camel::Subscriber &>().decide(std::declval<camel::Session &>(), std::declval<camel_event>())));
+static_assert(noexcept(std::declval<const camel::Subscriber &>().row_at(Dp::TBusy)));
 static_assert(noexcept(std::declval<const camel::Update &>().parts()));
 static_assert(noexcept(std::declval<camel::Store &>().submit_all(std::declval<camel::Updates>())));
 static_assert(noexcept(std::declval<camel::Store &>().drop_pending()));
+static_assert(noexcept(
+    std::declval<camel::Store &>().commit(std::declval<camel::Updates>(), std::declval<camel::Sessions>())));
 
 static void data_are_made_or_refused()
 {
@@ -84,6 +88,15 @@ static void digits_come_back()
     CHECK(camel::tbcd_of_imsi(camel_imsi{ 15ULL << 56 | 1000000000000000 }).status() == CAMEL_MALFORMED);
 }
 
+/* How many were decided with a reason, at all detection points. */
+static uint64_t counted(const camel_decisions &decisions, uint8_t reason)
+{
+    uint64_t count = 0;
+    for (const auto &by_reason : decisions.by)
+        count += by_reason[reason];
+    return count;
+}
+
 static void a_session_reads()
 {
     auto [store, sessions] = open();
@@ -101,13 +114,15 @@ static void a_session_reads()
     event.cause = 18;
     CHECK(get(session.decide(event)).reason == CAMEL_REASON_CRITERIA);
     camel_decisions decisions = get(session.decisions());
-    CHECK(decisions.by_reason[CAMEL_REASON_NONE] == 2 && decisions.by_reason[CAMEL_REASON_NOT_ARMED] == 1);
-    CHECK(decisions.by_reason[CAMEL_REASON_CRITERIA] == 2 && get(sessions[1].decisions()).by_reason[0] == 0);
+    CHECK(counted(decisions, CAMEL_REASON_NONE) == 2 && counted(decisions, CAMEL_REASON_NOT_ARMED) == 1);
+    CHECK(counted(decisions, CAMEL_REASON_CRITERIA) == 2 && counted(get(sessions[1].decisions()), 0) == 0);
     CHECK(get(session.row_at(imsi(), Dp::TBusy))->key == 7);
     CHECK(!get(session.row_at(imsi(), Dp::RouteSelectFailure)));
-    CHECK(get(session.o_criteria_at(imsi(), Dp::CollectedInfo))->has_call_type);
-    CHECK(get(session.t_criteria_at(imsi(), Dp::TBusy))->causes.count == 1);
-    CHECK(!get(session.o_criteria_at(imsi(), Dp::TBusy)) && !get(session.t_criteria_at(imsi(), Dp::CollectedInfo)));
+    CHECK(get(session.criteria_at(imsi(), Dp::CollectedInfo))->has_call_type);
+    CHECK(get(session.criteria_at(imsi(), Dp::TBusy))->causes.count == 1);
+    CHECK(!get(session.criteria_at(imsi(), Dp::TBusy))->has_call_type);
+    CHECK(get(session.criteria_at(imsi(), Dp::CollectedInfo))->causes.count == 0);
+    CHECK(!get(session.criteria_at(imsi(), Dp::RouteSelectFailure)));
     CHECK(!get(session.keep(get(camel::imsi_of_digits("26201")))));
     CHECK(store.submit_insert(get(camel::imsi_of_digits("26201")), camel::Csis{}).status()
           == CAMEL_UNIDENTIFIED_SUBSCRIBER);
@@ -185,14 +200,14 @@ static void a_look_is_of_one_front()
     CHECK(counts.published == 3 && counts.pending == 1 && counts.subscribers == 1 && counts.held == 1);
     CHECK(get(look.decide(event_at(2))).front == 2);
     CHECK(get(look.row_at(imsi(), Dp::CollectedInfo))->key == 7);
-    CHECK(get(look.o_criteria_at(imsi(), Dp::CollectedInfo)) && get(look.t_criteria_at(imsi(), Dp::TBusy)));
+    CHECK(get(look.criteria_at(imsi(), Dp::CollectedInfo)) && get(look.criteria_at(imsi(), Dp::TBusy)));
     CHECK(bool(look.leave()));
     CHECK(get(store.holders()) == 0);
     CHECK(look.decide(event_at(2)).status() == CAMEL_WRONG_HANDLE);
     CHECK(bool(sessions[0].learn(get(store.publish()))));
     CHECK(get(sessions[0].decide(event_at(2))).reason == CAMEL_REASON_UNKNOWN);
     CHECK(get(store.counts()).subscribers == 0);
-    CHECK(get(kept->decide(event_at(13))).key == 7);
+    CHECK(get(kept->decide(sessions[0], event_at(13))).key == 7);
 }
 
 static void a_call_is_set_up_over_one_front()
@@ -206,13 +221,51 @@ static void a_call_is_set_up_over_one_front()
     CHECK(get(store.counts()).pending == 1);
     CHECK(bool(store.publish_to({ sessions.data(), sessions.size() })));
     CHECK(camel::reason_of(get(sessions[1].decide(event_at(2)))) == camel::Reason::NoCsi);
-    CHECK(get(set_up->kept->decide(event_at(13))).key == 7);
+    CHECK(get(set_up->kept->decide(sessions[0], event_at(13))).key == 7);
     camel::Look look = get(sessions[1].look());
     CHECK(get(look.set_up(event_at(2))).answer.front == 3);
     CHECK(store.publish_to({ sessions.data(), sessions.size() }).status() == CAMEL_HELD);
     CHECK(bool(look.leave()) && bool(store.submit_cancel(imsi())));
     CHECK(bool(store.publish_to({ nullptr, 0 })));
     CHECK(!get(sessions[0].set_up(event_at(2))).kept);
+}
+
+/* A session counts what it decides by each of the three calls, where it was asked and how it was answered. */
+static void decisions_are_counted()
+{
+    auto [store, sessions] = open();
+    auto [other, of_other] = open(0xfeed);
+    camel::Session &session = sessions[0];
+    camel::Result<camel::SetUp> set_up = session.set_up(event_at(2));
+    CHECK(set_up && set_up->kept && bool(session.decide(event_at(2))));
+    CHECK(get(set_up->kept->decide(session, event_at(13))).key == 7);
+    CHECK(get(get(session.look()).decide(event_at(4))).reason == CAMEL_REASON_NOT_ARMED);
+    CHECK(session.decide(event_at(3)).status() == CAMEL_MALFORMED);
+    camel_decisions wanted{};
+    wanted.by[CAMEL_DP_COLLECTED_INFO][CAMEL_REASON_NONE] = 2;
+    wanted.by[CAMEL_DP_T_BUSY][CAMEL_REASON_NONE] = 1;
+    wanted.by[CAMEL_DP_ROUTE_SELECT_FAILURE][CAMEL_REASON_NOT_ARMED] = 1;
+    camel_decisions decisions = get(session.decisions());
+    CHECK(std::memcmp(&decisions, &wanted, sizeof wanted) == 0);
+
+    CHECK(bool(other.close()));
+    CHECK(get(set_up->kept->decide(of_other[0], event_at(13))).front == 2);
+    CHECK(get(of_other[0].decisions()).by[CAMEL_DP_T_BUSY][CAMEL_REASON_NONE] == 1);
+    CHECK(counted(get(session.decisions()), CAMEL_REASON_NONE) == 3);
+}
+
+/* The rows of a record that is kept are those of its look. */
+static void a_record_has_its_rows()
+{
+    auto [store, sessions] = open();
+    const camel::Subscriber kept = *get(sessions[0].keep(imsi()));
+    CHECK(bool(store.submit_cancel(imsi())) && bool(store.publish_to({ sessions.data(), sessions.size() })));
+    CHECK(!get(sessions[0].row_at(imsi(), Dp::TBusy)));
+    for (Dp dp : { Dp::CollectedInfo, Dp::TBusy }) {
+        camel::Optional<camel_row> row = get(kept.row_at(dp));
+        CHECK(row && row->key == 7 && row->dp == static_cast<uint8_t>(dp) && row->scf.length == 3);
+    }
+    CHECK(!get(kept.row_at(Dp::RouteSelectFailure)) && !get(kept.row_at(Dp(3))));
 }
 
 static void what_holds_nothing_is_refused()
@@ -227,9 +280,13 @@ static void what_holds_nothing_is_refused()
     CHECK(session.decide(event_at(2)).status() == CAMEL_WRONG_HANDLE);
     CHECK(session.learn(receipt).status() == CAMEL_WRONG_HANDLE);
     CHECK(camel::Look().decide(event_at(2)).status() == CAMEL_WRONG_HANDLE);
-    CHECK(camel::Subscriber().decide(event_at(2)).status() == CAMEL_WRONG_HANDLE);
+    CHECK(camel::Subscriber().decide(session, event_at(2)).status() == CAMEL_WRONG_HANDLE);
+    CHECK(camel::Subscriber().row_at(Dp::TBusy).status() == CAMEL_WRONG_HANDLE);
 
     auto opened = open();
+    camel::Optional<camel::Subscriber> kept = get(opened.sessions[0].keep(imsi()));
+    CHECK(camel::Subscriber().decide(opened.sessions[0], event_at(2)).status() == CAMEL_WRONG_HANDLE);
+    CHECK(kept->decide(session, event_at(2)).status() == CAMEL_WRONG_HANDLE);
     store = std::move(opened.store);
     session = std::move(opened.sessions[0]);
     CHECK(get(session.decide(event_at(2))).is_trigger);
@@ -296,6 +353,7 @@ static void no_octets_are_nowhere()
     CHECK(camel::imsi_of_digits({}).status() == CAMEL_MALFORMED);
     CHECK(camel::address_of(nullptr, 0).status() == CAMEL_MALFORMED);
     CHECK(camel::isdn_address_of(nullptr, 0).status() == CAMEL_MALFORMED);
+    CHECK(camel::isdn_address_of(nullptr, 3).status() == CAMEL_MALFORMED);
     CHECK(store.submit_map(camel::Operation::InsertSubscriberData, imsi(), { nullptr, 0 }).place() == 0);
 }
 
@@ -356,9 +414,9 @@ static void threads_share_a_record()
     const camel::Subscriber kept = *get(sessions[0].keep(imsi()));
     bool triggered[2] = {};
     std::vector<std::thread> threads;
-    for (bool &is : triggered)
-        threads.emplace_back([&kept, &is] {
-            camel::Result<camel_answer> answer = kept.decide(event_at(13));
+    for (size_t at = 0; at < 2; at++)
+        threads.emplace_back([&kept, &session = sessions[at], &is = triggered[at]] {
+            camel::Result<camel_answer> answer = kept.decide(session, event_at(13));
             is = answer && answer->is_trigger;
         });
     for (std::thread &thread : threads)
@@ -390,6 +448,8 @@ int main()
     a_receipt_of_another_store_is_refused();
     a_look_is_of_one_front();
     a_call_is_set_up_over_one_front();
+    decisions_are_counted();
+    a_record_has_its_rows();
     what_holds_nothing_is_refused();
     no_value_is_none();
     an_assignment_frees_what_was_held();

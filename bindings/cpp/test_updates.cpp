@@ -132,6 +132,76 @@ static void updates_are_all_submitted_or_none()
     CHECK(get(sessions[0].decide(event_at(13))).reason == CAMEL_REASON_NO_CSI);
 }
 
+/* Updates are committed to sessions, which show them from then on, and what was pending before is dropped. */
+static void updates_are_committed()
+{
+    using camel::Update;
+    const camel_imsi other = get(camel::imsi_of_digits("262010000000002"));
+    auto [store, sessions] = open();
+    const camel::Sessions both{ sessions.data(), sessions.size() };
+    Update updates[] = { get(Update::of_register(imsi())), inserted(imsi(), ROWS), inserted(other, ROWS) };
+    CHECK(bool(store.submit_cancel(imsi())));
+    camel::AllResult all = store.commit({ updates, 2 }, both);
+    CHECK(all && !all.rejected() && get(store.counts()).pending == 0);
+    for (camel::Session &session : sessions)
+        CHECK(get(session.decide(event_at(2))).key == 9 && get(session.decide(event_at(2))).front == 4);
+
+    CHECK(bool(store.submit_cancel(imsi())));
+    all = store.commit({ updates, 3 }, both);
+    CHECK(all.status() == CAMEL_UNIDENTIFIED_SUBSCRIBER && all.rejected() == 2);
+    CHECK(get(store.counts()).pending == 0 && get(store.counts()).published == 4);
+    const Update cancel = get(Update::of_cancel(imsi()));
+    CHECK(bool(store.commit({ &cancel, 1 }, { sessions.data(), 1 })));
+    CHECK(get(sessions[0].decide(event_at(2))).reason == CAMEL_REASON_UNKNOWN);
+    CHECK(bool(store.commit({ nullptr, 0 }, { nullptr, 0 })));
+    all = store.commit({ nullptr, 7 }, { nullptr, 7 });
+    CHECK(all.status() == CAMEL_WRONG_HANDLE && !all.rejected());
+}
+
+/* After a publication that is held nothing is pending, and after a fault of the sessions all is as before. */
+static void commits_are_refused()
+{
+    using camel::Update;
+    auto [store, sessions] = open();
+    auto [other, of_other] = open(0xfeed);
+    const Update updates[] = { get(Update::of_register(imsi())), inserted(imsi(), ROWS) };
+    camel::Look look = get(sessions[1].look());
+    CHECK(bool(store.publish()));
+    camel::AllResult all = store.commit({ updates, 2 }, { sessions.data(), 1 });
+    CHECK(all.status() == CAMEL_HELD && !all.rejected() && get(store.counts()).pending == 0);
+    CHECK(get(sessions[0].decide(event_at(2))).key == 7);
+
+    CHECK(bool(store.submit(updates[0])));
+    CHECK(store.commit({ updates, 2 }, { sessions.data(), 2 }).status() == CAMEL_HELD);
+    CHECK(store.commit({ updates, 2 }, { of_other.data(), 2 }).status() == CAMEL_OTHER_STORE);
+    std::vector<camel::Session> many(camel::MAX_SESSIONS + 1);
+    CHECK(store.commit({ updates, 2 }, { many.data(), many.size() }).status() == CAMEL_MALFORMED);
+    CHECK(store.publish_to({ many.data(), many.size() }).status() == CAMEL_MALFORMED);
+    CHECK(store.commit({ updates, 2 }, { many.data(), 1 }).status() == CAMEL_WRONG_HANDLE);
+    const Update none;
+    all = store.commit({ &none, 1 }, { sessions.data(), 1 });
+    CHECK(all.status() == CAMEL_WRONG_HANDLE && !all.rejected());
+    CHECK(camel::Store().commit({ updates, 2 }, { nullptr, 0 }).status() == CAMEL_WRONG_HANDLE);
+    all = camel::Store().submit_all({ nullptr, 7 });
+    CHECK(all.status() == CAMEL_WRONG_HANDLE && !all.rejected());
+    CHECK(get(store.counts()).pending == 1 && get(store.counts()).published == 2);
+    CHECK(bool(look.leave()) && store.commit({ updates, 2 }, { sessions.data(), 2 }));
+    CHECK(get(sessions[1].decide(event_at(2))).key == 9 && get(sessions[1].decide(event_at(2))).front == 4);
+}
+
+/* Criteria of the VT-CSI have neither a number nor a call type. */
+static void criteria_are_of_their_csi()
+{
+    auto [store, sessions] = open();
+    camel::Csis csis = csis_of(8);
+    (*csis.t_criteria)[0].has_call_type = true;
+    CHECK(store.submit_insert(imsi(), csis).status() == CAMEL_UNEXPECTED_DATA_VALUE);
+    CHECK(camel::Update::of_insert(imsi(), csis).status() == CAMEL_UNEXPECTED_DATA_VALUE);
+    (*csis.t_criteria)[0].has_call_type = false;
+    (*csis.t_criteria)[0].has_number = true;
+    CHECK(store.submit_insert(imsi(), csis).status() == CAMEL_UNEXPECTED_DATA_VALUE);
+}
+
 /* What is pending is dropped, after a publication that is held too, and is not shown later. */
 static void pending_updates_are_dropped()
 {
@@ -190,6 +260,9 @@ int main()
     inserts_are_joined();
     a_location_update_replaces_all();
     updates_are_all_submitted_or_none();
+    updates_are_committed();
+    commits_are_refused();
+    criteria_are_of_their_csi();
     pending_updates_are_dropped();
     records_are_restored();
     std::puts("camel.hpp, updates and records: all is as it should be");

@@ -14,7 +14,7 @@ static void put(void *data, size_t at, uint8_t octet)
 static void begin(camel_store *store, unsigned number)
 {
     camel_imsi imsi = imsi_of(number);
-    RETURNS(CAMEL_OK, camel_submit_register(store, &imsi));
+    RETURNS(CAMEL_OK, submit_register(store, &imsi));
 }
 
 /* Publishes, and has the session see that. */
@@ -30,14 +30,14 @@ static void publish(camel_store *store, camel_session *session)
 static void bools_of_o_criteria(camel_store *store, camel_session *session)
 {
     static const size_t places[] = {
-        offsetof(camel_o_criteria, has_number), offsetof(camel_o_criteria, number.is_enabling),
-        offsetof(camel_o_criteria, basic.services[0].is_bearer), offsetof(camel_o_criteria, has_call_type),
-        offsetof(camel_o_criteria, is_forwarded),
+        offsetof(camel_criteria, has_number), offsetof(camel_criteria, number.is_enabling),
+        offsetof(camel_criteria, basic.services[0].is_bearer), offsetof(camel_criteria, has_call_type),
+        offsetof(camel_criteria, is_forwarded),
     };
     static const uint8_t listed[] = { 0x91, 0x34 };
     camel_row row = row_of(2, 100);
     camel_imsi imsi = imsi_of(1);
-    camel_o_criteria wanted = {
+    camel_criteria wanted = {
         .dp = 2, .has_number = true, .has_call_type = true, .is_forwarded = true, .basic = { 1, { { true, 0x18 } } },
         .number = { .is_enabling = true, .number_count = 1 },
     };
@@ -45,13 +45,13 @@ static void bools_of_o_criteria(camel_store *store, camel_session *session)
     wanted.number.numbers[0] = isdn_of(listed, sizeof listed);
     for (size_t at = 0; at < sizeof places / sizeof places[0]; at++)
         for (int octet = 0; octet < TRUES; octet++) {
-            camel_o_criteria sent = wanted, found = { 0 };
+            camel_criteria sent = wanted, found = { 0 };
             bool is_there = false;
             begin(store, 1);
             put(&sent, places[at], TRUE[octet]);
             RETURNS(CAMEL_OK, insert(store, 1, &row, 1, &sent, 1, NULL, 0, NULL, 0));
             publish(store, session);
-            RETURNS(CAMEL_OK, camel_o_criteria_at(session, &imsi, 2, &found, &is_there));
+            RETURNS(CAMEL_OK, camel_criteria_at(session, &imsi, 2, &found, &is_there));
             IS(is_there && memcmp(&found, &wanted, sizeof found) == 0);
         }
 }
@@ -60,18 +60,41 @@ static void bools_of_t_criteria(camel_store *store, camel_session *session)
 {
     camel_row row = row_of(13, 100);
     camel_imsi imsi = imsi_of(1);
-    camel_t_criteria wanted = { .dp = 13, .basic = { 2, { { false, 0x60 }, { true, 0x18 } } } };
+    camel_criteria wanted = { .dp = 13, .basic = { 2, { { false, 0x60 }, { true, 0x18 } } } };
 
     for (int octet = 0; octet < TRUES; octet++) {
-        camel_t_criteria sent = wanted, found = { 0 };
+        camel_criteria sent = wanted, found = { 0 };
         bool is_there = false;
         begin(store, 1);
-        put(&sent, offsetof(camel_t_criteria, basic.services[1].is_bearer), TRUE[octet]);
+        put(&sent, offsetof(camel_criteria, basic.services[1].is_bearer), TRUE[octet]);
         RETURNS(CAMEL_OK, insert(store, 1, NULL, 0, NULL, 0, &row, 1, &sent, 1));
         publish(store, session);
-        RETURNS(CAMEL_OK, camel_t_criteria_at(session, &imsi, 13, &found, &is_there));
+        RETURNS(CAMEL_OK, camel_criteria_at(session, &imsi, 13, &found, &is_there));
         IS(is_there && memcmp(&found, &wanted, sizeof found) == 0);
     }
+}
+
+/* Criteria of the VT-CSI have neither a number nor a call type, whatever octet says that they have. */
+static void bools_of_no_t_criteria(camel_store *store, camel_session *session)
+{
+    static const size_t places[] = { offsetof(camel_criteria, has_number), offsetof(camel_criteria, has_call_type) };
+    static const camel_criteria plain = { .dp = 13 }, none;
+    camel_row row = row_of(13, 100);
+    camel_imsi imsi = imsi_of(1);
+
+    for (size_t at = 0; at < 2; at++)
+        for (int octet = -1; octet < TRUES; octet++) {
+            camel_criteria sent = { .dp = 13, .number = { .length_count = 1, .lengths = { 4 } } }, found = { 0 };
+            bool is_there = false;
+            begin(store, 1);
+            put(&sent, places[at], octet < 0 ? 0 : TRUE[octet]);
+            put(&sent, offsetof(camel_criteria, is_forwarded), 255);
+            RETURNS(octet < 0 ? CAMEL_OK : CAMEL_UNEXPECTED_DATA_VALUE,
+                    insert(store, 1, NULL, 0, NULL, 0, &row, 1, &sent, 1));
+            publish(store, session);
+            RETURNS(CAMEL_OK, camel_criteria_at(session, &imsi, 13, &found, &is_there));
+            IS(is_there == (octet < 0) && memcmp(&found, is_there ? &plain : &none, sizeof found) == 0);
+        }
 }
 
 /* Which of the four lists a subscriber has: a bit each, in the order of their bools. */
@@ -79,28 +102,27 @@ static unsigned lists_of(camel_session *session, unsigned number)
 {
     camel_imsi imsi = imsi_of(number);
     camel_row row;
-    camel_o_criteria of_o;
-    camel_t_criteria of_t;
+    camel_criteria criteria;
     bool has[4] = { false };
 
     RETURNS(CAMEL_OK, camel_row_at(session, &imsi, 2, &row, &has[0]));
-    RETURNS(CAMEL_OK, camel_o_criteria_at(session, &imsi, 2, &of_o, &has[1]));
+    RETURNS(CAMEL_OK, camel_criteria_at(session, &imsi, 2, &criteria, &has[1]));
     RETURNS(CAMEL_OK, camel_row_at(session, &imsi, 13, &row, &has[2]));
-    RETURNS(CAMEL_OK, camel_t_criteria_at(session, &imsi, 13, &of_t, &has[3]));
-    return has[0] | has[1] << 1 | has[2] << 2 | has[3] << 3;
+    RETURNS(CAMEL_OK, camel_criteria_at(session, &imsi, 13, &criteria, &has[3]));
+    return has[0] | has[1] * 2u | has[2] * 4u | has[3] * 8u;
 }
 
 /* All four lists of an Insert, with this octet in the place of one of their bools. */
 static camel_status send_lists(camel_store *store, unsigned number, size_t at, uint8_t octet)
 {
     camel_row o = row_of(2, 100), vt = row_of(13, 101);
-    camel_o_criteria o_criteria = { .dp = 2, .has_call_type = true };
-    camel_t_criteria t_criteria = { .dp = 13, .causes = { 1, { 17 } } };
+    camel_criteria o_criteria = { .dp = 2, .has_call_type = true };
+    camel_criteria t_criteria = { .dp = 13, .causes = { 1, { 17 } } };
     camel_imsi imsi = imsi_of(number);
     camel_lists lists = { { &o, 1, &o_criteria, 1, true, true }, { &vt, 1, &t_criteria, 1, true, true } };
 
     put(&lists, at, octet);
-    return camel_submit_lists(store, &imsi, &lists);
+    return submit_lists(store, &imsi, &lists);
 }
 
 /* A list came if the bool that says so is any octet but 0. Criteria without rows are rejected: none are stored. */
@@ -142,7 +164,7 @@ static void bools_of_deletes(camel_store *store, camel_session *session)
             begin(store, 1);
             RETURNS(CAMEL_OK, send_lists(store, 1, offsetof(camel_lists, o.has_rows), 1));
             put(&what, names[at].at, octet < 0 ? 0 : TRUE[octet]);
-            RETURNS(CAMEL_OK, camel_submit_delete(store, &imsi, &what));
+            RETURNS(CAMEL_OK, submit_delete(store, &imsi, &what));
             publish(store, session);
             IS(lists_of(session, 1) == (octet < 0 ? 15 : names[at].left));
         }
@@ -152,15 +174,15 @@ static void bools_of_deletes(camel_store *store, camel_session *session)
 static void bools_of_held_inserts(const camel_imsi *imsi, size_t place, unsigned list)
 {
     camel_row o = row_of(2, 100), vt = row_of(13, 101);
-    camel_o_criteria o_criteria = { .dp = 2 };
-    camel_t_criteria t_criteria = { .dp = 13 };
+    camel_criteria o_criteria = { .dp = 2 };
+    camel_criteria t_criteria = { .dp = 13 };
 
     for (int octet = -1; octet < TRUES; octet++) {
         camel_lists lists = { { &o, 1, &o_criteria, 1, false, false }, { &vt, 1, &t_criteria, 1, false, false } };
         camel_update update = CAMEL_EMPTY;
         camel_update_parts parts = { .kind = 7 };
         put(&lists, place, octet < 0 ? 0 : TRUE[octet]);
-        RETURNS(CAMEL_OK, camel_update_of_lists(imsi, &lists, &update));
+        RETURNS(CAMEL_OK, update_of_lists(imsi, &lists, &update));
         RETURNS(CAMEL_OK, camel_update_parts_of(&update, &parts));
         IS(parts.o_rows == (list == 0 && octet >= 0) && parts.o_criteria == (list == 1 && octet >= 0));
         IS(parts.vt_rows == (list == 2 && octet >= 0) && parts.t_criteria == (list == 3 && octet >= 0));
@@ -178,7 +200,7 @@ static void bools_of_held_deletes(const camel_imsi *imsi, size_t place)
         uint8_t named[sizeof what] = { 0 }, wanted[sizeof what] = { 0 };
         put(&what, place, octet < 0 ? 0 : TRUE[octet]);
         wanted[place] = octet >= 0;
-        RETURNS(CAMEL_OK, camel_update_of_delete(imsi, &what, &update));
+        RETURNS(CAMEL_OK, update_of_delete(imsi, &what, &update));
         RETURNS(CAMEL_OK, camel_update_parts_of(&update, &parts));
         memcpy(named, &parts.withdrawal, sizeof named);
         IS(memcmp(named, wanted, sizeof named) == 0);
@@ -206,7 +228,7 @@ static void bools_of_events(camel_store *store, camel_session *session)
 {
     static const size_t places[] = { offsetof(camel_event, is_forwarded), offsetof(camel_event, basic.is_bearer) };
     camel_row row = row_of(2, 100);
-    camel_o_criteria entry = { .dp = 2, .has_call_type = true, .is_forwarded = true };
+    camel_criteria entry = { .dp = 2, .has_call_type = true, .is_forwarded = true };
     camel_imsi imsi = imsi_of(1);
     camel_subscriber kept = CAMEL_EMPTY;
     bool is_there = false;
@@ -225,7 +247,7 @@ static void bools_of_events(camel_store *store, camel_session *session)
             event.is_forwarded = true;
             put(&event, places[at], octet < 0 ? 0 : TRUE[octet]);
             RETURNS(CAMEL_OK, camel_decide(session, &event, &answer));
-            RETURNS(CAMEL_OK, camel_decide_kept(&kept, &event, &by_kept));
+            RETURNS(CAMEL_OK, camel_decide_kept(session, &kept, &event, &by_kept));
             IS(answer.is_trigger == (octet >= 0) && by_kept.is_trigger == (octet >= 0));
         }
     camel_free(&kept);
@@ -239,6 +261,7 @@ int main(void)
     RETURNS(CAMEL_OK, camel_open(&store, &session, 1, CAMEL_MAX_UPDATES, 1, 1));
     bools_of_o_criteria(&store, &session);
     bools_of_t_criteria(&store, &session);
+    bools_of_no_t_criteria(&store, &session);
     bools_of_inserts(&store, &session);
     bools_of_deletes(&store, &session);
     bools_of_events(&store, &session);

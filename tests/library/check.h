@@ -62,17 +62,90 @@ static inline camel_event event_of(unsigned number, uint8_t dp)
     return event;
 }
 
+/* Submits a change of one kind, or fills a handle with it. */
+static inline camel_status submit_register(camel_store *store, const camel_imsi *imsi)
+{
+    return camel_submit_change(store, &(camel_change){ .kind = CAMEL_UPDATE_REGISTER, .imsi = *imsi });
+}
+
+static inline camel_status submit_insert(camel_store *store, const camel_imsi *imsi, const camel_insert *sent)
+{
+    return camel_submit_change(store, &(camel_change){ .kind = CAMEL_UPDATE_INSERT, .imsi = *imsi, .insert = *sent });
+}
+
+static inline camel_change delete_of(const camel_imsi *imsi, const camel_withdrawal *what)
+{
+    camel_change change = { .kind = CAMEL_UPDATE_DELETE, .imsi = *imsi };
+    memcpy(&change.withdrawal, what, sizeof *what); /* a bool may be any octet */
+    return change;
+}
+
+static inline camel_status submit_delete(camel_store *store, const camel_imsi *imsi, const camel_withdrawal *what)
+{
+    camel_change change = delete_of(imsi, what);
+    return camel_submit_change(store, &change);
+}
+
+static inline camel_status submit_cancel(camel_store *store, const camel_imsi *imsi)
+{
+    return camel_submit_change(store, &(camel_change){ .kind = CAMEL_UPDATE_CANCEL, .imsi = *imsi });
+}
+
+static inline camel_status submit_clear_all(camel_store *store)
+{
+    return camel_submit_change(store, &(camel_change){ .kind = CAMEL_UPDATE_CLEAR_ALL });
+}
+
+static inline camel_status update_of_register(const camel_imsi *imsi, camel_update *update)
+{
+    return camel_update_of(&(camel_change){ .kind = CAMEL_UPDATE_REGISTER, .imsi = *imsi }, update);
+}
+
+static inline camel_status update_of_insert(const camel_imsi *imsi, const camel_insert *sent, camel_update *update)
+{
+    return camel_update_of(&(camel_change){ .kind = CAMEL_UPDATE_INSERT, .imsi = *imsi, .insert = *sent }, update);
+}
+
+static inline camel_status update_of_delete(const camel_imsi *imsi, const camel_withdrawal *what, camel_update *update)
+{
+    camel_change change = delete_of(imsi, what);
+    return camel_update_of(&change, update);
+}
+
+static inline camel_status update_of_cancel(const camel_imsi *imsi, camel_update *update)
+{
+    return camel_update_of(&(camel_change){ .kind = CAMEL_UPDATE_CANCEL, .imsi = *imsi }, update);
+}
+
+static inline camel_status update_of_clear_all(camel_update *update)
+{
+    return camel_update_of(&(camel_change){ .kind = CAMEL_UPDATE_CLEAR_ALL }, update);
+}
+
+/* The same of an Insert, with a bool of its own for each list, as the inline calls make it. */
+static inline camel_status submit_lists(camel_store *store, const camel_imsi *imsi, const camel_lists *lists)
+{
+    camel_withdrawal none = { false };
+    return camel_submit_change_nonnull(store, CAMEL_UPDATE_INSERT, imsi, &none, lists);
+}
+
+static inline camel_status update_of_lists(const camel_imsi *imsi, const camel_lists *lists, camel_update *update)
+{
+    camel_withdrawal none = { false };
+    return camel_update_of_nonnull(CAMEL_UPDATE_INSERT, imsi, &none, lists, update);
+}
+
 /* An Insert of these lists; one that is NULL is not sent. */
 static inline camel_status insert(camel_store *store, unsigned number, const camel_row *o, size_t o_count,
-                                  const camel_o_criteria *o_criteria, size_t o_criteria_count, const camel_row *vt,
-                                  size_t vt_count, const camel_t_criteria *t_criteria, size_t t_criteria_count)
+                                  const camel_criteria *o_criteria, size_t o_criteria_count, const camel_row *vt,
+                                  size_t vt_count, const camel_criteria *t_criteria, size_t t_criteria_count)
 {
     camel_imsi imsi = imsi_of(number);
     camel_insert sent = {
         .o = { o, o_count, o_criteria, o_criteria_count },
         .vt = { vt, vt_count, t_criteria, t_criteria_count },
     };
-    return camel_submit_insert(store, &imsi, &sent);
+    return submit_insert(store, &imsi, &sent);
 }
 
 static inline camel_counts counts_of(const camel_store *store)

@@ -18,7 +18,7 @@ static void open_filled(camel_store *store, camel_session *sessions, size_t coun
     RETURNS(CAMEL_OK, camel_open(store, sessions, count, CAMEL_MAX_UPDATES, 1, 0x5eed));
     for (unsigned number = 0; number < subscribers; number++) {
         camel_imsi imsi = imsi_of(number);
-        RETURNS(CAMEL_OK, camel_submit_register(store, &imsi));
+        RETURNS(CAMEL_OK, submit_register(store, &imsi));
         RETURNS(CAMEL_OK, insert(store, number, &row, 1, NULL, 0, NULL, 0, NULL, 0));
     }
     RETURNS(CAMEL_OK, camel_publish(store));
@@ -29,7 +29,7 @@ static void publish(camel_store *store)
 {
     camel_imsi imsi = imsi_of(0);
 
-    RETURNS(CAMEL_OK, camel_submit_register(store, &imsi));
+    RETURNS(CAMEL_OK, submit_register(store, &imsi));
     RETURNS(CAMEL_OK, camel_publish(store));
 }
 

@@ -24,22 +24,27 @@ static void f_layouts(void)
     counts[0]++;
 }
 
-#define READS_OCTETS(name, type)                                                                                    \
+#define READS_OCTETS(name, type, pointer)                                                                           \
     static void f_##name(void)                                                                                      \
     {                                                                                                               \
         uint8_t octets[300];                                                                                        \
         size_t count = any_octets(octets);                                                                          \
+        const uint8_t *from = pointer(at_edge(0, octets, count));                                                   \
         type any, *made;                                                                                            \
         bool is_made;                                                                                               \
         fill(&any, sizeof any);                                                                                     \
         made = at_edge(1, &any, sizeof any);                                                                        \
-        WRITES(is_made, made, OK | MALFORMED, camel_##name(at_edge(0, octets, count), count, made));                \
+        WRITES(is_made, made, from ? OK | MALFORMED : MALFORMED, camel_##name(from, count, made));                  \
     }
 
-READS_OCTETS(imsi_of_tbcd, camel_imsi)
-READS_OCTETS(imsi_of_digits, camel_imsi)
-READS_OCTETS(address_of, camel_address)
-READS_OCTETS(isdn_address_of, camel_isdn_address)
+READS_OCTETS(imsi_of_tbcd, camel_imsi, or_null)
+READS_OCTETS(imsi_of_tbcd_nonnull, camel_imsi, or_itself)
+READS_OCTETS(imsi_of_digits, camel_imsi, or_null)
+READS_OCTETS(imsi_of_digits_nonnull, camel_imsi, or_itself)
+READS_OCTETS(address_of, camel_address, or_null)
+READS_OCTETS(address_of_nonnull, camel_address, or_itself)
+READS_OCTETS(isdn_address_of, camel_isdn_address, or_null)
+READS_OCTETS(isdn_address_of_nonnull, camel_isdn_address, or_itself)
 
 /* What an IMSI is written as is an IMSI, the same. */
 #define WRITES_IMSI(name, type, part, back)                                                                         \
@@ -109,8 +114,6 @@ static void f_open(void)
     open_by(camel_open, OK | MALFORMED | FULL_HANDLE);
 }
 
-enum { REFUSES = OK | FULL | MALFORMED | WRONG_HANDLE };
-
 /* Counts an update if it is accepted. */
 static void note_update(unsigned slot, unsigned allowed, camel_status status)
 {
@@ -119,62 +122,7 @@ static void note_update(unsigned slot, unsigned allowed, camel_status status)
         slots[slot].accepted++;
 }
 
-static void f_submit_register(void)
-{
-    unsigned slot = pick(STORE);
-    camel_imsi imsi = any_imsi();
-    note_update(slot, REFUSES, camel_submit_register(AS(store, slot), &imsi));
-}
-
-enum { INSERT_STATUSES = REFUSES | UNIDENTIFIED | MISSING | UNEXPECTED };
-
-static void f_submit_lists(void)
-{
-    unsigned slot = pick(STORE);
-    camel_imsi imsi = any_imsi();
-    camel_lists lists = any_lists();
-    note_update(slot, INSERT_STATUSES,
-                camel_submit_lists(AS(store, slot), at_edge(0, &imsi, sizeof imsi), at_edge(5, &lists, sizeof lists)));
-}
-
-/* A list whose pointer is NULL is not sent, and has no count: one that has is a fault of the data. */
-static void f_submit_insert(void)
-{
-    unsigned slot = pick(STORE);
-    camel_imsi imsi = any_imsi();
-    camel_lists lists = any_lists();
-    camel_insert sent = insert_of(&lists);
-    bool is_without_items = false;
-    for (unsigned times = below(4); times > 0; times--)
-        is_without_items |= take_pointer(&sent);
-    note_update(slot, is_without_items ? MALFORMED | MISSING | UNEXPECTED : INSERT_STATUSES,
-                camel_submit_insert(AS(store, slot), at_edge(0, &imsi, sizeof imsi), at_edge(5, &sent, sizeof sent)));
-}
-
-static void f_submit_delete(void)
-{
-    unsigned slot = pick(STORE);
-    camel_imsi imsi = any_imsi();
-    camel_withdrawal what = { 0 };
-    toss_in(&what.o);
-    toss_in(&what.vt);
-    if (below(4) == 0)
-        toss_in(&what.everything);
-    note_update(slot, REFUSES | UNIDENTIFIED, camel_submit_delete(AS(store, slot), &imsi, &what));
-}
-
-static void f_submit_cancel(void)
-{
-    unsigned slot = pick(STORE);
-    camel_imsi imsi = any_imsi();
-    note_update(slot, REFUSES, camel_submit_cancel(AS(store, slot), &imsi));
-}
-
-static void f_submit_clear_all(void)
-{
-    unsigned slot = pick(STORE);
-    note_update(slot, OK | FULL | WRONG_HANDLE, camel_submit_clear_all(AS(store, slot)));
-}
+#include "fuzz_changes.h"
 
 /* The IMSI of an argument or another one, or none. */
 static camel_imsi any_dialogue(unsigned own)
@@ -196,7 +144,14 @@ static bool is_placed(camel_status status, size_t count, uint64_t place)
     return place == CAMEL_NO_OCTET;
 }
 
-static void f_submit_map(void)
+/* What a call may return of the octets of an argument, beside CAMEL_OK. */
+enum {
+    OF_OCTETS = MALFORMED | MISSING | UNEXPECTED | MALFORMED_OCTETS | MISSING_FIELD | FIELD_TWICE | WRONG_TAG |
+                WRONG_LENGTH | NO_IMSI | OTHER_IMSI
+};
+
+static void submit_map_by(camel_status (*call)(camel_store *, uint8_t, const camel_imsi *, const uint8_t *, size_t,
+                                               uint64_t *), void *(*pointer)(void *))
 {
     unsigned slot = pick(STORE);
     struct argument argument = ARGUMENT[below(ARGUMENTS)];
@@ -205,14 +160,18 @@ static void f_submit_map(void)
     camel_imsi imsi = any_dialogue(own);
     write_tbcd(own, argument.octets + IMSI_AT);
     size_t count = below(16) ? any_argument(&argument, octets) : any_octets(octets);
+    const uint8_t *from = pointer(at_edge(1, octets, count));
     uint64_t any = next(), *place = at_edge(2, &any, sizeof any);
-    camel_status status = camel_submit_map(
+    camel_status status = call(
         AS(store, slot), mostly(below(16) ? argument.operation : ARGUMENT[below(ARGUMENTS)].operation),
-        at_edge(0, &imsi, sizeof imsi), at_edge(1, octets, count), count, place);
-    note_update(slot, REFUSES | UNIDENTIFIED | MISSING | UNEXPECTED | MALFORMED_OCTETS | MISSING_FIELD | FIELD_TWICE |
-                WRONG_TAG | WRONG_LENGTH | NO_IMSI | OTHER_IMSI, status);
-    IS(is_placed(status, count, *place));
+        at_edge(0, &imsi, sizeof imsi), from, count, place);
+    note_update(slot, OK | FULL | UNIDENTIFIED | WRONG_HANDLE | OF_OCTETS, status);
+    IS(is_placed(status, from ? count : 0, *place));
 }
+
+static void f_submit_map(void) { submit_map_by(camel_submit_map, or_null); }
+
+static void f_submit_map_nonnull(void) { submit_map_by(camel_submit_map_nonnull, or_itself); }
 
 #include "fuzz_updates.h"
 
@@ -339,14 +298,14 @@ static camel_answer *any_answer(void)
     return at_edge(1, &any, sizeof any);
 }
 
-/* Notes what a session has decided. */
-static void note_decided(unsigned at, const camel_answer *answer)
+/* Notes what a session has decided at a detection point. */
+static void note_decided(unsigned at, uint8_t dp, const camel_answer *answer)
 {
     struct slot *slot = &slots[at];
     IS(is_whole(answer) && answer->front >= slot->seen && answer->front <= *published_of(at));
     IS(!slot->is_looking || slot->front == 0 || slot->front == answer->front);
     slot->seen = slot->front = answer->front;
-    slot->decisions[answer->reason]++;
+    slot->decisions[dp][answer->reason]++;
 }
 
 static void f_decide(void)
@@ -358,7 +317,7 @@ static void f_decide(void)
     WRITES(is_decided, answer, OK | NO_LOOK | MALFORMED | WRONG_HANDLE,
            camel_decide(AS(session, at), at_edge(0, &event, sizeof event), answer));
     if (is_decided)
-        note_decided(at, answer);
+        note_decided(at, event.dp, answer);
 }
 
 static void f_decisions_of(void)
@@ -369,7 +328,7 @@ static void f_decisions_of(void)
     fill(&any, sizeof any);
     decisions = at_edge(0, &any, sizeof any);
     WRITES(are_counted, decisions, OK | WRONG_HANDLE, camel_decisions_of(AS(session, slot), decisions));
-    IS(!are_counted || memcmp(decisions->by_reason, slots[slot].decisions, sizeof decisions->by_reason) == 0);
+    IS(!are_counted || memcmp(decisions->by, slots[slot].decisions, sizeof decisions->by) == 0);
 }
 
 static bool is_whole_row(const camel_row *row)
@@ -377,15 +336,12 @@ static bool is_whole_row(const camel_row *row)
     return row->handling <= 1 && row->key <= 0x7fffffff && row->scf.length >= 1 && row->scf.length <= 9;
 }
 
-static bool is_whole_o(const camel_o_criteria *entry)
+/* Criteria of the VT-CSI have neither a number nor a call type. */
+static bool is_whole_entry(const camel_criteria *entry)
 {
+    bool is_of_o = entry->dp == 2 || entry->dp == 4;
     return entry->number.number_count <= 10 && entry->number.length_count <= 3 && entry->basic.count <= 5
-        && entry->causes.count <= 5;
-}
-
-static bool is_whole_t(const camel_t_criteria *entry)
-{
-    return entry->basic.count <= 5 && entry->causes.count <= 5;
+        && entry->causes.count <= 5 && (is_of_o || (!entry->has_number && !entry->has_call_type));
 }
 
 /* What a subscriber has at a detection point is written whole, or nothing is. */
@@ -407,8 +363,7 @@ static bool is_whole_t(const camel_t_criteria *entry)
     }
 
 READS_AT(row_at, camel_row, any_row, is_whole_row)
-READS_AT(o_criteria_at, camel_o_criteria, any_o_criteria, is_whole_o)
-READS_AT(t_criteria_at, camel_t_criteria, any_t_criteria, is_whole_t)
+READS_AT(criteria_at, camel_criteria, any_o_criteria, is_whole_entry)
 
 #include "fuzz_set_ups.h"
 
@@ -422,21 +377,22 @@ static void f_close(void)
 }
 
 /* The functions of camel.h, and how often each is called among CALLS calls. */
-enum { CALLS = 1400 };
+enum { CALLS = 1459 };
 static struct { const char *name; void (*make)(void); unsigned often; unsigned long counts[STATUSES]; } exports[] = {
 #define EXPORT(name, often) { "camel_" #name, f_##name, often, { 0 } }
-    EXPORT(abi_version, 1), EXPORT(layouts, 1), EXPORT(imsi_of_tbcd, 15), EXPORT(imsi_of_digits, 15),
-    EXPORT(address_of, 20), EXPORT(isdn_address_of, 20), EXPORT(digits_of_imsi, 5), EXPORT(tbcd_of_imsi, 5),
-    EXPORT(open_version, 20), EXPORT(open, 10), EXPORT(submit_register, 80), EXPORT(submit_lists, 100),
-    EXPORT(submit_insert, 30), EXPORT(submit_delete, 20), EXPORT(submit_cancel, 20), EXPORT(submit_clear_all, 1),
-    EXPORT(submit_map, 60), EXPORT(update_of_register, 20), EXPORT(update_of_lists, 40), EXPORT(update_of_insert, 15),
-    EXPORT(update_of_delete, 10), EXPORT(update_of_cancel, 5), EXPORT(update_of_clear_all, 2),
-    EXPORT(update_of_map, 45), EXPORT(update_join, 40), EXPORT(update_parts_of, 15), EXPORT(submit, 20),
-    EXPORT(submit_all, 30), EXPORT(imsis_of, 15), EXPORT(next_imsi, 23), EXPORT(encode_record, 10),
-    EXPORT(publish, 60), EXPORT(publish_to, 20), EXPORT(drop_pending, 10), EXPORT(holders, 10), EXPORT(counts_of, 20), EXPORT(receipt_of, 30),
-    EXPORT(learn, 40), EXPORT(decide, 150), EXPORT(decisions_of, 10), EXPORT(look, 25), EXPORT(leave, 40),
-    EXPORT(row_at, 30), EXPORT(o_criteria_at, 15), EXPORT(t_criteria_at, 15), EXPORT(keep, 40), EXPORT(decide_kept, 40),
-    EXPORT(set_up, 30), EXPORT(close, 2), EXPORT(empty, 100),
+    EXPORT(abi_version, 1), EXPORT(layouts, 1), EXPORT(imsi_of_tbcd, 8), EXPORT(imsi_of_tbcd_nonnull, 7),
+    EXPORT(imsi_of_digits, 8), EXPORT(imsi_of_digits_nonnull, 7), EXPORT(address_of, 10),
+    EXPORT(address_of_nonnull, 10), EXPORT(isdn_address_of, 10), EXPORT(isdn_address_of_nonnull, 10),
+    EXPORT(digits_of_imsi, 5), EXPORT(tbcd_of_imsi, 5), EXPORT(open_version, 20), EXPORT(open, 10),
+    EXPORT(submit_change, 130), EXPORT(submit_change_nonnull, 120), EXPORT(submit_map, 30),
+    EXPORT(submit_map_nonnull, 30), EXPORT(update_of, 45), EXPORT(update_of_nonnull, 47), EXPORT(update_of_map, 25),
+    EXPORT(update_of_map_nonnull, 20), EXPORT(update_join, 40), EXPORT(update_parts_of, 15), EXPORT(submit, 20),
+    EXPORT(submit_all, 15), EXPORT(submit_all_nonnull, 15), EXPORT(imsis_of, 15), EXPORT(next_imsi, 23),
+    EXPORT(encode_record, 10), EXPORT(publish, 60), EXPORT(publish_to, 10), EXPORT(publish_to_nonnull, 10),
+    EXPORT(commit, 25), EXPORT(commit_nonnull, 25), EXPORT(drop_pending, 10), EXPORT(holders, 10),
+    EXPORT(counts_of, 20), EXPORT(receipt_of, 30), EXPORT(learn, 40), EXPORT(decide, 150), EXPORT(decisions_of, 10),
+    EXPORT(look, 25), EXPORT(leave, 40), EXPORT(row_at, 30), EXPORT(criteria_at, 30), EXPORT(keep, 40),
+    EXPORT(decide_kept, 40), EXPORT(kept_row_at, 10), EXPORT(set_up, 30), EXPORT(close, 2), EXPORT(empty, 100),
 };
 
 enum { EXPORTS = sizeof exports / sizeof *exports };

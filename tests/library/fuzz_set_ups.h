@@ -3,9 +3,9 @@
 #ifndef FUZZ_SET_UPS_H
 #define FUZZ_SET_UPS_H
 
-/* A publication that a few sessions are told of, as one is held, of another store, none, or more are passed than may be.
- * Each that is told has seen all that is published. Whatever the status, what is pending is published or stays. */
-static void f_publish_to(void)
+/* A publication that a few sessions are told of, as one is held, of another store, none, or more are passed than may
+ * be. Each that is told has seen all that is published. Whatever the status, what is pending is published or stays. */
+static void publish_to_by(camel_status (*call)(camel_store *, camel_session *, size_t))
 {
     static camel_session many[CAMEL_MAX_SESSIONS + 1];
     unsigned slot = pick(STORE), first = SESSION + below(4), count = below(3);
@@ -13,8 +13,8 @@ static void f_publish_to(void)
     camel_status counted = camel_counts_of(AS(store, slot), &before), status;
     if (slot >= first && slot < first + count)
         return;
-    status = below(64) ? camel_publish_to(AS(store, slot), AS(session, first), count)
-                       : camel_publish_to(AS(store, slot), many, CAMEL_MAX_SESSIONS + 1);
+    status = below(64) ? call(AS(store, slot), AS(session, first), count)
+                       : call(AS(store, slot), many, CAMEL_MAX_SESSIONS + 1);
     bool is_published = is_ok(OK | HELD | MALFORMED | WRONG_HANDLE | OTHER_STORE, status);
     if (counted != CAMEL_OK)
         return;
@@ -30,6 +30,10 @@ static void f_publish_to(void)
         slots[at].seen = slots[slot].accepted;
     }
 }
+
+static void f_publish_to(void) { publish_to_by(camel_publish_to); }
+
+static void f_publish_to_nonnull(void) { publish_to_by(camel_publish_to_nonnull); }
 
 /* Notes a record that is kept, if one is: the handle is filled if there is one. */
 static void note_kept(unsigned slot, unsigned to, bool is_kept, bool is_there, bool was_there, bool was_full)
@@ -67,20 +71,38 @@ static void f_set_up(void)
     note_kept(slot, to, is_set_up, is_there, was_there, was_full);
     if (!is_set_up)
         return;
-    note_decided(slot, answer);
+    note_decided(slot, event.dp, answer);
     IS(is_there == (answer->reason != CAMEL_REASON_UNKNOWN));
 }
 
+/* The session that counts it may be of another store than the record. */
 static void f_decide_kept(void)
 {
-    unsigned slot = pick(KEPT);
+    unsigned slot = pick(KEPT), session = pick_session();
     camel_event event = any_event();
     camel_answer *answer = any_answer();
     bool is_decided;
+    if (slot == session)
+        return;
     WRITES(is_decided, answer, OK | MALFORMED | WRONG_HANDLE,
-           camel_decide_kept(AS(subscriber, slot), at_edge(0, &event, sizeof event), answer));
-    IS(!is_decided || (is_whole(answer) && answer->front <= *published_of(slot)));
-    IS(!is_decided || answer->reason != CAMEL_REASON_UNKNOWN);
+           camel_decide_kept(AS(session, session), AS(subscriber, slot), at_edge(0, &event, sizeof event), answer));
+    if (!is_decided)
+        return;
+    IS(is_whole(answer) && answer->front <= *published_of(slot) && answer->reason != CAMEL_REASON_UNKNOWN);
+    slots[session].decisions[event.dp][answer->reason]++;
 }
+
+static void f_kept_row_at(void)
+{
+    unsigned slot = pick(KEPT);
+    uint8_t dp = mostly(DPS[below(5)]);
+    camel_row any = any_row(dp), *row = at_edge(1, &any, sizeof any);
+    bool is_there = toss(), was_there = is_there;
+    bool is_read = is_ok(OK | WRONG_HANDLE, camel_kept_row_at(AS(subscriber, slot), dp, row, &is_there));
+    IS(is_read || is_there == was_there);
+    IS(is_read && is_there ? row->dp == dp && is_whole_row(row) : memcmp(row, &any, sizeof any) == 0);
+}
+
+#include "fuzz_commits.h"
 
 #endif

@@ -35,94 +35,30 @@ static bool note_made(unsigned to, bool was_full, camel_update_parts parts, unsi
     return is_made;
 }
 
-enum { MAKES = OK | MALFORMED | FULL_HANDLE, MAKES_LISTS = MAKES | MISSING | UNEXPECTED };
+/* Notes that a handle has got the update that a change is, if it has. */
+static void note_made_of(unsigned to, bool was_full, const struct any_change *any, camel_status status)
+{
+    note_made(to, was_full, any->parts, any->statuses & OK ? any->statuses | FULL_HANDLE : any->statuses, status);
+}
 
-/* A call that makes an update of an IMSI only, and the kind of that update. */
-static void make_of_imsi(camel_status (*call)(const camel_imsi *, camel_update *), uint8_t kind)
+static void f_update_of(void)
 {
     unsigned to = pick_to_fill(UPDATE + below(4));
     bool was_full = handles[to].is_full;
-    camel_imsi imsi = any_of_few();
-    camel_status status = call(at_edge(0, &imsi, sizeof imsi), AS(update, to));
-    note_made(to, was_full, (camel_update_parts){ .imsi = imsi, .kind = kind }, MAKES, status);
+    struct any_change any = any_change(any_of_few(), toss());
+    take_pointers(&any);
+    note_made_of(to, was_full, &any, camel_update_of(at_edge(5, &any.change, sizeof any.change), AS(update, to)));
 }
 
-static void f_update_of_register(void) { make_of_imsi(camel_update_of_register, CAMEL_UPDATE_REGISTER); }
-
-static void f_update_of_cancel(void) { make_of_imsi(camel_update_of_cancel, CAMEL_UPDATE_CANCEL); }
-
-static void f_update_of_clear_all(void)
+static void f_update_of_nonnull(void)
 {
     unsigned to = pick_to_fill(UPDATE + below(4));
     bool was_full = handles[to].is_full;
-    camel_status status = camel_update_of_clear_all(AS(update, to));
-    note_made(to, was_full, (camel_update_parts){ .kind = CAMEL_UPDATE_CLEAR_ALL }, OK | FULL_HANDLE, status);
-}
-
-static void f_update_of_delete(void)
-{
-    unsigned to = pick_to_fill(UPDATE + below(4));
-    bool was_full = handles[to].is_full;
-    camel_imsi imsi = any_of_few();
-    camel_withdrawal what = { 0 };
-    camel_update_parts parts = { .imsi = imsi, .kind = CAMEL_UPDATE_DELETE };
-    toss_in(&what.o);
-    toss_in(&what.vt);
-    toss_in(&what.everything);
-    parts.withdrawal = (camel_withdrawal){ is_true(&what.o), is_true(&what.vt), is_true(&what.everything) };
-    camel_status status = camel_update_of_delete(&imsi, at_edge(0, &what, sizeof what), AS(update, to));
-    note_made(to, was_full, parts, MAKES, status);
-}
-
-static camel_update_parts parts_of_insert(camel_imsi imsi, const camel_insert *sent)
-{
-    return (camel_update_parts){
-        .imsi = imsi,
-        .kind = CAMEL_UPDATE_INSERT,
-        .o_rows = sent->o.rows ? (uint8_t)sent->o.row_count : 0,
-        .o_criteria = sent->o.criteria ? (uint8_t)sent->o.criteria_count : 0,
-        .vt_rows = sent->vt.rows ? (uint8_t)sent->vt.row_count : 0,
-        .t_criteria = sent->vt.criteria ? (uint8_t)sent->vt.criteria_count : 0,
-    };
-}
-
-/* Has one list be sent at most, so that Inserts may be joined. */
-static void leave_one(camel_lists *lists)
-{
-    bool *has[] = { &lists->o.has_rows, &lists->o.has_criteria, &lists->vt.has_rows, &lists->vt.has_criteria };
-    unsigned left = below(4);
-    for (unsigned at = 0; at < 4; at++)
-        if (at != left)
-            *has[at] = false;
-}
-
-static void f_update_of_lists(void)
-{
-    unsigned to = pick_to_fill(UPDATE + below(4));
-    bool was_full = handles[to].is_full;
-    camel_imsi imsi = any_of_few();
-    camel_lists lists = any_lists();
-    if (toss())
-        leave_one(&lists);
-    camel_insert sent = insert_of(&lists);
-    camel_status status = camel_update_of_lists(at_edge(0, &imsi, sizeof imsi), at_edge(5, &lists, sizeof lists),
-                                                AS(update, to));
-    note_made(to, was_full, parts_of_insert(imsi, &sent), MAKES_LISTS, status);
-}
-
-static void f_update_of_insert(void)
-{
-    unsigned to = pick_to_fill(UPDATE + below(4));
-    bool was_full = handles[to].is_full, is_without_items = false;
-    camel_imsi imsi = any_of_few();
-    camel_lists lists = any_lists();
-    camel_insert sent = insert_of(&lists);
-    for (unsigned times = below(4); times > 0; times--)
-        is_without_items |= take_pointer(&sent);
-    camel_status status = camel_update_of_insert(at_edge(0, &imsi, sizeof imsi), at_edge(5, &sent, sizeof sent),
-                                                 AS(update, to));
-    note_made(to, was_full, parts_of_insert(imsi, &sent),
-              is_without_items ? MALFORMED | MISSING | UNEXPECTED : MAKES_LISTS, status);
+    struct any_change any = any_change(any_of_few(), toss());
+    const camel_imsi *imsi = at_edge(0, &any.change.imsi, sizeof any.change.imsi);
+    const camel_withdrawal *what = at_edge(6, &any.change.withdrawal, sizeof any.change.withdrawal);
+    const camel_lists *lists = at_edge(5, &any.lists, sizeof any.lists);
+    note_made_of(to, was_full, &any, camel_update_of_nonnull(any.change.kind, imsi, what, lists, AS(update, to)));
 }
 
 /* What an operation of MAP brings. */
@@ -133,7 +69,8 @@ static uint8_t kind_of(uint8_t operation)
 }
 
 /* What came is what the library says of it, of the kind of the operation. */
-static void f_update_of_map(void)
+static void update_of_map_by(camel_status (*call)(uint8_t, const camel_imsi *, const uint8_t *, size_t, camel_update *,
+                                                  uint64_t *), void *(*pointer)(void *))
 {
     unsigned to = pick_to_fill(UPDATE + below(4)), own = below(2);
     bool was_full = handles[to].is_full;
@@ -142,17 +79,20 @@ static void f_update_of_map(void)
     camel_imsi imsi = any_dialogue(own);
     write_tbcd(own, argument.octets + IMSI_AT);
     size_t count = below(16) ? any_argument(&argument, octets) : any_octets(octets);
+    const uint8_t *from = pointer(at_edge(1, octets, count));
     uint64_t any = next(), *place = at_edge(2, &any, sizeof any);
     camel_update_parts parts = { .kind = kind_of(operation) };
-    camel_status status = camel_update_of_map(operation, at_edge(0, &imsi, sizeof imsi), at_edge(1, octets, count),
-                                              count, AS(update, to), place);
-    IS(is_placed(status, count, *place));
-    if (!note_made(to, was_full, parts, MAKES_LISTS | MALFORMED_OCTETS | MISSING_FIELD | FIELD_TWICE | WRONG_TAG |
-                   WRONG_LENGTH | NO_IMSI | OTHER_IMSI, status))
+    camel_status status = call(operation, at_edge(0, &imsi, sizeof imsi), from, count, AS(update, to), place);
+    IS(is_placed(status, from ? count : 0, *place));
+    if (!note_made(to, was_full, parts, OK | FULL_HANDLE | OF_OCTETS, status))
         return;
     RETURNS(CAMEL_OK, camel_update_parts_of(AS(update, to), &slots[to].parts));
     IS(slots[to].parts.kind == parts.kind && (imsi.number == 0 || slots[to].parts.imsi.number == imsi.number));
 }
+
+static void f_update_of_map(void) { update_of_map_by(camel_update_of_map, or_null); }
+
+static void f_update_of_map_nonnull(void) { update_of_map_by(camel_update_of_map_nonnull, or_itself); }
 
 static void f_update_parts_of(void)
 {
@@ -206,12 +146,6 @@ static void f_update_join(void)
     note_made(to, was_full, parts, OK | WRONG_HANDLE | FULL_HANDLE | NO_INSERT | OTHER_SUBSCRIBER | UNEXPECTED, status);
 }
 
-/* What a store may return of an update, but for its limit and the handles. */
-static unsigned rejections_of(uint8_t kind)
-{
-    return kind == CAMEL_UPDATE_INSERT ? UNIDENTIFIED | MISSING : kind == CAMEL_UPDATE_DELETE ? UNIDENTIFIED : 0;
-}
-
 static void f_submit(void)
 {
     unsigned slot = pick(STORE), from = pick_update();
@@ -235,28 +169,54 @@ static void note_rejected(unsigned slot, unsigned first, size_t ending, size_t r
     IS(rejected <= ending);
 }
 
-/* Each of several updates is accepted, or none is. */
-static void f_submit_all(void)
+/* Updates in handles side by side, or now and then other handles: how many, whether they are updates, and which of
+ * several is the first that leaves no record. */
+struct several { unsigned first, count; bool are_updates; size_t ending; };
+
+static struct several any_updates(void)
 {
-    unsigned slot = pick(STORE), count = below(5);
-    unsigned first = below(16) ? UPDATE + below(5 - count) : below(SLOTS + 1 - count);
-    size_t ending = count, any = (size_t)next(), *rejected = at_edge(0, &any, sizeof any);
-    bool are_updates = true;
-    if (first <= slot && slot < first + count)
-        return;
+    unsigned count = below(5);
+    struct several several = { below(16) ? UPDATE + below(5 - count) : below(SLOTS + 1 - count), count, true, count };
     for (unsigned at = count; at > 0; at--) {
-        are_updates &= holds_update(first + at - 1);
-        if (slots[first + at - 1].parts.kind >= CAMEL_UPDATE_CANCEL)
-            ending = at - 1;
+        unsigned slot = several.first + at - 1;
+        several.are_updates &= holds_update(slot);
+        if (count > 1 && slots[slot].parts.kind >= CAMEL_UPDATE_CANCEL)
+            several.ending = at - 1;
     }
-    unsigned allowed = FULL | UNIDENTIFIED | MISSING | (ending < count ? UNEXPECTED : OK);
-    camel_status status = camel_submit_all(AS(store, slot), AS(update, first), count, rejected);
-    if (is_ok(are_updates ? allowed | WRONG_HANDLE : WRONG_HANDLE, status))
+    return several;
+}
+
+/* What the store may return of them, but CAMEL_WRONG_HANDLE. */
+static unsigned statuses_of_several(const struct several *several)
+{
+    return FULL | UNIDENTIFIED | MISSING | (several->ending < several->count ? UNEXPECTED : OK);
+}
+
+static bool is_among(unsigned slot, unsigned first, unsigned count)
+{
+    return first <= slot && slot < first + count;
+}
+
+/* Each of several updates is accepted, or none is. */
+static void submit_all_by(camel_status (*call)(camel_store *, const camel_update *, size_t, size_t *))
+{
+    unsigned slot = pick(STORE);
+    struct several several = any_updates();
+    size_t any = (size_t)next(), *rejected = at_edge(0, &any, sizeof any), count = several.count;
+    if (is_among(slot, several.first, several.count))
+        return;
+    unsigned allowed = several.are_updates ? statuses_of_several(&several) | WRONG_HANDLE : WRONG_HANDLE;
+    camel_status status = call(AS(store, slot), AS(update, several.first), count, rejected);
+    if (is_ok(allowed, status))
         slots[slot].accepted += count;
     else if (status != CAMEL_WRONG_HANDLE && *rejected < count)
-        note_rejected(slot, first, ending, *rejected, status);
+        note_rejected(slot, several.first, several.ending, *rejected, status);
     IS((*rejected == count) == (status == CAMEL_OK || status == CAMEL_WRONG_HANDLE) && *rejected <= count);
 }
+
+static void f_submit_all(void) { submit_all_by(camel_submit_all); }
+
+static void f_submit_all_nonnull(void) { submit_all_by(camel_submit_all_nonnull); }
 
 /* The accepted updates are the published ones again. */
 static void f_drop_pending(void)

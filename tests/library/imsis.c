@@ -66,8 +66,8 @@ static void is_none(camel_store *store, camel_session *session, uint64_t number)
     event.imsi = imsi;
     RETURNS(CAMEL_MALFORMED, camel_digits_of_imsi(&imsi, &characters));
     RETURNS(CAMEL_MALFORMED, camel_tbcd_of_imsi(&imsi, &tbcd));
-    RETURNS(CAMEL_MALFORMED, camel_submit_register(store, &imsi));
-    RETURNS(CAMEL_MALFORMED, camel_update_of_register(&imsi, &update));
+    RETURNS(CAMEL_MALFORMED, submit_register(store, &imsi));
+    RETURNS(CAMEL_MALFORMED, update_of_register(&imsi, &update));
     RETURNS(CAMEL_MALFORMED, camel_row_at(session, &imsi, 2, &row, &is_there));
     RETURNS(CAMEL_MALFORMED, camel_encode_record(session, &imsi, &argument, &is_there));
     RETURNS(CAMEL_MALFORMED, camel_decide(session, &event, &answer));

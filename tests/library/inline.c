@@ -23,7 +23,7 @@ static const struct {
     { CAMEL_NO_IMSI, 0x102 },
     { CAMEL_OTHER_IMSI, 36 },
     { CAMEL_NO_INSERT, 0x103 },
-    { CAMEL_OTHER_SUBSCRIBER, 0x103 },
+    { CAMEL_OTHER_SUBSCRIBER, 36 },
     { CAMEL_HELD, 0x103 },
     { CAMEL_MALFORMED, 36 },
     { CAMEL_WRONG_HANDLE, 0x103 },

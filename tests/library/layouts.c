@@ -11,31 +11,31 @@ _Static_assert(sizeof(camel_row) == 24, "camel_row");
 _Static_assert(sizeof(camel_basic_services) == 11, "camel_basic_services");
 _Static_assert(sizeof(camel_causes) == 6, "camel_causes");
 _Static_assert(sizeof(camel_number_criterion) == 106, "camel_number_criterion");
-_Static_assert(sizeof(camel_o_criteria) == 127, "camel_o_criteria");
-_Static_assert(sizeof(camel_t_criteria) == 18, "camel_t_criteria");
-_Static_assert(sizeof(camel_o_lists) == 40, "camel_o_lists");
-_Static_assert(sizeof(camel_vt_lists) == 40, "camel_vt_lists");
+_Static_assert(sizeof(camel_criteria) == 127, "camel_criteria");
+_Static_assert(sizeof(camel_csi_lists) == 40, "camel_csi_lists");
 _Static_assert(sizeof(camel_lists) == 80, "camel_lists");
 _Static_assert(sizeof(camel_withdrawal) == 3, "camel_withdrawal");
 _Static_assert(sizeof(camel_event) == 40, "camel_event");
 _Static_assert(sizeof(camel_answer) == 32, "camel_answer");
 _Static_assert(sizeof(camel_counts) == 32, "camel_counts");
-_Static_assert(sizeof(camel_decisions) == 8 * CAMEL_REASONS, "camel_decisions");
+_Static_assert(sizeof(camel_decisions) == 720, "camel_decisions");
 _Static_assert(sizeof(camel_update_parts) == 32, "camel_update_parts");
 _Static_assert(sizeof(camel_argument) == 2 + CAMEL_MAX_ARGUMENT, "camel_argument");
 _Static_assert(offsetof(camel_receipt, front) == 8, "camel_receipt");
 _Static_assert(offsetof(camel_row, key) == 4 && offsetof(camel_row, scf) == 8, "camel_row");
 _Static_assert(offsetof(camel_row, handling) == 20, "camel_row");
 _Static_assert(offsetof(camel_number_criterion, numbers) == 6, "camel_number_criterion");
-_Static_assert(offsetof(camel_o_criteria, number) == 2, "camel_o_criteria");
-_Static_assert(offsetof(camel_o_criteria, causes) == 121, "camel_o_criteria");
-_Static_assert(offsetof(camel_o_lists, criteria) == 16, "camel_o_lists");
-_Static_assert(offsetof(camel_o_lists, has_criteria) == 33, "camel_o_lists");
-_Static_assert(offsetof(camel_vt_lists, has_criteria) == 33, "camel_vt_lists");
+_Static_assert(offsetof(camel_criteria, number) == 2 && offsetof(camel_criteria, basic) == 108, "camel_criteria");
+_Static_assert(offsetof(camel_criteria, causes) == 121, "camel_criteria");
+_Static_assert(offsetof(camel_csi_lists, row_count) == 8, "camel_csi_lists");
+_Static_assert(offsetof(camel_csi_lists, criteria) == 16, "camel_csi_lists");
+_Static_assert(offsetof(camel_csi_lists, has_rows) == 32, "camel_csi_lists");
+_Static_assert(offsetof(camel_csi_lists, has_criteria) == 33, "camel_csi_lists");
 _Static_assert(offsetof(camel_lists, vt) == 40, "camel_lists");
 _Static_assert(offsetof(camel_event, basic) == 29 && offsetof(camel_event, cause) == 33, "camel_event");
 _Static_assert(offsetof(camel_answer, scf) == 12 && offsetof(camel_answer, reason) == 25, "camel_answer");
 _Static_assert(offsetof(camel_counts, held) == 24, "camel_counts");
+_Static_assert(offsetof(camel_decisions, by[CAMEL_DP_T_NO_ANSWER]) == 672, "camel_decisions");
 _Static_assert(offsetof(camel_update_parts, kind) == 8, "camel_update_parts");
 _Static_assert(offsetof(camel_update_parts, has_o_capability) == 13, "camel_update_parts");
 _Static_assert(offsetof(camel_update_parts, o_capability) == 16, "camel_update_parts");
@@ -45,9 +45,9 @@ _Static_assert(offsetof(camel_argument, octets) == 2, "camel_argument");
 static const uint8_t NUMBERS[2][3] = { { 0x91, 0x34, 0x61 }, { 0xa1, 0x21, 0xf3 } };
 
 /* An entry of the O-CSI with each field. */
-static camel_o_criteria o_criteria_of(uint8_t dp, bool is_enabling)
+static camel_criteria o_criteria_of(uint8_t dp, bool is_enabling)
 {
-    camel_o_criteria entry = {
+    camel_criteria entry = {
         .dp = dp,
         .has_number = true,
         .number = { .is_enabling = is_enabling, .number_count = 2, .length_count = 2, .lengths = { 11, 4 } },
@@ -74,61 +74,59 @@ static bool is_same_row(const camel_row *one, const camel_row *other)
 }
 
 /* Both entries come back octet by octet, in place of octets that are all 1. */
-static void criteria_come_back(camel_session *session, const camel_imsi *imsi, const camel_o_criteria *o_entry,
-                               const camel_t_criteria *t_entry)
+static void criteria_come_back(camel_session *session, const camel_imsi *imsi, const camel_criteria *o_entry,
+                               const camel_criteria *t_entry)
 {
-    camel_o_criteria of_o;
-    camel_t_criteria of_t;
+    camel_criteria of_o, of_t;
     bool is_there = false;
 
     memset(&of_o, 1, sizeof of_o);
     memset(&of_t, 1, sizeof of_t);
-    RETURNS(CAMEL_OK, camel_o_criteria_at(session, imsi, o_entry->dp, &of_o, &is_there));
+    RETURNS(CAMEL_OK, camel_criteria_at(session, imsi, o_entry->dp, &of_o, &is_there));
     IS(is_there && memcmp(&of_o, o_entry, sizeof of_o) == 0);
     is_there = false;
-    RETURNS(CAMEL_OK, camel_t_criteria_at(session, imsi, t_entry->dp, &of_t, &is_there));
+    RETURNS(CAMEL_OK, camel_criteria_at(session, imsi, t_entry->dp, &of_t, &is_there));
     IS(is_there && memcmp(&of_t, t_entry, sizeof of_t) == 0);
 }
 
 /* So do entries with one criterion, and entries with none. */
 static void bare_criteria_come_back(camel_store *store, camel_session *session)
 {
-    camel_o_criteria o_criteria[] = { { .dp = 2, .basic = { 1, { { true, 0x18 } } } }, { .dp = 4 } };
-    camel_t_criteria t_criteria[] = { { .dp = 12, .basic = { 1, { { true, 0x18 } } } }, { .dp = 13 } };
+    camel_criteria o_criteria[] = { { .dp = 2, .basic = { 1, { { true, 0x18 } } } }, { .dp = 4 } };
+    camel_criteria t_criteria[] = { { .dp = 12, .basic = { 1, { { true, 0x18 } } } }, { .dp = 13 } };
     camel_row o[] = { row_of(2, 100) }, vt[] = { row_of(12, 102) };
     camel_imsi imsi = imsi_of(3);
 
-    RETURNS(CAMEL_OK, camel_submit_register(store, &imsi));
+    RETURNS(CAMEL_OK, submit_register(store, &imsi));
     RETURNS(CAMEL_OK, insert(store, 3, o, 1, o_criteria, 2, vt, 1, t_criteria, 2));
     RETURNS(CAMEL_OK, camel_publish(store));
     for (int at = 0; at < 2; at++)
         criteria_come_back(session, &imsi, &o_criteria[at], &t_criteria[at]);
 }
 
-/* There is no row at 3, no criteria of the O-CSI at 13 and none of the VT-CSI at 12: what stands is left. */
+/* There is no row at 3, which is of neither CSI, and there are no criteria there and at 12: what stands is left. */
 static void nothing_is_there(camel_session *session, const camel_imsi *imsi)
 {
+    static const uint8_t none[] = { 3, 12 };
     camel_row row = { .key = 7 };
-    camel_o_criteria of_o = { .dp = 7 };
-    camel_t_criteria of_t = { .dp = 7 };
     bool is_there = true;
 
     RETURNS(CAMEL_OK, camel_row_at(session, imsi, 3, &row, &is_there));
     IS(!is_there && row.key == 7);
-    is_there = true;
-    RETURNS(CAMEL_OK, camel_o_criteria_at(session, imsi, 13, &of_o, &is_there));
-    IS(!is_there && of_o.dp == 7);
-    is_there = true;
-    RETURNS(CAMEL_OK, camel_t_criteria_at(session, imsi, 12, &of_t, &is_there));
-    IS(!is_there && of_t.dp == 7);
+    for (size_t at = 0; at < 2; at++) {
+        camel_criteria criteria = { .dp = 7 };
+        is_there = true;
+        RETURNS(CAMEL_OK, camel_criteria_at(session, imsi, none[at], &criteria, &is_there));
+        IS(!is_there && criteria.dp == 7);
+    }
 }
 
 /* Each row and each entry of criteria comes back with each field. */
 static void fields_come_back(camel_store *store, camel_session *session)
 {
     camel_row o[] = { row_of(2, 100), row_of(4, 101) }, vt[] = { row_of(12, 102), row_of(13, 103), row_of(14, 104) };
-    camel_o_criteria o_criteria[] = { o_criteria_of(2, true), o_criteria_of(4, false) };
-    camel_t_criteria t_criteria[] = {
+    camel_criteria o_criteria[] = { o_criteria_of(2, true), o_criteria_of(4, false) };
+    camel_criteria t_criteria[] = {
         { .dp = 13, .basic = { 1, { { true, 0x20 } } }, .causes = { 1, { 17 } } },
         { .dp = 14, .causes = { 2, { 19, 18 } } },
     };
@@ -136,7 +134,7 @@ static void fields_come_back(camel_store *store, camel_session *session)
     bool is_there = false;
 
     o[1].handling = 0;
-    RETURNS(CAMEL_OK, camel_submit_register(store, &imsi));
+    RETURNS(CAMEL_OK, submit_register(store, &imsi));
     RETURNS(CAMEL_OK, insert(store, 1, o, 2, o_criteria, 2, vt, 3, t_criteria, 2));
     RETURNS(CAMEL_OK, camel_publish(store));
     for (int at = 0; at < 5; at++) {
@@ -200,7 +198,7 @@ static void received_handlings(camel_store *store, camel_session *session)
     camel_imsi imsi = imsi_of(3);
     camel_event event = event_of(3, 2);
 
-    RETURNS(CAMEL_OK, camel_submit_register(store, &imsi));
+    RETURNS(CAMEL_OK, submit_register(store, &imsi));
     for (size_t at = 0; at < sizeof cases / sizeof cases[0]; at++) {
         camel_row sent = row_of(2, 105), row = { .handling = 7 };
         camel_answer answer = { .is_release = !cases[at].is_release };
@@ -258,7 +256,7 @@ static void encoded_long_record(void)
     camel_session session = CAMEL_EMPTY;
     camel_imsi imsi = imsi_of(1);
     camel_row rows[] = { row_of(2, 1), row_of(4, 2) };
-    camel_o_criteria entries[] = { { .dp = 2 }, { .dp = 4 } };
+    camel_criteria entries[] = { { .dp = 2 }, { .dp = 4 } };
     camel_argument argument = { 0 };
     bool is_there = false;
 
@@ -267,7 +265,7 @@ static void encoded_long_record(void)
     for (unsigned at = 0; at < 2; at++)
         entries[at].has_number = true, entries[at].number.number_count = 10;
     RETURNS(CAMEL_OK, camel_open(&store, &session, 1, 9, 1, 1));
-    RETURNS(CAMEL_OK, camel_submit_register(&store, &imsi));
+    RETURNS(CAMEL_OK, submit_register(&store, &imsi));
     RETURNS(CAMEL_OK, insert(&store, 1, rows, 2, entries, 2, NULL, 0, NULL, 0));
     RETURNS(CAMEL_OK, camel_publish(&store));
     RETURNS(CAMEL_OK, camel_encode_record(&session, &imsi, &argument, &is_there));
@@ -283,15 +281,14 @@ int main(void)
     static const uint32_t sizes[] = {
         sizeof(camel_receipt), sizeof(camel_imsi), sizeof(camel_address), sizeof(camel_isdn_address),
         sizeof(camel_basic_service), sizeof(camel_row), sizeof(camel_basic_services), sizeof(camel_causes),
-        sizeof(camel_number_criterion), sizeof(camel_o_criteria), sizeof(camel_t_criteria), sizeof(camel_o_lists),
-        sizeof(camel_vt_lists), sizeof(camel_lists), sizeof(camel_withdrawal), sizeof(camel_event),
-        sizeof(camel_answer), sizeof(camel_counts), sizeof(camel_decisions), sizeof(camel_update_parts),
-        sizeof(camel_argument), sizeof(camel_store),
+        sizeof(camel_number_criterion), sizeof(camel_criteria), sizeof(camel_csi_lists), sizeof(camel_lists),
+        sizeof(camel_withdrawal), sizeof(camel_event), sizeof(camel_answer), sizeof(camel_counts),
+        sizeof(camel_decisions), sizeof(camel_update_parts), sizeof(camel_argument), sizeof(camel_store),
     };
     uint32_t of_library[32] = { 0 };
 
-    _Static_assert(sizeof sizes / sizeof sizes[0] == 22, "21 types and a handle");
-    IS(camel_layouts(of_library, 32) == 22);
+    _Static_assert(sizeof sizes / sizeof sizes[0] == 20, "19 types and a handle");
+    IS(camel_layouts(of_library, 32) == 20);
     IS(memcmp(of_library, sizes, sizeof sizes) == 0);
     RETURNS(CAMEL_OK, camel_open(&store, &session, 1, 100, 1, 1));
     fields_come_back(&store, &session);

@@ -31,7 +31,7 @@ int main(void)
 
     IS(camel_abi_version() == CAMEL_ABI_VERSION);
     RETURNS(CAMEL_OK, camel_open(&store, &session, 1, 10, 1, 1));
-    RETURNS(CAMEL_OK, camel_submit_register(&store, &imsi));
+    RETURNS(CAMEL_OK, submit_register(&store, &imsi));
     RETURNS(CAMEL_OK, camel_publish(&store));
     camel_free(&session);
     RETURNS(CAMEL_OK, camel_close(&store));

@@ -64,7 +64,7 @@ static inline size_t any_octets(uint8_t *octets)
     return count;
 }
 
-enum { EDGES = 6, ROOM = 1 << 16 };
+enum { EDGES = 7, ROOM = 1 << 16 };
 
 /* A copy of what is passed, whose end no call may go beyond. Each of what a call is passed has an edge of its own. */
 static inline void *at_edge(int edge, const void *from, size_t size)
@@ -76,6 +76,17 @@ static inline void *at_edge(int edge, const void *from, size_t size)
             abort();
     }
     return memcpy(edges[edge] + ROOM - size, from, size);
+}
+
+/* What is passed with a count, or now and then NULL, which is to none. */
+static inline void *or_null(void *at)
+{
+    return below(32) ? at : NULL;
+}
+
+static inline void *or_itself(void *at)
+{
+    return at;
 }
 
 static const uint8_t DPS[] = { 2, 4, 12, 13, 14 };
@@ -123,11 +134,10 @@ static inline camel_basic_services any_services(void)
     return services;
 }
 
-static inline camel_o_criteria any_o_criteria(unsigned dp)
+/* Criteria of which each field is any, but for which of them there are. */
+static inline camel_criteria any_criteria(unsigned dp, bool has_causes)
 {
-    camel_o_criteria entry = { .dp = mostly(dp) };
-    toss_in(&entry.has_number);
-    toss_in(&entry.has_call_type);
+    camel_criteria entry = { .dp = (uint8_t)dp };
     toss_in(&entry.is_forwarded);
     toss_in(&entry.number.is_enabling);
     entry.number.number_count = mostly(below(11));
@@ -137,13 +147,25 @@ static inline camel_o_criteria any_o_criteria(unsigned dp)
     for (int at = 0; at < 3; at++)
         entry.number.lengths[at] = mostly(1 + below(15));
     entry.basic = any_services();
-    entry.causes = any_causes(dp == 4);
+    entry.causes = any_causes(has_causes);
     return entry;
 }
 
-static inline camel_t_criteria any_t_criteria(unsigned dp)
+static inline camel_criteria any_o_criteria(unsigned dp)
 {
-    return (camel_t_criteria){ (uint8_t)dp, any_services(), any_causes(dp != 12) };
+    camel_criteria entry = any_criteria(mostly(dp), dp == 4);
+    toss_in(&entry.has_number);
+    toss_in(&entry.has_call_type);
+    return entry;
+}
+
+/* Entries of the VT-CSI have neither a number nor a call type, but now and then. */
+static inline camel_criteria any_t_criteria(unsigned dp)
+{
+    camel_criteria entry = any_criteria(dp, dp != 12);
+    if (below(32) == 0)
+        toss_in(toss() ? &entry.has_number : &entry.has_call_type);
+    return entry;
 }
 
 static inline size_t any_count(void)
@@ -159,8 +181,8 @@ static inline camel_lists any_lists(void)
         .vt = { .row_count = any_count(), .criteria_count = any_count() },
     };
     camel_row o[12], vt[12];
-    camel_o_criteria o_criteria[12];
-    camel_t_criteria t_criteria[12];
+    camel_criteria o_criteria[12];
+    camel_criteria t_criteria[12];
     for (unsigned at = 0; at < 12; at++) {
         unsigned dp = mostly(DPS[at % 2]), vt_dp = mostly(DPS[2 + at % 3]);
         o[at] = any_row(dp), vt[at] = any_row(vt_dp);
@@ -219,10 +241,10 @@ static inline size_t any_argument(struct argument *argument, uint8_t *octets)
     fill(octets, LONGEST + 8);
     memcpy(octets, argument->octets, count);
     for (unsigned changes = toss() ? below(4) : 0; changes > 0; changes--) {
-        size_t at = below(count);
+        size_t at = below((unsigned)count);
         octets[at] = toss() ? octet() : (uint8_t)(octets[at] ^ 1u << below(8));
     }
-    return below(8) ? count : below(4) ? below(count) : count + below(8);
+    return below(8) ? count : below(4) ? below((unsigned)count) : count + below(8);
 }
 
 static inline camel_event any_event(void)

@@ -9,7 +9,7 @@ static void publish(camel_store *store, unsigned updates)
 {
     camel_imsi imsi = imsi_of(1);
     while (updates-- > 0)
-        RETURNS(CAMEL_OK, camel_submit_register(store, &imsi));
+        RETURNS(CAMEL_OK, submit_register(store, &imsi));
     RETURNS(CAMEL_OK, camel_publish(store));
 }
 

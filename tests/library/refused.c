@@ -8,21 +8,22 @@
 enum kind {
     OPEN, REGISTER, INSERT_ROWS, INSERT_FEW, INSERT_MANY, INSERT_OCTETS, DELETE, CANCEL, CLEAR_ALL,
     UPDATE_PLAIN, UPDATE_LISTS, UPDATE_OCTETS, JOIN, SUBMIT, SUBMIT_ALL, PUBLISH_INSERTS, PUBLISH_NOTHING,
-    PUBLISH_DELETE, PUBLISH_CANCEL, PUBLISH_CLEAR_ALL, PUBLISH_OR_DROP, PUBLISH_TO, DROP_REMOVALS, KEEP, SET_UP, LIST, ENCODE, KINDS
+    PUBLISH_DELETE, PUBLISH_CANCEL, PUBLISH_CLEAR_ALL, PUBLISH_OR_DROP, PUBLISH_TO, COMMIT, DROP_REMOVALS, KEEP, SET_UP,
+    LIST, ENCODE, KINDS
 };
 
 static const char *const NAMES[KINDS] = {
     [OPEN] = "`camel_open`, two sessions",
-    [REGISTER] = "`camel_submit_register`",
-    [INSERT_ROWS] = "`camel_submit_insert`, rows",
-    [INSERT_FEW] = "`camel_submit_insert`, rows, and criteria of three numbers and of causes",
-    [INSERT_MANY] = "`camel_submit_insert`, all lists, with criteria of ten numbers and all else",
+    [REGISTER] = "`camel_submit_change`, a register",
+    [INSERT_ROWS] = "`camel_submit_change`, an insert of rows",
+    [INSERT_FEW] = "`camel_submit_change`, an insert of rows, and criteria of three numbers and of causes",
+    [INSERT_MANY] = "`camel_submit_change`, an insert of all lists, with criteria of ten numbers and all else",
     [INSERT_OCTETS] = "`camel_submit_map`, all lists in octets",
-    [DELETE] = "`camel_submit_delete`",
-    [CANCEL] = "`camel_submit_cancel`",
-    [CLEAR_ALL] = "`camel_submit_clear_all`",
-    [UPDATE_PLAIN] = "`camel_update_of_register`, `_delete`, `_cancel` and `_clear_all`",
-    [UPDATE_LISTS] = "`camel_update_of_insert`, criteria of ten numbers and all else, and a VT-CSI",
+    [DELETE] = "`camel_submit_change`, a delete",
+    [CANCEL] = "`camel_submit_change`, a cancel",
+    [CLEAR_ALL] = "`camel_submit_change`, a clear of all",
+    [UPDATE_PLAIN] = "`camel_update_of`, a register, a delete, a cancel and a clear of all",
+    [UPDATE_LISTS] = "`camel_update_of`, an insert of criteria of ten numbers and all else, and a VT-CSI",
     [UPDATE_OCTETS] = "`camel_update_of_map`, an O-CSI in octets",
     [JOIN] = "`camel_update_join`, of these two",
     [SUBMIT] = "`camel_submit`, of what they are together",
@@ -34,6 +35,7 @@ static const char *const NAMES[KINDS] = {
     [PUBLISH_CLEAR_ALL] = "`camel_publish`, of a clear of all, and the next one",
     [PUBLISH_OR_DROP] = "`camel_publish`, of a delete, registers and inserts, which are dropped if it fails",
     [PUBLISH_TO] = "`camel_publish_to`, of a location update to two sessions, and the next one",
+    [COMMIT] = "`camel_commit`, of a location update to two sessions, and the next one",
     [DROP_REMOVALS] = "`camel_drop_pending`, of a cancel and a clear of all",
     [KEEP] = "`camel_keep`",
     [SET_UP] = "`camel_set_up`",
@@ -45,7 +47,7 @@ static const char *const NAMES[KINDS] = {
 
 #define FREED(handle) (camel_free(handle), CAMEL_OK)
 
-enum { LIMIT = 110, SUBSCRIBERS = 40, SHOWN = 7, FURTHER = 90, STRANGER = 91 };
+enum { LIMIT = 120, SUBSCRIBERS = 40, SHOWN = 7, COMMITTED = 60, FURTHER = 90, STRANGER = 91 };
 
 static camel_store store;
 static camel_session sessions[2];
@@ -61,10 +63,10 @@ static uint64_t shown(void)
 }
 
 /* Criteria of so many numbers, and if they are many, of all other kinds too. */
-static camel_o_criteria o_criteria_of(uint8_t dp, uint8_t numbers)
+static camel_criteria o_criteria_of(uint8_t dp, uint8_t numbers)
 {
     static const uint8_t listed[] = { 0x91, 0x34 };
-    camel_o_criteria entry = { .dp = dp, .has_number = true };
+    camel_criteria entry = { .dp = dp, .has_number = true };
     entry.number.is_enabling = true;
     entry.number.number_count = numbers;
     for (int at = 0; at < numbers; at++)
@@ -78,7 +80,7 @@ static camel_o_criteria o_criteria_of(uint8_t dp, uint8_t numbers)
     return entry;
 }
 
-static const camel_t_criteria CAUSES = { .dp = 13, .causes = { 1, { 17 } } };
+static const camel_criteria CAUSES = { .dp = 13, .causes = { 1, { 17 } } };
 
 /* Whether the store has no record of a subscriber: it rejects an Insert of a row. */
 static bool is_unknown(unsigned number)
@@ -96,17 +98,17 @@ static bool has_no_vt(unsigned number)
 /* Whether the store has the O-CSI of a subscriber: it accepts an Insert of criteria. */
 static bool has_o(unsigned number)
 {
-    camel_o_criteria entry = o_criteria_of(2, 1);
+    camel_criteria entry = o_criteria_of(2, 1);
     bool has = insert(&store, number, NULL, 0, &entry, 1, NULL, 0, NULL, 0) == CAMEL_OK;
     accepted += has;
     return has;
 }
 
-static void submit_register(unsigned number)
+static void register_subscriber(unsigned number)
 {
     camel_imsi imsi = imsi_of(number);
     uint64_t before = shown();
-    AGAIN(REGISTER, camel_submit_register(&store, &imsi), shown() == before && is_unknown(number));
+    AGAIN(REGISTER, submit_register(&store, &imsi), shown() == before && is_unknown(number));
     accepted++;
 }
 
@@ -124,11 +126,11 @@ static void submit_octets(unsigned number)
 }
 
 /* Sends a subscriber who has just registered rows, or with them some criteria, or all lists. */
-static void submit_insert(unsigned number)
+static void send_lists(unsigned number)
 {
     camel_row o[] = { row_of(2, 100), row_of(4, 101) }, vt[] = { row_of(12, 102), row_of(13, 103) };
-    camel_o_criteria few = o_criteria_of(2, 3), many[] = { o_criteria_of(2, 10), o_criteria_of(4, 4) };
-    camel_t_criteria causes[] = { CAUSES, { .dp = 12, .basic = { 1, { { true, 0x11 } } } } };
+    camel_criteria few = o_criteria_of(2, 3), many[] = { o_criteria_of(2, 10), o_criteria_of(4, 4) };
+    camel_criteria causes[] = { CAUSES, { .dp = 12, .basic = { 1, { { true, 0x11 } } } } };
     uint64_t before = shown();
     switch (number % 6) {
     case 0:
@@ -152,8 +154,8 @@ static void submit_insert(unsigned number)
 static void come(unsigned first, unsigned last)
 {
     for (unsigned number = first; number <= last; number++) {
-        submit_register(number);
-        submit_insert(number);
+        register_subscriber(number);
+        send_lists(number);
     }
 }
 
@@ -170,8 +172,8 @@ static void make_parts(unsigned number, camel_update *update, camel_update *next
 {
     struct argument argument = ARGUMENT[O_CSI];
     camel_row vt[] = { row_of(12, 102), row_of(13, 103) };
-    camel_o_criteria many[] = { o_criteria_of(2, 10), o_criteria_of(4, 4) };
-    camel_t_criteria causes = CAUSES;
+    camel_criteria many[] = { o_criteria_of(2, 10), o_criteria_of(4, 4) };
+    camel_criteria causes = CAUSES;
     camel_insert sent = {
         .o = { .criteria = many, .criteria_count = 2 },
         .vt = { vt, 2, &causes, 1 },
@@ -183,7 +185,7 @@ static void make_parts(unsigned number, camel_update *update, camel_update *next
     AGAIN(UPDATE_OCTETS,
           camel_update_of_map(argument.operation, &imsi, argument.octets, argument.count, update, &place),
           !update->is_full && place == CAMEL_NO_OCTET);
-    AGAIN(UPDATE_LISTS, camel_update_of_insert(&imsi, &sent, next), !next->is_full);
+    AGAIN(UPDATE_LISTS, update_of_insert(&imsi, &sent, next), !next->is_full);
     AGAIN(JOIN, camel_update_join(update, next, joined), !joined->is_full);
     IS(has_items(update, 1, 0) && has_items(next, 0, 2) && has_items(joined, 1, 2));
 }
@@ -196,15 +198,15 @@ static void update_location(unsigned number)
     uint64_t before = shown();
     size_t rejected = 99;
 
-    AGAIN(UPDATE_PLAIN, camel_update_of_register(&imsi, &updates[0]), !updates[0].is_full);
+    AGAIN(UPDATE_PLAIN, update_of_register(&imsi, &updates[0]), !updates[0].is_full);
     make_parts(number, &one, &next, &updates[1]);
     AGAIN(SUBMIT_ALL, camel_submit_all(&store, updates, 2, &rejected),
           shown() == before && rejected == 2 && is_unknown(number));
     before = shown();
     AGAIN(SUBMIT, camel_submit(&store, &updates[1]), shown() == before && has_items(&updates[1], 1, 2));
     accepted += 3;
-    NONE(CAMEL_MALFORMED, camel_update_of_register(&none, &empty));
-    NONE(CAMEL_FULL_HANDLE, camel_update_of_register(&imsi, &next));
+    NONE(CAMEL_MALFORMED, update_of_register(&none, &empty));
+    NONE(CAMEL_FULL_HANDLE, update_of_register(&imsi, &next));
     NONE(CAMEL_WRONG_HANDLE, camel_submit(&store, &empty));
     NONE(CAMEL_NO_INSERT, camel_update_join(&updates[1], &updates[0], &empty));
     NONE(CAMEL_FULL_HANDLE, camel_update_join(&one, &next, &updates[1]));
@@ -220,11 +222,11 @@ static void make_updates(unsigned number)
     camel_update update = CAMEL_EMPTY;
     camel_imsi imsi = imsi_of(number);
     camel_withdrawal what = { .o = true };
-    AGAIN(UPDATE_PLAIN, camel_update_of_delete(&imsi, &what, &update), !update.is_full);
+    AGAIN(UPDATE_PLAIN, update_of_delete(&imsi, &what, &update), !update.is_full);
     NONE(CAMEL_OK, FREED(&update));
-    AGAIN(UPDATE_PLAIN, camel_update_of_cancel(&imsi, &update), !update.is_full);
+    AGAIN(UPDATE_PLAIN, update_of_cancel(&imsi, &update), !update.is_full);
     NONE(CAMEL_OK, FREED(&update));
-    AGAIN(UPDATE_PLAIN, camel_update_of_clear_all(&update), !update.is_full);
+    AGAIN(UPDATE_PLAIN, update_of_clear_all(&update), !update.is_full);
     NONE(CAMEL_OK, FREED(&update));
 }
 
@@ -265,7 +267,7 @@ static void publish(enum kind kind)
     if (has_failed(kind, status)) {
         IS(shown() == before);
         if (submits_between)
-            submit_register(FURTHER);
+            register_subscriber(FURTHER);
         status = COUNTED(published(kind));
     }
     RETURNS(CAMEL_OK, status);
@@ -286,15 +288,15 @@ static void take_back(void)
     camel_imsi first = imsi_of(1), second = imsi_of(2);
     camel_withdrawal what = { .o = true };
     uint64_t before = shown();
-    AGAIN(DELETE, camel_submit_delete(&store, &first, &what), shown() == before && has_o(1));
+    AGAIN(DELETE, submit_delete(&store, &first, &what), shown() == before && has_o(1));
     accepted++;
     publish_to_both(PUBLISH_DELETE);
     before = shown();
-    AGAIN(CANCEL, camel_submit_cancel(&store, &second), shown() == before && has_o(2));
+    AGAIN(CANCEL, submit_cancel(&store, &second), shown() == before && has_o(2));
     accepted++;
     publish_to_both(PUBLISH_CANCEL);
     before = shown();
-    AGAIN(CLEAR_ALL, camel_submit_clear_all(&store), shown() == before && has_o(3));
+    AGAIN(CLEAR_ALL, submit_clear_all(&store), shown() == before && has_o(3));
     accepted++;
     publish_to_both(PUBLISH_CLEAR_ALL);
 }
@@ -306,6 +308,7 @@ static void hold(void)
 {
     camel_receipt receipt = { 0 }, forged;
     uint64_t holders = 99;
+    size_t rejected = 99;
     NONE(CAMEL_OK, camel_receipt_of(&store, &receipt));
     NONE(CAMEL_OK, camel_look(&sessions[0]));
     publish(PUBLISH_NOTHING);
@@ -313,6 +316,7 @@ static void hold(void)
     IS(holders == 1);
     NONE(CAMEL_HELD, camel_publish(&store));
     NONE(CAMEL_HELD, camel_publish_to(&store, sessions, 2));
+    NONE(CAMEL_HELD, camel_commit(&store, NULL, 0, sessions, 2, &rejected));
     NONE(CAMEL_OK, camel_drop_pending(&store));
     NONE(CAMEL_HELD, camel_look(&sessions[0]));
     NONE(CAMEL_HELD, camel_learn(&sessions[0], &receipt));
@@ -373,10 +377,10 @@ static void make_data(void)
 static void fill(void)
 {
     camel_imsi further = imsi_of(FURTHER), stranger = imsi_of(STRANGER);
-    RETURNS(CAMEL_OK, camel_submit_cancel(&store, &further));
+    RETURNS(CAMEL_OK, submit_cancel(&store, &further));
     for (accepted++; accepted < LIMIT; accepted++)
-        RETURNS(CAMEL_OK, camel_submit_cancel(&store, &stranger));
-    NONE(CAMEL_HISTORY_FULL, camel_submit_cancel(&store, &stranger));
+        RETURNS(CAMEL_OK, submit_cancel(&store, &stranger));
+    NONE(CAMEL_HISTORY_FULL, submit_cancel(&store, &stranger));
 }
 
 static void end_store(void)
@@ -384,7 +388,7 @@ static void end_store(void)
     camel_imsi imsi = imsi_of(5);
     camel_subscriber kept = CAMEL_EMPTY;
     camel_imsis imsis = CAMEL_EMPTY;
-    camel_decisions decisions = { { 0 } };
+    camel_decisions decisions = { .by = { { 0 } } };
     bool is_there = false;
     NONE(CAMEL_OK, camel_look(&sessions[0]));
     NONE(CAMEL_HELD, camel_close(&store));
@@ -393,7 +397,7 @@ static void end_store(void)
     NONE(CAMEL_NO_LOOK, camel_keep(&sessions[0], &imsi, &kept, &is_there));
     NONE(CAMEL_NO_LOOK, camel_imsis_of(&sessions[0], &imsis));
     NONE(CAMEL_OK, camel_decisions_of(&sessions[1], &decisions));
-    IS(decisions.by_reason[CAMEL_REASON_NONE] > 0);
+    IS(decisions.by[2][CAMEL_REASON_NONE] > 0);
     NONE(CAMEL_OK, FREED(NULL));
     NONE(CAMEL_OK, FREED(&sessions[0]));
     NONE(CAMEL_OK, FREED(&sessions[1]));
@@ -424,7 +428,7 @@ static uint64_t live(void)
     keep_none(&kept);
     set_up();
     take_back();
-    NONE(CAMEL_OK, camel_decide_kept(&kept, &failure, &answer));
+    NONE(CAMEL_OK, camel_decide_kept(&sessions[0], &kept, &failure, &answer));
     IS(is_there && answer.key == 101);
     come_or_drop(0, 1, SHOWN / 2);
     come_or_drop(2, SHOWN / 2 + 1, SHOWN - 1);
@@ -434,6 +438,8 @@ static uint64_t live(void)
     publish_to_both(PUBLISH_TO);
     uint64_t end = list_records();
     drop_removals();
+    commit_location();
+    commit_location();
     fill();
     publish(PUBLISH_NOTHING);
     end += shown();

@@ -1,4 +1,4 @@
-/* The calls of refused.c that drop what is pending. It is included behind `publish`. */
+/* The calls of refused.c that drop what is pending, and those that commit. It is included behind `publish`. */
 #ifndef REFUSED_DROPS_H
 #define REFUSED_DROPS_H
 
@@ -27,7 +27,7 @@ static void go_and_come(unsigned known, unsigned first, unsigned last)
     camel_imsi imsi = imsi_of(known);
     camel_withdrawal what = { .everything = true };
     if (known != 0) {
-        RETURNS(CAMEL_OK, camel_submit_delete(&store, &imsi, &what));
+        RETURNS(CAMEL_OK, submit_delete(&store, &imsi, &what));
         accepted++;
     }
     come(first, last);
@@ -61,13 +61,32 @@ static void drop_removals(void)
 {
     uint64_t published = shown(), before;
     camel_imsi imsi = imsi_of(1);
-    RETURNS(CAMEL_OK, camel_submit_cancel(&store, &imsi));
-    RETURNS(CAMEL_OK, camel_submit_clear_all(&store));
+    RETURNS(CAMEL_OK, submit_cancel(&store, &imsi));
+    RETURNS(CAMEL_OK, submit_clear_all(&store));
     before = shown();
     AGAIN(DROP_REMOVALS, camel_drop_pending(&store), shown() == before && is_unknown(1) && is_unknown(SHOWN));
     IS(shown() == published && !is_unknown(1) && !is_unknown(SHOWN));
     NONE(CAMEL_OK, camel_drop_pending(&store));
     IS(shown() == published);
+}
+
+/* Commits a location update to both sessions. */
+static void commit_location(void)
+{
+    camel_update updates[2] = { CAMEL_EMPTY, CAMEL_EMPTY };
+    camel_imsi imsi = imsi_of(COMMITTED);
+    camel_row row = row_of(2, 100);
+    camel_insert sent = { .o = { .rows = &row, .row_count = 1 } };
+    uint64_t before = shown();
+    size_t rejected = 99;
+
+    RETURNS(CAMEL_OK, update_of_register(&imsi, &updates[0]));
+    RETURNS(CAMEL_OK, update_of_insert(&imsi, &sent, &updates[1]));
+    AGAIN(COMMIT, camel_commit(&store, updates, 2, sessions, 2, &rejected), shown() == before && rejected == 2);
+    accepted += 2;
+    IS(rejected == 2 && counts_of(&store).published == accepted && counts_of(&store).pending == 0);
+    camel_free(&updates[0]);
+    camel_free(&updates[1]);
 }
 
 #endif

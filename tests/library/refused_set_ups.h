@@ -32,7 +32,7 @@ static void set_up(void)
           !kept.is_full && !is_there && answer.front == 0);
     RETURNS(CAMEL_OK, camel_decisions_of(&sessions[0], &after));
     IS(is_there && answer.is_trigger && answer.front == accepted);
-    IS(after.by_reason[CAMEL_REASON_NONE] == before.by_reason[CAMEL_REASON_NONE] + 1);
+    IS(after.by[2][CAMEL_REASON_NONE] == before.by[2][CAMEL_REASON_NONE] + 1);
     NONE(CAMEL_OK, FREED(&kept));
 }
 

@@ -5,21 +5,25 @@
 
 #include "check.h"
 
+#include <limits.h>
+
 void *__real_malloc(size_t size);
 void *__real_realloc(void *old, size_t size);
 void __real_free(void *block);
 
-static long requests;    /* of this life, in the calls that are counted */
-static long refused_at;  /* which of them is refused; 0 is none */
-static bool is_counting; /* whether a call that is counted is being made */
-static bool was_refused; /* whether this call was refused a request */
-static long blocks;      /* how many are allocated */
+static long requests;       /* of this life, in the calls that are counted */
+static long refused_at;     /* which of them is refused; 0 is none */
+static long refused_behind; /* how many behind it are refused too */
+static bool is_counting;    /* whether a call that is counted is being made */
+static bool was_refused;    /* whether this call was refused a request */
+static long blocks;         /* how many are allocated */
 
 static bool is_refused(void)
 {
-    bool is = is_counting && ++requests == refused_at;
-    was_refused |= is;
-    return is;
+    if (!is_counting || ++requests < refused_at || refused_at == 0 || requests - refused_at > refused_behind)
+        return false;
+    was_refused = true;
+    return true;
 }
 
 void *__wrap_malloc(size_t size)

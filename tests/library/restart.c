@@ -93,7 +93,7 @@ static camel_status restore_line(camel_store *store, const char *line)
     if (status == CAMEL_OK)
         status = read_octets(comma + 1, &argument);
     if (status == CAMEL_OK)
-        status = camel_update_of_register(&imsi, &updates[0]);
+        status = update_of_register(&imsi, &updates[0]);
     if (status == CAMEL_OK)
         status = camel_update_of_map(CAMEL_INSERT_SUBSCRIBER_DATA, &imsi, argument.octets, argument.count,
                                      &updates[1], &place);
@@ -150,10 +150,10 @@ static camel_imsi imsi_at(uint64_t number)
 static void come(camel_store *store, uint64_t number)
 {
     camel_imsi imsi = imsi_at(number);
-    RETURNS(CAMEL_OK, camel_submit_register(store, &imsi));
+    RETURNS(CAMEL_OK, submit_register(store, &imsi));
     for (int times = 0; times < 8; times++) {
         camel_lists lists = any_lists();
-        if (camel_submit_lists(store, &imsi, &lists) == CAMEL_OK && toss())
+        if (submit_lists(store, &imsi, &lists) == CAMEL_OK && toss())
             return;
     }
 }

@@ -22,7 +22,7 @@ static struct shown shown_of(uint64_t seed)
     RETURNS(CAMEL_OK, camel_open(&store, &session, 1, SUBSCRIBERS, CAMEL_PROFILE_1, seed));
     for (unsigned at = 0; at < SUBSCRIBERS; at++) {
         camel_imsi imsi = imsi_of(at);
-        RETURNS(CAMEL_OK, camel_submit_register(&store, &imsi));
+        RETURNS(CAMEL_OK, submit_register(&store, &imsi));
     }
     RETURNS(CAMEL_OK, camel_publish(&store));
     RETURNS(CAMEL_OK, camel_imsis_of(&session, &imsis));

@@ -9,7 +9,7 @@ static void open_store(camel_store *store, camel_session *sessions, uint64_t see
 {
     camel_imsi imsi = imsi_of(1);
     RETURNS(CAMEL_OK, camel_open(store, sessions, SESSIONS, LIMIT, 1, seed));
-    RETURNS(CAMEL_OK, camel_submit_register(store, &imsi));
+    RETURNS(CAMEL_OK, submit_register(store, &imsi));
     RETURNS(CAMEL_OK, camel_publish(store));
 }
 
@@ -30,7 +30,7 @@ static void told_of(void)
     open_store(&store, sessions, 1);
     for (uint64_t published = 2; published < LIMIT; published++) {
         size_t told = published % (SESSIONS + 1);
-        RETURNS(CAMEL_OK, camel_submit_register(&store, &imsi));
+        RETURNS(CAMEL_OK, submit_register(&store, &imsi));
         RETURNS(CAMEL_OK, camel_publish_to(&store, sessions, told));
         IS(counts_of(&store).pending == 0 && counts_of(&store).published == published);
         for (size_t at = 0; at < told; at++)
@@ -50,7 +50,7 @@ static void not_told(void)
 
     open_store(&store, sessions, 1);
     open_store(&other, of_other, 2);
-    RETURNS(CAMEL_OK, camel_submit_register(&store, &imsi));
+    RETURNS(CAMEL_OK, submit_register(&store, &imsi));
     RETURNS(CAMEL_MALFORMED, camel_publish_to(&store, many, CAMEL_MAX_SESSIONS + 1));
     RETURNS(CAMEL_WRONG_HANDLE, camel_publish_to(&store, many, CAMEL_MAX_SESSIONS));
     for (size_t at = 0; at < SESSIONS; at++) {
@@ -113,7 +113,7 @@ static void set_up_over_one_front(void)
     RETURNS(CAMEL_OK, camel_set_up(sessions, &event, &answer, &kept, &is_there));
     IS(is_there && kept.is_full && answer.is_trigger && answer.key == 100 && answer.front == 2);
     publish_key(&store, sessions, 101);
-    RETURNS(CAMEL_OK, camel_decide_kept(&kept, &event, &later));
+    RETURNS(CAMEL_OK, camel_decide_kept(sessions, &kept, &event, &later));
     IS(later.key == 100 && later.front == 2);
     camel_free(&kept);
     RETURNS(CAMEL_OK, camel_look(sessions));
@@ -124,7 +124,7 @@ static void set_up_over_one_front(void)
     RETURNS(CAMEL_OK, camel_set_up(sessions, &unknown, &answer, &none, &is_there));
     IS(!is_there && !none.is_full && !answer.is_trigger && answer.reason == CAMEL_REASON_UNKNOWN && answer.front == 4);
     RETURNS(CAMEL_OK, camel_decisions_of(sessions, &decisions));
-    IS(decisions.by_reason[CAMEL_REASON_NONE] == 3 && decisions.by_reason[CAMEL_REASON_UNKNOWN] == 1);
+    IS(decisions.by[2][CAMEL_REASON_NONE] == 4 && decisions.by[2][CAMEL_REASON_UNKNOWN] == 1);
     camel_free(&kept);
     close_store(&store, sessions);
 }
@@ -156,6 +156,49 @@ static void order_of_set_up(void)
         camel_free(&sessions[at]);
 }
 
+/* Whether two rows are the same, one of them as it comes back. */
+static bool is_same_row(const camel_row *one, const camel_row *other)
+{
+    return one->dp == other->dp && one->key == other->key && one->handling == other->handling
+        && one->scf.length == other->scf.length && memcmp(one->scf.octets, other->scf.octets, one->scf.length) == 0;
+}
+
+/* The rows of a copy are those of its record at each detection point, also once the store has ended. */
+static void kept_rows(void)
+{
+    camel_store store = CAMEL_EMPTY;
+    camel_session sessions[SESSIONS] = { CAMEL_EMPTY, CAMEL_EMPTY, CAMEL_EMPTY };
+    camel_subscriber kept = CAMEL_EMPTY, none = CAMEL_EMPTY;
+    camel_row o[] = { row_of(2, 102), row_of(4, 104) }, vt[] = { row_of(12, 112), row_of(14, 114) }, row, of_record;
+    camel_imsi imsi = imsi_of(1);
+    bool is_there = true, is_in_record = true;
+
+    open_store(&store, sessions, 1);
+    o[1].handling = 0;
+    RETURNS(CAMEL_OK, insert(&store, 1, o, 2, NULL, 0, vt, 2, NULL, 0));
+    RETURNS(CAMEL_OK, camel_publish_to(&store, sessions, SESSIONS));
+    RETURNS(CAMEL_OK, camel_keep(sessions, &imsi, &kept, &is_there));
+    RETURNS(CAMEL_OK, camel_look(sessions));
+    RETURNS(CAMEL_OK, submit_cancel(&store, &imsi));
+    RETURNS(CAMEL_OK, camel_publish(&store));
+    RETURNS(CAMEL_HELD, camel_close(&store));
+    for (unsigned dp = 0; dp < 256; dp++) {
+        row = of_record = (camel_row){ .key = 7 };
+        is_there = !is_there;
+        RETURNS(CAMEL_OK, camel_kept_row_at(&kept, (uint8_t)dp, &row, &is_there));
+        RETURNS(CAMEL_OK, camel_row_at(sessions, &imsi, (uint8_t)dp, &of_record, &is_in_record));
+        IS(is_there == is_in_record && is_there == (dp == 2 || dp == 4 || dp == 12 || dp == 14));
+        IS(is_there ? is_same_row(&row, &of_record) && row.key == 100 + dp : row.key == 7);
+    }
+    is_there = true;
+    row.key = 7;
+    RETURNS(CAMEL_WRONG_HANDLE, camel_kept_row_at(&none, 2, &row, &is_there));
+    RETURNS(CAMEL_WRONG_HANDLE, camel_kept_row_at((camel_subscriber *)sessions, 2, &row, &is_there));
+    IS(row.key == 7 && is_there);
+    camel_free(&kept);
+    close_store(&store, sessions);
+}
+
 int main(void)
 {
     told_of();
@@ -163,5 +206,6 @@ int main(void)
     held_up();
     set_up_over_one_front();
     order_of_set_up();
+    kept_rows();
     return ended("set_ups");
 }

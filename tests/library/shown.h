@@ -29,13 +29,10 @@ static void add_octets(const void *at, size_t size)
 /* The criteria of a subscriber at a detection point. What they have none of is 0. */
 static void add_criteria(camel_session *session, const camel_imsi *imsi, uint8_t dp)
 {
-    camel_o_criteria of_o = { 0 };
-    camel_t_criteria of_t = { 0 };
+    camel_criteria criteria = { 0 };
     bool is_there = false;
-    NONE(CAMEL_OK, camel_o_criteria_at(session, imsi, dp, &of_o, &is_there));
-    add(is_there), add_octets(&of_o, sizeof of_o);
-    NONE(CAMEL_OK, camel_t_criteria_at(session, imsi, dp, &of_t, &is_there));
-    add(is_there), add_octets(&of_t, sizeof of_t);
+    NONE(CAMEL_OK, camel_criteria_at(session, imsi, dp, &criteria, &is_there));
+    add(is_there), add_octets(&criteria, sizeof criteria);
 }
 
 /* All that a session shows of a subscriber at a detection point. */

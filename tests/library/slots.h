@@ -13,7 +13,7 @@ static struct slot {
     uint64_t seen;            /* of a session: the longest front that it saw or learnt */
     bool is_looking;
     uint64_t front;           /* of the look, once something was decided over it; else 0 */
-    uint64_t decisions[CAMEL_REASONS]; /* of a session: how many of each reason */
+    uint64_t decisions[CAMEL_DP_T_NO_ANSWER + 1][CAMEL_REASONS]; /* of a session: how many by each */
     uint64_t accepted;        /* of a store: how many updates */
     uint64_t held;            /* of a store: how many publications */
     uint64_t limit;           /* of a store */

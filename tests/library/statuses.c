@@ -70,8 +70,8 @@ static void lists_of_none(camel_store *store, const camel_imsi *imsi)
 {
     camel_row many[11], o = row_of(2, 100), vt = row_of(12, 100);
     camel_insert none = { 0 };
-    camel_o_criteria o_criteria = { .dp = 2 };
-    camel_t_criteria t_criteria = { .dp = 12 };
+    camel_criteria o_criteria = { .dp = 2 };
+    camel_criteria t_criteria = { .dp = 12 };
     camel_insert empty[] = {
         { .o = { .rows = &o } }, { .o = { .criteria = &o_criteria } },
         { .vt = { .rows = &vt } }, { .vt = { .criteria = &t_criteria } },
@@ -81,18 +81,68 @@ static void lists_of_none(camel_store *store, const camel_imsi *imsi)
     };
 
     for (size_t at = 0; at < sizeof empty / sizeof empty[0]; at++)
-        RETURNS(CAMEL_DATA_MISSING, camel_submit_insert(store, imsi, &empty[at]));
-    RETURNS(CAMEL_OK, camel_submit_insert(store, imsi, &none));
+        RETURNS(CAMEL_DATA_MISSING, submit_insert(store, imsi, &empty[at]));
+    RETURNS(CAMEL_OK, submit_insert(store, imsi, &none));
     for (size_t at = 0; at < 11; at++)
         many[at] = row_of(3, 100);
     none.o.rows = many;
     none.o.row_count = 11;
-    RETURNS(CAMEL_UNEXPECTED_DATA_VALUE, camel_submit_insert(store, imsi, &none));
+    RETURNS(CAMEL_UNEXPECTED_DATA_VALUE, submit_insert(store, imsi, &none));
     /* The items of a list that is too long are not looked at: one of these has no address. */
     many[3].scf.length = 0;
-    RETURNS(CAMEL_UNEXPECTED_DATA_VALUE, camel_submit_insert(store, imsi, &none));
+    RETURNS(CAMEL_UNEXPECTED_DATA_VALUE, submit_insert(store, imsi, &none));
     none.o.row_count = 10;
-    RETURNS(CAMEL_MALFORMED, camel_submit_insert(store, imsi, &none));
+    RETURNS(CAMEL_MALFORMED, submit_insert(store, imsi, &none));
+}
+
+/* A change is of one of five kinds, and what is not of its kind is not looked at. */
+static void kinds_of_changes(void)
+{
+    static const uint8_t none[] = { 0, CAMEL_UPDATE_CLEAR_ALL + 1, 255 };
+    camel_store store = CAMEL_EMPTY, empty = CAMEL_EMPTY;
+    camel_session session = CAMEL_EMPTY;
+    camel_update update = CAMEL_EMPTY, full = CAMEL_EMPTY;
+    camel_row row = row_of(2, 0x80000000u);
+    camel_change change = { .imsi = imsi_of(1), .withdrawal = { .o = true } };
+
+    RETURNS(CAMEL_OK, camel_open(&store, &session, 1, 10, 1, 1));
+    RETURNS(CAMEL_OK, update_of_clear_all(&full));
+    for (size_t at = 0; at < sizeof none; at++) {
+        change.kind = none[at];
+        RETURNS(CAMEL_MALFORMED, camel_submit_change(&store, &change));
+        RETURNS(CAMEL_MALFORMED, camel_submit_change(&empty, &change));
+        RETURNS(CAMEL_MALFORMED, camel_update_of(&change, &update));
+        RETURNS(CAMEL_MALFORMED, camel_update_of(&change, &full));
+    }
+    IS(counts_of(&store).pending == 0 && !update.is_full);
+    change.insert = (camel_insert){ .o = { &row, 1, NULL, 7 }, .vt = { NULL, 7, NULL, 0 } };
+    change.kind = CAMEL_UPDATE_REGISTER;
+    RETURNS(CAMEL_OK, camel_submit_change(&store, &change));
+    change.kind = CAMEL_UPDATE_DELETE;
+    RETURNS(CAMEL_OK, camel_submit_change(&store, &change));
+    change.kind = CAMEL_UPDATE_CANCEL;
+    RETURNS(CAMEL_OK, camel_submit_change(&store, &change));
+    change.kind = CAMEL_UPDATE_CLEAR_ALL;
+    change.imsi.number = 7;
+    RETURNS(CAMEL_OK, camel_submit_change(&store, &change));
+    RETURNS(CAMEL_OK, camel_update_of(&change, &update));
+    change.kind = CAMEL_UPDATE_INSERT;
+    RETURNS(CAMEL_MALFORMED, camel_submit_change(&store, &change));
+    IS(counts_of(&store).pending == 4);
+    camel_free(&update), camel_free(&full), camel_free(&session);
+    RETURNS(CAMEL_OK, camel_close(&store));
+}
+
+/* Criteria of the VT-CSI have neither a number nor a call type, whichever detection point they are of. */
+static void criteria_of_vt(camel_store *store)
+{
+    camel_row row = row_of(13, 100);
+    camel_criteria number = { .dp = 13, .has_number = true, .number = { .length_count = 1, .lengths = { 4 } } };
+    camel_criteria call_type = { .dp = 13, .has_call_type = true }, ignored = { .dp = 3, .has_call_type = true };
+
+    RETURNS(CAMEL_UNEXPECTED_DATA_VALUE, insert(store, 1, NULL, 0, NULL, 0, &row, 1, &number, 1));
+    RETURNS(CAMEL_UNEXPECTED_DATA_VALUE, insert(store, 1, NULL, 0, NULL, 0, &row, 1, &call_type, 1));
+    RETURNS(CAMEL_UNEXPECTED_DATA_VALUE, insert(store, 1, NULL, 0, NULL, 0, &row, 1, &ignored, 1));
 }
 
 /* Updates that the store rejects, or of which the data are none. */
@@ -101,18 +151,18 @@ static void rejected_updates(camel_store *store)
     camel_imsi imsi = imsi_of(1), none = { 0 };
     camel_withdrawal what = { .o = true };
     camel_row row = row_of(2, 100), many = row_of(2, 0x80000000u), nowhere = { .key = 1, .dp = 2 };
-    camel_o_criteria criteria = { .dp = 2 }, causes = { .dp = 2, .causes = { 1, { 17 } } };
+    camel_criteria criteria = { .dp = 2 }, causes = { .dp = 2, .causes = { 1, { 17 } } };
     camel_insert sent = { .o = { .rows = &row } };
 
-    RETURNS(CAMEL_MALFORMED, camel_submit_register(store, &none));
-    RETURNS(CAMEL_MALFORMED, camel_submit_insert(store, &none, &sent));
-    RETURNS(CAMEL_MALFORMED, camel_submit_delete(store, &none, &what));
-    RETURNS(CAMEL_MALFORMED, camel_submit_cancel(store, &none));
-    RETURNS(CAMEL_UNIDENTIFIED_SUBSCRIBER, camel_submit_delete(store, &imsi, &what));
+    RETURNS(CAMEL_MALFORMED, submit_register(store, &none));
+    RETURNS(CAMEL_MALFORMED, submit_insert(store, &none, &sent));
+    RETURNS(CAMEL_MALFORMED, submit_delete(store, &none, &what));
+    RETURNS(CAMEL_MALFORMED, submit_cancel(store, &none));
+    RETURNS(CAMEL_UNIDENTIFIED_SUBSCRIBER, submit_delete(store, &imsi, &what));
     RETURNS(CAMEL_UNIDENTIFIED_SUBSCRIBER, insert(store, 1, &row, 1, NULL, 0, NULL, 0, NULL, 0));
-    RETURNS(CAMEL_OK, camel_submit_register(store, &imsi));
+    RETURNS(CAMEL_OK, submit_register(store, &imsi));
     RETURNS(CAMEL_DATA_MISSING, insert(store, 1, NULL, 0, &criteria, 1, NULL, 0, NULL, 0));
-    RETURNS(CAMEL_DATA_MISSING, camel_submit_insert(store, &imsi, &sent));
+    RETURNS(CAMEL_DATA_MISSING, submit_insert(store, &imsi, &sent));
     RETURNS(CAMEL_UNEXPECTED_DATA_VALUE, insert(store, 1, &many, 1, NULL, 0, NULL, 0, NULL, 0));
     RETURNS(CAMEL_UNEXPECTED_DATA_VALUE, insert(store, 1, &row, 1, &causes, 1, NULL, 0, NULL, 0));
     RETURNS(CAMEL_MALFORMED, insert(store, 1, &nowhere, 1, NULL, 0, NULL, 0, NULL, 0));
@@ -120,9 +170,10 @@ static void rejected_updates(camel_store *store)
     criteria.number.number_count = 11;
     RETURNS(CAMEL_MALFORMED, insert(store, 1, &row, 1, &criteria, 1, NULL, 0, NULL, 0));
     lists_of_none(store, &imsi);
+    criteria_of_vt(store);
     RETURNS(CAMEL_OK, insert(store, 1, &row, 1, NULL, 0, NULL, 0, NULL, 0));
-    RETURNS(CAMEL_OK, camel_submit_clear_all(store));
-    RETURNS(CAMEL_HISTORY_FULL, camel_submit_register(store, &imsi));
+    RETURNS(CAMEL_OK, submit_clear_all(store));
+    RETURNS(CAMEL_HISTORY_FULL, submit_register(store, &imsi));
 }
 
 /* An argument with this octet in the place of one of its own. */
@@ -190,7 +241,7 @@ static void submitted_arguments(void)
 
     RETURNS(CAMEL_OK, camel_open(&store, &session, 1, 4, 1, 1));
     RETURNS_AT(CAMEL_UNIDENTIFIED_SUBSCRIBER, CAMEL_NO_OCTET, &store, 1, ARGUMENT[O_CSI]);
-    RETURNS(CAMEL_OK, camel_submit_register(&store, &imsi));
+    RETURNS(CAMEL_OK, submit_register(&store, &imsi));
     faulty_arguments(&store);
     RETURNS_AT(CAMEL_DATA_MISSING, CAMEL_NO_OCTET, &store, 1, of_vt_criteria);
     RETURNS(CAMEL_MALFORMED, camel_submit_map(&store, CAMEL_CANCEL_LOCATION, &malformed, ARGUMENT[CANCELLED].octets,
@@ -218,24 +269,26 @@ static void wrong_handles(camel_store *store, camel_session *session)
     camel_answer answer = { .front = 7 };
     camel_row row = { .key = 7 };
     uint64_t bits = 7;
+    size_t rejected;
     camel_counts counts = { .pending = 7 };
-    camel_decisions decisions = { { 7 } };
+    camel_decisions decisions = { .by = { { 7 } } };
     camel_insert sent = { 0 };
     camel_withdrawal what = { 0 };
-    camel_o_criteria of_o = { .dp = 7 };
-    camel_t_criteria of_t = { .dp = 7 };
+    camel_criteria criteria = { .dp = 7 };
     bool is_there = true;
 
-    RETURNS(CAMEL_WRONG_HANDLE, camel_submit_register(&empty, &imsi));
-    RETURNS(CAMEL_WRONG_HANDLE, camel_submit_insert(&empty, &imsi, &sent));
-    RETURNS(CAMEL_WRONG_HANDLE, camel_submit_delete(&empty, &imsi, &what));
-    RETURNS(CAMEL_WRONG_HANDLE, camel_submit_cancel((camel_store *)session, &imsi));
-    RETURNS(CAMEL_WRONG_HANDLE, camel_submit_clear_all(&empty));
+    RETURNS(CAMEL_WRONG_HANDLE, submit_register(&empty, &imsi));
+    RETURNS(CAMEL_WRONG_HANDLE, submit_insert(&empty, &imsi, &sent));
+    RETURNS(CAMEL_WRONG_HANDLE, submit_delete(&empty, &imsi, &what));
+    RETURNS(CAMEL_WRONG_HANDLE, submit_cancel((camel_store *)session, &imsi));
+    RETURNS(CAMEL_WRONG_HANDLE, submit_clear_all(&empty));
     RETURNS(CAMEL_WRONG_HANDLE, camel_publish((camel_store *)session));
     RETURNS(CAMEL_WRONG_HANDLE, camel_publish_to((camel_store *)session, session, 1));
     RETURNS(CAMEL_WRONG_HANDLE, camel_publish_to(&empty, session, 1));
     RETURNS(CAMEL_WRONG_HANDLE, camel_publish_to(store, (camel_session *)&empty, 1));
     RETURNS(CAMEL_WRONG_HANDLE, camel_publish_to(store, (camel_session *)&kept, 1));
+    RETURNS(CAMEL_WRONG_HANDLE, camel_commit((camel_store *)session, NULL, 0, NULL, 0, &rejected));
+    RETURNS(CAMEL_WRONG_HANDLE, camel_commit(&empty, NULL, 0, session, 1, &rejected));
     RETURNS(CAMEL_WRONG_HANDLE, camel_drop_pending((camel_store *)session));
     RETURNS(CAMEL_WRONG_HANDLE, camel_drop_pending(&empty));
     RETURNS(CAMEL_WRONG_HANDLE, camel_counts_of(&empty, &counts));
@@ -243,42 +296,52 @@ static void wrong_handles(camel_store *store, camel_session *session)
     RETURNS(CAMEL_WRONG_HANDLE, camel_holders(&empty, &bits));
     RETURNS(CAMEL_WRONG_HANDLE, camel_holders((camel_store *)session, &bits));
     RETURNS(CAMEL_WRONG_HANDLE, camel_decisions_of((camel_session *)store, &decisions));
-    IS(counts.pending == 7 && bits == 7 && decisions.by_reason[0] == 7);
+    IS(counts.pending == 7 && bits == 7 && decisions.by[0][0] == 7);
     RETURNS(CAMEL_WRONG_HANDLE, camel_learn((camel_session *)store, &receipt));
     RETURNS(CAMEL_WRONG_HANDLE, camel_receipt_of(&empty, &receipt));
     RETURNS(CAMEL_WRONG_HANDLE, camel_receipt_of((camel_store *)session, &receipt));
     IS(receipt.store == 7 && receipt.front == 7);
     RETURNS(CAMEL_WRONG_HANDLE, camel_decide((camel_session *)store, &event, &answer));
-    RETURNS(CAMEL_WRONG_HANDLE, camel_decide_kept(&kept, &event, &answer));
+    RETURNS(CAMEL_WRONG_HANDLE, camel_decide_kept(session, &kept, &event, &answer));
+    RETURNS(CAMEL_WRONG_HANDLE, camel_decide_kept((camel_session *)store, &kept, &event, &answer));
     RETURNS(CAMEL_WRONG_HANDLE, camel_look((camel_session *)store));
     RETURNS(CAMEL_WRONG_HANDLE, camel_leave((camel_session *)store));
     RETURNS(CAMEL_WRONG_HANDLE, camel_row_at((camel_session *)store, &imsi, 2, &row, &is_there));
-    RETURNS(CAMEL_WRONG_HANDLE, camel_o_criteria_at((camel_session *)store, &imsi, 2, &of_o, &is_there));
-    RETURNS(CAMEL_WRONG_HANDLE, camel_t_criteria_at((camel_session *)store, &imsi, 12, &of_t, &is_there));
+    RETURNS(CAMEL_WRONG_HANDLE, camel_criteria_at((camel_session *)store, &imsi, 2, &criteria, &is_there));
+    RETURNS(CAMEL_WRONG_HANDLE, camel_criteria_at((camel_session *)store, &imsi, 12, &criteria, &is_there));
+    RETURNS(CAMEL_WRONG_HANDLE, camel_kept_row_at(&kept, 2, &row, &is_there));
     RETURNS(CAMEL_WRONG_HANDLE, camel_keep((camel_session *)store, &imsi, &kept, &is_there));
     RETURNS(CAMEL_WRONG_HANDLE, camel_set_up((camel_session *)store, &event, &answer, &kept, &is_there));
     RETURNS(CAMEL_WRONG_HANDLE, camel_close((camel_store *)session));
     RETURNS(CAMEL_WRONG_HANDLE, camel_close(&empty));
-    IS(of_o.dp == 7 && of_t.dp == 7);
+    IS(criteria.dp == 7);
     IS(answer.front == 7 && row.key == 7 && is_there && !kept.is_full);
     camel_free(&empty);
 }
 
 /* What camel_keep returns if more than one thing is wrong: of the data, of the session's handle, of the one to fill, of
- * the look. That a refusal of memory comes behind these is in refused.c. */
+ * the look; and camel_decide_kept. That a refusal of memory comes behind these is in refused.c. */
 static void order_of_keep(void)
 {
     camel_store store = CAMEL_EMPTY;
     camel_session session = CAMEL_EMPTY, empty = CAMEL_EMPTY;
     camel_subscriber full = CAMEL_EMPTY, kept = CAMEL_EMPTY;
     camel_imsi imsi = imsi_of(1), none = { 0 };
+    camel_event event = event_of(1, 2), malformed = event_of(1, 3);
+    camel_answer answer = { .front = 7 };
     bool is_there = false;
 
     RETURNS(CAMEL_OK, camel_open(&store, &session, 1, 10, 1, 1));
-    RETURNS(CAMEL_OK, camel_submit_register(&store, &imsi));
+    RETURNS(CAMEL_OK, submit_register(&store, &imsi));
     RETURNS(CAMEL_OK, camel_publish(&store));
     RETURNS(CAMEL_OK, camel_keep(&session, &imsi, &full, &is_there));
     IS(is_there && full.is_full);
+    RETURNS(CAMEL_MALFORMED, camel_decide_kept(&empty, &kept, &malformed, &answer));
+    RETURNS(CAMEL_MALFORMED, camel_decide_kept(&session, &full, &malformed, &answer));
+    RETURNS(CAMEL_WRONG_HANDLE, camel_decide_kept(&empty, &full, &event, &answer));
+    RETURNS(CAMEL_WRONG_HANDLE, camel_decide_kept((camel_session *)&store, &full, &event, &answer));
+    RETURNS(CAMEL_WRONG_HANDLE, camel_decide_kept(&session, &kept, &event, &answer));
+    IS(answer.front == 7);
     RETURNS(CAMEL_FULL_HANDLE, camel_keep(&session, &imsi, &full, &is_there));
     RETURNS(CAMEL_OK, camel_close(&store));
     is_there = true;
@@ -374,6 +437,7 @@ int main(void)
     malformed_data();
     malformed_opening();
     other_versions();
+    kinds_of_changes();
     order_of_keep();
     RETURNS(CAMEL_OK, camel_open(&store, sessions, 2, 4, 1, 1));
     rejected_updates(&store);

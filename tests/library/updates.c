@@ -52,12 +52,12 @@ static void malformed_data(camel_update *to)
     camel_insert sent = { .o = { .rows = &row, .row_count = 1 } };
     camel_insert empty = { .vt = { .criteria_count = 3 } };
 
-    RETURNS(CAMEL_MALFORMED, camel_update_of_register(&none, to));
-    RETURNS(CAMEL_MALFORMED, camel_update_of_delete(&none, &what, to));
-    RETURNS(CAMEL_MALFORMED, camel_update_of_cancel(&none, to));
-    RETURNS(CAMEL_MALFORMED, camel_update_of_insert(&none, &sent, to));
-    RETURNS(CAMEL_DATA_MISSING, camel_update_of_insert(&imsi, &empty, to));
-    RETURNS(CAMEL_UNEXPECTED_DATA_VALUE, camel_update_of_insert(&imsi, &sent, to));
+    RETURNS(CAMEL_MALFORMED, update_of_register(&none, to));
+    RETURNS(CAMEL_MALFORMED, update_of_delete(&none, &what, to));
+    RETURNS(CAMEL_MALFORMED, update_of_cancel(&none, to));
+    RETURNS(CAMEL_MALFORMED, update_of_insert(&none, &sent, to));
+    RETURNS(CAMEL_DATA_MISSING, update_of_insert(&imsi, &empty, to));
+    RETURNS(CAMEL_UNEXPECTED_DATA_VALUE, update_of_insert(&imsi, &sent, to));
 }
 
 #define DECODES_AT(wanted, wanted_place, operation, dialogue, octets, count, update)                                \
@@ -102,21 +102,20 @@ static void refused_updates(void)
     camel_insert none = { 0 };
     const struct argument *rows = &ARGUMENT[O_CSI];
 
-    RETURNS(CAMEL_OK, camel_update_of_clear_all(&full));
+    RETURNS(CAMEL_OK, update_of_clear_all(&full));
     malformed_data(&update);
     malformed_data(&full);
     faulty_arguments(&update);
     faulty_arguments(&full);
     IS(!update.is_full);
-    RETURNS(CAMEL_FULL_HANDLE, camel_update_of_register(&imsi, &full));
-    RETURNS(CAMEL_FULL_HANDLE, camel_update_of_delete(&imsi, &what, &full));
-    RETURNS(CAMEL_FULL_HANDLE, camel_update_of_cancel(&imsi, &full));
-    RETURNS(CAMEL_FULL_HANDLE, camel_update_of_insert(&imsi, &none, &full));
-    RETURNS(CAMEL_FULL_HANDLE, camel_update_of_clear_all(&full));
+    RETURNS(CAMEL_FULL_HANDLE, update_of_register(&imsi, &full));
+    RETURNS(CAMEL_FULL_HANDLE, update_of_delete(&imsi, &what, &full));
+    RETURNS(CAMEL_FULL_HANDLE, update_of_cancel(&imsi, &full));
+    RETURNS(CAMEL_FULL_HANDLE, update_of_insert(&imsi, &none, &full));
+    RETURNS(CAMEL_FULL_HANDLE, update_of_clear_all(&full));
     DECODES_AT(CAMEL_FULL_HANDLE, CAMEL_NO_OCTET, rows->operation, &imsi, rows->octets, rows->count, &full);
     IS(parts_of(&full).kind == CAMEL_UPDATE_CLEAR_ALL);
-    camel_free(&full);
-    camel_free(&update);
+    camel_free(&full), camel_free(&update);
 }
 
 /* What came with each update. */
@@ -129,15 +128,15 @@ static void parts_of_updates(void)
     camel_update_parts parts, wanted = { .imsi = imsi, .kind = CAMEL_UPDATE_REGISTER };
     uint8_t before[sizeof parts];
 
-    RETURNS(CAMEL_OK, camel_update_of_register(&imsi, &update));
+    RETURNS(CAMEL_OK, update_of_register(&imsi, &update));
     parts = parts_of(&update);
     IS(is_same_parts(&parts, &wanted));
     camel_free(&update);
-    RETURNS(CAMEL_OK, camel_update_of_delete(&imsi, &what, &update));
+    RETURNS(CAMEL_OK, update_of_delete(&imsi, &what, &update));
     parts = parts_of(&update);
     IS(parts.kind == CAMEL_UPDATE_DELETE && parts.withdrawal.vt && !parts.withdrawal.o && parts.o_rows == 0);
     camel_free(&update);
-    RETURNS(CAMEL_OK, camel_update_of_cancel(&imsi, &update));
+    RETURNS(CAMEL_OK, update_of_cancel(&imsi, &update));
     parts = parts_of(&update);
     IS(parts.kind == CAMEL_UPDATE_CANCEL && parts.imsi.number == imsi.number && !parts.withdrawal.vt);
     camel_free(&update);
@@ -169,7 +168,7 @@ static void parts_of_lists(void)
     IS(parts.o_rows == 4 && parts.o_criteria == 0 && parts.vt_rows == 0 && parts.t_criteria == 0);
     IS(parts.has_o_capability && parts.o_capability == 3 && !parts.has_vt_capability && parts.vt_capability == 0);
     camel_free(&update);
-    RETURNS(CAMEL_OK, camel_update_of_insert(&imsi, &sent, &update));
+    RETURNS(CAMEL_OK, update_of_insert(&imsi, &sent, &update));
     parts = parts_of(&update);
     IS(parts.o_rows == 0 && parts.vt_rows == 2 && !parts.has_o_capability);
     camel_free(&update);
@@ -184,7 +183,7 @@ static void refused_joins(void)
     camel_update other = rows_in(2, many, 1, 3), cancel = CAMEL_EMPTY, empty = CAMEL_EMPTY, joined = CAMEL_EMPTY;
     camel_update_parts before = parts_of(&update), after;
 
-    RETURNS(CAMEL_OK, camel_update_of_cancel(&imsi, &cancel));
+    RETURNS(CAMEL_OK, update_of_cancel(&imsi, &cancel));
     RETURNS(CAMEL_NO_INSERT, camel_update_join(&update, &cancel, &joined));
     RETURNS(CAMEL_NO_INSERT, camel_update_join(&cancel, &update, &joined));
     RETURNS(CAMEL_NO_INSERT, camel_update_join(&cancel, &other, &joined));
@@ -221,7 +220,7 @@ static void joined_updates(camel_store *store, camel_session *session)
     camel_update one = rows_in(1, first, 2, 2), next = rows_in(1, second, 1, 3), criteria = CAMEL_EMPTY;
     camel_update rows = CAMEL_EMPTY, update = CAMEL_EMPTY;
     camel_imsi imsi = imsi_of(1);
-    camel_o_criteria entry = { .dp = 4 };
+    camel_criteria entry = { .dp = 4 };
     camel_insert sent = { .o = { .criteria = &entry, .criteria_count = 1 } };
     camel_update_parts parts;
 
@@ -229,7 +228,7 @@ static void joined_updates(camel_store *store, camel_session *session)
     parts = parts_of(&rows);
     IS(parts.o_rows == 3 && parts.has_o_capability && parts.o_capability == 3);
     IS(parts_of(&one).o_rows == 2 && parts_of(&one).o_capability == 2 && parts_of(&next).o_rows == 1);
-    RETURNS(CAMEL_OK, camel_update_of_insert(&imsi, &sent, &criteria));
+    RETURNS(CAMEL_OK, update_of_insert(&imsi, &sent, &criteria));
     RETURNS(CAMEL_OK, camel_update_join(&rows, &criteria, &update));
     parts = parts_of(&update);
     IS(parts.o_rows == 3 && parts.o_criteria == 1 && parts.has_o_capability && parts.o_capability == 3);
@@ -254,7 +253,7 @@ static void submitted_updates(void)
     camel_imsi imsi = imsi_of(1);
 
     RETURNS(CAMEL_OK, camel_open(&store, &session, 1, 9, 1, 1));
-    RETURNS(CAMEL_OK, camel_update_of_register(&imsi, &updates[0]));
+    RETURNS(CAMEL_OK, update_of_register(&imsi, &updates[0]));
     updates[1] = rows_in(1, dps, 1, 3);
     criteria = update_in(1, CAMEL_INSERT_SUBSCRIBER_DATA, of_13, sizeof of_13);
     RETURNS(CAMEL_UNIDENTIFIED_SUBSCRIBER, camel_submit(&store, &updates[1]));
@@ -270,8 +269,7 @@ static void submitted_updates(void)
     RETURNS(CAMEL_HISTORY_FULL, camel_submit(&store, &updates[0]));
     RETURNS(CAMEL_OK, camel_close(&store));
     RETURNS(CAMEL_WRONG_HANDLE, camel_submit(&store, &updates[0]));
-    camel_free(&session);
-    camel_free(&updates[0]), camel_free(&updates[1]), camel_free(&criteria);
+    camel_free(&session), camel_free(&updates[0]), camel_free(&updates[1]), camel_free(&criteria);
 }
 
 #define SUBMITS_ALL(wanted, wanted_index, store, updates, count)                                                    \
@@ -291,10 +289,10 @@ static void submitted_together(void)
     camel_imsi imsi = imsi_of(1);
     camel_withdrawal what = { .vt = true };
 
-    RETURNS(CAMEL_OK, camel_open(&store, &session, 1, 7, 1, 1));
-    RETURNS(CAMEL_OK, camel_update_of_register(&imsi, &updates[0]));
+    RETURNS(CAMEL_OK, camel_open(&store, &session, 1, 9, 1, 1));
+    RETURNS(CAMEL_OK, update_of_register(&imsi, &updates[0]));
     updates[1] = rows_in(1, dps, 1, 3);
-    RETURNS(CAMEL_OK, camel_update_of_delete(&imsi, &what, &updates[2]));
+    RETURNS(CAMEL_OK, update_of_delete(&imsi, &what, &updates[2]));
     updates[3] = update_in(1, CAMEL_INSERT_SUBSCRIBER_DATA, of_13, sizeof of_13);
     SUBMITS_ALL(CAMEL_OK, 0, &store, updates, 0);
     SUBMITS_ALL(CAMEL_UNIDENTIFIED_SUBSCRIBER, 0, &store, &updates[1], 2);
@@ -305,11 +303,15 @@ static void submitted_together(void)
     IS(decided(&store, &session, 2).is_trigger && decided(&store, &session, 2).front == 3);
     camel_free(&updates[3]);
     SUBMITS_ALL(CAMEL_WRONG_HANDLE, 4, &store, updates, 4);
-    RETURNS(CAMEL_OK, camel_update_of_cancel(&imsi, &updates[3]));
+    RETURNS(CAMEL_OK, update_of_cancel(&imsi, &updates[3]));
     SUBMITS_ALL(CAMEL_UNEXPECTED_DATA_VALUE, 3, &store, updates, 4);
+    SUBMITS_ALL(CAMEL_OK, 1, &store, &updates[3], 1);
+    SUBMITS_ALL(CAMEL_UNIDENTIFIED_SUBSCRIBER, 0, &store, &updates[1], 1);
     camel_free(&updates[3]);
-    RETURNS(CAMEL_OK, camel_update_of_clear_all(&updates[3]));
-    SUBMITS_ALL(CAMEL_UNEXPECTED_DATA_VALUE, 0, &store, &updates[3], 1);
+    RETURNS(CAMEL_OK, update_of_clear_all(&updates[3]));
+    SUBMITS_ALL(CAMEL_UNEXPECTED_DATA_VALUE, 3, &store, updates, 4);
+    SUBMITS_ALL(CAMEL_OK, 1, &store, &updates[3], 1);
+    IS(counts_of(&store).pending == 2);
     SUBMITS_ALL(CAMEL_WRONG_HANDLE, 3, &none, updates, 3);
     SUBMITS_ALL(CAMEL_WRONG_HANDLE, 3, (camel_store *)&session, updates, 3);
     SUBMITS_ALL(CAMEL_OK, 3, &store, updates, 3);
@@ -354,13 +356,13 @@ static void dropped_updates(void)
 
     RETURNS(CAMEL_OK, camel_open(&store, &session, 1, 4, 1, 1));
     RETURNS(CAMEL_OK, camel_drop_pending(&store));
-    RETURNS(CAMEL_OK, camel_update_of_register(&imsi, &updates[0]));
+    RETURNS(CAMEL_OK, update_of_register(&imsi, &updates[0]));
     updates[1] = rows_in(1, dps, 1, 3);
     SUBMITS_ALL(CAMEL_OK, 2, &store, updates, 2);
     IS(decided(&store, &session, 2).is_trigger);
     camel_free(&updates[0]), camel_free(&updates[1]);
-    RETURNS(CAMEL_OK, camel_update_of_delete(&imsi, &what, &updates[0]));
-    RETURNS(CAMEL_OK, camel_update_of_register(&other, &updates[1]));
+    RETURNS(CAMEL_OK, update_of_delete(&imsi, &what, &updates[0]));
+    RETURNS(CAMEL_OK, update_of_register(&other, &updates[1]));
 
     RETURNS(CAMEL_OK, camel_look(&session));
     RETURNS(CAMEL_OK, camel_publish(&store));
@@ -368,11 +370,11 @@ static void dropped_updates(void)
     RETURNS(CAMEL_HELD, camel_publish(&store));
     RETURNS(CAMEL_OK, camel_leave(&session));
     dropped(&store, &session, updates);
-    RETURNS(CAMEL_OK, camel_submit_cancel(&store, &imsi));
-    RETURNS(CAMEL_OK, camel_submit_register(&store, &other));
+    RETURNS(CAMEL_OK, submit_cancel(&store, &imsi));
+    RETURNS(CAMEL_OK, submit_register(&store, &other));
     dropped(&store, &session, updates);
-    RETURNS(CAMEL_OK, camel_submit_clear_all(&store));
-    RETURNS(CAMEL_OK, camel_submit_register(&store, &other));
+    RETURNS(CAMEL_OK, submit_clear_all(&store));
+    RETURNS(CAMEL_OK, submit_register(&store, &other));
     dropped(&store, &session, updates);
     SUBMITS_ALL(CAMEL_OK, 2, &store, updates, 2);
     IS(!decided(&store, &session, 2).is_trigger && decided(&store, &session, 2).front == 4);
@@ -426,11 +428,11 @@ static void listed_records(void)
     RETURNS(CAMEL_OK, camel_open(&store, &session, 1, 2 * SUBSCRIBERS, 1, 1));
     for (unsigned number = 0; number < SUBSCRIBERS; number++) {
         imsi = imsi_of(number);
-        RETURNS(CAMEL_OK, camel_submit_register(&store, &imsi));
+        RETURNS(CAMEL_OK, submit_register(&store, &imsi));
     }
     RETURNS(CAMEL_OK, camel_publish(&store));
     RETURNS(CAMEL_OK, camel_look(&session));
-    RETURNS(CAMEL_OK, camel_submit_clear_all(&store));
+    RETURNS(CAMEL_OK, submit_clear_all(&store));
     RETURNS(CAMEL_OK, camel_publish(&store));
     RETURNS(CAMEL_OK, camel_imsis_of(&session, &imsis));
     RETURNS(CAMEL_OK, camel_leave(&session));
@@ -442,13 +444,11 @@ static void listed_records(void)
         are_listed[number % SUBSCRIBERS] = true;
     }
     for (int times = 0; times < 2; times++) {
-        imsi.number = 7;
-        is_there = true;
+        imsi.number = 7, is_there = true;
         RETURNS(CAMEL_OK, camel_next_imsi(&imsis, &imsi, &is_there));
         IS(!is_there && imsi.number == 7);
     }
-    camel_free(&session);
-    camel_free(&imsis);
+    camel_free(&session), camel_free(&imsis);
     IS(!imsis.is_full);
 }
 
@@ -466,8 +466,8 @@ static void encoded_records(void)
     bool is_there = false;
 
     RETURNS(CAMEL_OK, camel_open(&store, &session, 1, 9, 1, 1));
-    RETURNS(CAMEL_OK, camel_submit_register(&store, &imsi));
-    RETURNS(CAMEL_OK, camel_submit_register(&store, &empty));
+    RETURNS(CAMEL_OK, submit_register(&store, &imsi));
+    RETURNS(CAMEL_OK, submit_register(&store, &empty));
     RETURNS(CAMEL_OK, camel_submit_map(&store, all->operation, &imsi, all->octets, all->count, &place));
     RETURNS(CAMEL_OK, camel_publish(&store));
     memset(&argument, 7, sizeof argument);

@@ -6,8 +6,8 @@
 //! In bindings/rust: `CAMEL_LIB_DIR=FOLDER cargo run --example event_loop`, with the whole path of libwenqolo.a's
 //! folder.
 use camel::{
-    Address, Answer, BasicService, Cause, Csis, Error, Event, Imsi, MAX_UPDATES, Operation,
-    Outcome, PreparedUpdate, Profile, Session, Store, Update,
+    Address, Answer, BasicService, Cause, Error, Event, Imsi, MAX_UPDATES, Operation, Outcome,
+    PreparedUpdate, Profile, Session, Store, Update,
 };
 use std::mem;
 use std::slice;
@@ -79,12 +79,17 @@ impl Subscriber {
     }
 
     /// A call finds no way before it is answered.
-    fn on_failure(&mut self, number: u32, cause: Cause) -> Result<(), Error> {
+    fn on_failure(
+        &mut self,
+        session: &mut Session,
+        number: u32,
+        cause: Cause,
+    ) -> Result<(), Error> {
         for call in self.calls.iter().filter(|call| call.number == number) {
             let basic = BasicService::Tele(0x11);
             let event = Event::route_select_failure(self.imsi, basic, call.called, cause);
             if let Some(kept) = &call.kept {
-                say("failure", &kept.decide(&event)?);
+                say("failure", &kept.decide(session, &event)?);
             }
         }
         self.on_clear(number);
@@ -107,39 +112,25 @@ impl Dialogue {
 struct Loop {
     store: Store,
     session: Session,
-    /// Whether there are pending updates that could not be dropped.
-    has_rest: bool,
 }
 
 impl Loop {
-    /// What the HLR is answered as refused must not be shown later: it is dropped. If that is refused memory too, as
-    /// only a Cancel or a ClearAll may meet, the next handler drops it before it submits anything.
-    fn begin(&mut self) -> Result<(), Error> {
-        if self.has_rest {
-            self.store.drop_pending()?;
-            self.has_rest = false;
-        }
-        Ok(())
-    }
-
-    fn publish(&mut self) -> Result<(), Error> {
-        let published = self.store.publish_to(slice::from_mut(&mut self.session));
-        self.has_rest = published.is_err() && self.store.drop_pending().is_err();
-        published
+    /// Shows updates from here on, or nothing of them, so the HLR is answered by the result.
+    fn commit(&mut self, updates: &[PreparedUpdate]) -> Result<(), Error> {
+        let session = slice::from_mut(&mut self.session);
+        Ok(self.store.commit(updates, session)?)
     }
 
     /// An InsertSubscriberData: the HLR is answered by the result. In a location update a Register goes before it.
     fn on_insert(&mut self, dialogue: &mut Dialogue, argument: &[u8]) -> Result<(), Error> {
         dialogue.has_come = true;
-        self.begin()?;
         let imsi = dialogue.imsi;
         let mut updates = Vec::new();
         if dialogue.is_location_update {
             updates.push(PreparedUpdate::new(&Update::Register { imsi })?);
         }
         updates.push(dialogue.join(argument)?);
-        self.store.submit_all(&updates)?;
-        self.publish()?;
+        self.commit(&updates)?;
         dialogue.insert = updates.pop();
         Ok(())
     }
@@ -151,9 +142,7 @@ impl Loop {
         imsi: Imsi,
         argument: &[u8],
     ) -> Result<(), Error> {
-        self.begin()?;
-        self.store.submit_map(operation, Some(imsi), argument)?;
-        self.publish()
+        self.commit(&[PreparedUpdate::from_map(operation, Some(imsi), argument)?])
     }
 
     /// A SETUP, or a call for a roaming number. While a dialogue goes on, the record may have rows and not yet their
@@ -205,9 +194,7 @@ impl Loop {
             End::Result if !dialogue.has_come => Update::Register { imsi },
             End::Result | End::Abort => return Ok(()),
         };
-        self.begin()?;
-        self.store.submit(&update)?;
-        self.publish()
+        self.commit(&[PreparedUpdate::new(&update)?])
     }
 
     /// Takes up the calls that waited. No call is set up by unconfirmed data: the record may have only a part of what
@@ -353,7 +340,6 @@ fn main() -> Result<(), Error> {
     let mut switch = Loop {
         store,
         session: sessions.remove(0),
-        has_rest: false,
     };
     let mut subscriber = Subscriber::new("262010000000001".parse()?);
     let mut other = Subscriber::new("262010000000002".parse()?);
@@ -361,7 +347,7 @@ fn main() -> Result<(), Error> {
     abort_location_update(&mut switch, &mut subscriber)?;
     insert_outside(&mut switch, &mut subscriber, &mut other)?;
     refuse_location_update(&mut switch, &mut subscriber)?;
-    subscriber.on_failure(1, Cause::new(3)?)?;
+    subscriber.on_failure(&mut switch.session, 1, Cause::new(3)?)?;
     let cancelled = switch.on_operation(Operation::CancelLocation, subscriber.imsi, CANCEL);
     print("cancel", cancelled);
     Ok(())

@@ -245,7 +245,7 @@ fn keep_data(store: &mut Store, session: &mut Session, imsi: Imsi) -> Outcomes<(
     store.publish()?;
     say(
         "route select failure, by the data of the set-up",
-        &kept.decide(&failure)?,
+        &kept.decide(session, &failure)?,
     );
     say("the same by a new look", &session.decide(&failure)?);
     Ok(())

@@ -79,35 +79,45 @@ impl Reason {
     }
 }
 
-/// How many events a session has decided with each outcome, each count modulo 2^64.
+/// How many events a session has decided at each detection point with each outcome, each count modulo 2^64.
 #[derive(Clone, Copy, Debug, PartialEq, Eq)]
 pub struct Decisions {
-    by_reason: [u64; ffi::REASONS],
+    by: [[u64; ffi::REASONS]; ffi::POINTS],
 }
 
 impl Decisions {
-    /// How many triggered: a service was invoked.
-    pub fn triggered(&self) -> u64 {
-        self.by_reason[0]
+    /// How many triggered at a detection point: a service was invoked.
+    pub fn triggered(&self, dp: DetectionPoint) -> u64 {
+        self.by_reason(dp)[0]
     }
 
-    /// How many did not trigger for this reason.
-    pub fn not_triggered(&self, reason: Reason) -> u64 {
-        self.by_reason[usize::from(reason.code())]
+    /// How many did not trigger at a detection point, for this reason.
+    pub fn not_triggered(&self, dp: DetectionPoint, reason: Reason) -> u64 {
+        self.by_reason(dp)[usize::from(reason.code())]
+    }
+
+    /// How many there are at a detection point, modulo 2^64.
+    pub fn at(&self, dp: DetectionPoint) -> u64 {
+        sum(self.by_reason(dp))
     }
 
     /// How many there are, modulo 2^64.
     pub fn total(&self) -> u64 {
-        self.by_reason
-            .iter()
-            .fold(0, |total, count| total.wrapping_add(*count))
+        sum(self.by.as_flattened())
+    }
+
+    fn by_reason(&self, dp: DetectionPoint) -> &[u64; ffi::REASONS] {
+        &self.by[usize::from(dp.number())]
     }
 
     pub(crate) fn of_raw(decisions: ffi::Decisions) -> Decisions {
-        Decisions {
-            by_reason: decisions.by_reason,
-        }
+        Decisions { by: decisions.by }
     }
+}
+
+/// The sum of counts, modulo 2^64.
+fn sum(counts: &[u64]) -> u64 {
+    counts.iter().fold(0, |sum, count| sum.wrapping_add(*count))
 }
 
 impl Answer {

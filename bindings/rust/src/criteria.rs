@@ -1,6 +1,6 @@
 //! The rows of a CSI, and the criteria of its detection points.
 use crate::numbers::first;
-use crate::{BasicService, Cause, Error, IsdnAddress, ffi};
+use crate::{BasicService, Cause, DetectionPoint, Error, IsdnAddress, ffi};
 use std::fmt;
 
 /// A row of a CSI: the service that is invoked at a detection point.
@@ -91,7 +91,7 @@ impl NumberCriterion {
     /// 15, is looked at when it is submitted.
     ///
     /// # Errors
-    /// [`Error::UnexpectedDataValue`] if there are more.
+    /// [`Error::Malformed`] if there are more.
     pub fn new(
         match_type: MatchType,
         numbers: &[IsdnAddress],
@@ -161,14 +161,14 @@ pub enum CallType {
 /// The criteria of a detection point of the O-CSI. An event meets them if it meets each one that is there.
 #[derive(Clone, Copy)]
 #[repr(transparent)]
-pub struct OCriteria(ffi::OCriteria);
+pub struct OCriteria(ffi::Criteria);
 
 impl OCriteria {
     /// Criteria of a detection point, any that was received, with none in them.
     pub fn new(dp: impl Into<u8>) -> OCriteria {
-        OCriteria(ffi::OCriteria {
+        OCriteria(ffi::Criteria {
             dp: dp.into(),
-            ..ffi::OCriteria::NONE
+            ..ffi::Criteria::NONE
         })
     }
 
@@ -183,7 +183,7 @@ impl OCriteria {
     /// With a basic service criterion of at most 5 codes; none are no criterion.
     ///
     /// # Errors
-    /// [`Error::UnexpectedDataValue`] if there are more.
+    /// [`Error::Malformed`] if there are more.
     pub fn with_basic(mut self, services: &[BasicService]) -> Result<OCriteria, Error> {
         self.0.basic = basic_of(services)?;
         Ok(self)
@@ -201,7 +201,7 @@ impl OCriteria {
     /// they are submitted.
     ///
     /// # Errors
-    /// [`Error::UnexpectedDataValue`] if there are more.
+    /// [`Error::Malformed`] if there are more.
     pub fn with_causes(mut self, causes: &[Cause]) -> Result<OCriteria, Error> {
         self.0.causes = causes_of(causes)?;
         Ok(self)
@@ -236,10 +236,6 @@ impl OCriteria {
     pub fn causes(&self) -> impl Iterator<Item = Cause> + '_ {
         causes_in(&self.0.causes)
     }
-
-    pub(crate) fn of_raw(raw: ffi::OCriteria) -> OCriteria {
-        OCriteria(raw)
-    }
 }
 
 impl PartialEq for OCriteria {
@@ -268,21 +264,21 @@ impl fmt::Debug for OCriteria {
 /// The criteria of a detection point of the VT-CSI. An event meets them if it meets each one that is there.
 #[derive(Clone, Copy)]
 #[repr(transparent)]
-pub struct TCriteria(ffi::TCriteria);
+pub struct TCriteria(ffi::Criteria);
 
 impl TCriteria {
     /// Criteria of a detection point, any that was received, with none in them.
     pub fn new(dp: impl Into<u8>) -> TCriteria {
-        TCriteria(ffi::TCriteria {
+        TCriteria(ffi::Criteria {
             dp: dp.into(),
-            ..ffi::TCriteria::NONE
+            ..ffi::Criteria::NONE
         })
     }
 
     /// With a basic service criterion of at most 5 codes; none are no criterion.
     ///
     /// # Errors
-    /// [`Error::UnexpectedDataValue`] if there are more.
+    /// [`Error::Malformed`] if there are more.
     pub fn with_basic(mut self, services: &[BasicService]) -> Result<TCriteria, Error> {
         self.0.basic = basic_of(services)?;
         Ok(self)
@@ -292,7 +288,7 @@ impl TCriteria {
     /// when they are submitted.
     ///
     /// # Errors
-    /// [`Error::UnexpectedDataValue`] if there are more.
+    /// [`Error::Malformed`] if there are more.
     pub fn with_causes(mut self, causes: &[Cause]) -> Result<TCriteria, Error> {
         self.0.causes = causes_of(causes)?;
         Ok(self)
@@ -311,10 +307,6 @@ impl TCriteria {
     /// The causes of the cause criterion; none if there is none.
     pub fn causes(&self) -> impl Iterator<Item = Cause> + '_ {
         causes_in(&self.0.causes)
-    }
-
-    pub(crate) fn of_raw(raw: ffi::TCriteria) -> TCriteria {
-        TCriteria(raw)
     }
 }
 
@@ -338,10 +330,33 @@ impl fmt::Debug for TCriteria {
     }
 }
 
+/// The criteria that are stored for a detection point: those of the O-CSI at 2 and 4, of the VT-CSI at the others.
+#[derive(Clone, Copy, Debug, PartialEq, Eq)]
+pub enum Criteria {
+    /// At DP 2 and 4.
+    O(OCriteria),
+    /// At DP 12, 13 and 14.
+    T(TCriteria),
+}
+
+impl Criteria {
+    /// What the library gave for the detection point. Of the VT-CSI it has neither a number nor a call type.
+    pub(crate) fn of_raw(raw: ffi::Criteria, dp: DetectionPoint) -> Criteria {
+        match dp {
+            DetectionPoint::CollectedInfo | DetectionPoint::RouteSelectFailure => {
+                Criteria::O(OCriteria(raw))
+            }
+            DetectionPoint::TerminatingAttempt
+            | DetectionPoint::Busy
+            | DetectionPoint::NoAnswer => Criteria::T(TCriteria(raw)),
+        }
+    }
+}
+
 /// Puts items into an array, and tells how many; more than it has room for are refused.
 fn fill<T>(array: &mut [T], items: impl ExactSizeIterator<Item = T>) -> Result<u8, Error> {
     let count = items.len();
-    let places = array.get_mut(..count).ok_or(Error::UnexpectedDataValue)?;
+    let places = array.get_mut(..count).ok_or(Error::Malformed)?;
     places
         .iter_mut()
         .zip(items)

@@ -42,13 +42,14 @@ pub enum Error {
     OtherSubscriber,
     /// A look is held (501): try again once it is left.
     Held,
-    /// What was handed in is not an IMSI, an address, a detection point or a number in range (502).
+    /// What was handed in is not an IMSI, an address, a detection point or a number in range, or it has more items than
+    /// there is room for: numbers, lengths, basic services or causes of a criterion, or sessions (502).
     Malformed,
     /// The handle is empty or of another kind, or the store has ended (503). Safe code does not meet it.
     WrongHandle,
     /// The handle that is to be filled is not empty (504). Safe code does not meet it.
     FullHandle,
-    /// The receipt is of another store than the session (505).
+    /// The receipt is of another store than the session, or the session of another than the one that publishes (505).
     OtherStore,
     /// The library has other layouts and functions than this crate (506).
     OtherVersion,

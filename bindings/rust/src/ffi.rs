@@ -2,7 +2,7 @@
 use std::ffi::c_void;
 use std::mem::{offset_of, size_of};
 
-pub const ABI_VERSION: u32 = 3;
+pub const ABI_VERSION: u32 = 4;
 
 pub type Status = u32;
 pub const OK: Status = 0;
@@ -36,15 +36,24 @@ macro_rules! handles {
 
 handles! { Store Session Subscriber Update Imsis }
 
+macro_rules! plain_data {
+    ($($name:ident)*) => { $(
+        impl $name {
+            /// All of it is 0.
+            // SAFETY: it has numbers and bools only, and all of these may be 0.
+            pub const NONE: $name = unsafe { std::mem::zeroed() };
+        }
+    )* };
+}
+
+plain_data! { Receipt IsdnAddress Row BasicServices Causes NumberCriterion Criteria Withdrawal }
+plain_data! { Answer Counts Decisions UpdateParts Argument }
+
 #[repr(C)]
 #[derive(Clone, Copy, PartialEq, Eq, Hash)]
 pub struct Receipt {
     pub store: u64,
     pub front: u64,
-}
-
-impl Receipt {
-    pub const NONE: Receipt = Receipt { store: 0, front: 0 };
 }
 
 #[repr(C)]
@@ -67,13 +76,6 @@ pub struct IsdnAddress {
     pub octets: [u8; 9],
 }
 
-impl IsdnAddress {
-    pub const NONE: IsdnAddress = IsdnAddress {
-        length: 0,
-        octets: [0; 9],
-    };
-}
-
 #[repr(C)]
 #[derive(Clone, Copy)]
 pub struct BasicService {
@@ -90,15 +92,6 @@ pub struct Row {
     pub handling: u32,
 }
 
-impl Row {
-    pub const NONE: Row = Row {
-        dp: 0,
-        key: 0,
-        scf: IsdnAddress::NONE,
-        handling: 0,
-    };
-}
-
 #[repr(C)]
 #[derive(Clone, Copy)]
 pub struct BasicServices {
@@ -106,28 +99,11 @@ pub struct BasicServices {
     pub services: [BasicService; 5],
 }
 
-impl BasicServices {
-    pub const NONE: BasicServices = BasicServices {
-        count: 0,
-        services: [BasicService {
-            is_bearer: false,
-            code: 0,
-        }; 5],
-    };
-}
-
 #[repr(C)]
 #[derive(Clone, Copy)]
 pub struct Causes {
     pub count: u8,
     pub causes: [u8; 5],
-}
-
-impl Causes {
-    pub const NONE: Causes = Causes {
-        count: 0,
-        causes: [0; 5],
-    };
 }
 
 #[repr(C)]
@@ -140,19 +116,9 @@ pub struct NumberCriterion {
     pub numbers: [IsdnAddress; 10],
 }
 
-impl NumberCriterion {
-    pub const NONE: NumberCriterion = NumberCriterion {
-        is_enabling: false,
-        number_count: 0,
-        length_count: 0,
-        lengths: [0; 3],
-        numbers: [IsdnAddress::NONE; 10],
-    };
-}
-
 #[repr(C)]
 #[derive(Clone, Copy)]
-pub struct OCriteria {
+pub struct Criteria {
     pub dp: u8,
     pub has_number: bool,
     pub number: NumberCriterion,
@@ -162,41 +128,12 @@ pub struct OCriteria {
     pub causes: Causes,
 }
 
-impl OCriteria {
-    pub const NONE: OCriteria = OCriteria {
-        dp: 0,
-        has_number: false,
-        number: NumberCriterion::NONE,
-        basic: BasicServices::NONE,
-        has_call_type: false,
-        is_forwarded: false,
-        causes: Causes::NONE,
-    };
-}
-
 #[repr(C)]
 #[derive(Clone, Copy)]
-pub struct TCriteria {
-    pub dp: u8,
-    pub basic: BasicServices,
-    pub causes: Causes,
-}
-
-impl TCriteria {
-    pub const NONE: TCriteria = TCriteria {
-        dp: 0,
-        basic: BasicServices::NONE,
-        causes: Causes::NONE,
-    };
-}
-
-/// The lists of a CSI, whose criteria are `C`: `camel_sent_o_csi` and `camel_sent_vt_csi`.
-#[repr(C)]
-#[derive(Clone, Copy)]
-pub struct Sent<C> {
+pub struct CsiLists {
     pub rows: *const Row,
     pub row_count: usize,
-    pub criteria: *const C,
+    pub criteria: *const Criteria,
     pub criteria_count: usize,
     pub has_rows: bool,
     pub has_criteria: bool,
@@ -204,9 +141,9 @@ pub struct Sent<C> {
 
 #[repr(C)]
 #[derive(Clone, Copy)]
-pub struct Insert {
-    pub o: Sent<OCriteria>,
-    pub vt: Sent<TCriteria>,
+pub struct Lists {
+    pub o: CsiLists,
+    pub vt: CsiLists,
 }
 
 #[repr(C)]
@@ -240,18 +177,6 @@ pub struct Answer {
     pub reason: u8,
 }
 
-impl Answer {
-    pub const NONE: Answer = Answer {
-        front: 0,
-        key: 0,
-        scf: IsdnAddress::NONE,
-        dp: 0,
-        is_release: false,
-        is_trigger: false,
-        reason: 0,
-    };
-}
-
 #[repr(C)]
 #[derive(Clone, Copy)]
 pub struct Counts {
@@ -261,27 +186,13 @@ pub struct Counts {
     pub held: u64,
 }
 
-impl Counts {
-    pub const NONE: Counts = Counts {
-        subscribers: 0,
-        published: 0,
-        pending: 0,
-        held: 0,
-    };
-}
-
 pub const REASONS: usize = 6;
+pub const POINTS: usize = 15;
 
 #[repr(C)]
 #[derive(Clone, Copy)]
 pub struct Decisions {
-    pub by_reason: [u64; REASONS],
-}
-
-impl Decisions {
-    pub const NONE: Decisions = Decisions {
-        by_reason: [0; REASONS],
-    };
+    pub by: [[u64; REASONS]; POINTS],
 }
 
 pub const UPDATE_REGISTER: u8 = 1;
@@ -306,26 +217,6 @@ pub struct UpdateParts {
     pub withdrawal: Withdrawal,
 }
 
-impl UpdateParts {
-    pub const NONE: UpdateParts = UpdateParts {
-        imsi: Imsi { number: 0 },
-        kind: 0,
-        o_rows: 0,
-        o_criteria: 0,
-        vt_rows: 0,
-        t_criteria: 0,
-        has_o_capability: false,
-        has_vt_capability: false,
-        o_capability: 0,
-        vt_capability: 0,
-        withdrawal: Withdrawal {
-            o: false,
-            vt: false,
-            everything: false,
-        },
-    };
-}
-
 pub const MAX_ARGUMENT: usize = 1198;
 
 #[repr(C)]
@@ -333,13 +224,6 @@ pub const MAX_ARGUMENT: usize = 1198;
 pub struct Argument {
     pub count: u16,
     pub octets: [u8; MAX_ARGUMENT],
-}
-
-impl Argument {
-    pub const NONE: Argument = Argument {
-        count: 0,
-        octets: [0; MAX_ARGUMENT],
-    };
 }
 
 /// A call that writes what a subscriber has at a detection point, and whether there is anything.
@@ -352,11 +236,22 @@ unsafe extern "C" {
     #[allow(dead_code)]
     pub fn camel_layouts(sizes: *mut u32, size_count: usize) -> u32;
 
-    pub fn camel_imsi_of_tbcd(octets: *const u8, octet_count: usize, imsi: *mut Imsi) -> Status;
-    pub fn camel_imsi_of_digits(digits: *const u8, digit_count: usize, imsi: *mut Imsi) -> Status;
-    pub fn camel_address_of(octets: *const u8, octet_count: usize, address: *mut Address)
-    -> Status;
-    pub fn camel_isdn_address_of(
+    pub fn camel_imsi_of_tbcd_nonnull(
+        octets: *const u8,
+        octet_count: usize,
+        imsi: *mut Imsi,
+    ) -> Status;
+    pub fn camel_imsi_of_digits_nonnull(
+        digits: *const u8,
+        digit_count: usize,
+        imsi: *mut Imsi,
+    ) -> Status;
+    pub fn camel_address_of_nonnull(
+        octets: *const u8,
+        octet_count: usize,
+        address: *mut Address,
+    ) -> Status;
+    pub fn camel_isdn_address_of_nonnull(
         octets: *const u8,
         octet_count: usize,
         address: *mut IsdnAddress,
@@ -372,16 +267,14 @@ unsafe extern "C" {
         seed: u64,
     ) -> Status;
 
-    pub fn camel_submit_register(store: *mut Store, imsi: *const Imsi) -> Status;
-    pub fn camel_submit_delete(
+    pub fn camel_submit_change_nonnull(
         store: *mut Store,
+        kind: u8,
         imsi: *const Imsi,
-        what: *const Withdrawal,
+        withdrawal: *const Withdrawal,
+        lists: *const Lists,
     ) -> Status;
-    pub fn camel_submit_cancel(store: *mut Store, imsi: *const Imsi) -> Status;
-    pub fn camel_submit_clear_all(store: *mut Store) -> Status;
-    pub fn camel_submit_lists(store: *mut Store, imsi: *const Imsi, sent: *const Insert) -> Status;
-    pub fn camel_submit_map(
+    pub fn camel_submit_map_nonnull(
         store: *mut Store,
         operation: u8,
         imsi: *const Imsi,
@@ -389,21 +282,14 @@ unsafe extern "C" {
         argument_octet_count: usize,
         place: *mut u64,
     ) -> Status;
-
-    pub fn camel_update_of_register(imsi: *const Imsi, update: *mut Update) -> Status;
-    pub fn camel_update_of_delete(
+    pub fn camel_update_of_nonnull(
+        kind: u8,
         imsi: *const Imsi,
-        what: *const Withdrawal,
+        withdrawal: *const Withdrawal,
+        lists: *const Lists,
         update: *mut Update,
     ) -> Status;
-    pub fn camel_update_of_cancel(imsi: *const Imsi, update: *mut Update) -> Status;
-    pub fn camel_update_of_clear_all(update: *mut Update) -> Status;
-    pub fn camel_update_of_lists(
-        imsi: *const Imsi,
-        sent: *const Insert,
-        update: *mut Update,
-    ) -> Status;
-    pub fn camel_update_of_map(
+    pub fn camel_update_of_map_nonnull(
         operation: u8,
         imsi: *const Imsi,
         argument: *const u8,
@@ -417,15 +303,26 @@ unsafe extern "C" {
         joined: *mut Update,
     ) -> Status;
     pub fn camel_update_parts_of(update: *const Update, parts: *mut UpdateParts) -> Status;
-    pub fn camel_submit(store: *mut Store, update: *const Update) -> Status;
-    pub fn camel_submit_all(
+
+    pub fn camel_submit_all_nonnull(
         store: *mut Store,
         updates: *const Update,
         update_count: usize,
         rejected: *mut usize,
     ) -> Status;
-
-    pub fn camel_publish(store: *mut Store) -> Status;
+    pub fn camel_publish_to_nonnull(
+        store: *mut Store,
+        sessions: *mut Session,
+        session_count: usize,
+    ) -> Status;
+    pub fn camel_commit_nonnull(
+        store: *mut Store,
+        updates: *const Update,
+        update_count: usize,
+        sessions: *mut Session,
+        session_count: usize,
+        rejected: *mut usize,
+    ) -> Status;
     pub fn camel_drop_pending(store: *mut Store) -> Status;
     pub fn camel_holders(store: *mut Store, sessions: *mut u64) -> Status;
     pub fn camel_counts_of(store: *const Store, counts: *mut Counts) -> Status;
@@ -454,18 +351,11 @@ unsafe extern "C" {
         row: *mut Row,
         is_there: *mut bool,
     ) -> Status;
-    pub fn camel_o_criteria_at(
+    pub fn camel_criteria_at(
         session: *mut Session,
         imsi: *const Imsi,
         dp: u8,
-        criteria: *mut OCriteria,
-        is_there: *mut bool,
-    ) -> Status;
-    pub fn camel_t_criteria_at(
-        session: *mut Session,
-        imsi: *const Imsi,
-        dp: u8,
-        criteria: *mut TCriteria,
+        criteria: *mut Criteria,
         is_there: *mut bool,
     ) -> Status;
 
@@ -476,9 +366,16 @@ unsafe extern "C" {
         is_there: *mut bool,
     ) -> Status;
     pub fn camel_decide_kept(
+        session: *mut Session,
         subscriber: *const Subscriber,
         event: *const Event,
         answer: *mut Answer,
+    ) -> Status;
+    pub fn camel_kept_row_at(
+        subscriber: *const Subscriber,
+        dp: u8,
+        row: *mut Row,
+        is_there: *mut bool,
     ) -> Status;
 
     pub fn camel_imsis_of(session: *mut Session, imsis: *mut Imsis) -> Status;
@@ -510,17 +407,15 @@ const _: () = {
     assert!(size_of::<NumberCriterion>() == 106 && offset_of!(NumberCriterion, numbers) == 6);
     assert!(size_of::<BasicServices>() == 11);
     assert!(size_of::<Causes>() == 6);
-    assert!(size_of::<OCriteria>() == 127 && offset_of!(OCriteria, causes) == 121);
-    assert!(size_of::<TCriteria>() == 18);
-    assert!(size_of::<Sent<OCriteria>>() == 40 && size_of::<Sent<TCriteria>>() == 40);
-    assert!(offset_of!(Sent<OCriteria>, has_rows) == 32);
-    assert!(offset_of!(Sent<OCriteria>, has_criteria) == 33);
-    assert!(size_of::<Insert>() == 80 && offset_of!(Insert, vt) == 40);
+    assert!(size_of::<Criteria>() == 127 && offset_of!(Criteria, causes) == 121);
+    assert!(size_of::<CsiLists>() == 40 && offset_of!(CsiLists, has_rows) == 32);
+    assert!(offset_of!(CsiLists, has_criteria) == 33);
+    assert!(size_of::<Lists>() == 80 && offset_of!(Lists, vt) == 40);
     assert!(size_of::<Withdrawal>() == 3);
     assert!(size_of::<Event>() == 40 && offset_of!(Event, cause) == 33);
     assert!(size_of::<Answer>() == 32 && offset_of!(Answer, reason) == 25);
     assert!(size_of::<Counts>() == 32 && offset_of!(Counts, held) == 24);
-    assert!(size_of::<Decisions>() == 8 * REASONS);
+    assert!(size_of::<Decisions>() == 8 * REASONS * POINTS);
     assert!(size_of::<UpdateParts>() == 32 && offset_of!(UpdateParts, o_capability) == 16);
     assert!(offset_of!(UpdateParts, kind) == 8 && offset_of!(UpdateParts, withdrawal) == 24);
     assert!(size_of::<Argument>() == 2 + MAX_ARGUMENT && offset_of!(Argument, octets) == 2);

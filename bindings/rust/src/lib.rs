@@ -4,7 +4,8 @@
 //! submits an [`Update`] of each operation, or the octets of its argument, and publishes them; each call-control thread
 //! has a [`Session`], and asks at trigger detection points 2, 4, 12, 13 and 14 whether a service is invoked. No call
 //! takes a lock of its own, waits or yields. A [`PreparedUpdate`] is made before it is submitted: so lists that an HLR
-//! splits over operations are joined, and the updates of a location update are accepted together, or none of them is.
+//! splits over operations are joined, and the updates of a location update are accepted together, or none of them is. A
+//! switch with one event loop submits and publishes them by one call, [`Store::commit`], which shows all or nothing.
 //!
 //! ```
 //! use camel::{Address, BasicService, Csis, Event, Imsi, IsdnAddress, MAX_UPDATES, Profile, Row, Store, Update};
@@ -28,10 +29,10 @@
 //! # Building
 //!
 //! `libwenqolo.a` is in the folder whose absolute path the environment variable `CAMEL_LIB_DIR` is, or else in
-//! `out/library` at the top of the repository:
+//! `out/library` at the top of the repository, or where it is installed:
 //!
 //! ```text
-//! CAMEL_LIB_DIR=/usr/local/lib cargo build
+//! CAMEL_LIB_DIR=$HOME/wenqolo cargo build
 //! ```
 //!
 //! # What this crate checks, and what it leaves to the switch
@@ -59,7 +60,7 @@ mod store;
 mod update;
 
 pub use answer::{Answer, Decisions, OnFailure, Outcome, Reason};
-pub use criteria::{CallType, MatchType, NumberCriterion, OCriteria, Row, TCriteria};
+pub use criteria::{CallType, Criteria, MatchType, NumberCriterion, OCriteria, Row, TCriteria};
 pub use error::Error;
 pub use event::{BasicService, Cause, DetectionPoint, Event};
 pub use map::{MapFault, Operation};

@@ -80,7 +80,7 @@ pub(crate) fn submit(
         imsi,
         argument,
         |code, imsi, octets, count, place| unsafe {
-            ffi::camel_submit_map(store.at(), code, imsi, octets, count, place)
+            ffi::camel_submit_map_nonnull(store.at(), code, imsi, octets, count, place)
         },
     )
 }
@@ -98,7 +98,7 @@ pub(crate) fn prepare(
         imsi,
         argument,
         |code, imsi, octets, count, place| unsafe {
-            ffi::camel_update_of_map(code, imsi, octets, count, update.at(), place)
+            ffi::camel_update_of_map_nonnull(code, imsi, octets, count, update.at(), place)
         },
     )
 }

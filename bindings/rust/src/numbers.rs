@@ -22,7 +22,7 @@ impl Imsi {
     pub fn from_tbcd(octets: &[u8]) -> Result<Imsi, Error> {
         let mut imsi = ffi::Imsi { number: 0 };
         // SAFETY: the pointer and the length are of one slice, and the IMSI is apart from it.
-        done(unsafe { ffi::camel_imsi_of_tbcd(octets.as_ptr(), octets.len(), &mut imsi) })?;
+        done(unsafe { ffi::camel_imsi_of_tbcd_nonnull(octets.as_ptr(), octets.len(), &mut imsi) })?;
         Imsi::of_raw(imsi)
     }
 
@@ -34,7 +34,9 @@ impl Imsi {
         let digits = digits.as_ref();
         let mut imsi = ffi::Imsi { number: 0 };
         // SAFETY: the pointer and the length are of one slice, and the IMSI is apart from it.
-        done(unsafe { ffi::camel_imsi_of_digits(digits.as_ptr(), digits.len(), &mut imsi) })?;
+        done(unsafe {
+            ffi::camel_imsi_of_digits_nonnull(digits.as_ptr(), digits.len(), &mut imsi)
+        })?;
         Imsi::of_raw(imsi)
     }
 
@@ -158,7 +160,9 @@ impl Address {
     pub fn new(octets: &[u8]) -> Result<Address, Error> {
         let mut address = Address::NONE;
         // SAFETY: the pointer and the length are of one slice, and the address is apart from it.
-        done(unsafe { ffi::camel_address_of(octets.as_ptr(), octets.len(), &mut address) })?;
+        done(unsafe {
+            ffi::camel_address_of_nonnull(octets.as_ptr(), octets.len(), &mut address)
+        })?;
         Ok(Address(address))
     }
 
@@ -193,7 +197,9 @@ impl IsdnAddress {
     pub fn new(octets: &[u8]) -> Result<IsdnAddress, Error> {
         let mut address = ffi::IsdnAddress::NONE;
         // SAFETY: the pointer and the length are of one slice, and the address is apart from it.
-        done(unsafe { ffi::camel_isdn_address_of(octets.as_ptr(), octets.len(), &mut address) })?;
+        done(unsafe {
+            ffi::camel_isdn_address_of_nonnull(octets.as_ptr(), octets.len(), &mut address)
+        })?;
         Ok(IsdnAddress(address))
     }
 

@@ -51,21 +51,9 @@ impl PreparedUpdate {
     /// [`Store::submit`](crate::Store::submit). [`Error::OutOfMemory`]: try again.
     pub fn new(update: &Update) -> Result<PreparedUpdate, Error> {
         let made = PreparedUpdate::empty();
-        let handle = made.handle.at();
-        // SAFETY: the handle is empty, and in no other call; each IMSI and withdrawal lives as long as the call, and so
-        // do the lists, which are as `Csis::raw` says.
-        done(unsafe {
-            match update {
-                Update::Register { imsi } => ffi::camel_update_of_register(&imsi.raw(), handle),
-                Update::Insert { imsi, csis } => {
-                    ffi::camel_update_of_lists(&imsi.raw(), &csis.raw(), handle)
-                }
-                Update::Delete { imsi, what } => {
-                    ffi::camel_update_of_delete(&imsi.raw(), &what.raw(), handle)
-                }
-                Update::Cancel { imsi } => ffi::camel_update_of_cancel(&imsi.raw(), handle),
-                Update::ClearAll => ffi::camel_update_of_clear_all(handle),
-            }
+        // SAFETY: the handle is empty, and in no other call; `taken` hands over all else, apart from it.
+        update.taken(|kind, imsi, what, lists| unsafe {
+            ffi::camel_update_of_nonnull(kind, imsi, what, lists, made.handle.at())
         })?;
         Ok(made)
     }
@@ -113,11 +101,6 @@ impl PreparedUpdate {
         // SAFETY: the handle is fit for a call, as `Owned` says, and the parts are apart from it.
         done(unsafe { ffi::camel_update_parts_of(self.handle.at(), &mut parts) })?;
         UpdateParts::of_raw(&parts)
-    }
-
-    pub(crate) fn submit(&self, store: &mut Owned<ffi::Store>) -> Result<(), Error> {
-        // SAFETY: both handles are fit for a call, as `Owned` says.
-        done(unsafe { ffi::camel_submit(store.at(), self.handle.at()) })
     }
 }
 
@@ -226,7 +209,7 @@ impl UpdateParts {
     }
 }
 
-/// Why updates were not submitted, and which one the store rejects. It becomes its [`Error`] by `?`.
+/// Why updates were not submitted, or not committed, and which one the store rejects. It becomes its [`Error`] by `?`.
 #[derive(Clone, Copy, Debug, PartialEq, Eq, Hash)]
 pub struct Rejected {
     /// Why.
@@ -259,22 +242,15 @@ impl From<Rejected> for Error {
     }
 }
 
-/// Submits copies of the updates: all are accepted, or none is.
-pub(crate) fn submit_all(
-    store: &mut Owned<ffi::Store>,
+/// What a call says of updates. It is handed their handles, their count, and the index of the one that the store
+/// rejects, which it writes. The pointer and the count are of one slice, whose items are transparent over the handles;
+/// the pointer of a slice of none is not null, and the index is apart from them.
+pub(crate) fn taken(
     updates: &[PreparedUpdate],
+    call: impl FnOnce(*const ffi::Update, usize, *mut usize) -> ffi::Status,
 ) -> Result<(), Rejected> {
     let mut rejected = updates.len();
-    // SAFETY: each handle is fit for a call, as `Owned` says; the pointer and the length are of one slice, whose items
-    // are transparent over the handles, and the pointer of a slice of none is not null; the index is apart from them.
-    let status = unsafe {
-        ffi::camel_submit_all(
-            store.at(),
-            updates.as_ptr().cast(),
-            updates.len(),
-            &mut rejected,
-        )
-    };
+    let status = call(updates.as_ptr().cast(), updates.len(), &mut rejected);
     done(status).map_err(|error| Rejected {
         error,
         at: (rejected < updates.len()).then_some(rejected),

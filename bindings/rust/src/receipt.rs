@@ -1,7 +1,7 @@
 //! What sessions are told of a publication by, and what a call keeps.
 use crate::error::done;
 use crate::handle::Owned;
-use crate::{Answer, Error, Event, ffi};
+use crate::{Answer, DetectionPoint, Error, Event, Row, Session, ffi};
 use std::fmt;
 
 /// A receipt of all that was published when it was made: plain data, which may be copied and shared. Any number of
@@ -38,22 +38,39 @@ pub struct Subscriber {
     pub(crate) handle: Owned<ffi::Subscriber>,
 }
 
-// SAFETY: the one call that is made by a shared reference takes the handle as const, and several such calls may be made
+// SAFETY: the calls that are made by a shared reference take the handle as const, and several such calls may be made
 // with it at the same time.
 unsafe impl Sync for Subscriber {}
 
 impl Subscriber {
     /// Decides an event by the record. The front of the answer is that of the look in which the record was kept. The
-    /// event is one of the record's own subscriber: its IMSI is not compared.
+    /// event is one of the record's own subscriber: its IMSI is not compared. The session counts the decision, and
+    /// neither looks nor learns: it is that of the calling thread, of whichever store, also of one that has ended.
     ///
     /// # Errors
-    /// The record is as before: [`Error::Unknown`] only, which safe code does not meet.
+    /// The record and the session are as before: [`Error::Unknown`] only, which safe code does not meet.
     #[inline]
-    pub fn decide(&self, event: &Event) -> Result<Answer, Error> {
+    pub fn decide(&self, session: &mut Session, event: &Event) -> Result<Answer, Error> {
         let mut answer = ffi::Answer::NONE;
-        // SAFETY: the handle is fit for a call, as `Owned` says; the event and the answer are apart from it.
-        done(unsafe { ffi::camel_decide_kept(self.handle.at(), event.raw(), &mut answer) })?;
+        // SAFETY: both handles are fit for a call, as `Owned` says; the event and the answer are apart from them.
+        done(unsafe {
+            ffi::camel_decide_kept(session.handle(), self.handle.at(), event.raw(), &mut answer)
+        })?;
         Answer::of_raw(&answer)
+    }
+
+    /// The row of the record at a detection point, as [`Session::row`]; None if there is none.
+    ///
+    /// # Errors
+    /// As [`decide`](Subscriber::decide).
+    pub fn row(&self, dp: DetectionPoint) -> Result<Option<Row>, Error> {
+        let mut row = ffi::Row::NONE;
+        let mut is_there = false;
+        // SAFETY: the handle is fit for a call that reads it, as `Owned` says; what is written is apart from it.
+        done(unsafe {
+            ffi::camel_kept_row_at(self.handle.at(), dp.number(), &mut row, &mut is_there)
+        })?;
+        Ok(is_there.then(|| Row::of_raw(row)))
     }
 }
 

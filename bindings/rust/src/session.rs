@@ -2,8 +2,8 @@
 use crate::error::done;
 use crate::handle::Owned;
 use crate::{
-    Answer, Argument, Decisions, DetectionPoint, Error, Event, Imsi, Imsis, OCriteria, Receipt,
-    Row, Subscriber, TCriteria, ffi,
+    Answer, Argument, Criteria, Decisions, DetectionPoint, Error, Event, Imsi, Imsis, Receipt, Row,
+    Subscriber, ffi,
 };
 use std::fmt;
 use std::marker::PhantomData;
@@ -31,17 +31,20 @@ use std::marker::PhantomData;
 /// fn is_shared<T: Sync>() {}
 /// is_shared::<camel::Session>();
 /// ```
+///
+/// A [`Look`] that is forgotten ([`std::mem::forget`]) is not left, and goes on: what the session decides and gives is
+/// of its front, and it holds publications up. [`look`](Session::look), [`learn`](Session::learn),
+/// [`Store::publish_to`](crate::Store::publish_to) and [`Store::commit`](crate::Store::commit) leave it before they do
+/// what they are for, and so does the drop of the session.
+#[repr(transparent)]
 pub struct Session {
     handle: Owned<ffi::Session>,
-    /// Whether a look has begun and is not left. No call of this type finds it so, except behind a forgotten [`Look`].
-    is_looking: bool,
 }
 
 impl Session {
     pub(crate) fn of(handle: ffi::Session) -> Session {
         Session {
             handle: Owned::of(handle),
-            is_looking: false,
         }
     }
 
@@ -51,7 +54,6 @@ impl Session {
     /// The session is as before. [`Error::NoLook`]: the store has ended.
     #[inline]
     pub fn decide(&mut self, event: &Event) -> Result<Answer, Error> {
-        self.leave_forgotten()?;
         self.decide_over(event)
     }
 
@@ -61,10 +63,8 @@ impl Session {
     /// # Errors
     /// As [`decide`](Session::decide).
     pub fn look(&mut self) -> Result<Look<'_>, Error> {
-        self.leave_forgotten()?;
         // SAFETY: the handle is fit for a call, as `Owned` says.
-        done(unsafe { ffi::camel_look(self.handle.at()) })?;
-        self.is_looking = true;
+        self.without_look(|handle| unsafe { ffi::camel_look(handle) })?;
         Ok(Look {
             session: self,
             stays: PhantomData,
@@ -77,13 +77,12 @@ impl Session {
     /// [`Error::OtherStore`]: the receipt is of another store than the session. [`Error::NoLook`]: the session's own
     /// store has ended. The session sees what it saw.
     pub fn learn(&mut self, receipt: &Receipt) -> Result<(), Error> {
-        self.leave_forgotten()?;
         // SAFETY: the handle is fit for a call, as `Owned` says, and the receipt is apart from it.
-        done(unsafe { ffi::camel_learn(self.handle.at(), receipt.raw()) })
+        self.without_look(|handle| unsafe { ffi::camel_learn(handle, receipt.raw()) })
     }
 
-    /// How many events the session and its looks have decided, by reason. It fails only as the library does of itself,
-    /// which safe code does not meet.
+    /// How many events the session, its looks and the records that were asked with it have decided, by detection point
+    /// and reason. It fails only as the library does of itself, which safe code does not meet.
     pub fn decisions(&self) -> Result<Decisions, Error> {
         let mut decisions = ffi::Decisions::NONE;
         // SAFETY: the handle is fit for a call, as `Owned` says, and the counts are apart from it.
@@ -96,36 +95,16 @@ impl Session {
     /// # Errors
     /// As [`decide`](Session::decide).
     pub fn row(&mut self, imsi: Imsi, dp: DetectionPoint) -> Result<Option<Row>, Error> {
-        self.leave_forgotten()?;
         self.row_over(imsi, dp)
     }
 
-    /// The criteria that are stored for a subscriber at a detection point of the O-CSI; None if there are none. They
-    /// are there even if there is no row, and have no effect then.
+    /// The criteria that are stored for a subscriber at a detection point; None if there are none. They are there even
+    /// if there is no row, and have no effect then.
     ///
     /// # Errors
     /// As [`decide`](Session::decide).
-    pub fn o_criteria(
-        &mut self,
-        imsi: Imsi,
-        dp: DetectionPoint,
-    ) -> Result<Option<OCriteria>, Error> {
-        self.leave_forgotten()?;
-        self.o_criteria_over(imsi, dp)
-    }
-
-    /// The criteria that are stored for a subscriber at a detection point of the VT-CSI; None if there are none. They
-    /// are there even if there is no row, and have no effect then.
-    ///
-    /// # Errors
-    /// As [`decide`](Session::decide).
-    pub fn t_criteria(
-        &mut self,
-        imsi: Imsi,
-        dp: DetectionPoint,
-    ) -> Result<Option<TCriteria>, Error> {
-        self.leave_forgotten()?;
-        self.t_criteria_over(imsi, dp)
+    pub fn criteria(&mut self, imsi: Imsi, dp: DetectionPoint) -> Result<Option<Criteria>, Error> {
+        self.criteria_over(imsi, dp)
     }
 
     /// Keeps the record of a subscriber, for the later detection points of a call; None if there is no record.
@@ -133,7 +112,6 @@ impl Session {
     /// # Errors
     /// As [`decide`](Session::decide), and [`Error::OutOfMemory`]: ask again; the session may have seen a later front.
     pub fn keep(&mut self, imsi: Imsi) -> Result<Option<Subscriber>, Error> {
-        self.leave_forgotten()?;
         self.keep_over(imsi)
     }
 
@@ -143,7 +121,6 @@ impl Session {
     /// # Errors
     /// As [`keep`](Session::keep). Nothing is decided.
     pub fn set_up(&mut self, event: &Event) -> Result<(Answer, Option<Subscriber>), Error> {
-        self.leave_forgotten()?;
         self.set_up_over(event)
     }
 
@@ -152,7 +129,6 @@ impl Session {
     /// # Errors
     /// As [`keep`](Session::keep).
     pub fn imsis(&mut self) -> Result<Imsis, Error> {
-        self.leave_forgotten()?;
         self.imsis_over()
     }
 
@@ -163,22 +139,32 @@ impl Session {
     /// # Errors
     /// As [`keep`](Session::keep).
     pub fn encode_record(&mut self, imsi: Imsi) -> Result<Option<Argument>, Error> {
-        self.leave_forgotten()?;
         self.encode_record_over(imsi)
     }
 
-    /// Leaves the look of a [`Look`] that was forgotten, so that each look is of its own call again.
+    /// The handle for one call of the library, as [`Owned::at`] says.
     #[inline]
-    fn leave_forgotten(&mut self) -> Result<(), Error> {
-        if self.is_looking {
-            self.leave()
-        } else {
-            Ok(())
+    pub(crate) fn handle(&mut self) -> *mut ffi::Session {
+        self.handle.at()
+    }
+
+    /// Makes a call that the library refuses while a look has begun. Such a one is that of a forgotten [`Look`]: it is
+    /// left, and the call is made again. So a session that has none pays nothing for it.
+    fn without_look(
+        &mut self,
+        call: impl Fn(*mut ffi::Session) -> ffi::Status,
+    ) -> Result<(), Error> {
+        match done(call(self.handle.at())) {
+            Err(Error::Held) => {
+                self.leave()?;
+                done(call(self.handle.at()))
+            }
+            other => other,
         }
     }
 
+    /// Leaves the look that has begun, if there is one.
     fn leave(&mut self) -> Result<(), Error> {
-        self.is_looking = false;
         // SAFETY: the handle is fit for a call, as `Owned` says.
         done(unsafe { ffi::camel_leave(self.handle.at()) })
     }
@@ -198,14 +184,9 @@ impl Session {
         Ok(row.map(Row::of_raw))
     }
 
-    fn o_criteria_over(&self, imsi: Imsi, dp: DetectionPoint) -> Result<Option<OCriteria>, Error> {
-        let entry = self.find_over(ffi::camel_o_criteria_at, imsi, dp, ffi::OCriteria::NONE)?;
-        Ok(entry.map(OCriteria::of_raw))
-    }
-
-    fn t_criteria_over(&self, imsi: Imsi, dp: DetectionPoint) -> Result<Option<TCriteria>, Error> {
-        let entry = self.find_over(ffi::camel_t_criteria_at, imsi, dp, ffi::TCriteria::NONE)?;
-        Ok(entry.map(TCriteria::of_raw))
+    fn criteria_over(&self, imsi: Imsi, dp: DetectionPoint) -> Result<Option<Criteria>, Error> {
+        let found = self.find_over(ffi::camel_criteria_at, imsi, dp, ffi::Criteria::NONE)?;
+        Ok(found.map(|criteria| Criteria::of_raw(criteria, dp)))
     }
 
     fn find_over<T>(
@@ -288,11 +269,12 @@ impl Session {
     }
 }
 
-impl Drop for Session {
-    fn drop(&mut self) {
-        // If the library refuses that, the handle is freed as it is.
-        let _ = self.leave_forgotten();
-    }
+/// The handles of sessions, for one call of the library. It refuses a session that has begun a look, so that of a
+/// forgotten [`Look`] is left. The pointer and the count are of one slice, whose items are transparent over the
+/// handles; the pointer of a slice of none is not null.
+pub(crate) fn handles_of(sessions: &mut [Session]) -> Result<(*mut ffi::Session, usize), Error> {
+    sessions.iter_mut().try_for_each(Session::leave)?;
+    Ok((sessions.as_mut_ptr().cast(), sessions.len()))
 }
 
 impl fmt::Debug for Session {
@@ -356,20 +338,12 @@ impl Look<'_> {
         self.session.row_over(imsi, dp)
     }
 
-    /// The criteria that are stored for a subscriber at a detection point of the O-CSI; None if there are none.
+    /// The criteria that are stored for a subscriber at a detection point; None if there are none.
     ///
     /// # Errors
     /// As [`decide`](Look::decide).
-    pub fn o_criteria(&self, imsi: Imsi, dp: DetectionPoint) -> Result<Option<OCriteria>, Error> {
-        self.session.o_criteria_over(imsi, dp)
-    }
-
-    /// The criteria that are stored for a subscriber at a detection point of the VT-CSI; None if there are none.
-    ///
-    /// # Errors
-    /// As [`decide`](Look::decide).
-    pub fn t_criteria(&self, imsi: Imsi, dp: DetectionPoint) -> Result<Option<TCriteria>, Error> {
-        self.session.t_criteria_over(imsi, dp)
+    pub fn criteria(&self, imsi: Imsi, dp: DetectionPoint) -> Result<Option<Criteria>, Error> {
+        self.session.criteria_over(imsi, dp)
     }
 
     /// Keeps the record of a subscriber, of the front of the look; None if there is no record.
@@ -412,6 +386,6 @@ impl Look<'_> {
 impl Drop for Look<'_> {
     fn drop(&mut self) {
         // A look that has begun can be left. What the library answered else would change nothing for the caller.
-        let _ = self.session.leave_forgotten();
+        let _ = self.session.leave();
     }
 }

@@ -4,9 +4,10 @@ use crate::ffi::Handle;
 use crate::handle::Owned;
 use crate::{
     Error, Imsi, MapFault, Operation, PreparedUpdate, Receipt, Rejected, Session, Update, ffi, map,
-    prepared,
+    prepared, session,
 };
 use std::fmt;
+use std::slice;
 
 /// The most sessions of a store.
 pub const MAX_SESSIONS: usize = 64;
@@ -160,7 +161,7 @@ impl Store {
     /// # Errors
     /// The store is as before. The errors of [`submit`](Store::submit), but those of its data.
     pub fn submit_prepared(&mut self, update: &PreparedUpdate) -> Result<(), Error> {
-        update.submit(&mut self.handle)
+        Ok(self.submit_all(slice::from_ref(update))?)
     }
 
     /// Submits copies of several updates in their order: all of them are accepted, or none is. So the Register and the
@@ -168,10 +169,15 @@ impl Store {
     ///
     /// # Errors
     /// The store is as before. The first update that the store rejects over those before it is named, with an error of
-    /// [`submit_prepared`](Store::submit_prepared). A Cancel or a ClearAll, which leaves no record, is rejected with
-    /// [`Error::UnexpectedDataValue`]. [`Error::OutOfMemory`]: submit them again.
+    /// [`submit_prepared`](Store::submit_prepared). Of several, a Cancel or a ClearAll, which leaves no record, is
+    /// rejected with [`Error::UnexpectedDataValue`]; a single one may be of any kind. [`Error::OutOfMemory`]: submit
+    /// them again.
     pub fn submit_all(&mut self, updates: &[PreparedUpdate]) -> Result<(), Rejected> {
-        prepared::submit_all(&mut self.handle, updates)
+        // SAFETY: the handle is fit for a call, as `Owned` says, and so are those of the updates, which are only read;
+        // `taken` hands over all else, apart from them.
+        prepared::taken(updates, |updates, count, rejected| unsafe {
+            ffi::camel_submit_all_nonnull(self.handle.at(), updates, count, rejected)
+        })
     }
 
     /// Publishes all that is pending, also if nothing is, and gives a receipt of all that is published. For a receipt
@@ -182,26 +188,55 @@ impl Store {
     /// that [`holders`](Store::holders) names. Publish again once it is left; updates may be submitted meanwhile.
     /// [`Error::OutOfMemory`]: publish again.
     pub fn publish(&mut self) -> Result<Receipt, Error> {
-        // SAFETY: the handle is fit for a call, as `Owned` says.
-        done(unsafe { ffi::camel_publish(self.handle.at()) })?;
+        self.publish_to(&mut [])?;
         self.receipt()
     }
 
-    /// Publishes all that is pending, and has these sessions of the store learn it: from then on each shows it. So a
-    /// switch with one event loop needs no receipt.
+    /// Publishes all that is pending, and has these sessions of the store, at most [`MAX_SESSIONS`], learn it: from
+    /// then on each shows it. So a switch with one event loop needs no receipt. A forgotten [`Look`](crate::Look) of
+    /// these sessions is left before, also if the call fails.
     ///
     /// # Errors
-    /// As [`publish`](Store::publish), and [`Error::OtherStore`] if a session is of another store: then nothing is
-    /// published.
+    /// All is pending as before. Those of [`publish`](Store::publish). [`Error::OtherStore`]: a session is of another
+    /// store. [`Error::Malformed`]: there are more than [`MAX_SESSIONS`].
     pub fn publish_to(&mut self, sessions: &mut [Session]) -> Result<(), Error> {
-        let learn = |receipt: Receipt, sessions: &mut [Session]| {
-            sessions
-                .iter_mut()
-                .try_for_each(|session| session.learn(&receipt))
-        };
-        // A session of another store fails here, before anything is published.
-        learn(self.receipt()?, sessions)?;
-        learn(self.publish()?, sessions)
+        let (sessions, count) = session::handles_of(sessions)?;
+        // SAFETY: each handle is fit for a call, as `Owned` says, and in no other, since this has them by `&mut`; the
+        // pointer and the count are as `handles_of` says.
+        done(unsafe { ffi::camel_publish_to_nonnull(self.handle.at(), sessions, count) })
+    }
+
+    /// What a switch with one event loop does with the updates of an operation: submits copies of them, as
+    /// [`submit_all`](Store::submit_all) does, publishes them, and has these sessions learn it, as
+    /// [`publish_to`](Store::publish_to) does. What was pending before the call is dropped: a switch that commits
+    /// submits nothing else.
+    ///
+    /// # Errors
+    /// None of the updates is shown, so the HLR may be answered with an error. The first update that the store rejects
+    /// is named, with an error of [`submit_all`](Store::submit_all). All other errors are at no update, and those of
+    /// [`publish_to`](Store::publish_to). After one of an update, or [`Error::Held`], nothing is pending. After
+    /// [`Error::OtherStore`] or [`Error::Malformed`], all is as before. After [`Error::OutOfMemory`] a Cancel or a
+    /// ClearAll may be pending, which the next commit drops.
+    pub fn commit(
+        &mut self,
+        updates: &[PreparedUpdate],
+        sessions: &mut [Session],
+    ) -> Result<(), Rejected> {
+        let refused = |error| Rejected { error, at: None };
+        let (sessions, session_count) = session::handles_of(sessions).map_err(refused)?;
+        // SAFETY: each handle is fit for a call, as `Owned` says, and those of the store and the sessions are in no
+        // other, since this has them by `&mut`; the pointer and the count of the sessions are as `handles_of` says;
+        // `taken` hands over all else, apart from them.
+        prepared::taken(updates, |updates, count, rejected| unsafe {
+            ffi::camel_commit_nonnull(
+                self.handle.at(),
+                updates,
+                count,
+                sessions,
+                session_count,
+                rejected,
+            )
+        })
     }
 
     /// Drops all that is pending, as if it had not been submitted: the accepted updates are the published ones again,

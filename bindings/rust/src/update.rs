@@ -37,8 +37,8 @@ pub enum Update {
 /// The lists of an Insert. One that is `None` did not come, and one that came has 1 to 10 items.
 ///
 /// Rows that come take the place of the stored rows and criteria. Criteria without rows take the place of the stored
-/// criteria, and need stored rows. Items of other detection points than those below are ignored, and count
-/// among the ten.
+/// criteria, and need a stored CSI, also one without rows. Items of other detection points than those below are ignored,
+/// and count among the ten.
 #[derive(Clone, Debug, Default, PartialEq, Eq)]
 pub struct Csis {
     /// The rows of the O-CSI: those of DP 2 and 4 count.
@@ -63,22 +63,34 @@ pub struct Withdrawal {
 }
 
 impl Update {
+    /// What a call says of the update. It is handed the kind, and the IMSI, the withdrawal and the lists, of which it
+    /// reads what is of the kind. The pointers are fit for the call.
+    pub(crate) fn taken(
+        &self,
+        call: impl FnOnce(
+            u8,
+            *const ffi::Imsi,
+            *const ffi::Withdrawal,
+            *const ffi::Lists,
+        ) -> ffi::Status,
+    ) -> Result<(), Error> {
+        let no_imsi = ffi::Imsi { number: 0 };
+        let (none, no_csis) = (ffi::Withdrawal::NONE, Csis::default());
+        let (kind, imsi, what, csis) = match self {
+            Update::Register { imsi } => (ffi::UPDATE_REGISTER, imsi.raw(), none, &no_csis),
+            Update::Insert { imsi, csis } => (ffi::UPDATE_INSERT, imsi.raw(), none, csis),
+            Update::Delete { imsi, what } => (ffi::UPDATE_DELETE, imsi.raw(), what.raw(), &no_csis),
+            Update::Cancel { imsi } => (ffi::UPDATE_CANCEL, imsi.raw(), none, &no_csis),
+            Update::ClearAll => (ffi::UPDATE_CLEAR_ALL, no_imsi, none, &no_csis),
+        };
+        done(call(kind, &imsi, &what, &csis.raw()))
+    }
+
     pub(crate) fn submit(&self, store: &mut Owned<ffi::Store>) -> Result<(), Error> {
-        let store = store.at();
-        // SAFETY: the handle is as the library left it, and in no other call, since this has it by `&mut`; each IMSI
-        // and withdrawal lives as long as the call, and so do the lists, which are as `Csis::raw` says.
-        done(unsafe {
-            match self {
-                Update::Register { imsi } => ffi::camel_submit_register(store, &imsi.raw()),
-                Update::Insert { imsi, csis } => {
-                    ffi::camel_submit_lists(store, &imsi.raw(), &csis.raw())
-                }
-                Update::Delete { imsi, what } => {
-                    ffi::camel_submit_delete(store, &imsi.raw(), &what.raw())
-                }
-                Update::Cancel { imsi } => ffi::camel_submit_cancel(store, &imsi.raw()),
-                Update::ClearAll => ffi::camel_submit_clear_all(store),
-            }
+        // SAFETY: the handle is as the library left it, and in no other call, since this has it by `&mut`; `taken`
+        // hands over all else, apart from it.
+        self.taken(|kind, imsi, what, lists| unsafe {
+            ffi::camel_submit_change_nonnull(store.at(), kind, imsi, what, lists)
         })
     }
 }
@@ -86,20 +98,20 @@ impl Update {
 impl Csis {
     /// The lists, where they lie. Each pointer and count are of one slice, whose items are transparent over those of
     /// the library, and the pointer of a slice of none is not null.
-    pub(crate) fn raw(&self) -> ffi::Insert {
-        ffi::Insert {
-            o: sent_of(&self.o, &self.o_criteria),
-            vt: sent_of(&self.vt, &self.t_criteria),
+    fn raw(&self) -> ffi::Lists {
+        ffi::Lists {
+            o: lists_of(&self.o, &self.o_criteria),
+            vt: lists_of(&self.vt, &self.t_criteria),
         }
     }
 }
 
-/// The lists of a CSI, where they lie. `C` is transparent over the criteria `R` of the library.
-fn sent_of<C, R>(rows: &Option<Vec<Row>>, criteria: &Option<Vec<C>>) -> ffi::Sent<R> {
+/// The lists of a CSI, where they lie. `C` is transparent over the criteria of the library.
+fn lists_of<C>(rows: &Option<Vec<Row>>, criteria: &Option<Vec<C>>) -> ffi::CsiLists {
     let (has_rows, has_criteria) = (rows.is_some(), criteria.is_some());
     let rows = rows.as_deref().unwrap_or_default();
     let criteria = criteria.as_deref().unwrap_or_default();
-    ffi::Sent {
+    ffi::CsiLists {
         rows: rows.as_ptr().cast(),
         row_count: rows.len(),
         criteria: criteria.as_ptr().cast(),

@@ -1,8 +1,8 @@
 //! IMSIs, addresses, rows and criteria: what is made, what is refused, and what a store gives back.
 use camel::{
-    Address, BasicService, CallType, Cause, Csis, DetectionPoint, Error, Event, Imsi, IsdnAddress,
-    MatchType, NumberCriterion, OCriteria, Outcome, Profile, Reason, Row, Session, Store,
-    TCriteria, Update,
+    Address, BasicService, CallType, Cause, Criteria, Csis, DetectionPoint, Error, Event, Imsi,
+    IsdnAddress, MatchType, NumberCriterion, OCriteria, Outcome, Profile, Reason, Row, Session,
+    Store, TCriteria, Update,
 };
 
 #[test]
@@ -93,27 +93,24 @@ fn lists_have_their_room() {
         NumberCriterion::new(MatchType::Enabling, &vec![number; numbers], lengths)
     };
     assert!(criterion(10, &[1, 2, 3]).is_ok());
-    assert_eq!(criterion(11, &[]).err(), Some(Error::UnexpectedDataValue));
-    assert_eq!(
-        criterion(1, &[1, 2, 3, 4]).err(),
-        Some(Error::UnexpectedDataValue)
-    );
+    assert_eq!(criterion(11, &[]).err(), Some(Error::Malformed));
+    assert_eq!(criterion(1, &[1, 2, 3, 4]).err(), Some(Error::Malformed));
     assert!(OCriteria::new(4).with_basic(&[tele; 5]).is_ok());
     assert_eq!(
         OCriteria::new(4).with_basic(&[tele; 6]).err(),
-        Some(Error::UnexpectedDataValue)
+        Some(Error::Malformed)
     );
     assert_eq!(
         OCriteria::new(4).with_causes(&[cause; 6]).err(),
-        Some(Error::UnexpectedDataValue)
+        Some(Error::Malformed)
     );
     assert_eq!(
         TCriteria::new(13).with_basic(&[tele; 6]).err(),
-        Some(Error::UnexpectedDataValue)
+        Some(Error::Malformed)
     );
     assert_eq!(
         TCriteria::new(13).with_causes(&[cause; 6]).err(),
-        Some(Error::UnexpectedDataValue)
+        Some(Error::Malformed)
     );
 }
 
@@ -180,6 +177,19 @@ fn a_store_gives_back_the_rows_that_came() {
 }
 
 #[test]
+fn a_record_that_is_kept_has_the_rows_of_its_look() {
+    let imsi = Imsi::from_digits("26201").unwrap();
+    let (mut store, mut session) = session_of(imsi, all_lists());
+    let kept = session.keep(imsi).unwrap().unwrap();
+    let rows = POINTS.map(|dp| session.row(imsi, dp).unwrap());
+    assert_eq!(rows.iter().flatten().count(), 3);
+    store.submit(&Update::Cancel { imsi }).unwrap();
+    session.learn(&store.publish().unwrap()).unwrap();
+    assert!(store.close().is_ok());
+    assert_eq!(POINTS.map(|dp| kept.row(dp).unwrap()), rows);
+}
+
+#[test]
 fn a_store_gives_back_the_criteria_that_came() {
     let (imsi, csis) = (Imsi::from_digits("26201").unwrap(), all_lists());
     let (_store, mut session) = session_of(imsi, csis.clone());
@@ -188,11 +198,10 @@ fn a_store_gives_back_the_criteria_that_came() {
         let of_t = csis.t_criteria.as_deref().unwrap().iter().copied();
         let came_of_o = of_o.clone().find(|entry| entry.dp() == dp.number());
         let came_of_t = of_t.clone().find(|entry| entry.dp() == dp.number());
-        assert_eq!(session.o_criteria(imsi, dp), Ok(came_of_o));
-        assert_eq!(session.t_criteria(imsi, dp), Ok(came_of_t));
-        let look = session.look().unwrap();
-        assert_eq!(look.o_criteria(imsi, dp), Ok(came_of_o));
-        assert_eq!(look.t_criteria(imsi, dp), Ok(came_of_t));
+        let came = came_of_o.map(Criteria::O).or(came_of_t.map(Criteria::T));
+        assert_eq!(came.is_some(), [4, 13].contains(&dp.number()));
+        assert_eq!(session.criteria(imsi, dp), Ok(came));
+        assert_eq!(session.look().unwrap().criteria(imsi, dp), Ok(came));
     }
 }
 

@@ -2,9 +2,10 @@
 //! together or not at all, and that what is pending is dropped.
 use camel::{
     Address, BasicService, CapabilityHandling, Csis, Error, Event, Imsi, IsdnAddress, ItemCounts,
-    MAX_UPDATES, OCriteria, Operation, Outcome, PreparedUpdate, Profile, Reason, Rejected, Row,
-    Session, Store, Update, UpdateParts, Withdrawal,
+    MAX_SESSIONS, MAX_UPDATES, OCriteria, Operation, Outcome, PreparedUpdate, Profile, Reason,
+    Rejected, Row, Session, Store, Update, UpdateParts, Withdrawal,
 };
+use std::slice;
 
 /// What an HLR sends in two operations of a dialogue: the O-CSI with a camelCapabilityHandling of 3, and the criteria
 /// of detection point 2, which ask for forwarded calls.
@@ -253,6 +254,89 @@ fn what_is_pending_is_dropped() {
     }
     assert_eq!(store.submit_prepared(&updates[1]), Ok(()));
     assert_eq!(store.counts().unwrap().published, 2);
+}
+
+/// How many updates are published and pending, and what is decided without learning more.
+fn stands(store: &Store, session: &mut Session) -> (u64, u64, bool) {
+    let counts = store.counts().unwrap();
+    let destination = Address::new(&[0x91, 0x21]).unwrap();
+    let event = Event::collected_info(imsi(), BasicService::Tele(0x11), destination);
+    let is_trigger = session.decide(&event).unwrap().outcome.is_trigger();
+    (counts.published, counts.pending, is_trigger)
+}
+
+#[test]
+fn updates_are_committed_or_not_shown() {
+    let (mut store, mut sessions) = Store::open(2, MAX_UPDATES, Profile::One, 1).unwrap();
+    let mut updates = vec![register(imsi()), inserted(imsi(), ROWS)];
+    store.submit(&Update::Register { imsi: other() }).unwrap();
+    assert_eq!(store.commit(&updates, &mut sessions), Ok(()));
+    for session in &mut sessions {
+        assert_eq!(stands(&store, session), (2, 0, true));
+    }
+    store.submit(&Update::ClearAll).unwrap();
+    updates.push(inserted(other(), ROWS));
+    let (error, at) = (Error::UnidentifiedSubscriber, Some(2));
+    assert_eq!(
+        store.commit(&updates, &mut sessions),
+        Err(Rejected { error, at })
+    );
+    assert_eq!(stands(&store, &mut sessions[0]), (2, 0, true));
+    let cancel = PreparedUpdate::new(&Update::Cancel { imsi: imsi() }).unwrap();
+    let [one, two] = &mut sessions[..] else {
+        panic!("there are two")
+    };
+    assert_eq!(
+        store.commit(slice::from_ref(&cancel), slice::from_mut(one)),
+        Ok(())
+    );
+    assert_eq!(stands(&store, one), (3, 0, false));
+    assert_eq!(store.commit(&[], &mut []), Ok(()));
+    assert_eq!(stands(&store, two), (3, 0, false));
+}
+
+#[test]
+fn nothing_is_pending_after_a_commit_that_is_held() {
+    let (mut store, mut sessions) = Store::open(2, MAX_UPDATES, Profile::One, 1).unwrap();
+    let updates = [register(imsi()), inserted(imsi(), ROWS)];
+    let [one, two] = &mut sessions[..] else {
+        panic!("there are two")
+    };
+    let look = two.look().unwrap();
+    store.publish().unwrap();
+    let (error, at) = (Error::Held, None);
+    let held = Err(Rejected { error, at });
+    assert_eq!(store.commit(&updates, slice::from_mut(one)), held);
+    assert_eq!(stands(&store, one), (0, 0, false));
+    look.leave();
+    assert_eq!(store.commit(&updates, slice::from_mut(one)), Ok(()));
+    assert_eq!(stands(&store, one), (2, 0, true));
+}
+
+#[test]
+fn all_is_as_before_after_a_commit_to_sessions_that_cannot_learn() {
+    let (mut store, mut session) = open();
+    let (_other, mut foreign) = open();
+    let (_many, mut sessions) = Store::open(MAX_SESSIONS, 1, Profile::One, 1).unwrap();
+    let updates = [register(imsi()), inserted(imsi(), ROWS)];
+    let rejected = |error| Err(Rejected { error, at: None });
+    store.submit(&Update::Register { imsi: other() }).unwrap();
+    assert_eq!(
+        store.commit(&updates, slice::from_mut(&mut foreign)),
+        rejected(Error::OtherStore)
+    );
+    sessions.push(foreign);
+    assert_eq!(
+        store.commit(&updates, &mut sessions),
+        rejected(Error::Malformed)
+    );
+    assert_eq!(store.publish_to(&mut sessions), Err(Error::Malformed));
+    assert_eq!(stands(&store, &mut session), (0, 1, false));
+    assert_eq!(
+        store.commit(&updates, slice::from_mut(&mut session)),
+        Ok(())
+    );
+    assert_eq!(stands(&store, &mut session), (2, 0, true));
 }
 
 #[test]

@@ -213,8 +213,45 @@ fn a_look_that_is_forgotten_is_left_by_the_next_call() {
 }
 
 #[test]
-fn a_call_keeps_the_record_of_its_set_up() {
+fn a_look_that_is_forgotten_goes_on_until_then() {
     let (mut store, mut session, _) = open();
+    std::mem::forget(session.look().unwrap());
+    store.submit(&insert(6)).unwrap();
+    store.publish().unwrap();
+    assert_eq!(session.decide(&event()), trigger(2, 5));
+    assert_eq!(store.publish(), Err(Error::Held));
+    let look = session.look().unwrap();
+    assert_eq!(look.decide(&event()), trigger(3, 6));
+    look.leave();
+    assert_eq!(store.publish().map(|receipt| receipt.front()), Ok(3));
+}
+
+#[test]
+fn a_look_that_is_forgotten_is_left_by_what_is_published_to_its_session() {
+    let (mut store, one, two) = open();
+    let mut sessions = [one, two];
+    for key in [6, 8] {
+        let updates = [PreparedUpdate::new(&insert(key)).unwrap()];
+        sessions.iter_mut().for_each(|session| {
+            std::mem::forget(session.look().unwrap());
+        });
+        store.publish().unwrap();
+        assert_eq!(store.publish(), Err(Error::Held));
+        assert_eq!(store.commit(&updates, &mut sessions), Ok(()));
+        sessions.iter_mut().for_each(|session| {
+            std::mem::forget(session.look().unwrap());
+        });
+        store.submit(&insert(key + 1)).unwrap();
+        assert_eq!(store.publish_to(&mut sessions), Ok(()));
+    }
+    for session in &mut sessions {
+        assert_eq!(session.decide(&event()), trigger(6, 9));
+    }
+}
+
+#[test]
+fn a_call_keeps_the_record_of_its_set_up() {
+    let (mut store, mut session, mut other) = open();
     let kept = session.look().unwrap().keep(imsi()).unwrap().unwrap();
     let what = Withdrawal {
         o: true,
@@ -227,9 +264,11 @@ fn a_call_keeps_the_record_of_its_set_up() {
     assert_eq!(session.decide(&event()), no_trigger(3, Reason::NoCsi));
     assert!(store.close().is_ok());
     drop(session);
-    assert_eq!(kept.decide(&event()), trigger(2, 5));
-    let busy = Event::busy(imsi(), BasicService::Tele(0x11), Cause::of_octet(17));
-    assert_eq!(kept.decide(&busy), no_trigger(2, Reason::NoCsi));
+    assert_eq!(kept.decide(&mut other, &event()), trigger(2, 5));
+    assert_eq!(
+        kept.decide(&mut other, &busy()),
+        no_trigger(2, Reason::NoCsi)
+    );
 }
 
 #[test]
@@ -243,7 +282,10 @@ fn a_call_is_set_up_over_one_front() {
     let look = sessions[1].look().unwrap();
     assert_eq!(look.set_up(&event()).map(|set_up| set_up.0), trigger(3, 6));
     look.leave();
-    assert_eq!(kept.unwrap().decide(&event()), trigger(2, 5));
+    assert_eq!(
+        kept.unwrap().decide(&mut sessions[0], &event()),
+        trigger(2, 5)
+    );
     let unknown = Event::busy(
         Imsi::from_digits("262010000000002").unwrap(),
         BasicService::Tele(0x11),
@@ -291,7 +333,8 @@ fn each_reason_is_given() {
     assert_eq!(session.decide(&event()), no_trigger(3, Reason::Unknown));
     session.look().unwrap().decide(&event()).unwrap();
     let decisions = session.decisions().unwrap();
-    assert_eq!((decisions.total(), decisions.triggered()), (4, 0));
+    assert_eq!(decisions.total(), 4);
+    assert!(POINTS.iter().all(|dp| decisions.triggered(*dp) == 0));
     for (reason, count) in [
         (Reason::Unknown, 2),
         (Reason::NoCsi, 0),
@@ -299,8 +342,50 @@ fn each_reason_is_given() {
         (Reason::Emergency, 1),
         (Reason::Criteria, 0),
     ] {
-        assert_eq!(decisions.not_triggered(reason), count, "{reason:?}");
+        let counts = POINTS.map(|dp| decisions.not_triggered(dp, reason));
+        assert_eq!(counts.iter().sum::<u64>(), count, "{reason:?}");
     }
+}
+
+const POINTS: [DetectionPoint; 5] = [
+    DetectionPoint::CollectedInfo,
+    DetectionPoint::RouteSelectFailure,
+    DetectionPoint::TerminatingAttempt,
+    DetectionPoint::Busy,
+    DetectionPoint::NoAnswer,
+];
+
+/// An event at detection point 13.
+fn busy() -> Event {
+    Event::busy(imsi(), BasicService::Tele(0x11), Cause::of_octet(17))
+}
+
+#[test]
+fn decisions_are_counted_by_detection_point_and_reason() {
+    let (_store, mut session, _) = open();
+    let (other, mut ended, _) = open();
+    let (_, kept) = session.set_up(&event()).unwrap();
+    let kept = kept.unwrap();
+    session.decide(&event()).unwrap();
+    session.look().unwrap().decide(&busy()).unwrap();
+    kept.decide(&mut session, &busy()).unwrap();
+    kept.decide(&mut session, &event()).unwrap();
+    let decisions = session.decisions().unwrap();
+    let counts = |dp| {
+        let no_csi = decisions.not_triggered(dp, Reason::NoCsi);
+        (decisions.triggered(dp), no_csi, decisions.at(dp))
+    };
+    assert_eq!(
+        POINTS.map(counts),
+        [(3, 0, 3), (0, 0, 0), (0, 0, 0), (0, 2, 2), (0, 0, 0)]
+    );
+    assert_eq!(decisions.total(), 5);
+
+    assert!(other.close().is_ok());
+    assert_eq!(kept.decide(&mut ended, &event()), trigger(2, 5));
+    let dp = DetectionPoint::CollectedInfo;
+    assert_eq!(ended.decisions().map(|counts| counts.triggered(dp)), Ok(1));
+    assert_eq!(session.decisions(), Ok(decisions));
 }
 
 #[test]
@@ -348,12 +433,13 @@ fn handles_move_between_threads() {
 #[test]
 fn threads_decide_by_one_record() {
     let (_store, mut session, _) = open();
+    let (_other, mut sessions) = Store::open(4, MAX_UPDATES, Profile::One, 1).unwrap();
     let kept = session.keep(imsi()).unwrap().unwrap();
     std::thread::scope(|scope| {
-        for _ in 0..4 {
+        for session in &mut sessions {
             scope.spawn(|| {
                 for _ in 0..1000 {
-                    assert_eq!(kept.decide(&event()), trigger(2, 5));
+                    assert_eq!(kept.decide(session, &event()), trigger(2, 5));
                 }
             });
         }

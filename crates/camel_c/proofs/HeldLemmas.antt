@@ -8,14 +8,19 @@ use Rattle.camel_rows.specs.declared.subscriber.update.Update.TheVariants as upd
 use Rattle.camel_c.specs.HeldUpdates.{HoldUpdates, update_held}
 use Rattle.camel_c.specs.declared.handle.CamelHandle.{CamelHandle}
 
+-- there is an update for each handle
+pub as_many : (handles : List CamelHandle) (held : List Update) → HoldUpdates handles held → length handles ≡ length held
+as_many handles held holds =
+    sym (length-map handles (λ (handle : CamelHandle). update_held handle.value))
+    ∙ ap (λ (l : List (Option Update)). length l) holds ∙ length-map held (λ (one : Update). Some one)
+
 -- none of them holds no update
 pub held_at : (handles : List CamelHandle) (held : List Update) (at : ℕ) (other : CamelHandle)
     → HoldUpdates handles held → at < length handles → update_held (get_or handles at other).value ≡ None → ⊥
 held_at handles held at other holds within none =
     let held_in : CamelHandle → Option Update = λ handle. update_held handle.value in
     let whole : Update → Option Update = λ held. Some held in
-    let lengths : length handles ≡ length held =
-    sym (length-map handles held_in) ∙ ap (λ (l : List (Option Update)). length l) holds ∙ length-map held whole in
+    let lengths = as_many handles held holds in
     let there : update_held (get_or handles at other).value ≡ Some (get_or held at update.ClearAll) =
     sym (get_or-map held_in handles at other None within) ∙ ap (λ (l : List (Option Update)). get_or l at None) holds
     ∙ get_or-map whole held at update.ClearAll None (omega (arith, within, lengths)) in

@@ -1,6 +1,7 @@
 pub mod BoxCalls
 pub mod BoxCode
 pub mod BoxRows
+pub mod CommitLemmas
 pub mod CountLemmas
 pub mod GroupLemmas
 pub mod HeldLemmas

@@ -2,4 +2,4 @@
 use Rattle.std.specs.Prelude.{ℕ, List, [], ◌∷◌}
 
 abbrev pub layout_sizes : List ℕ
-layout_sizes = 16 ∷ 8 ∷ 21 ∷ 10 ∷ 2 ∷ 24 ∷ 11 ∷ 6 ∷ 106 ∷ 127 ∷ 18 ∷ 40 ∷ 40 ∷ 80 ∷ 3 ∷ 40 ∷ 32 ∷ 32 ∷ 48 ∷ 32 ∷ 1200 ∷ 16 ∷ []
+layout_sizes = 16 ∷ 8 ∷ 21 ∷ 10 ∷ 2 ∷ 24 ∷ 11 ∷ 6 ∷ 106 ∷ 127 ∷ 40 ∷ 80 ∷ 3 ∷ 40 ∷ 32 ∷ 32 ∷ 720 ∷ 32 ∷ 1200 ∷ 16 ∷ []

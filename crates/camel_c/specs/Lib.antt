@@ -1,5 +1,6 @@
 pub mod Argument
 pub mod Change
+pub mod Commit
 pub mod Counts
 pub mod Decides
 pub mod Failure

@@ -13,12 +13,9 @@ use Rattle.camel_c.specs.declared.object.Object.TheVariants as object
 use Rattle.camel_c.specs.declared.thread_session.ThreadSession.{ThreadSession}
 
 -- it is a session without a look, of the store of this number
-abbrev pub IsHeldReady : ℕ → Option Object → Type 0
-IsHeldReady number held = (own : ThreadSession) × (held ≡ Some (object.Session own))
-    × (own.session.looks ≡ false) × (own.store ≡ number)
-
 abbrev pub IsReady : ℕ → CamelHandle → Type 0
-IsReady number handle = IsHeldReady number handle.value
+IsReady number handle = (own : ThreadSession) × (handle.value ≡ Some (object.Session own))
+    × (own.session.looks ≡ false) × (own.store ≡ number)
 
 abbrev pub AllReady : ℕ → List CamelHandle → Type 0
 AllReady number handles = All (IsReady number) handles

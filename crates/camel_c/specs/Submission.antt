@@ -1,5 +1,5 @@
 -- Submissions: the update that the data of a caller are, and what the store makes of it.
-use Rattle.std.specs.Prelude.{◌≡◌, ◌≢◌, ◌⊎◌, ℕ, Option, Some, Result, Ok, Err, IfSome, IsSome}
+use Rattle.std.specs.Prelude.{◌≡◌, ◌≢◌, ◌⊎◌, ◌≤◌, ℕ, Option, Some, Result, Ok, Err, IfSome, IsSome}
 use Rattle.camel_criteria.specs.Refusal.{refusal_code}
 use Rattle.camel_rows.specs.declared.subscriber.update.Update.{Update}
 use Rattle.camel_rows.specs.declared.subscriber.update.Update.TheVariants as update
@@ -21,6 +21,10 @@ register_in held = imsi_in held >>= λ imsi. Ok (update.Register imsi)
 -- the Cancel of an IMSI
 abbrev pub cancel_in : CamelImsi → Result Update DataFault
 cancel_in held = imsi_in held >>= λ imsi. Ok (update.Cancel imsi)
+
+-- no update is of this number
+abbrev pub IsNoKind : ℕ → Type 0
+IsNoKind kind = (kind ≡ 0) ⊎ (6 ≤ kind)
 
 -- Data that read so are submitted to what a handle held before, and this is the status. Memory may be refused (102) while
 -- the store takes the update.

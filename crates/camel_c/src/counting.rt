@@ -36,7 +36,8 @@ pub extern "C" fn camel_counts_of(store: &mut CamelHandle, counts: &mut CamelCou
     0
 }
 
-/// Writes how many events a session has decided with each reason.
+/// Writes how many events a session has decided at each detection point with each reason: by its looks, at set-ups, and
+/// by records that are kept.
 ///
 /// It fails with 503 if the handle holds no session, and leaves the counts as they were.
 #[unsafe(no_mangle)]

@@ -56,7 +56,7 @@ impl ThreadSession {
             return Failure::Refused(Refusal::NoGuard).code();
         };
         answer.write(self.session.front(), &self.session.decide(event));
-        self.decisions.count(answer.reason);
+        self.decisions.count(event, answer.reason);
         self.end(had_begun);
         0
     }

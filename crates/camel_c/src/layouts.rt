@@ -8,24 +8,23 @@ use crate::handle::CamelHandle;
 use crate::update_parts::CamelUpdateParts;
 use camel_c_data::{
     CamelAddress, CamelAnswer, CamelBasicService, CamelBasicServices, CamelCauses, CamelCounts,
-    CamelDecisions, CamelEvent, CamelImsi, CamelInsert, CamelIsdnAddress, CamelNumberCriterion,
-    CamelOCriteria, CamelReceipt, CamelRow, CamelSentOCsi, CamelSentVtCsi, CamelTCriteria,
-    CamelWithdrawal,
+    CamelCriteria, CamelDecisions, CamelEvent, CamelImsi, CamelInsert, CamelIsdnAddress,
+    CamelNumberCriterion, CamelReceipt, CamelRow, CamelSentCsi, CamelWithdrawal,
 };
 use std::mem::size_of;
 
 /// The version of the layouts and of the functions: `CAMEL_ABI_VERSION` of the header.
-pub(crate) const ABI_VERSION: u32 = 3;
+pub(crate) const ABI_VERSION: u32 = 4;
 
 /// The version of the layouts and of the functions, as the library has them.
 #[unsafe(no_mangle)]
 pub extern "C" fn camel_abi_version() -> u32
-    ensures { result ≡ 3 }
+    ensures { result ≡ 4 }
 {
     ABI_VERSION
 }
 
-const LAYOUT_COUNT: usize = 22;
+const LAYOUT_COUNT: usize = 20;
 
 /// The sizes of the types of the header in its order, and then of a handle.
 const LAYOUT_SIZES: [u32; LAYOUT_COUNT] = [
@@ -38,10 +37,8 @@ const LAYOUT_SIZES: [u32; LAYOUT_COUNT] = [
     size_of::<CamelBasicServices>() as u32,
     size_of::<CamelCauses>() as u32,
     size_of::<CamelNumberCriterion>() as u32,
-    size_of::<CamelOCriteria>() as u32,
-    size_of::<CamelTCriteria>() as u32,
-    size_of::<CamelSentOCsi>() as u32,
-    size_of::<CamelSentVtCsi>() as u32,
+    size_of::<CamelCriteria>() as u32,
+    size_of::<CamelSentCsi>() as u32,
     size_of::<CamelInsert>() as u32,
     size_of::<CamelWithdrawal>() as u32,
     size_of::<CamelEvent>() as u32,
@@ -57,9 +54,9 @@ const LAYOUT_SIZES: [u32; LAYOUT_COUNT] = [
 /// returns how many there are.
 #[unsafe(no_mangle)]
 pub extern "C" fn camel_layouts(sizes: &mut [u32]) -> u32
-    ensures count { result ≡ 22 }
-    ensures written { take 22 sizes.new ≡ take (length sizes.old) layout_sizes }
-    ensures rest { drop 22 sizes.new ≡ drop 22 sizes.old }
+    ensures count { result ≡ 20 }
+    ensures written { take 20 sizes.new ≡ take (length sizes.old) layout_sizes }
+    ensures rest { drop 20 sizes.new ≡ drop 20 sizes.old }
 {
     let count = sizes.len().min(LAYOUT_COUNT);
     sizes[..count].copy_from_slice(&LAYOUT_SIZES[..count]);

@@ -11,6 +11,8 @@
 #![tactic(auto)]
 
 mod argument;
+mod committing;
+mod copies;
 mod counting;
 mod deciding;
 mod deciding_kept;
@@ -40,7 +42,6 @@ mod showing;
 mod shown_at;
 mod submitting;
 mod submitting_all;
-mod submitting_held;
 mod submitting_map;
 mod thread_session;
 mod update_parts;

@@ -14,7 +14,7 @@ use camel_tbcd::{CallAddress, Imsi, IsdnAddress};
 /// Writes the IMSI that 3 to 8 TBCD octets are (TS 29.002). It fails with 502 if they are none, and leaves the IMSI as
 /// it was.
 #[unsafe(no_mangle)]
-pub extern "C" fn camel_imsi_of_tbcd(octets: &[u8], imsi: &mut CamelImsi) -> u32
+pub extern "C" fn camel_imsi_of_tbcd_nonnull(octets: &[u8], imsi: &mut CamelImsi) -> u32
     ensures written { result ≡ 0 → imsi_in imsi.new ≡ ok_or_malformed (imsi_of_tbcd octets.now) }
     ensures unchanged { result ≢ 0 → imsi.new ≡ imsi.old }
     ensures only { IsOk (imsi_of_tbcd octets.now) → result ≡ 0 }
@@ -31,7 +31,7 @@ pub extern "C" fn camel_imsi_of_tbcd(octets: &[u8], imsi: &mut CamelImsi) -> u32
 
 /// Writes the IMSI that 5 to 15 characters 0 to 9 are. It fails with 502 if they are none, and leaves the IMSI as it was.
 #[unsafe(no_mangle)]
-pub extern "C" fn camel_imsi_of_digits(digits: &[u8], imsi: &mut CamelImsi) -> u32
+pub extern "C" fn camel_imsi_of_digits_nonnull(digits: &[u8], imsi: &mut CamelImsi) -> u32
     ensures written { result ≡ 0 → imsi_in imsi.new ≡ ok_or_malformed (imsi_of_ascii digits.now) }
     ensures unchanged { result ≢ 0 → imsi.new ≡ imsi.old }
     ensures only { IsOk (imsi_of_ascii digits.now) → result ≡ 0 }
@@ -49,7 +49,7 @@ pub extern "C" fn camel_imsi_of_digits(digits: &[u8], imsi: &mut CamelImsi) -> u
 /// Writes the AddressString of these octets, 1 to 20 (TS 29.002). It fails with 502 if they are none, and leaves the
 /// address as it was.
 #[unsafe(no_mangle)]
-pub extern "C" fn camel_address_of(octets: &[u8], address: &mut CamelAddress) -> u32
+pub extern "C" fn camel_address_of_nonnull(octets: &[u8], address: &mut CamelAddress) -> u32
     ensures written { result ≡ 0 → call_address_in address.new ≡ Ok octets.now }
     ensures unchanged { result ≢ 0 → address.new ≡ address.old }
     ensures only { 1 ≤ length octets.now → length octets.now ≤ max_address_length → result ≡ 0 }
@@ -67,7 +67,10 @@ pub extern "C" fn camel_address_of(octets: &[u8], address: &mut CamelAddress) ->
 /// Writes the ISDN-AddressString of these octets, 1 to 9 (TS 29.002). It fails with 502 if they are none, and leaves the
 /// address as it was.
 #[unsafe(no_mangle)]
-pub extern "C" fn camel_isdn_address_of(octets: &[u8], address: &mut CamelIsdnAddress) -> u32
+pub extern "C" fn camel_isdn_address_of_nonnull(
+    octets: &[u8],
+    address: &mut CamelIsdnAddress,
+) -> u32
     ensures written { result ≡ 0 → isdn_address_in address.new ≡ Ok octets.now }
     ensures unchanged { result ≢ 0 → address.new ≡ address.old }
     ensures only { 1 ≤ length octets.now → length octets.now ≤ max_isdn_address_length → result ≡ 0 }

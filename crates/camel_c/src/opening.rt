@@ -42,11 +42,11 @@ pub extern "C" fn camel_open_version(
 ) -> u32
     ensures opened { result ≡ 0 → Opens limit profile seed store.new.value sessions.new }
     ensures unchanged { result ≢ 0 → (store.new.value ≡ store.old.value) × HoldAsBefore sessions.old sessions.new }
-    ensures version { (version ≡ 3) ⊎ (result ≡ 506) }
-    ensures malformed { version ≡ 3 → CanOpen (length sessions.old) limit profile ⊎ (result ≡ 502) }
-    ensures full { version ≡ 3 → CanOpen (length sessions.old) limit profile
+    ensures version { (version ≡ 4) ⊎ (result ≡ 506) }
+    ensures malformed { version ≡ 4 → CanOpen (length sessions.old) limit profile ⊎ (result ≡ 502) }
+    ensures full { version ≡ 4 → CanOpen (length sessions.old) limit profile
         → ((store.old.value ≡ None) × AllEmpty sessions.old) ⊎ (result ≡ 504) }
-    ensures only { version ≡ 3 → CanOpen (length sessions.old) limit profile → store.old.value ≡ None
+    ensures only { version ≡ 4 → CanOpen (length sessions.old) limit profile → store.old.value ≡ None
         → AllEmpty sessions.old → (result ≡ 0) ⊎ ((result ≡ 102) ⊎ (result ≡ 103)) }
 {
     if version != ABI_VERSION {

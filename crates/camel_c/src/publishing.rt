@@ -1,7 +1,7 @@
 //! Publishing what is pending.
 
 ghost use Rattle.std.specs.Prelude.{◌≡◌, ◌≢◌, ◌⊎◌, ◌==◌, Some, true};
-ghost use Rattle.camel_c.specs.Change.{ChangesStore, IsRefused, RefusesStore, with_free, with_held, with_published};
+ghost use Rattle.camel_c.specs.Change.{ChangesStore, IsRefused, with_free, with_held, with_published};
 ghost use Rattle.camel_c.specs.Object.{HoldsFreeStore, HoldsLiveStore};
 
 use crate::failure::Failure;
@@ -10,31 +10,12 @@ use crate::object::LiveStore;
 use camel_criteria::Refusal;
 use camel_vlr::Unpublished;
 
-/// Publishes all that is pending, also if nothing is. It does not wait. When it returns, each session's next look shows
-/// all of it.
-///
-/// It fails with 501 if a look keeps the copy that is to be changed, which is counted, with 102 if memory was refused,
-/// and with 503 if the handle holds no store that takes updates. Then nothing was published, and all is pending as before.
-/// It does not fail with 501 if `camel_holders` has told of no session, or it has failed with 102, since the last
-/// publication.
-#[unsafe(no_mangle)]
-pub extern "C" fn camel_publish(store: &mut CamelHandle) -> u32
-    ensures published { result ≡ 0 → ChangesStore with_published store.old.value store.new.value }
-    ensures held { result ≡ 501 → ChangesStore with_held store.old.value store.new.value }
-    ensures free { HoldsFreeStore store.old.value → result ≢ 501 }
-    ensures refused { result ≡ 102 → RefusesStore store.old.value store.new.value }
-    ensures unchanged { result ≡ 503 → store.new.value ≡ store.old.value }
-    ensures only { HoldsLiveStore store.old.value → (result ≡ 0) ⊎ ((result ≡ 102) ⊎ (result ≡ 501)) }
-    ensures wrong { HoldsLiveStore store.old.value ⊎ (result ≡ 503) }
-{
-    let Some(live) = store.lend::<LiveStore>() else {
-        return Failure::WrongHandle.code();
-    };
-    live.publish()
-}
-
 impl LiveStore {
-    /// Publishes all that is pending, and counts it if a look holds that up.
+    /// Publishes all that is pending, also if nothing is, and counts it if a look holds that up. It does not wait.
+    ///
+    /// It fails with 501 if a look keeps the copy that is to be changed, and with 102 if memory was refused. Then nothing
+    /// was published, and all is pending as before. It does not fail with 501 if `camel_holders` has told of no session,
+    /// or it has failed with 102, since the last publication.
     pub(crate) fn publish(&mut self) -> u32
         ensures published { result ≡ 0 → self.new ≡ with_published self.old }
         ensures held { result ≡ 501 → self.new ≡ with_held self.old }

@@ -12,15 +12,19 @@ use crate::thread_session::ThreadSession;
 use camel_c_data::CamelReceipt;
 use camel_vlr::MAX_PLACES;
 
-/// Publishes all that is pending, as `camel_publish` does, and has these sessions of the store learn a receipt of it, as
+/// Publishes all that is pending, also if nothing is, and has these sessions of the store learn a receipt of it, as
 /// `camel_learn` does: each shows it from then on. It does not wait.
 ///
 /// It fails with 502 if there are more than 64, with 503 if the first handle holds no store that takes updates, with
-/// 503, 501 or 505 for the first session that is none, has begun a look or is of another store, and as `camel_publish`
-/// does. Then nothing was published, and all is pending as before. It names 104 and 505 too for a session that does not
-/// see what is published then, which no run meets.
+/// 503, 501 or 505 for the first session that is none, has begun a look or is of another store, with 501 if a look keeps
+/// the copy that is to be changed, which is counted, and with 102 if memory was refused. Then nothing was published, and
+/// all is pending as before. It names 104 and 505 too for a session that does not see what is published then, which no
+/// run meets.
 #[unsafe(no_mangle)]
-pub extern "C" fn camel_publish_to(store: &mut CamelHandle, sessions: &mut [CamelHandle]) -> u32
+pub extern "C" fn camel_publish_to_nonnull(
+    store: &mut CamelHandle,
+    sessions: &mut [CamelHandle],
+) -> u32
     ensures { PublishesTo result store.old.value store.new.value sessions.old sessions.new }
 {
     if MAX_PLACES < sessions.len() {
@@ -61,7 +65,7 @@ impl LiveStore {
 }
 
 /// Why the first session that is not ready to learn a receipt of the store of this number is not, or 0 if all are.
-fn first_unready(sessions: &mut [CamelHandle], number: u64) -> u32
+pub(crate) fn first_unready(sessions: &mut [CamelHandle], number: u64) -> u32
     ensures ready { result ≡ 0 → AllReady number sessions.old }
     ensures only { AllReady number sessions.old → result ≡ 0 }
     ensures why { (result ≡ 0) ⊎ FirstUnready number sessions.old result }
@@ -96,7 +100,7 @@ fn unready(handle: &mut CamelHandle, number: u64) -> u32
 }
 
 /// Has each session learn a receipt, up to the first that does not.
-fn learn_all(sessions: &mut [CamelHandle], receipt: &CamelReceipt) -> u32
+pub(crate) fn learn_all(sessions: &mut [CamelHandle], receipt: &CamelReceipt) -> u32
     requires { AllReady receipt.now.store sessions.old }
     ensures learnt { result ≡ 0 → AllLearn receipt.now sessions.old sessions.new }
     ensures looked { AllMayLook sessions.old sessions.new }

@@ -78,7 +78,7 @@ impl ThreadSession {
         let status = match kept {
             Ok(()) => {
                 answer.write(self.session.front(), &self.session.decide(event));
-                self.decisions.count(answer.reason);
+                self.decisions.count(event, answer.reason);
                 0
             }
             Err(why) => Failure::Refused(why).code(),

@@ -1,18 +1,22 @@
-//! What a subscriber has at a detection point: its row, and its criteria.
+//! What a subscriber, or a record that is kept, has at a detection point: its row, and its criteria.
 
 ghost use Rattle.std.specs.Prelude.{◌≡◌, ◌≢◌, ◌⊎◌, Ok, Option, Some, IsErr, List, ℕ, true};
+ghost use Rattle.camel_rows.specs.Subscriber.{row_at};
 ghost use Rattle.camel_vlr.specs.Session.{SessionData};
-ghost use Rattle.camel_c_data.specs.Criteria.{ShowsO, ShowsT};
 ghost use Rattle.camel_c_data.specs.Imsi.{imsi_in};
 ghost use Rattle.camel_c_data.specs.Row.{ShowsRow};
-ghost use Rattle.camel_c.specs.Shown.{o_criteria_shown, row_shown, t_criteria_shown};
-ghost use Rattle.camel_c.specs.Shows.{Looks, Shows, ShowsWritten, Writes};
+ghost use Rattle.camel_c.specs.Kept.{HoldsKept};
+ghost use Rattle.camel_c.specs.Shown.{ShowsEntry, entry_shown, row_shown};
+ghost use Rattle.camel_c.specs.Shows.{Finds, Looks, Shows, ShowsWritten, Writes};
+ghost use Rattle.camel_c.specs.declared.kept_subscriber.KeptSubscriber.{KeptSubscriber};
+ghost use Rattle.camel_c.specs.declared.object.Object.TheVariants as object;
 
 use crate::failure::Failure;
 use crate::handle::CamelHandle;
+use crate::kept_subscriber::KeptSubscriber;
 use crate::shown_at::ShownAt;
 use crate::thread_session::ThreadSession;
-use camel_c_data::{CamelImsi, CamelOCriteria, CamelRow, CamelTCriteria};
+use camel_c_data::{CamelCriteria, CamelImsi, CamelRow};
 use camel_criteria::Refusal;
 use camel_tbcd::Imsi;
 
@@ -38,48 +42,24 @@ pub extern "C" fn camel_row_at(
     show_at(session, imsi, dp, row, is_there)
 }
 
-/// Tells whether a subscriber has criteria of the O-CSI at a detection point, over the look that has begun, or else by a
-/// look of its own, and writes them if there are any. It takes no memory and does not wait.
+/// Tells whether a subscriber has criteria at a detection point, over the look that has begun, or else by a look of its
+/// own, and writes them if there are any. It takes no memory and does not wait.
 ///
 /// Criteria are there even if the CSI has no row of the detection point; they have no effect then.
 ///
 /// It fails with 502 if the IMSI is none, with 503 if the handle holds no session, and with 104 if the store has ended.
 /// Then nothing is changed, and nothing is written.
 #[unsafe(no_mangle)]
-pub extern "C" fn camel_o_criteria_at(
+pub extern "C" fn camel_criteria_at(
     session: &mut CamelHandle,
     imsi: &CamelImsi,
     dp: u8,
-    criteria: &mut CamelOCriteria,
+    criteria: &mut CamelCriteria,
     is_there: &mut u8,
 ) -> u32
     ensures looks { Looks (IsErr (imsi_in imsi.now))
         (λ own shown left. Shows own shown left × (asked : List ℕ) × (imsi_in imsi.now ≡ Ok asked)
-        × ShowsWritten ShowsO (o_criteria_shown shown asked dp) criteria.old criteria.new is_there.new)
-        result session.old.value session.new.value }
-    ensures unwritten { result ≢ 0 → (criteria.new ≡ criteria.old) × (is_there.new ≡ is_there.old) }
-{
-    show_at(session, imsi, dp, criteria, is_there)
-}
-
-/// Tells whether a subscriber has criteria of the VT-CSI at a detection point, over the look that has begun, or else by a
-/// look of its own, and writes them if there are any. It takes no memory and does not wait.
-///
-/// Criteria are there even if the CSI has no row of the detection point; they have no effect then.
-///
-/// It fails with 502 if the IMSI is none, with 503 if the handle holds no session, and with 104 if the store has ended.
-/// Then nothing is changed, and nothing is written.
-#[unsafe(no_mangle)]
-pub extern "C" fn camel_t_criteria_at(
-    session: &mut CamelHandle,
-    imsi: &CamelImsi,
-    dp: u8,
-    criteria: &mut CamelTCriteria,
-    is_there: &mut u8,
-) -> u32
-    ensures looks { Looks (IsErr (imsi_in imsi.now))
-        (λ own shown left. Shows own shown left × (asked : List ℕ) × (imsi_in imsi.now ≡ Ok asked)
-        × ShowsWritten ShowsT (t_criteria_shown shown asked dp) criteria.old criteria.new is_there.new)
+        × ShowsWritten ShowsEntry (entry_shown shown asked dp) criteria.old criteria.new is_there.new)
         result session.old.value session.new.value }
     ensures unwritten { result ≢ 0 → (criteria.new ≡ criteria.old) × (is_there.new ≡ is_there.old) }
 {
@@ -124,6 +104,39 @@ impl ThreadSession {
         write(C::find(&self.session, imsi, dp), place, is_there);
         self.end(had_begun);
         0
+    }
+}
+
+/// Tells whether a record that is kept has a row at a detection point, and writes the row if there is one. It takes no
+/// memory and does not wait.
+///
+/// It fails with 503 if the handle holds no record; then nothing is written.
+#[unsafe(no_mangle)]
+pub extern "C" fn camel_kept_row_at(
+    subscriber: &mut CamelHandle,
+    dp: u8,
+    row: &mut CamelRow,
+    is_there: &mut u8,
+) -> u32
+    ensures shown { result ≡ 0 → (kept : KeptSubscriber) × (subscriber.old.value ≡ Some (object.Kept kept))
+        × ShowsWritten ShowsRow (row_at dp kept.subscriber) row.old row.new is_there.new }
+    ensures unwritten { result ≢ 0 → (row.new ≡ row.old) × (is_there.new ≡ is_there.old) }
+    ensures same { subscriber.new.value ≡ subscriber.old.value }
+    ensures only { HoldsKept subscriber.old.value → result ≡ 0 }
+    ensures wrong { HoldsKept subscriber.old.value ⊎ (result ≡ 503) }
+{
+    let Some(kept) = subscriber.lend::<KeptSubscriber>() else {
+        return Failure::WrongHandle.code();
+    };
+    write(kept.row(dp), row, is_there);
+    0
+}
+
+impl KeptSubscriber {
+    fn row(&self, dp: u8) -> Option<CamelRow>
+        ensures { Finds ShowsRow (row_at dp self.now.subscriber) result }
+    {
+        Some(CamelRow::of(self.subscriber.row(dp)?))
     }
 }
 

@@ -1,6 +1,6 @@
 ghost use Rattle.std.specs.Prelude.{◌≡◌, true};
 
-use camel_c_data::{CamelOCriteria, CamelRow, CamelTCriteria};
+use camel_c_data::{CamelCriteria, CamelRow};
 use camel_rows::Lent;
 use camel_tbcd::Imsi;
 use camel_vlr::WaitFreeSession;
@@ -31,32 +31,16 @@ impl ShownAt for CamelRow {
     }
 }
 
-impl ShownAt for CamelOCriteria {
-    ghost use Rattle.camel_c_data.specs.Criteria.{ShowsO};
-    ghost use Rattle.camel_c.specs.Shown.{o_criteria_shown};
+impl ShownAt for CamelCriteria {
+    ghost use Rattle.camel_c.specs.Shown.{ShowsEntry, entry_shown};
     ghost use Rattle.camel_c.specs.Shows.{Finds};
 
-    ghost is_found = { λ shown imsi dp found. Finds ShowsO (o_criteria_shown shown imsi dp) found };
+    ghost is_found = { λ shown imsi dp found. Finds ShowsEntry (entry_shown shown imsi dp) found };
 
-    fn find(session: &WaitFreeSession, imsi: &Imsi, dp: u8) -> Option<CamelOCriteria> {
+    fn find(session: &WaitFreeSession, imsi: &Imsi, dp: u8) -> Option<CamelCriteria> {
         match session.criteria(imsi, dp)? {
-            Lent::O(entry) => Some(CamelOCriteria::of(entry)),
-            Lent::T(_) => None,
-        }
-    }
-}
-
-impl ShownAt for CamelTCriteria {
-    ghost use Rattle.camel_c_data.specs.Criteria.{ShowsT};
-    ghost use Rattle.camel_c.specs.Shown.{t_criteria_shown};
-    ghost use Rattle.camel_c.specs.Shows.{Finds};
-
-    ghost is_found = { λ shown imsi dp found. Finds ShowsT (t_criteria_shown shown imsi dp) found };
-
-    fn find(session: &WaitFreeSession, imsi: &Imsi, dp: u8) -> Option<CamelTCriteria> {
-        match session.criteria(imsi, dp)? {
-            Lent::T(entry) => Some(CamelTCriteria::of(entry)),
-            Lent::O(_) => None,
+            Lent::O(entry) => Some(CamelCriteria::of_o(entry)),
+            Lent::T(entry) => Some(CamelCriteria::of_t(entry)),
         }
     }
 }

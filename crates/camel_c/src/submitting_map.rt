@@ -19,7 +19,7 @@ use std::alloc::Global;
 /// does not accept the update, with 101 if it has taken as many as it may, with 102 if memory was refused, and with 503
 /// if the handle holds no store that takes updates. Then it is as if it had not been submitted.
 #[unsafe(no_mangle)]
-pub extern "C" fn camel_submit_map(
+pub extern "C" fn camel_submit_map_nonnull(
     alloc: Global,
     store: &mut CamelHandle,
     operation: u8,

@@ -13,7 +13,7 @@ pub struct ThreadSession {
     pub session: WaitFreeSession,
     /// The number of its store, which is that of its receipts.
     pub store: u64,
-    /// How many events it has decided with each reason.
+    /// How many events it has decided at each detection point with each reason.
     pub decisions: CamelDecisions,
 }
 

@@ -7,6 +7,7 @@ ghost use Rattle.camel_c.specs.declared.object.Object.TheVariants as object;
 
 use crate::failure::Failure;
 use crate::handle::CamelHandle;
+use crate::submitting::{CANCEL, CLEAR_ALL, DELETE, INSERT, REGISTER};
 use camel_c_data::{CamelImsi, CamelWithdrawal};
 use camel_map::Arrival;
 use camel_rows::Update;
@@ -80,11 +81,11 @@ fn kind_of(update: &Update) -> u8
     ensures { result ≡ kind_number update.now }
 {
     match update {
-        Update::Register { .. } => 1,
-        Update::Insert { .. } => 2,
-        Update::Delete { .. } => 3,
-        Update::Cancel { .. } => 4,
-        Update::ClearAll => 5,
+        Update::Register { .. } => REGISTER,
+        Update::Insert { .. } => INSERT,
+        Update::Delete { .. } => DELETE,
+        Update::Cancel { .. } => CANCEL,
+        Update::ClearAll => CLEAR_ALL,
     }
 }
 

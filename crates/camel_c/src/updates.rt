@@ -2,88 +2,54 @@
 
 ghost use Rattle.std.specs.Prelude.{◌≡◌, Ok};
 ghost use Rattle.camel_c_data.specs.Update.{delete_in};
-ghost use Rattle.camel_c.specs.Submission.{cancel_in, register_in};
+ghost use Rattle.camel_c.specs.Submission.{IsNoKind, cancel_in, register_in};
 ghost use Rattle.camel_c.specs.Updates.{HoldsLists, Makes, ReadsAndMakes, alone, count_in, counted, counts_in, lists_in};
 
+use crate::failure::Failure;
 use crate::filling::put;
 use crate::handle::CamelHandle;
 use crate::object::Object;
-use crate::submitting::{read_cancel, read_register};
+use crate::submitting::{CANCEL, CLEAR_ALL, DELETE, INSERT, REGISTER, read_cancel, read_register};
 use camel_c_data::{CamelImsi, CamelInsert, CamelWithdrawal, DataFault};
 use camel_map::{Arrival, CapabilityHandling, ItemCounts};
 use camel_rows::Update;
 use std::alloc::Global;
 
-/// Fills an empty handle with a Register, as `camel_submit_register` submits one.
-///
-/// It fails with 502 if the IMSI is none, with 504 if the handle is not empty, and with 102 if memory was refused. Then
-/// the handle is as before.
-#[unsafe(no_mangle)]
-pub extern "C" fn camel_update_of_register(
-    alloc: Global,
-    imsi: &CamelImsi,
-    update: &mut CamelHandle,
-) -> u32
-    ensures { Makes (alone (register_in imsi.now)) result update.old.value update.new.value }
-{
-    keep(alloc, update, read_register(imsi))
-}
-
-/// Fills an empty handle with a Delete, as `camel_submit_delete` submits one.
-///
-/// It fails with 502 if the IMSI is none, with 504 if the handle is not empty, and with 102 if memory was refused. Then
-/// the handle is as before.
-#[unsafe(no_mangle)]
-pub extern "C" fn camel_update_of_delete(
-    alloc: Global,
-    imsi: &CamelImsi,
-    what: &CamelWithdrawal,
-    update: &mut CamelHandle,
-) -> u32
-    ensures { Makes (alone (delete_in what.now imsi.now)) result update.old.value update.new.value }
-{
-    keep(alloc, update, what.read(imsi))
-}
-
-/// Fills an empty handle with a Cancel, as `camel_submit_cancel` submits one.
-///
-/// It fails with 502 if the IMSI is none, with 504 if the handle is not empty, and with 102 if memory was refused. Then
-/// the handle is as before.
-#[unsafe(no_mangle)]
-pub extern "C" fn camel_update_of_cancel(
-    alloc: Global,
-    imsi: &CamelImsi,
-    update: &mut CamelHandle,
-) -> u32
-    ensures { Makes (alone (cancel_in imsi.now)) result update.old.value update.new.value }
-{
-    keep(alloc, update, read_cancel(imsi))
-}
-
-/// Fills an empty handle with a ClearAll, as `camel_submit_clear_all` submits one.
-///
-/// It fails with 504 if the handle is not empty, and with 102 if memory was refused. Then the handle is as before.
-#[unsafe(no_mangle)]
-pub extern "C" fn camel_update_of_clear_all(alloc: Global, update: &mut CamelHandle) -> u32
-    ensures { Makes (alone (Ok Update.ClearAll)) result update.old.value update.new.value }
-{
-    keep(alloc, update, Ok(Update::ClearAll))
-}
-
-/// Fills an empty handle with an Insert of the lists that are sent, as `camel_submit_lists` submits one. It has how
+/// Fills an empty handle with the update that `camel_submit_change_nonnull` submits of the same data. An Insert has how
 /// many items were sent in each list, and no camelCapabilityHandling.
 ///
-/// It fails with 502, 35 or 36 if the data are none, as `camel_submit_lists` does, with 504 if the handle is not empty,
+/// It fails with 502 if the kind is none, with 502, 35 or 36 if the data are none, with 504 if the handle is not empty,
 /// and with 102 if memory was refused. Then the handle is as before.
 #[unsafe(no_mangle)]
-pub extern "C" fn camel_update_of_lists(
+pub extern "C" fn camel_update_of_nonnull(
     alloc: Global,
+    kind: u8,
     imsi: &CamelImsi,
+    what: &CamelWithdrawal,
     sent: &CamelInsert,
     update: &mut CamelHandle,
 ) -> u32
-    ensures made { ReadsAndMakes (lists_in sent.now imsi.now) result update.old.value update.new.value }
+    ensures register { kind ≡ 1 → Makes (alone (register_in imsi.now)) result update.old.value update.new.value }
+    ensures insert { kind ≡ 2 → ReadsAndMakes (lists_in sent.now imsi.now) result update.old.value update.new.value }
     // It is of lists, so it may be joined with another Insert.
+    ensures received { kind ≡ 2 → result ≡ 0 → HoldsLists update.new.value }
+    ensures delete { kind ≡ 3 → Makes (alone (delete_in what.now imsi.now)) result update.old.value update.new.value }
+    ensures cancel { kind ≡ 4 → Makes (alone (cancel_in imsi.now)) result update.old.value update.new.value }
+    ensures clear_all { kind ≡ 5 → Makes (alone (Ok Update.ClearAll)) result update.old.value update.new.value }
+    ensures none { IsNoKind kind → (result ≡ 502) × (update.new.value ≡ update.old.value) }
+{
+    match kind {
+        REGISTER => keep(alloc, update, read_register(imsi)),
+        INSERT => keep_insert(alloc, update, imsi, sent),
+        DELETE => keep(alloc, update, what.read(imsi)),
+        CANCEL => keep(alloc, update, read_cancel(imsi)),
+        CLEAR_ALL => keep(alloc, update, Ok(Update::ClearAll)),
+        _ => Failure::Malformed.code(),
+    }
+}
+
+fn keep_insert(alloc: Global, update: &mut CamelHandle, imsi: &CamelImsi, sent: &CamelInsert) -> u32
+    ensures made { ReadsAndMakes (lists_in sent.now imsi.now) result update.old.value update.new.value }
     ensures received { result ≡ 0 → HoldsLists update.new.value }
 {
     let read = sent.read(alloc, imsi);

@@ -20,7 +20,7 @@ use std::alloc::Global;
 /// to the place; else the place is 2^64 - 1. It fails with 504 if the handle is not empty, and with 102 if memory was refused.
 /// Then the handle is as before.
 #[unsafe(no_mangle)]
-pub extern "C" fn camel_update_of_map(
+pub extern "C" fn camel_update_of_map_nonnull(
     alloc: Global,
     operation: u8,
     imsi: &CamelImsi,

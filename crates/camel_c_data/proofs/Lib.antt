@@ -1,3 +1,4 @@
 pub mod EachLemmas
 pub mod FewLemmas
 pub mod ImsiLemmas
+pub mod PointLemmas

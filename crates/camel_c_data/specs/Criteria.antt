@@ -1,25 +1,26 @@
 -- Entries of criteria, and sets of them, by their fields.
-use Rattle.std.specs.Prelude.{◌≡◌, Bool, true, false, List, Option, Some, None, IfSome, is_some, Result, Ok, if◌then◌else◌}
+use Rattle.std.specs.Prelude.{◌≡◌, ◌||◌, Bool, true, false, List, Option, Some, None, IfSome, is_some, Result, Ok, Err, if◌then◌else◌}
 use Rattle.camel_criteria.specs.Criteria.{NumberCriterionData, OCriteriaData, TCriteriaData, o_criteria_of, t_criteria_of}
 use Rattle.camel_criteria.specs.declared.criteria.CallType.{CallType}
 use Rattle.camel_criteria.specs.declared.criteria.CallType.TheVariants.{Forwarded, NotForwarded}
+use Rattle.camel_criteria.specs.declared.refusal.Refusal.TheVariants.{UnexpectedDataValue}
 use Rattle.camel_rows.specs.Received.{o_criteria_set_of, t_criteria_set_of}
 use Rattle.camel_c_data.specs.EntryLists.{AreFlags, basic_services_in, causes_in}
 use Rattle.camel_c_data.specs.Flag.{flag_of, is_set}
 use Rattle.camel_c_data.specs.NumberCriterion.{ShowsNumber, number_criterion_in}
 use Rattle.camel_c_data.specs.Reading.{◌>>=◌, or_refused}
 use Rattle.camel_c_data.specs.SentList.{sent_list}
-use Rattle.camel_c_data.specs.declared.criteria.CamelOCriteria.{CamelOCriteria}
-use Rattle.camel_c_data.specs.declared.criteria.CamelTCriteria.{CamelTCriteria}
+use Rattle.camel_c_data.specs.declared.criteria.CamelCriteria.{CamelCriteria}
 use Rattle.camel_c_data.specs.declared.data_fault.DataFault.{DataFault}
+use Rattle.camel_c_data.specs.declared.data_fault.DataFault.TheVariants.{Refused}
 
 -- the destination number criterion, if there is one
-unfoldable pub number_in : CamelOCriteria → Result (Option NumberCriterionData) DataFault
+unfoldable pub number_in : CamelCriteria → Result (Option NumberCriterionData) DataFault
 number_in entry =
     if is_set entry.has_number then (number_criterion_in entry.number >>= λ number. Ok (Some number)) else Ok None
 
 -- the call type criterion, if there is one
-abbrev pub call_type_in : CamelOCriteria → Option CallType
+abbrev pub call_type_in : CamelCriteria → Option CallType
 call_type_in entry = if is_set entry.has_call_type then Some (if is_set entry.is_forwarded then Forwarded else NotForwarded) else None
 
 -- a call type criterion asks for forwarded calls
@@ -29,22 +30,22 @@ is_forwarded_type (Some NotForwarded) = false
 is_forwarded_type (Some Forwarded) = true
 
 -- the entry of the criteria of the O-CSI that the fields are
-unfoldable pub o_entry_in : CamelOCriteria → Result OCriteriaData DataFault
+unfoldable pub o_entry_in : CamelCriteria → Result OCriteriaData DataFault
 o_entry_in entry = do
   number ← number_in entry
   basic ← basic_services_in entry.basic
   causes ← causes_in entry.causes
   or_refused (o_criteria_of entry.dp number basic (call_type_in entry) causes)
 
--- the entry of the criteria of the VT-CSI that the fields are
-unfoldable pub t_entry_in : CamelTCriteria → Result TCriteriaData DataFault
-t_entry_in entry = do
+-- the entry of the criteria of the VT-CSI that the fields are, which has no criterion of numbers or of the call type
+unfoldable pub t_entry_in : CamelCriteria → Result TCriteriaData DataFault
+t_entry_in entry = if is_set entry.has_number || is_set entry.has_call_type then Err (Refused UnexpectedDataValue) else do
   basic ← basic_services_in entry.basic
   causes ← causes_in entry.causes
   or_refused (t_criteria_of entry.dp basic causes)
 
 -- the fields are each part of an entry of the criteria of the O-CSI
-pub record ShowsO (entry : OCriteriaData) (fields : CamelOCriteria) : Type 0 where
+pub record ShowsO (entry : OCriteriaData) (fields : CamelCriteria) : Type 0 where
   pub dp : fields.dp ≡ entry.dp
   pub has_number : fields.has_number ≡ flag_of (is_some entry.number)
   pub number : IfSome entry.number (λ number. ShowsNumber number fields.number)
@@ -56,16 +57,19 @@ pub record ShowsO (entry : OCriteriaData) (fields : CamelOCriteria) : Type 0 whe
   pub causes : causes_in fields.causes ≡ Ok entry.causes
 
 -- the fields are each part of an entry of the criteria of the VT-CSI
-pub record ShowsT (entry : TCriteriaData) (fields : CamelTCriteria) : Type 0 where
+pub record ShowsT (entry : TCriteriaData) (fields : CamelCriteria) : Type 0 where
   pub dp : fields.dp ≡ entry.dp
+  pub has_number : fields.has_number ≡ 0
+  pub has_call_type : fields.has_call_type ≡ 0
+  pub is_forwarded : fields.is_forwarded ≡ 0
   pub basic : basic_services_in fields.basic ≡ Ok entry.basic
   pub bearers : AreFlags fields.basic
   pub causes : causes_in fields.causes ≡ Ok entry.causes
 
 -- the criteria of the O-CSI of these entries
-unfoldable pub o_criteria_set_in : Bool → List CamelOCriteria → Result (Option (List OCriteriaData)) DataFault
+unfoldable pub o_criteria_set_in : Bool → List CamelCriteria → Result (Option (List OCriteriaData)) DataFault
 o_criteria_set_in is_sent entries = sent_list o_entry_in o_criteria_set_of is_sent entries
 
 -- the criteria of the VT-CSI of these entries
-unfoldable pub t_criteria_set_in : Bool → List CamelTCriteria → Result (Option (List TCriteriaData)) DataFault
+unfoldable pub t_criteria_set_in : Bool → List CamelCriteria → Result (Option (List TCriteriaData)) DataFault
 t_criteria_set_in is_sent entries = sent_list t_entry_in t_criteria_set_of is_sent entries

@@ -1,8 +1,10 @@
 //! Counts that a switch may ask for.
 
 ghost use Rattle.std.specs.Prelude.{◌≡◌, ◌≤◌};
+ghost use Rattle.camel_rows.specs.Event.{event_data, event_dp};
 ghost use Rattle.camel_c_data.specs.Decisions.{no_decisions, with_decision};
 
+use camel_rows::Event;
 use std::mem::size_of;
 
 /// Counts of a store.
@@ -21,18 +23,21 @@ pub struct CamelCounts {
 
 const _: () = prove!(size_of::<CamelCounts>() == 32);
 
+/// How many places there are of detection points, by their numbers: the greatest one is 14.
+const POINTS: usize = 15;
+
 /// How many reasons an answer may have, that of an answer which invokes a service among them.
 const REASONS: usize = 6;
 
-/// How many events were decided with each reason, by the number of the reason, and in the first place of those that
-/// invoke a service. Each count is modulo 2^64.
+/// How many events were decided at each detection point with each reason, by both numbers: the six of detection point 0
+/// first, then those of 1, and so on. Reason 0 is of those that invoke a service. Each count is modulo 2^64.
 #[repr(C)]
 #[derive(Clone, Copy, Debug, Drop)]
 pub struct CamelDecisions {
-    pub by_reason: [u64; REASONS],
+    pub by: [u64; POINTS * REASONS],
 }
 
-const _: () = prove!(size_of::<CamelDecisions>() == 48);
+const _: () = prove!(size_of::<CamelDecisions>() == 720);
 
 impl CamelDecisions {
     /// No event was decided.
@@ -40,17 +45,18 @@ impl CamelDecisions {
         ensures { result ≡ no_decisions }
     {
         CamelDecisions {
-            by_reason: [0; REASONS],
+            by: [0; POINTS * REASONS],
         }
     }
 
-    /// Counts a decision with the reason of this number, 0 to 5.
+    /// Counts the decision of an event with the reason of this number, 0 to 5.
     #[inline]
-    pub fn count(&mut self, reason: u8)
+    #[tactic(auto, using(crate::proofs::PointLemmas::bound, crate::proofs::PointLemmas::same_dp))]
+    pub fn count(&mut self, event: &Event, reason: u8)
         requires { reason ≤ 5 }
-        ensures { self.new ≡ with_decision self.old reason }
+        ensures { self.new ≡ with_decision self.old (event_dp (event_data event.now)) reason }
     {
-        let at = usize::from(reason);
-        self.by_reason[at] = self.by_reason[at].wrapping_add(1);
+        let at = usize::from(event.dp()) * REASONS + usize::from(reason);
+        self.by[at] = self.by[at].wrapping_add(1);
     }
 }

@@ -4,7 +4,7 @@ ghost use Rattle.std.specs.Prelude.{◌≡◌};
 ghost use Rattle.camel_c_data.specs.Reading.{ReadsAs};
 ghost use Rattle.camel_c_data.specs.Update.{delete_in, insert_in, withdrawal_in};
 
-use crate::criteria::{CamelOCriteria, CamelTCriteria, read_o_criteria_set, read_t_criteria_set};
+use crate::criteria::{CamelCriteria, read_o_criteria_set, read_t_criteria_set};
 use crate::data_fault::DataFault;
 use crate::imsi::CamelImsi;
 use crate::row::{CamelRow, read_o_csi, read_vt_csi};
@@ -12,26 +12,14 @@ use camel_rows::{Update, Withdrawal};
 use std::alloc::Global;
 use std::mem::size_of;
 
-/// What an Insert sends of the O-CSI (InsertSubscriberData of TS 29.002). A list that is not sent is omitted from the
+/// What an Insert sends of a CSI (InsertSubscriberData of TS 29.002). A list that is not sent is omitted from the
 /// [`Update::Insert`], and is not looked at. One that is sent has 1 to 10 items; none of them needs to be of a detection
 /// point of the CSI, so criteria can be replaced by none.
 #[repr(C)]
 #[derive(Clone, Copy, Debug)]
-pub struct CamelSentOCsi<'a> {
+pub struct CamelSentCsi<'a> {
     pub rows: &'a [CamelRow],
-    pub criteria: &'a [CamelOCriteria],
-    /// Not 0 if the rows are sent.
-    pub has_rows: u8,
-    /// Not 0 if the criteria are sent.
-    pub has_criteria: u8,
-}
-
-/// What an Insert sends of the VT-CSI, as [`CamelSentOCsi`].
-#[repr(C)]
-#[derive(Clone, Copy, Debug)]
-pub struct CamelSentVtCsi<'a> {
-    pub rows: &'a [CamelRow],
-    pub criteria: &'a [CamelTCriteria],
+    pub criteria: &'a [CamelCriteria],
     /// Not 0 if the rows are sent.
     pub has_rows: u8,
     /// Not 0 if the criteria are sent.
@@ -42,8 +30,8 @@ pub struct CamelSentVtCsi<'a> {
 #[repr(C)]
 #[derive(Clone, Copy, Debug)]
 pub struct CamelInsert<'a> {
-    pub o: CamelSentOCsi<'a>,
-    pub vt: CamelSentVtCsi<'a>,
+    pub o: CamelSentCsi<'a>,
+    pub vt: CamelSentCsi<'a>,
 }
 
 const _: () = prove!(size_of::<CamelInsert>() == 80);

@@ -17,7 +17,7 @@ struct update {
     bool has_o, has_vt;
     uint8_t o_count, o_criteria_count, vt_count;
     camel_row o[2], vt[2];
-    camel_o_criteria o_criteria;
+    camel_criteria o_criteria;
 };
 
 #endif

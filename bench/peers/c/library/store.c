@@ -136,9 +136,9 @@ static uint8_t rows_from(const struct csi *csi, camel_row rows[2])
     return (uint8_t)csi->rows;
 }
 
-static camel_o_criteria criteria_from(const struct record *record)
+static camel_criteria criteria_from(const struct record *record)
 {
-    camel_o_criteria criteria = {
+    camel_criteria criteria = {
         .dp = COLLECTED_INFO,
         .has_number = true,
         .number = { .is_enabling = true, .number_count = (uint8_t)record->numbers },
@@ -167,24 +167,35 @@ struct update update_of(struct change change)
     return update;
 }
 
+/* A change of which nothing but the subscriber is said. */
+static void submit_kind(camel_store *store, uint8_t kind, camel_imsi imsi)
+{
+    camel_change change = { .kind = kind, .imsi = imsi };
+    expect_ok(camel_submit_change(store, &change));
+}
+
 static void submit(camel_store *store, const struct update *update)
 {
     if (update->is_cancel) {
-        expect_ok(camel_submit_cancel(store, &update->imsi));
+        submit_kind(store, CAMEL_UPDATE_CANCEL, update->imsi);
         return;
     }
     if (update->is_new)
-        expect_ok(camel_submit_register(store, &update->imsi));
-    camel_insert sent = {
-        .o = {
-            .rows = update->has_o ? update->o : NULL,
-            .row_count = update->o_count,
-            .criteria = update->o_criteria_count > 0 ? &update->o_criteria : NULL,
-            .criteria_count = update->o_criteria_count,
+        submit_kind(store, CAMEL_UPDATE_REGISTER, update->imsi);
+    camel_change change = {
+        .kind = CAMEL_UPDATE_INSERT,
+        .imsi = update->imsi,
+        .insert = {
+            .o = {
+                .rows = update->has_o ? update->o : NULL,
+                .row_count = update->o_count,
+                .criteria = update->o_criteria_count > 0 ? &update->o_criteria : NULL,
+                .criteria_count = update->o_criteria_count,
+            },
+            .vt = { .rows = update->has_vt ? update->vt : NULL, .row_count = update->vt_count },
         },
-        .vt = { .rows = update->has_vt ? update->vt : NULL, .row_count = update->vt_count },
     };
-    expect_ok(camel_submit_insert(store, &update->imsi, &sent));
+    expect_ok(camel_submit_change(store, &change));
 }
 
 /* A look that a decision is made by holds a publication up until it is left. */

@@ -2,9 +2,9 @@
 use crate::convert;
 use crate::counts::Counts;
 use crate::model::{Model, Record, decide};
-use crate::plain::{self, Event};
+use crate::plain::{self, Event, POINTS};
 use crate::shared::{Checked, Shared};
-use camel::{Answer, Decisions, Error, OCriteria, Row, Subscriber, TCriteria};
+use camel::{Answer, Criteria, Decisions, Error, Row, Subscriber};
 use std::collections::VecDeque;
 use std::fmt::Debug;
 use std::sync::Arc;
@@ -30,8 +30,7 @@ pub enum What {
     Answer(Event, Answer),
     /// The row of a subscriber at a detection point, and the criteria.
     Row(plain::Subscriber, u8, Option<Row>),
-    OCriteria(plain::Subscriber, u8, Option<OCriteria>),
-    TCriteria(plain::Subscriber, u8, Option<TCriteria>),
+    Criteria(plain::Subscriber, u8, Option<Criteria>),
     /// The record of a subscriber, to be kept.
     Record(plain::Subscriber, Option<Subscriber>),
 }
@@ -53,8 +52,8 @@ pub struct Audit<'a> {
     model: Arc<Model>,
     pub kept: VecDeque<Kept>,
     pub counts: Counts,
-    /// How many answers of each outcome the session has given.
-    decided: [u64; 6],
+    /// How many answers of each outcome the session has given or counted, at each detection point.
+    decided: [[u64; 6]; POINTS.len()],
 }
 
 impl<'a> Audit<'a> {
@@ -67,13 +66,18 @@ impl<'a> Audit<'a> {
             model: Arc::new(none),
             kept: VecDeque::new(),
             counts: Counts::default(),
-            decided: [0; 6],
+            decided: [[0; 6]; POINTS.len()],
         }
     }
 
-    /// Compares what the session has counted with the answers that it has given, all of which were audited.
+    /// Compares what the session has counted with the answers that it and the kept records have given, all of which
+    /// were audited.
     pub fn check_decisions(&self, decisions: &Decisions) -> Checked<()> {
-        if convert::outcomes(decisions) == self.decided {
+        let total: u64 = self.decided.iter().flatten().sum();
+        let is_so = POINTS.iter().zip(&self.decided).all(|(dp, decided)| {
+            convert::point(*dp).map(|dp| convert::outcomes(decisions, dp)) == Ok(*decided)
+        });
+        if is_so && decisions.total() == total {
             Ok(())
         } else {
             Err(format!(
@@ -96,23 +100,16 @@ impl<'a> Audit<'a> {
         match given.what {
             What::Answer(event, answer) => {
                 let record = self.model.record(event.subscriber).cloned();
-                self.decided[convert::place(&answer.outcome)] += 1;
                 self.check_answer(&event, &answer, record.as_deref())
             }
             What::Row(subscriber, dp, row) => {
                 self.check_stored(subscriber, row, |record| record.row(dp), convert::stored)
             }
-            What::OCriteria(subscriber, dp, entry) => self.check_stored(
+            What::Criteria(subscriber, dp, entry) => self.check_stored(
                 subscriber,
                 entry,
                 |record| record.entry(dp),
-                convert::o_criteria,
-            ),
-            What::TCriteria(subscriber, dp, entry) => self.check_stored(
-                subscriber,
-                entry,
-                |record| record.entry(dp),
-                convert::t_criteria,
+                convert::criteria,
             ),
             What::Record(subscriber, handle) => self.check_record(subscriber, handle),
         }
@@ -149,8 +146,12 @@ impl<'a> Audit<'a> {
                 "{event:?}: {answer:?}, and not {decision:?}, with {entry:?}"
             ));
         }
+        let place = convert::place(&answer.outcome);
+        if let Some(at) = POINTS.iter().position(|dp| *dp == event.dp) {
+            self.decided[at][place] += 1;
+        }
         self.counts.decisions += 1;
-        self.counts.outcomes[convert::place(&answer.outcome)] += 1;
+        self.counts.outcomes[place] += 1;
         Ok(())
     }
 

@@ -36,13 +36,13 @@ impl Caller<'_> {
                 self.learn(session)?;
                 match self.random.below(10) {
                     0 => self.look(session)?,
-                    1 => self.ask_kept()?,
+                    1 => self.ask_kept(session)?,
                     _ => self.ask(session)?,
                 }
             }
             self.audit.check_all(&mut self.given)?;
         }
-        (0..BURST).try_for_each(|_| self.ask_kept())
+        (0..BURST).try_for_each(|_| self.ask_kept(session))
     }
 
     fn learn(&mut self, session: &mut Session) -> Checked<()> {
@@ -134,13 +134,8 @@ impl Caller<'_> {
         let (imsi, point) = (self.imsis[subscriber], convert::point(dp).map_err(refused)?);
         let row = look.row(imsi, point).map_err(refused)?;
         self.give(at, What::Row(subscriber, dp, row));
-        if matches!(dp, 2 | 4) {
-            let entry = look.o_criteria(imsi, point).map_err(refused)?;
-            self.give(at, What::OCriteria(subscriber, dp, entry));
-        } else {
-            let entry = look.t_criteria(imsi, point).map_err(refused)?;
-            self.give(at, What::TCriteria(subscriber, dp, entry));
-        }
+        let entry = look.criteria(imsi, point).map_err(refused)?;
+        self.give(at, What::Criteria(subscriber, dp, entry));
         Ok(())
     }
 
@@ -154,7 +149,7 @@ impl Caller<'_> {
     }
 
     /// Decides by a record that was kept, over its front.
-    fn ask_kept(&mut self) -> Checked<()> {
+    fn ask_kept(&mut self, session: &mut Session) -> Checked<()> {
         if self.audit.kept.is_empty() {
             return Ok(());
         }
@@ -165,7 +160,7 @@ impl Caller<'_> {
             convert::event(&event, self.imsis).map_err(|error| format!("{event:?}: {error}"))?;
         let answer = kept
             .handle
-            .decide(&made)
+            .decide(session, &made)
             .map_err(|error| format!("decide by a record: {error}"))?;
         if answer.front != kept.front {
             return Err(format!(

@@ -1,9 +1,9 @@
 //! From plain data to those of the crate.
 use crate::plain;
 use camel::{
-    Address, Answer, BasicService, CallType, Cause, Csis, Decisions, DetectionPoint, Error, Event,
-    Imsi, IsdnAddress, MatchType, NumberCriterion, OCriteria, OnFailure, Outcome, Reason, Row,
-    TCriteria, Update, Withdrawal,
+    Address, Answer, BasicService, CallType, Cause, Criteria, Csis, Decisions, DetectionPoint,
+    Error, Event, Imsi, IsdnAddress, MatchType, NumberCriterion, OCriteria, OnFailure, Outcome,
+    Reason, Row, TCriteria, Update, Withdrawal,
 };
 
 fn service(service: &plain::Service) -> BasicService {
@@ -59,6 +59,14 @@ pub fn o_criteria(entry: &plain::Entry) -> Result<OCriteria, Error> {
         Some(false) => criteria.with_call_type(CallType::NotForwarded),
         None => criteria,
     })
+}
+
+/// The criteria of a detection point, as a session gives them.
+pub fn criteria(entry: &plain::Entry) -> Result<Criteria, Error> {
+    match entry.dp {
+        2 | 4 => o_criteria(entry).map(Criteria::O),
+        _ => t_criteria(entry).map(Criteria::T),
+    }
 }
 
 pub fn t_criteria(entry: &plain::Entry) -> Result<TCriteria, Error> {
@@ -174,11 +182,11 @@ pub fn place(outcome: &Outcome) -> usize {
     }
 }
 
-/// The counts of a session in the order of these names.
-pub fn outcomes(decisions: &Decisions) -> [u64; 6] {
-    let none = |reason| decisions.not_triggered(reason);
+/// The counts of a session at a detection point, in the order of these names.
+pub fn outcomes(decisions: &Decisions, dp: DetectionPoint) -> [u64; 6] {
+    let none = |reason| decisions.not_triggered(dp, reason);
     [
-        decisions.triggered(),
+        decisions.triggered(dp),
         none(Reason::Unknown),
         none(Reason::NoCsi),
         none(Reason::NotArmed),
