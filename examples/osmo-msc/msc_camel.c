@@ -15,7 +15,6 @@
  * Writer and session are in the event loop, and no handler leaves a look behind, so no publication is held. */
 #include <inttypes.h>
 #include <string.h>
-#include <sys/random.h>
 
 #include <osmocom/core/talloc.h>
 #include <osmocom/core/utils.h>
@@ -64,28 +63,33 @@ camel_status msc_camel_imsi_of(const struct vlr_subscr *vsub, camel_imsi *imsi)
 	return imsi->number ? CAMEL_OK : imsi_of(vsub, imsi);
 }
 
-/* Nothing is submitted behind what could not be dropped, which would be published with it. */
-static camel_status begin(struct msc_camel *camel)
+/* Publishes updates, and the session shows them from here on. If that is refused the HLR is answered so, and no later
+ * publication shows any of them. */
+static camel_status commit(struct msc_camel *camel, const camel_update *updates, size_t count)
 {
-	if (camel->has_leftover) {
-		camel_status dropped = camel_drop_pending(&camel->store);
-		if (dropped != CAMEL_OK)
-			return dropped;
-		camel->has_leftover = false;
-	}
-	return CAMEL_OK;
-}
+	size_t rejected;
+	camel_status status = camel_commit(&camel->store, updates, count, &camel->session, 1, &rejected);
 
-/* Publishes what is submitted, and the session sees it from here on. If that is refused the HLR is answered so, and no
- * later publication may show it. Only a Cancel takes memory to be dropped. */
-static camel_status publish(struct msc_camel *camel)
-{
-	camel_status status = camel_publish_to(&camel->store, &camel->session, 1);
-
-	if (status != CAMEL_OK)
-		camel->has_leftover = camel_drop_pending(&camel->store) != CAMEL_OK;
 	msc_camel_count(camel);
 	return status;
+}
+
+/* The same of one update, which it frees, if the status of its data is CAMEL_OK. */
+static camel_status commit_one(struct msc_camel *camel, camel_update *update, camel_status status)
+{
+	if (status == CAMEL_OK)
+		status = commit(camel, update, 1);
+	camel_free(update);
+	return status;
+}
+
+/* The same of a Register or a Cancel. */
+static camel_status commit_change(struct msc_camel *camel, uint8_t kind, const camel_imsi *imsi)
+{
+	camel_change change = { .kind = kind, .imsi = *imsi };
+	camel_update update = CAMEL_EMPTY;
+
+	return commit_one(camel, &update, camel_update_of(&change, &update));
 }
 
 /* What the HLR is answered, with a line if that is an error. GSUP has the causes of GMM in the place of MAP's errors:
@@ -98,22 +102,19 @@ static enum gsm48_gmm_cause cause_of(const char *imsi, const char *what, camel_s
 		LOG_CAMEL(imsi, LOGL_NOTICE, "%s refused: %s", what, name);
 	else if (status != CAMEL_OK)
 		LOG_CAMEL(imsi, LOGL_NOTICE, "%s refused: %s at octet %" PRIu64, what, name, place);
-	switch (status) {
-	case CAMEL_OK:
+	switch (camel_map_error_of(status)) {
+	case 0:
 		return 0;
 	case CAMEL_UNIDENTIFIED_SUBSCRIBER:
 		return GMM_CAUSE_IMSI_UNKNOWN;
 	case CAMEL_DATA_MISSING:
 		return GMM_CAUSE_COND_IE_ERR;
 	case CAMEL_UNEXPECTED_DATA_VALUE:
-	case CAMEL_OTHER_IMSI:
 		return GMM_CAUSE_SEM_INCORR_MSG;
-	case CAMEL_HISTORY_FULL:
-	case CAMEL_OUT_OF_MEMORY:
-	case CAMEL_HELD:
-		return GMM_CAUSE_CONGESTION;
-	default:
+	case CAMEL_MAP_MISTYPED_PARAMETER:
 		return GMM_CAUSE_INV_MAND_INFO;
+	default:
+		return GMM_CAUSE_CONGESTION;
 	}
 }
 
@@ -140,15 +141,6 @@ static void disown(struct msc_camel *camel, const camel_imsi *imsi)
 	}
 }
 
-static camel_status cancel(struct msc_camel *camel, const camel_imsi *imsi)
-{
-	camel_status status = begin(camel);
-
-	if (status == CAMEL_OK)
-		status = camel_submit_cancel(&camel->store, imsi);
-	return status == CAMEL_OK ? publish(camel) : status;
-}
-
 static void try_again_later(struct msc_camel *camel, const camel_imsi *imsi)
 {
 	struct refused_cancel *refused = talloc_zero(camel, struct refused_cancel);
@@ -163,7 +155,7 @@ static void try_again_later(struct msc_camel *camel, const camel_imsi *imsi)
 /* A Cancel that nobody is answered. */
 static void cancel_unanswered(struct msc_camel *camel, const camel_imsi *imsi, const char *what)
 {
-	camel_status status = cancel(camel, imsi);
+	camel_status status = commit_change(camel, CAMEL_UPDATE_CANCEL, imsi);
 	camel_imsi_digits digits;
 
 	if (camel_digits_of_imsi(imsi, &digits) == CAMEL_OK)
@@ -272,16 +264,14 @@ static camel_status insert_anew(struct vlr_subscr *vsub, const struct osmo_gsup_
 {
 	struct msc_camel *camel = vsub->vlr->camel;
 	struct msc_camel_location *location = vsub->msc_camel_location;
+	camel_change change = { .kind = CAMEL_UPDATE_REGISTER, .imsi = location->imsi };
 	camel_update updates[2] = { CAMEL_EMPTY, CAMEL_EMPTY };
-	size_t rejected;
 	camel_status status = join(location, gsup, &updates[1], place);
 
 	if (status == CAMEL_OK)
-		status = camel_update_of_register(&location->imsi, &updates[0]);
+		status = camel_update_of(&change, &updates[0]);
 	if (status == CAMEL_OK)
-		status = camel_submit_all(&camel->store, updates, 2, &rejected);
-	if (status == CAMEL_OK)
-		status = publish(camel);
+		status = commit(camel, updates, 2);
 	if (status == CAMEL_OK) {
 		own(vsub, &location->imsi);
 		camel_free(&location->insert);
@@ -292,13 +282,14 @@ static camel_status insert_anew(struct vlr_subscr *vsub, const struct osmo_gsup_
 	return status;
 }
 
-/* Submits and publishes what an operation of its own brings. */
-static camel_status submit(struct msc_camel *camel, uint8_t operation, const camel_imsi *imsi,
-			   const struct osmo_gsup_message *gsup, uint64_t *place)
+/* Commits what an operation by itself brings. */
+static camel_status commit_map(struct msc_camel *camel, uint8_t operation, const camel_imsi *imsi,
+			       const struct osmo_gsup_message *gsup, uint64_t *place)
 {
-	camel_status status = camel_submit_map(&camel->store, operation, imsi, gsup->ss_info, gsup->ss_info_len, place);
+	camel_update update = CAMEL_EMPTY;
+	camel_status status = camel_update_of_map(operation, imsi, gsup->ss_info, gsup->ss_info_len, &update, place);
 
-	return status == CAMEL_OK ? publish(camel) : status;
+	return commit_one(camel, &update, status);
 }
 
 enum gsm48_gmm_cause msc_camel_insert(struct vlr_subscr *vsub, const struct osmo_gsup_message *gsup)
@@ -314,14 +305,12 @@ enum gsm48_gmm_cause msc_camel_insert(struct vlr_subscr *vsub, const struct osmo
 	status = imsi_of(vsub, &imsi);
 	if (status == CAMEL_OK)
 		requester = find_requester(camel, &imsi);
-	if (requester)
+	if (requester) {
 		requester->msc_camel_location->has_come = true;
-	if (status == CAMEL_OK)
-		status = begin(camel);
-	if (status == CAMEL_OK && requester)
 		status = insert_anew(requester, gsup, &place);
-	else if (status == CAMEL_OK)
-		status = submit(camel, CAMEL_INSERT_SUBSCRIBER_DATA, &imsi, gsup, &place);
+	} else if (status == CAMEL_OK) {
+		status = commit_map(camel, CAMEL_INSERT_SUBSCRIBER_DATA, &imsi, gsup, &place);
+	}
 	return cause_of(vsub->imsi, "InsertSubscriberData", status, place);
 }
 
@@ -331,13 +320,8 @@ static camel_status end_well(struct msc_camel *camel, struct vlr_subscr *request
 	struct msc_camel_location *location = requester->msc_camel_location;
 	camel_status status = CAMEL_OK;
 
-	if (!location->has_come) {
-		status = begin(camel);
-		if (status == CAMEL_OK)
-			status = camel_submit_register(&camel->store, &location->imsi);
-		if (status == CAMEL_OK)
-			status = publish(camel);
-	}
+	if (!location->has_come)
+		status = commit_change(camel, CAMEL_UPDATE_REGISTER, &location->imsi);
 	if (status == CAMEL_OK)
 		own(requester, &location->imsi);
 	end_location(requester);
@@ -367,9 +351,7 @@ bool msc_camel_delete(struct vlr_subscr *vsub, const struct osmo_gsup_message *g
 		return false;
 	status = imsi_of(vsub, &imsi);
 	if (status == CAMEL_OK)
-		status = begin(camel);
-	if (status == CAMEL_OK)
-		status = submit(camel, CAMEL_DELETE_SUBSCRIBER_DATA, &imsi, gsup, &place);
+		status = commit_map(camel, CAMEL_DELETE_SUBSCRIBER_DATA, &imsi, gsup, &place);
 	*cause = cause_of(vsub->imsi, "DeleteSubscriberData", status, place);
 	return true;
 }
@@ -385,7 +367,7 @@ enum gsm48_gmm_cause msc_camel_cancel(struct vlr_subscr *vsub)
 		return 0;
 	status = imsi_of(vsub, &imsi);
 	if (status == CAMEL_OK)
-		status = cancel(camel, &imsi);
+		status = commit_change(camel, CAMEL_UPDATE_CANCEL, &imsi);
 	if (status == CAMEL_OK)
 		disown(camel, &imsi);
 	return cause_of(vsub->imsi, "CancelLocation", status, CAMEL_NO_OCTET);
@@ -428,7 +410,7 @@ camel_status msc_camel_enable(struct msc_camel *camel)
 
 	if (camel->is_enabled)
 		return CAMEL_OK;
-	OSMO_ASSERT(getrandom(&seed, sizeof(seed), 0) == sizeof(seed));
+	OSMO_ASSERT(camel_random_seed(&seed));
 	status = camel_open(&camel->store, &camel->session, 1, CAMEL_MAX_UPDATES, CAMEL_PROFILE_1, seed);
 	camel->is_enabled = status == CAMEL_OK;
 	return status;
@@ -448,6 +430,6 @@ void msc_camel_disable(struct msc_camel *camel)
 		talloc_free(refused);
 	}
 	free_camel(camel);
-	camel->is_enabled = camel->has_leftover = false;
+	camel->is_enabled = false;
 	msc_camel_count(camel);
 }

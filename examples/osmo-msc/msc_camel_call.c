@@ -31,21 +31,11 @@ static int free_call(struct msc_camel_call *call)
  * asynchronous. The general bearer services stand for each rate. osmo-msc reads one bearer capability only. */
 static camel_basic_service basic_service_of(const struct gsm_mncc *setup)
 {
-	camel_basic_service service = { .is_bearer = false, .code = 0x11 };
+	uint8_t capability = setup->bearer_cap.transfer;
+	camel_basic_service service = camel_basic_service_of(&capability, setup->fields & MNCC_F_BEARER_CAP ? 1 : 0);
 
-	if (!(setup->fields & MNCC_F_BEARER_CAP))
-		return service;
-	switch (setup->bearer_cap.transfer) {
-	case GSM48_BCAP_ITCAP_FAX_G3:
-		service.code = 0x62;
-		break;
-	case GSM48_BCAP_ITCAP_UNR_DIG_INF:
-	case GSM48_BCAP_ITCAP_3k1_AUDIO:
-	case GSM48_BCAP_ITCAP_OTHER:
-		service.is_bearer = true;
-		service.code = setup->bearer_cap.data.async ? 0x17 : 0x1f;
-		break;
-	}
+	if (service.is_bearer && setup->bearer_cap.data.async)
+		service.code = 0x17;
 	return service;
 }
 
@@ -143,16 +133,16 @@ bool msc_camel_incoming(struct vlr_subscr *vsub, const struct gsm_mncc *setup, s
  * any case, whatever the answer is. */
 static void decide_later(struct msc_camel_call **call, uint8_t dp, uint8_t cause)
 {
+	struct msc_camel *camel = (*call)->camel;
 	camel_event *event = &(*call)->event;
 	camel_answer answer;
 	camel_status status;
 
 	event->dp = dp;
 	event->cause = cause;
-	if ((*call)->camel->is_enabled) {
-		status = camel_decide_kept(&(*call)->kept, event, &answer);
-		if (status == CAMEL_OK)
-			msc_camel_count_kept((*call)->camel, answer.reason);
+	if (camel->is_enabled) {
+		status = camel_decide_kept(&camel->session, &(*call)->kept, event, &answer);
+		msc_camel_count(camel);
 		act(*call, status, &answer);
 	}
 	TALLOC_FREE(*call);

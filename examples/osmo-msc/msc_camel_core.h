@@ -16,7 +16,6 @@ struct msc_camel {
 	bool is_enabled; /* else store and session are empty */
 	camel_store store;
 	camel_session session;
-	bool has_leftover; /* a publication was refused, and memory to drop what is pending was refused too */
 
 	/* The Cancels that the timer tries again. */
 	struct llist_head cancels;
@@ -49,7 +48,6 @@ void msc_camel_disable(struct msc_camel *camel);
 /* The IMSI by which the glue acts for an entry: that whose record it owns, or else its own. */
 camel_status msc_camel_imsi_of(const struct vlr_subscr *vsub, camel_imsi *imsi);
 
-/* Allocates the counters, adds what the store and its session have counted since, and a decision by a kept record. */
+/* Allocates the counters, and adds what the store and its session have counted since. */
 void msc_camel_alloc_counters(struct msc_camel *camel);
 void msc_camel_count(struct msc_camel *camel);
-void msc_camel_count_kept(struct msc_camel *camel, uint8_t reason);

@@ -57,7 +57,7 @@ static void add(struct msc_camel *camel, unsigned at, uint64_t now, uint64_t bef
 
 void msc_camel_count(struct msc_camel *camel)
 {
-	camel_decisions decisions = { { 0 } };
+	camel_decisions decisions = { .by = { { 0 } } };
 	camel_counts counts = { 0 };
 
 	/* A store that is opened later counts from 0 again. */
@@ -65,8 +65,10 @@ void msc_camel_count(struct msc_camel *camel)
 		if (camel_counts_of(&camel->store, &counts) != CAMEL_OK
 		    || camel_decisions_of(&camel->session, &decisions) != CAMEL_OK)
 			return;
-		for (unsigned at = 0; at < CAMEL_REASONS; at++)
-			add(camel, at, decisions.by_reason[at], camel->decisions.by_reason[at]);
+		for (unsigned dp = 0; dp < ARRAY_SIZE(decisions.by); dp++) {
+			for (unsigned at = 0; at < CAMEL_REASONS; at++)
+				add(camel, at, decisions.by[dp][at], camel->decisions.by[dp][at]);
+		}
 		add(camel, PUBLISHED, counts.published, camel->counts.published);
 		add(camel, HELD, counts.held, camel->counts.held);
 	}
@@ -74,10 +76,4 @@ void msc_camel_count(struct msc_camel *camel)
 	camel->counts = counts;
 	osmo_stat_item_set(osmo_stat_item_group_get_item(camel->stats, SUBSCRIBERS), counts.subscribers);
 	osmo_stat_item_set(osmo_stat_item_group_get_item(camel->stats, PENDING), counts.pending);
-}
-
-void msc_camel_count_kept(struct msc_camel *camel, uint8_t reason)
-{
-	if (reason < CAMEL_REASONS)
-		rate_ctr_inc(rate_ctr_group_get_ctr(camel->rates, reason));
 }

@@ -129,36 +129,24 @@ void msc_camel_vty_init(struct gsm_network *net)
 	install_element(MSC_CAMEL_NODE, &cfg_camel_no_emergency_cmd);
 }
 
-/* Which criteria there are at a detection point. */
-struct criteria {
-	bool has_number;
-	bool has_basic;
-	bool has_call_type;
-	bool has_causes;
-};
-
-static struct criteria criteria_at(camel_session *session, const camel_imsi *imsi, uint8_t dp)
+/* The criteria at a detection point. Without any they are 0. */
+static camel_criteria criteria_at(camel_session *session, const camel_imsi *imsi, uint8_t dp)
 {
-	struct criteria none = { false };
-	camel_o_criteria o;
-	camel_t_criteria t;
+	camel_criteria criteria, none = { 0 };
 	bool is_there;
 
-	if (camel_o_criteria_at(session, imsi, dp, &o, &is_there) == CAMEL_OK && is_there)
-		return (struct criteria){ o.has_number, o.basic.count > 0, o.has_call_type, o.causes.count > 0 };
-	if (camel_t_criteria_at(session, imsi, dp, &t, &is_there) == CAMEL_OK && is_there)
-		return (struct criteria){ .has_basic = t.basic.count > 0, .has_causes = t.causes.count > 0 };
-	return none;
+	return camel_criteria_at(session, imsi, dp, &criteria, &is_there) == CAMEL_OK && is_there ? criteria : none;
 }
 
-static void show_row(struct vty *vty, int offset, const camel_row *row, struct criteria criteria)
+static void show_row(struct vty *vty, int offset, const camel_row *row, const camel_criteria *criteria)
 {
-	bool has_any = criteria.has_number || criteria.has_basic || criteria.has_call_type || criteria.has_causes;
+	bool has_basic = criteria->basic.count > 0, has_causes = criteria->causes.count > 0;
+	bool has_any = criteria->has_number || has_basic || criteria->has_call_type || has_causes;
 
 	vty_out(vty, "%*sCAMEL DP %u: service key %u at gsmSCF %s, default %s, criteria:", offset, "", row->dp, row->key,
 		osmo_hexdump_nospc(row->scf.octets, row->scf.length), row->handling ? "release" : "continue");
-	vty_out(vty, "%s%s%s%s%s%s", criteria.has_number ? " number" : "", criteria.has_basic ? " basic-service" : "",
-		criteria.has_call_type ? " call-type" : "", criteria.has_causes ? " cause" : "", has_any ? "" : " none",
+	vty_out(vty, "%s%s%s%s%s%s", criteria->has_number ? " number" : "", has_basic ? " basic-service" : "",
+		criteria->has_call_type ? " call-type" : "", has_causes ? " cause" : "", has_any ? "" : " none",
 		VTY_NEWLINE);
 }
 
@@ -169,6 +157,7 @@ void msc_camel_vty_show(struct vty *vty, int offset, const struct vlr_subscr *vs
 					  CAMEL_DP_TERM_ATTEMPT_AUTHORIZED, CAMEL_DP_T_BUSY, CAMEL_DP_T_NO_ANSWER };
 	struct msc_camel *camel = vsub->vlr->camel;
 	bool is_there, has_row = false;
+	camel_criteria criteria;
 	camel_imsi imsi;
 	camel_row row;
 
@@ -176,7 +165,8 @@ void msc_camel_vty_show(struct vty *vty, int offset, const struct vlr_subscr *vs
 		return;
 	for (size_t at = 0; at < ARRAY_SIZE(points); at++) {
 		if (camel_row_at(&camel->session, &imsi, points[at], &row, &is_there) == CAMEL_OK && is_there) {
-			show_row(vty, offset, &row, criteria_at(&camel->session, &imsi, points[at]));
+			criteria = criteria_at(&camel->session, &imsi, points[at]);
+			show_row(vty, offset, &row, &criteria);
 			has_row = true;
 		}
 	}

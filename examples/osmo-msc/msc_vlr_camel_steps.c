@@ -18,15 +18,16 @@ enum { INCOMING = 0x423 };
 static uint32_t callref;
 
 enum refusal refused;
-static bool is_publishing;
+static bool is_committing;
 
 void *__real_malloc(size_t size);
 void *__real_realloc(void *old, size_t size);
-camel_status __real_camel_publish_to(camel_store *store, camel_session *sessions, size_t count);
+camel_status __real_camel_commit_nonnull(camel_store *store, const camel_update *updates, size_t update_count,
+					 camel_session *sessions, size_t session_count, size_t *rejected);
 
 static bool is_refused(void)
 {
-	return refused == EACH_REQUEST || (refused == OF_PUBLICATION && is_publishing);
+	return refused == EACH_REQUEST || (refused == OF_COMMITS && is_committing);
 }
 
 void *__wrap_malloc(size_t size)
@@ -39,21 +40,25 @@ void *__wrap_realloc(void *old, size_t size)
 	return is_refused() ? NULL : __real_realloc(old, size);
 }
 
-camel_status __wrap_camel_publish_to(camel_store *store, camel_session *sessions, size_t count)
+/* What camel_commit calls. */
+camel_status __wrap_camel_commit_nonnull(camel_store *store, const camel_update *updates, size_t update_count,
+					 camel_session *sessions, size_t session_count, size_t *rejected)
 {
+	bool is_one = refused == OF_COMMIT;
 	camel_status status;
 
-	if (refused == HELD_PUBLICATION) {
+	if (refused == HELD_COMMIT) {
 		refused = NO_REQUEST;
+		*rejected = update_count;
 		return CAMEL_HELD;
 	}
-	if (refused == PUBLICATION || refused == PUBLICATION_AND_BEHIND) {
-		refused = refused == PUBLICATION ? NO_REQUEST : EACH_REQUEST;
-		return CAMEL_OUT_OF_MEMORY;
-	}
-	is_publishing = true;
-	status = __real_camel_publish_to(store, sessions, count);
-	is_publishing = false;
+	if (is_one)
+		refused = OF_COMMITS;
+	is_committing = true;
+	status = __real_camel_commit_nonnull(store, updates, update_count, sessions, session_count, rejected);
+	is_committing = false;
+	if (is_one)
+		refused = NO_REQUEST;
 	return status;
 }
 

@@ -61,9 +61,9 @@ extern const struct subscriber FIRST, SECOND;
 #define LONG_NUMBER "5e1791346105" "1111111111111111111111111111111111111111"
 #define EMERGENCY_NUMBER "5e038111f2"
 
-/* Which requests of the library for memory are refused: those of a publication, or all. The publication of a withdrawal
- * or a Cancel may need no memory: it can be refused without a request, and all requests behind it. It can be held. */
-enum refusal { NO_REQUEST, OF_PUBLICATION, EACH_REQUEST, PUBLICATION, PUBLICATION_AND_BEHIND, HELD_PUBLICATION };
+/* Which requests of the library for memory are refused: those of each commit, those of the next one only, or all. The
+ * next commit can be held. */
+enum refusal { NO_REQUEST, OF_COMMITS, OF_COMMIT, EACH_REQUEST, HELD_COMMIT };
 extern enum refusal refused;
 
 /* Prints a line beside those of the glue. */

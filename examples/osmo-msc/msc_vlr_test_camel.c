@@ -313,7 +313,7 @@ static void test_refused_location_update(void)
 	ends();
 }
 
-/* The publication of data asks for memory if they have a number criterion or a VT-CSI. */
+/* Data with a number criterion and a VT-CSI, so that also their publication asks for memory. */
 #define GREAT_DATA DATA O_CRITERIA CALLED_DATA
 #define OTHER_GREAT_DATA OTHER_DATA O_CRITERIA CALLED_DATA
 
@@ -323,14 +323,14 @@ static void test_refused_publication(void)
 	location_update(&FIRST, GREAT_DATA);
 	location_update(&SECOND, GREAT_DATA);
 	step("data");
-	refused = OF_PUBLICATION;
+	refused = OF_COMMITS;
 	insert_refused(&FIRST, argument_of(OTHER_GREAT_DATA), "020116");
 	refused = NO_REQUEST;
 	inserts(&SECOND, OTHER_GREAT_DATA);
 	calls(&FIRST, LISTED);
 	step("data in a location update");
 	location_update_begins(&FIRST);
-	refused = OF_PUBLICATION;
+	refused = OF_COMMITS;
 	insert_refused(&FIRST, argument_of(OTHER_GREAT_DATA), "020116");
 	refused = NO_REQUEST;
 	location_update_ends(&FIRST, "06", RES_ACCEPT);
@@ -339,7 +339,7 @@ static void test_refused_publication(void)
 	step("the second data of a location update, and a third operation comes");
 	location_update_begins(&FIRST);
 	inserts(&FIRST, CALLED_RELEASE);
-	refused = OF_PUBLICATION;
+	refused = OF_COMMITS;
 	insert_refused(&FIRST, argument_of(DATA O_CRITERIA), "020116");
 	refused = NO_REQUEST;
 	inserts(&FIRST, "");
@@ -354,19 +354,19 @@ static void test_refused_withdrawals(void)
 	location_update(&FIRST, GREAT_DATA);
 	location_update(&SECOND, GREAT_DATA);
 	step("a withdrawal");
-	refused = PUBLICATION;
+	refused = OF_COMMIT;
 	hlr_sends(&FIRST, "14", WITHDRAWN_O, "15", "020116");
 	inserts(&SECOND, OTHER_GREAT_DATA);
 	calls(&FIRST, LISTED);
-	step("CancelLocation, and memory to drop it is refused too");
-	refused = PUBLICATION_AND_BEHIND;
+	step("CancelLocation, and all memory is refused");
+	refused = EACH_REQUEST;
 	hlr_sends(&FIRST, "1c", "060100", "1d", "020116");
 	refused = NO_REQUEST;
 	inserts(&SECOND, GREAT_DATA);
 	calls(&FIRST, LISTED);
 	step("the end of a location update without CAMEL data");
 	location_update_begins(&FIRST);
-	refused = PUBLICATION;
+	refused = OF_COMMIT;
 	location_update_ends(&FIRST, "06", RES_REJECT);
 	step("the location update is made again");
 	location_update(&FIRST, NULL);
