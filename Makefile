@@ -132,6 +132,7 @@ pages: begin-$$@
 	@scripts/edits --recorded
 	@scripts/numbers
 	@scripts/words
+	@scripts/ffi --check
 	@bench/plot --check
 
 ## Tries what make says of missing tools, of parts that are left out, and after a fault: seconds.
