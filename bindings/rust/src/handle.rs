@@ -11,12 +11,12 @@ pub(crate) struct Owned<T: Handle>(UnsafeCell<T>);
 
 impl<T: Handle> Owned<T> {
     /// An empty handle.
-    pub fn empty() -> Owned<T> {
+    pub const fn empty() -> Owned<T> {
         Owned::of(T::EMPTY)
     }
 
     /// Takes over a handle that is empty, or as the library left it.
-    pub fn of(handle: T) -> Owned<T> {
+    pub const fn of(handle: T) -> Owned<T> {
         Owned(UnsafeCell::new(handle))
     }
 

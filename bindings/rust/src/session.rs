@@ -2,8 +2,8 @@
 use crate::error::done;
 use crate::handle::Owned;
 use crate::{
-    Answer, Argument, Criteria, Decisions, DetectionPoint, Error, Event, Imsi, Imsis, Receipt, Row,
-    Subscriber, ffi,
+    Answer, Argument, Criteria, Decisions, DetectionPoint, Error, Event, Imsi, Imsis, MAX_SESSIONS,
+    Receipt, Row, Subscriber, ffi,
 };
 use std::fmt;
 use std::marker::PhantomData;
@@ -31,20 +31,17 @@ use std::marker::PhantomData;
 /// fn is_shared<T: Sync>() {}
 /// is_shared::<camel::Session>();
 /// ```
-///
-/// A [`Look`] that is forgotten ([`std::mem::forget`]) is not left, and goes on: what the session decides and gives is
-/// of its front, and it holds publications up. [`look`](Session::look), [`learn`](Session::learn),
-/// [`Store::publish_to`](crate::Store::publish_to) and [`Store::commit`](crate::Store::commit) leave it before they do
-/// what they are for, and so does the drop of the session.
-#[repr(transparent)]
 pub struct Session {
     handle: Owned<ffi::Session>,
+    /// Whether a look has begun and is not left. No call of this type finds it so, except behind a forgotten [`Look`].
+    is_looking: bool,
 }
 
 impl Session {
     pub(crate) fn of(handle: ffi::Session) -> Session {
         Session {
             handle: Owned::of(handle),
+            is_looking: false,
         }
     }
 
@@ -54,6 +51,7 @@ impl Session {
     /// The session is as before. [`Error::NoLook`]: the store has ended.
     #[inline]
     pub fn decide(&mut self, event: &Event) -> Result<Answer, Error> {
+        self.leave_forgotten()?;
         self.decide_over(event)
     }
 
@@ -63,8 +61,10 @@ impl Session {
     /// # Errors
     /// As [`decide`](Session::decide).
     pub fn look(&mut self) -> Result<Look<'_>, Error> {
+        self.leave_forgotten()?;
         // SAFETY: the handle is fit for a call, as `Owned` says.
-        self.without_look(|handle| unsafe { ffi::camel_look(handle) })?;
+        done(unsafe { ffi::camel_look(self.handle.at()) })?;
+        self.is_looking = true;
         Ok(Look {
             session: self,
             stays: PhantomData,
@@ -77,8 +77,9 @@ impl Session {
     /// [`Error::OtherStore`]: the receipt is of another store than the session. [`Error::NoLook`]: the session's own
     /// store has ended. The session sees what it saw.
     pub fn learn(&mut self, receipt: &Receipt) -> Result<(), Error> {
+        self.leave_forgotten()?;
         // SAFETY: the handle is fit for a call, as `Owned` says, and the receipt is apart from it.
-        self.without_look(|handle| unsafe { ffi::camel_learn(handle, receipt.raw()) })
+        done(unsafe { ffi::camel_learn(self.handle.at(), receipt.raw()) })
     }
 
     /// How many events the session, its looks and the records that were asked with it have decided, by detection point
@@ -95,6 +96,7 @@ impl Session {
     /// # Errors
     /// As [`decide`](Session::decide).
     pub fn row(&mut self, imsi: Imsi, dp: DetectionPoint) -> Result<Option<Row>, Error> {
+        self.leave_forgotten()?;
         self.row_over(imsi, dp)
     }
 
@@ -104,6 +106,7 @@ impl Session {
     /// # Errors
     /// As [`decide`](Session::decide).
     pub fn criteria(&mut self, imsi: Imsi, dp: DetectionPoint) -> Result<Option<Criteria>, Error> {
+        self.leave_forgotten()?;
         self.criteria_over(imsi, dp)
     }
 
@@ -112,6 +115,7 @@ impl Session {
     /// # Errors
     /// As [`decide`](Session::decide), and [`Error::OutOfMemory`]: ask again; the session may have seen a later front.
     pub fn keep(&mut self, imsi: Imsi) -> Result<Option<Subscriber>, Error> {
+        self.leave_forgotten()?;
         self.keep_over(imsi)
     }
 
@@ -121,6 +125,7 @@ impl Session {
     /// # Errors
     /// As [`keep`](Session::keep). Nothing is decided.
     pub fn set_up(&mut self, event: &Event) -> Result<(Answer, Option<Subscriber>), Error> {
+        self.leave_forgotten()?;
         self.set_up_over(event)
     }
 
@@ -129,6 +134,7 @@ impl Session {
     /// # Errors
     /// As [`keep`](Session::keep).
     pub fn imsis(&mut self) -> Result<Imsis, Error> {
+        self.leave_forgotten()?;
         self.imsis_over()
     }
 
@@ -139,6 +145,7 @@ impl Session {
     /// # Errors
     /// As [`keep`](Session::keep).
     pub fn encode_record(&mut self, imsi: Imsi) -> Result<Option<Argument>, Error> {
+        self.leave_forgotten()?;
         self.encode_record_over(imsi)
     }
 
@@ -148,23 +155,18 @@ impl Session {
         self.handle.at()
     }
 
-    /// Makes a call that the library refuses while a look has begun. Such a one is that of a forgotten [`Look`]: it is
-    /// left, and the call is made again. So a session that has none pays nothing for it.
-    fn without_look(
-        &mut self,
-        call: impl Fn(*mut ffi::Session) -> ffi::Status,
-    ) -> Result<(), Error> {
-        match done(call(self.handle.at())) {
-            Err(Error::Held) => {
-                self.leave()?;
-                done(call(self.handle.at()))
-            }
-            other => other,
+    /// Leaves the look of a [`Look`] that was forgotten, so that each look is of its own call again.
+    #[inline]
+    fn leave_forgotten(&mut self) -> Result<(), Error> {
+        if self.is_looking {
+            self.leave()
+        } else {
+            Ok(())
         }
     }
 
-    /// Leaves the look that has begun, if there is one.
     fn leave(&mut self) -> Result<(), Error> {
+        self.is_looking = false;
         // SAFETY: the handle is fit for a call, as `Owned` says.
         done(unsafe { ffi::camel_leave(self.handle.at()) })
     }
@@ -269,12 +271,34 @@ impl Session {
     }
 }
 
-/// The handles of sessions, for one call of the library. It refuses a session that has begun a look, so that of a
-/// forgotten [`Look`] is left. The pointer and the count are of one slice, whose items are transparent over the
-/// handles; the pointer of a slice of none is not null.
-pub(crate) fn handles_of(sessions: &mut [Session]) -> Result<(*mut ffi::Session, usize), Error> {
-    sessions.iter_mut().try_for_each(Session::leave)?;
-    Ok((sessions.as_mut_ptr().cast(), sessions.len()))
+impl Drop for Session {
+    fn drop(&mut self) {
+        // If the library refuses that, the handle is freed as it is.
+        let _ = self.leave_forgotten();
+    }
+}
+
+/// Makes a call of the library over the handles of sessions, which it is handed side by side, and has no look of a
+/// forgotten [`Look`] go on. The pointer is not null, and the count is at most [`MAX_SESSIONS`].
+///
+/// # Errors
+/// [`Error::Malformed`] of more sessions, and no call is made.
+pub(crate) fn with_handles<R>(
+    sessions: &mut [Session],
+    call: impl FnOnce(*mut ffi::Session, usize) -> R,
+) -> Result<R, Error> {
+    let mut handles = [const { Owned::<ffi::Session>::empty() }; MAX_SESSIONS];
+    let places = handles.get_mut(..sessions.len()).ok_or(Error::Malformed)?;
+    sessions.iter_mut().try_for_each(Session::leave_forgotten)?;
+    let swap = |places: &mut [Owned<ffi::Session>], sessions: &mut [Session]| {
+        for (place, session) in places.iter_mut().zip(sessions) {
+            std::mem::swap(place, &mut session.handle);
+        }
+    };
+    swap(places, sessions);
+    let answer = call(places.as_mut_ptr().cast(), places.len());
+    swap(places, sessions);
+    Ok(answer)
 }
 
 impl fmt::Debug for Session {
@@ -386,6 +410,6 @@ impl Look<'_> {
 impl Drop for Look<'_> {
     fn drop(&mut self) {
         // A look that has begun can be left. What the library answered else would change nothing for the caller.
-        let _ = self.session.leave();
+        let _ = self.session.leave_forgotten();
     }
 }

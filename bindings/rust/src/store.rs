@@ -200,10 +200,11 @@ impl Store {
     /// All is pending as before. Those of [`publish`](Store::publish). [`Error::OtherStore`]: a session is of another
     /// store. [`Error::Malformed`]: there are more than [`MAX_SESSIONS`].
     pub fn publish_to(&mut self, sessions: &mut [Session]) -> Result<(), Error> {
-        let (sessions, count) = session::handles_of(sessions)?;
         // SAFETY: each handle is fit for a call, as `Owned` says, and in no other, since this has them by `&mut`; the
-        // pointer and the count are as `handles_of` says.
-        done(unsafe { ffi::camel_publish_to_nonnull(self.handle.at(), sessions, count) })
+        // pointer and the count are as `with_handles` says.
+        done(session::with_handles(sessions, |sessions, count| unsafe {
+            ffi::camel_publish_to_nonnull(self.handle.at(), sessions, count)
+        })?)
     }
 
     /// What a switch with one event loop does with the updates of an operation: submits copies of them, as
@@ -215,28 +216,29 @@ impl Store {
     /// None of the updates is shown, so the HLR may be answered with an error. The first update that the store rejects
     /// is named, with an error of [`submit_all`](Store::submit_all). All other errors are at no update, and those of
     /// [`publish_to`](Store::publish_to). After one of an update, or [`Error::Held`], nothing is pending. After
-    /// [`Error::OtherStore`] or [`Error::Malformed`], all is as before. After [`Error::OutOfMemory`] a Cancel or a
-    /// ClearAll may be pending, which the next commit drops.
+    /// [`Error::OtherStore`] or [`Error::Malformed`], all is as before. After [`Error::OutOfMemory`] some may be
+    /// pending, which the next commit drops.
     pub fn commit(
         &mut self,
         updates: &[PreparedUpdate],
         sessions: &mut [Session],
     ) -> Result<(), Rejected> {
-        let refused = |error| Rejected { error, at: None };
-        let (sessions, session_count) = session::handles_of(sessions).map_err(refused)?;
         // SAFETY: each handle is fit for a call, as `Owned` says, and those of the store and the sessions are in no
-        // other, since this has them by `&mut`; the pointer and the count of the sessions are as `handles_of` says;
+        // other, since this has them by `&mut`; the pointer and the count of the sessions are as `with_handles` says;
         // `taken` hands over all else, apart from them.
-        prepared::taken(updates, |updates, count, rejected| unsafe {
-            ffi::camel_commit_nonnull(
-                self.handle.at(),
-                updates,
-                count,
-                sessions,
-                session_count,
-                rejected,
-            )
+        session::with_handles(sessions, |sessions, session_count| {
+            prepared::taken(updates, |updates, count, rejected| unsafe {
+                ffi::camel_commit_nonnull(
+                    self.handle.at(),
+                    updates,
+                    count,
+                    sessions,
+                    session_count,
+                    rejected,
+                )
+            })
         })
+        .map_err(|error| Rejected { error, at: None })?
     }
 
     /// Drops all that is pending, as if it had not been submitted: the accepted updates are the published ones again,

@@ -213,16 +213,12 @@ fn a_look_that_is_forgotten_is_left_by_the_next_call() {
 }
 
 #[test]
-fn a_look_that_is_forgotten_goes_on_until_then() {
+fn a_decision_leaves_a_look_that_is_forgotten() {
     let (mut store, mut session, _) = open();
     std::mem::forget(session.look().unwrap());
     store.submit(&insert(6)).unwrap();
     store.publish().unwrap();
-    assert_eq!(session.decide(&event()), trigger(2, 5));
-    assert_eq!(store.publish(), Err(Error::Held));
-    let look = session.look().unwrap();
-    assert_eq!(look.decide(&event()), trigger(3, 6));
-    look.leave();
+    assert_eq!(session.decide(&event()), trigger(3, 6));
     assert_eq!(store.publish().map(|receipt| receipt.front()), Ok(3));
 }
 
