@@ -9,8 +9,6 @@ mod updates;
 pub use calls::{DESTINATION, TELEPHONY, call_of, imsi_of, number_of, numbers_of};
 pub use summaries::{
     ARMED, EntrySummary, LISTED, ListedNumbers, RowSummary, StoredSummary, entry_summary,
-    first_octet, listed_numbers, row_summary, stored_summary,
+    first_octet, row_summary, stored_summary,
 };
-pub use updates::{
-    O_ALONE, SCF, criteria_update, entry_update, one_entry, one_row, row_of, row_update, triggered,
-};
+pub use updates::{O_ALONE, SCF, criteria_update, row_of, row_update, triggered};

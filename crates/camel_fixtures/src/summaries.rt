@@ -59,7 +59,7 @@ pub fn first_octet(codes: &[BasicService]) -> Option<u8> {
 }
 
 /// What is compared of the numbers of a criterion; None if it lists none.
-pub fn listed_numbers(criterion: Option<&NumberCriterion>) -> Option<ListedNumbers> {
+fn listed_numbers(criterion: Option<&NumberCriterion>) -> Option<ListedNumbers> {
     let criterion = criterion?;
     let number = criterion.number(0)?;
     let digits = number.digits();

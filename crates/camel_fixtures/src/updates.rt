@@ -22,7 +22,7 @@ pub fn row_of(dp: u8, key: u32, handling: u32) -> Result<TdpRow, Refusal> {
 }
 
 /// An O-CSI with one row, of detection point 2 and service key 100.
-pub fn one_row() -> Result<OCsi, Refusal> {
+fn one_row() -> Result<OCsi, Refusal> {
     OCsi::new(&[row_of(2, 100, 0)?])
 }
 
@@ -37,7 +37,7 @@ pub fn triggered() -> Result<Outcome, Refusal> {
 }
 
 /// Criteria of one entry, of detection point 2, which lists the digits 1 2 3.
-pub fn one_entry(alloc: Global) -> Result<OCriteriaSet, Refusal> {
+fn one_entry(alloc: Global) -> Result<OCriteriaSet, Refusal> {
     let number = number_of(&[0x91, 0x21, 0xf3])?;
     let criterion = NumberCriterion::new(alloc, MatchType::Enabling, &[number], &[])?;
     let entry = OCriteria::new(alloc, 2, Some(criterion), &[], None, &[])?;
@@ -48,25 +48,20 @@ pub fn one_entry(alloc: Global) -> Result<OCriteriaSet, Refusal> {
 
 /// The Insert of `one_row`.
 pub fn row_update(imsi: Imsi) -> Result<Update, Refusal> {
-    Ok(o_insert(imsi, Some(one_row()?), None))
+    o_insert(imsi, None)
 }
 
 /// The Insert of `one_row` and `one_entry`.
 pub fn criteria_update(alloc: Global, imsi: Imsi) -> Result<Update, Refusal> {
-    Ok(o_insert(imsi, Some(one_row()?), Some(one_entry(alloc)?)))
+    o_insert(imsi, Some(one_entry(alloc)?))
 }
 
-/// The Insert of `one_entry` only.
-pub fn entry_update(alloc: Global, imsi: Imsi) -> Result<Update, Refusal> {
-    Ok(o_insert(imsi, None, Some(one_entry(alloc)?)))
-}
-
-fn o_insert(imsi: Imsi, o: Option<OCsi>, o_criteria: Option<OCriteriaSet>) -> Update {
-    Update::Insert {
+fn o_insert(imsi: Imsi, o_criteria: Option<OCriteriaSet>) -> Result<Update, Refusal> {
+    Ok(Update::Insert {
         imsi,
-        o,
+        o: Some(one_row()?),
         o_criteria,
         vt: None,
         t_criteria: None,
-    }
+    })
 }

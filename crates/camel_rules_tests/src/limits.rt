@@ -2,7 +2,7 @@ use camel_criteria::{MatchType, NumberCriterion, OCriteria, Refusal, TCriteria};
 use camel_fixtures::number_of;
 use std::alloc::Global;
 
-const UNEXPECTED: Option<Refusal> = Some(Refusal::UnexpectedDataValue);
+pub(crate) const UNEXPECTED: Option<Refusal> = Some(Refusal::UnexpectedDataValue);
 
 /// What is made of so many numbers and these lengths.
 fn made_of(alloc: Global, count: usize, lengths: &[u8]) -> Result<NumberCriterion, Refusal> {

@@ -63,8 +63,8 @@ fn in_order_of_hashes(alloc: Global) -> Option<Vec<Option<Imsi>>> {
     Some(found)
 }
 
-// In this order one bucket after the other gets its sixth entry, and is split. So there is never a longer bucket than of
-// six entries, nor a shorter one than of three.
+// In this order one bucket after the other gets its sixth entry, and is split. So there is never a longer bucket than
+// of six entries, nor a shorter one than of three.
 const LONGEST: u64 = 6;
 
 // A value that is inserted is hashed once, and with it the entries of the bucket that is split. Two buckets would have
@@ -83,8 +83,8 @@ fn splits_of_one_bucket_each(alloc: Global) -> Option<usize> {
     Some(splits)
 }
 
-// The buckets become twice as many with each doubling of the entries: the 1,024 that 3,072 entries ask for are enough up
-// to 5,120.
+// The buckets become twice as many with each doubling of the entries: the 1,024 that 3,072 entries ask for are enough
+// up to 5,120.
 #[test]
 fn an_insertion_moves_the_entries_of_one_bucket_at_most(rt: HostRuntime) {
     assert!(rt; splits_of_one_bucket_each(rt.alloc()) == Some(ORDERED / 4 - 1));

@@ -1,9 +1,8 @@
+use crate::limits::UNEXPECTED;
 use camel_criteria::{CriteriaEntry, Handling, OCriteria, Refusal, TCriteria};
 use camel_fixtures::{SCF, row_of};
 use camel_rows::{CriteriaSet, Csi, OCriteriaSet, OCsi, TCriteriaSet, TdpRow, VtCsi};
 use std::alloc::Global;
-
-const UNEXPECTED: Option<Refusal> = Some(Refusal::UnexpectedDataValue);
 
 const MISSING: Option<Refusal> = Some(Refusal::DataMissing);
 
@@ -40,8 +39,8 @@ fn vt_csi(count: usize) -> Result<VtCsi, Refusal> {
 }
 
 /// Whether there are so many rows, and these are the service keys of the first two and of the row of a detection point.
-fn has_rows<const MOST: usize>(
-    csi: &Csi<MOST>,
+fn has_rows<K: Copy, const MOST: usize>(
+    csi: &Csi<K, MOST>,
     count: usize,
     dp: u8,
     keys: [Option<u32>; 3],

@@ -1,10 +1,10 @@
 //! Reads of whole scripts: their end, and readers that fail.
 
-use super::given::{Given, gives, next};
+use crate::fixtures::{FIRST_CALL, FailsOnce};
+use crate::given::{Given, gives, next};
 use camel_script::Script;
 use std::alloc::Global;
-use std::io;
-use std::io::{ErrorKind, Read};
+use std::io::Read;
 
 const FAILED: Given = Given::Fault(209);
 
@@ -29,31 +29,6 @@ fn reads_to_the_end_or_a_fault(rt: HostRuntime) {
     assert!(rt; is_read_as(alloc, "publish\npublish\n".as_bytes(), 1, &TOO_MANY));
     assert!(rt; is_read_as(alloc, "publish\nmove\n".as_bytes(), 1, &TOO_MANY));
     assert!(rt; is_read_as(alloc, refused, 9, &REFUSED));
-}
-
-/// A reader that gives one octet a call, and fails at one call only.
-#[derive(Drop)]
-struct FailsOnce<'a> {
-    octets: &'a [u8],
-    calls_before: u64,
-}
-
-impl Read for FailsOnce<'_> {
-    fn read(&mut self, buffer: &mut [u8]) -> io::Result<usize> {
-        if self.calls_before == 0 {
-            self.calls_before = u64::MAX;
-            return Err(io::Error::from(ErrorKind::Other));
-        }
-        self.calls_before -= 1;
-        match (self.octets, buffer) {
-            ([octet, rest @ ..], [place, ..]) => {
-                *place = *octet;
-                self.octets = rest;
-                Ok(1)
-            }
-            _ => Ok(0),
-        }
-    }
 }
 
 /// The first result that is no record, among five.
@@ -86,10 +61,6 @@ fn wrong_failed_read(alloc: Global, octets: &[u8]) -> Option<u64> {
     }
     None
 }
-
-const FIRST_CALL: &str =
-    "register,262010000000001\ninsert,262010000000001,o:2:100:919471160000:0\npublish\n\
-    call,2,262010000000001,t11,91214365,n\n";
 
 #[test]
 fn fails_for_good_after_each_failed_read(rt: HostRuntime) {

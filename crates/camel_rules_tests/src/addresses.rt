@@ -1,5 +1,5 @@
+use crate::texts::prints;
 use camel_tbcd::{Address, AddressFault, CallAddress, IsdnAddress, Profile};
-use std::alloc::Global;
 
 /// One octet more than the longest address has. No two are alike, so that a lost or moved one shows, and none holds a
 /// filler.
@@ -85,19 +85,21 @@ fn keeps_1_to_9_octets_of_an_isdn_address(rt: HostRuntime) {
     assert!(rt; is_refused_isdn(&DISTINCT[..10], AddressFault::TooLong));
 }
 
-fn prints(alloc: Global, fault: AddressFault, text: &str) -> bool {
-    format!(in alloc; "{fault}").is_ok_and(|printed| printed.as_str() == text)
-}
-
 #[test]
 fn numbers_and_prints_each_fault(rt: HostRuntime) {
     assert!(rt; AddressFault::Empty.code() == 1);
     assert!(rt; AddressFault::TooLong.code() == 2);
-    assert!(rt; prints(rt.alloc(), AddressFault::Empty, "the address has no octets"));
     assert!(rt;
         prints(
             rt.alloc(),
-            AddressFault::TooLong,
+            &AddressFault::Empty,
+            "the address has no octets"
+        )
+    );
+    assert!(rt;
+        prints(
+            rt.alloc(),
+            &AddressFault::TooLong,
             "the address has too many octets"
         )
     );
@@ -227,7 +229,8 @@ fn compares_more_than_16_digits(rt: HostRuntime) {
     assert!(rt; stand(all, &longer[..20], OTHERS));
 }
 
-/// Whether a kept address of these octets has so many digits, and whether the international number 123456 begins with it.
+/// Whether a kept address of these octets has so many digits, and whether the international number 123456 begins with
+/// it.
 fn has_kept_digits(octets: &[u8], count: usize, begins: bool) -> bool {
     match (
         IsdnAddress::from_bytes(octets),

@@ -1,5 +1,5 @@
+use crate::texts::prints;
 use camel_tbcd::{Imsi, ImsiFault};
-use std::alloc::Global;
 use std::cmp::{Ordering, max};
 
 /// Whether an IMSI has just these digits.
@@ -142,19 +142,15 @@ fn orders_imsis_as_lists_of_digits(rt: HostRuntime) {
     assert!(rt; are_in_order() == Ok(true));
 }
 
-fn prints(alloc: Global, fault: ImsiFault, text: &str) -> bool {
-    format!(in alloc; "{fault}").is_ok_and(|printed| printed.as_str() == text)
-}
-
 #[test]
 fn numbers_and_prints_each_fault(rt: HostRuntime) {
     assert!(rt; ImsiFault::Length.code() == 1);
     assert!(rt; ImsiFault::NotDigit { at: 3 }.code() == 2);
-    assert!(rt; prints(rt.alloc(), ImsiFault::Length, "an IMSI has 5 to 15 digits"));
+    assert!(rt; prints(rt.alloc(), &ImsiFault::Length, "an IMSI has 5 to 15 digits"));
     assert!(rt;
         prints(
             rt.alloc(),
-            ImsiFault::NotDigit { at: 3 },
+            &ImsiFault::NotDigit { at: 3 },
             "no decimal digit at 3"
         )
     );

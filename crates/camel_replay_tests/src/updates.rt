@@ -1,6 +1,6 @@
 //! The update that an insert stands for.
 
-use super::given::update_of;
+use crate::given::update_of;
 use camel_criteria::{
     BasicService, CallType, Handling, MatchType, NumberCriterion, OCriteria, TCriteria,
 };

@@ -1,10 +1,6 @@
+use crate::texts::prints;
 use camel_criteria::Refusal;
 use std::alloc::{AllocError, AllocFailed, Global};
-use std::error::Error;
-
-fn prints<E: Error>(alloc: Global, error: &E, text: &str) -> bool {
-    format!(in alloc; "{error}").is_ok_and(|printed| printed.as_str() == text)
-}
 
 /// The numbers below 101 are those of the user errors of TS 29.002.
 const REFUSALS: [(Refusal, u16, &str); 7] = [

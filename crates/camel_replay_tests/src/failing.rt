@@ -1,4 +1,4 @@
-use crate::fixtures::{FIRST_CALL, FIRST_CALL_OUTPUT, words};
+use crate::fixtures::{FIRST_CALL, FIRST_CALL_OUTPUT, FailsOnce, words};
 use camel_replay_lib::{ReplayFault, replay, run};
 use camel_tbcd::Profile;
 use std::alloc::Global;
@@ -68,30 +68,6 @@ fn reads_a_million_records_and_no_more(rt: HostRuntime) {
     assert!(rt; writes_a_million(&rt, alloc, 1_000_001, too_many) == Some(true));
 }
 
-// A reader that gives one octet a call, and fails at one call.
-#[derive(Drop)]
-struct FailingReader<'a> {
-    left: &'a [u8],
-    calls: u64,
-}
-
-impl Read for FailingReader<'_> {
-    fn read(&mut self, buf: &mut [u8]) -> io::Result<usize> {
-        if self.calls == 0 {
-            return Err(io::Error::from(ErrorKind::Other));
-        }
-        self.calls -= 1;
-        match (self.left, buf) {
-            ([first, rest @ ..], [place, ..]) => {
-                *place = *first;
-                self.left = rest;
-                Ok(1)
-            }
-            _ => Ok(0),
-        }
-    }
-}
-
 // How many octets the records of the script and those before them take.
 const ENDS: [usize; 4] = [25, 71, 79, 117];
 
@@ -109,9 +85,9 @@ fn lines_in(octets: &[u8]) -> u64 {
 // Whether a read that fails behind so many calls and octets ends the run, with the lines of the records before.
 fn ends_at_a_read(alloc: Global, calls: u64, octets: usize) -> bool {
     let lines = ENDS.iter().filter(|end| **end <= octets).count() as u64;
-    let reader = FailingReader {
-        left: FIRST_CALL.as_bytes(),
-        calls,
+    let reader = FailsOnce {
+        octets: FIRST_CALL.as_bytes(),
+        calls_before: calls,
     };
     let mut out = Vec::new(alloc);
     let ended = replay(alloc, reader, &mut out, 10, Profile::One);
@@ -212,9 +188,9 @@ fn reports<R: Threads + Wait>(
     line: &str,
 ) -> Option<bool> {
     let words = words(alloc)?;
-    let reader = FailingReader {
-        left: FIRST_CALL.as_bytes(),
-        calls,
+    let reader = FailsOnce {
+        octets: FIRST_CALL.as_bytes(),
+        calls_before: calls,
     };
     let mut err = Vec::new(alloc);
     let status = run(rt, alloc, &words, reader, &mut out, &mut err);
