@@ -194,11 +194,12 @@ static void criteria_are_of_their_csi()
 {
     auto [store, sessions] = open();
     camel::Csis csis = csis_of(8);
-    (*csis.t_criteria)[0].has_call_type = true;
+    camel_criteria &entry = csis.t_criteria->front();
+    entry.has_call_type = true;
     CHECK(store.submit_insert(imsi(), csis).status() == CAMEL_UNEXPECTED_DATA_VALUE);
     CHECK(camel::Update::of_insert(imsi(), csis).status() == CAMEL_UNEXPECTED_DATA_VALUE);
-    (*csis.t_criteria)[0].has_call_type = false;
-    (*csis.t_criteria)[0].has_number = true;
+    entry.has_call_type = false;
+    entry.has_number = true;
     CHECK(store.submit_insert(imsi(), csis).status() == CAMEL_UNEXPECTED_DATA_VALUE);
 }
 

@@ -1,6 +1,7 @@
 """The arguments that the encoder makes of updates, compared with what the tools write of the same updates."""
 
 import random
+from dataclasses import replace
 
 from map_arguments import encoding, updates
 from map_arguments.ber import context
@@ -25,7 +26,7 @@ def sent_item(item):
         return updates.Row(item.point, item.key, item.address, int(updates.is_release(item.handling)))
     basics = [(tag, octets[:1]) for tag, octets in item.basics or ()]
     causes = [cause & 127 for cause in item.causes or ()]
-    return updates.Entry(item.point, sent_number(item.number), basics or None, item.call_type, causes or None)
+    return replace(item, number=sent_number(item.number), basics=basics or None, causes=causes or None)
 
 
 def sent_items(name, items):

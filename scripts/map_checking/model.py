@@ -171,32 +171,21 @@ def services(octets, parent):
     return [service(octets, item) for item in items(octets, parent)]
 
 
-def made_entry(entry, parent, first_point):
-    unless(len(entry.basics or ()) > MAX_SERVICES or len(entry.causes or ()) > MAX_CAUSES, parent, "long-list")
-    unless(entry.point == first_point and entry.causes, parent, "cause-at-first-point")
-    return entry
+# What an entry has behind its detection point, in its order.
+CRITERIA = (number, CONSTRUCTED), (services, CONSTRUCTED), (choice, PRIMITIVE), (causes, CONSTRUCTED)
 
 
-def o_entry(octets, parent):
+def entry(octets, parent, name):
+    """An entry of the VT-CSI has neither a number nor a call type, and so it has other tags."""
     expect(parent, SEQUENCE, CONSTRUCTED)
     fields = Fields(octets, parent)
-    return made_entry(updates.Entry(
-        signed(octets, fields.mandatory(ENUMERATED, PRIMITIVE)),
-        when_there(number, octets, fields.optional(context(0), CONSTRUCTED)),
-        when_there(services, octets, fields.optional(context(1), CONSTRUCTED)),
-        when_there(choice, octets, fields.optional(context(2), PRIMITIVE)),
-        when_there(causes, octets, fields.optional(context(3), CONSTRUCTED)),
-    ), parent, updates.O_POINTS[0])
-
-
-def t_entry(octets, parent):
-    expect(parent, SEQUENCE, CONSTRUCTED)
-    fields = Fields(octets, parent)
-    return made_entry(updates.Entry(
-        signed(octets, fields.mandatory(ENUMERATED, PRIMITIVE)),
-        basics=when_there(services, octets, fields.optional(context(0), CONSTRUCTED)),
-        causes=when_there(causes, octets, fields.optional(context(1), CONSTRUCTED)),
-    ), parent, updates.T_POINTS[0])
+    found = [signed(octets, fields.mandatory(ENUMERATED, PRIMITIVE))]
+    for (read, form), tag in zip(CRITERIA, (0, 1, 2, 3) if name == "oc" else (None, 0, None, 1)):
+        found.append(None if tag is None else when_there(read, octets, fields.optional(context(tag), form)))
+    made = updates.Entry(*found)
+    unless(len(made.basics or ()) > MAX_SERVICES or len(made.causes or ()) > MAX_CAUSES, parent, "long-list")
+    unless(made.point == updates.points_of(name)[0] and made.causes, parent, "cause-at-first-point")
+    return made
 
 
 def received(octets, parent, read, name):
@@ -224,7 +213,7 @@ def csi(octets, parent, name):
 
 
 def entries(octets, parent, name):
-    return received(octets, parent, o_entry if name == "oc" else t_entry, name), None
+    return received(octets, parent, partial(entry, name=name), name), None
 
 
 LISTS = {"o": (context(0), csi), "oc": (context(4), entries), "t": (context(7), csi), "tc": (context(8), entries)}

@@ -26,8 +26,27 @@ static void publish(camel_store *store, camel_session *session)
     RETURNS(CAMEL_OK, camel_learn(session, &receipt));
 }
 
-/* Each bool of an entry of the O-CSI comes back as 1. */
-static void bools_of_o_criteria(camel_store *store, camel_session *session)
+/* An entry comes back with 1 in the place of a bool that is any octet but 0. */
+static void bool_of_criteria(camel_store *store, camel_session *session, const camel_criteria *wanted, size_t place)
+{
+    camel_row row = row_of(wanted->dp, 100);
+    camel_imsi imsi = imsi_of(1);
+
+    for (int octet = 0; octet < TRUES; octet++) {
+        camel_criteria sent = *wanted, found = { 0 };
+        camel_sent_csi csi = { &row, 1, &sent, 1 };
+        bool is_there = false, is_of_o = wanted->dp < 12;
+        begin(store, 1);
+        put(&sent, place, TRUE[octet]);
+        RETURNS(CAMEL_OK, insert(store, 1, is_of_o ? csi : NO_CSI, is_of_o ? NO_CSI : csi));
+        publish(store, session);
+        RETURNS(CAMEL_OK, camel_criteria_at(session, &imsi, wanted->dp, &found, &is_there));
+        IS(is_there && memcmp(&found, wanted, sizeof found) == 0);
+    }
+}
+
+/* So does each bool of an entry, of both CSIs. */
+static void bools_of_criteria(camel_store *store, camel_session *session)
 {
     static const size_t places[] = {
         offsetof(camel_criteria, has_number), offsetof(camel_criteria, number.is_enabling),
@@ -35,8 +54,7 @@ static void bools_of_o_criteria(camel_store *store, camel_session *session)
         offsetof(camel_criteria, is_forwarded),
     };
     static const uint8_t listed[] = { 0x91, 0x34 };
-    camel_row row = row_of(2, 100);
-    camel_imsi imsi = imsi_of(1);
+    camel_criteria busy = { .dp = 13, .basic = { 2, { { false, 0x60 }, { true, 0x18 } } } };
     camel_criteria wanted = {
         .dp = 2, .has_number = true, .has_call_type = true, .is_forwarded = true, .basic = { 1, { { true, 0x18 } } },
         .number = { .is_enabling = true, .number_count = 1 },
@@ -44,41 +62,16 @@ static void bools_of_o_criteria(camel_store *store, camel_session *session)
 
     wanted.number.numbers[0] = isdn_of(listed, sizeof listed);
     for (size_t at = 0; at < sizeof places / sizeof places[0]; at++)
-        for (int octet = 0; octet < TRUES; octet++) {
-            camel_criteria sent = wanted, found = { 0 };
-            bool is_there = false;
-            begin(store, 1);
-            put(&sent, places[at], TRUE[octet]);
-            RETURNS(CAMEL_OK, insert(store, 1, &row, 1, &sent, 1, NULL, 0, NULL, 0));
-            publish(store, session);
-            RETURNS(CAMEL_OK, camel_criteria_at(session, &imsi, 2, &found, &is_there));
-            IS(is_there && memcmp(&found, &wanted, sizeof found) == 0);
-        }
+        bool_of_criteria(store, session, &wanted, places[at]);
+    bool_of_criteria(store, session, &busy, offsetof(camel_criteria, basic.services[1].is_bearer));
 }
 
-static void bools_of_t_criteria(camel_store *store, camel_session *session)
-{
-    camel_row row = row_of(13, 100);
-    camel_imsi imsi = imsi_of(1);
-    camel_criteria wanted = { .dp = 13, .basic = { 2, { { false, 0x60 }, { true, 0x18 } } } };
-
-    for (int octet = 0; octet < TRUES; octet++) {
-        camel_criteria sent = wanted, found = { 0 };
-        bool is_there = false;
-        begin(store, 1);
-        put(&sent, offsetof(camel_criteria, basic.services[1].is_bearer), TRUE[octet]);
-        RETURNS(CAMEL_OK, insert(store, 1, NULL, 0, NULL, 0, &row, 1, &sent, 1));
-        publish(store, session);
-        RETURNS(CAMEL_OK, camel_criteria_at(session, &imsi, 13, &found, &is_there));
-        IS(is_there && memcmp(&found, &wanted, sizeof found) == 0);
-    }
-}
-
-/* Criteria of the VT-CSI have neither a number nor a call type, whatever octet says that they have. */
+/* Criteria of the VT-CSI have neither a number nor a call type, whatever octet says that they have, and whichever
+ * detection point they are of. */
 static void bools_of_no_t_criteria(camel_store *store, camel_session *session)
 {
     static const size_t places[] = { offsetof(camel_criteria, has_number), offsetof(camel_criteria, has_call_type) };
-    static const camel_criteria plain = { .dp = 13 }, none;
+    static const camel_criteria plain = { .dp = 13 }, ignored = { .dp = 3, .has_call_type = true }, none;
     camel_row row = row_of(13, 100);
     camel_imsi imsi = imsi_of(1);
 
@@ -90,11 +83,12 @@ static void bools_of_no_t_criteria(camel_store *store, camel_session *session)
             put(&sent, places[at], octet < 0 ? 0 : TRUE[octet]);
             put(&sent, offsetof(camel_criteria, is_forwarded), 255);
             RETURNS(octet < 0 ? CAMEL_OK : CAMEL_UNEXPECTED_DATA_VALUE,
-                    insert(store, 1, NULL, 0, NULL, 0, &row, 1, &sent, 1));
+                    insert(store, 1, NO_CSI, CSI(&row, 1, &sent, 1)));
             publish(store, session);
             RETURNS(CAMEL_OK, camel_criteria_at(session, &imsi, 13, &found, &is_there));
             IS(is_there == (octet < 0) && memcmp(&found, is_there ? &plain : &none, sizeof found) == 0);
         }
+    RETURNS(CAMEL_UNEXPECTED_DATA_VALUE, insert(store, 1, NO_CSI, CSI(&row, 1, &ignored, 1)));
 }
 
 /* Which of the four lists a subscriber has: a bit each, in the order of their bools. */
@@ -115,11 +109,10 @@ static unsigned lists_of(camel_session *session, unsigned number)
 /* All four lists of an Insert, with this octet in the place of one of their bools. */
 static camel_status send_lists(camel_store *store, unsigned number, size_t at, uint8_t octet)
 {
-    camel_row o = row_of(2, 100), vt = row_of(13, 101);
-    camel_criteria o_criteria = { .dp = 2, .has_call_type = true };
-    camel_criteria t_criteria = { .dp = 13, .causes = { 1, { 17 } } };
+    camel_row rows[] = { row_of(2, 100), row_of(13, 101) };
+    camel_criteria entries[] = { { .dp = 2, .has_call_type = true }, { .dp = 13, .causes = { 1, { 17 } } } };
     camel_imsi imsi = imsi_of(number);
-    camel_lists lists = { { &o, 1, &o_criteria, 1, true, true }, { &vt, 1, &t_criteria, 1, true, true } };
+    camel_lists lists = { { rows, 1, entries, 1, true, true }, { rows + 1, 1, entries + 1, 1, true, true } };
 
     put(&lists, at, octet);
     return submit_lists(store, &imsi, &lists);
@@ -173,19 +166,18 @@ static void bools_of_deletes(camel_store *store, camel_session *session)
 /* What came with an Insert in a handle: a list came if the bool that says so is any octet but 0. */
 static void bools_of_held_inserts(const camel_imsi *imsi, size_t place, unsigned list)
 {
-    camel_row o = row_of(2, 100), vt = row_of(13, 101);
-    camel_criteria o_criteria = { .dp = 2 };
-    camel_criteria t_criteria = { .dp = 13 };
+    camel_row rows[] = { row_of(2, 100), row_of(13, 101) };
+    camel_criteria entries[] = { { .dp = 2 }, { .dp = 13 } };
 
     for (int octet = -1; octet < TRUES; octet++) {
-        camel_lists lists = { { &o, 1, &o_criteria, 1, false, false }, { &vt, 1, &t_criteria, 1, false, false } };
+        camel_lists lists = { { rows, 1, entries, 1, false, false }, { rows + 1, 1, entries + 1, 1, false, false } };
         camel_update update = CAMEL_EMPTY;
         camel_update_parts parts = { .kind = 7 };
         put(&lists, place, octet < 0 ? 0 : TRUE[octet]);
         RETURNS(CAMEL_OK, update_of_lists(imsi, &lists, &update));
         RETURNS(CAMEL_OK, camel_update_parts_of(&update, &parts));
-        IS(parts.o_rows == (list == 0 && octet >= 0) && parts.o_criteria == (list == 1 && octet >= 0));
-        IS(parts.vt_rows == (list == 2 && octet >= 0) && parts.t_criteria == (list == 3 && octet >= 0));
+        for (unsigned at = 0; at < LISTS; at++)
+            IS(counts_in(&parts)[at] == (list == at && octet >= 0));
         camel_free(&update);
     }
 }
@@ -235,7 +227,7 @@ static void bools_of_events(camel_store *store, camel_session *session)
 
     entry.basic = (camel_basic_services){ 1, { { true, 0x18 } } };
     begin(store, 1);
-    RETURNS(CAMEL_OK, insert(store, 1, &row, 1, &entry, 1, NULL, 0, NULL, 0));
+    RETURNS(CAMEL_OK, insert(store, 1, CSI(&row, 1, &entry, 1), NO_CSI));
     publish(store, session);
     RETURNS(CAMEL_OK, camel_keep(session, &imsi, &kept, &is_there));
     IS(is_there);
@@ -259,8 +251,7 @@ int main(void)
     camel_session session = CAMEL_EMPTY;
 
     RETURNS(CAMEL_OK, camel_open(&store, &session, 1, CAMEL_MAX_UPDATES, 1, 1));
-    bools_of_o_criteria(&store, &session);
-    bools_of_t_criteria(&store, &session);
+    bools_of_criteria(&store, &session);
     bools_of_no_t_criteria(&store, &session);
     bools_of_inserts(&store, &session);
     bools_of_deletes(&store, &session);

@@ -135,17 +135,15 @@ static inline camel_status update_of_lists(const camel_imsi *imsi, const camel_l
     return camel_update_of_nonnull(CAMEL_UPDATE_INSERT, imsi, &none, lists, update);
 }
 
-/* An Insert of these lists; one that is NULL is not sent. */
-static inline camel_status insert(camel_store *store, unsigned number, const camel_row *o, size_t o_count,
-                                  const camel_criteria *o_criteria, size_t o_criteria_count, const camel_row *vt,
-                                  size_t vt_count, const camel_criteria *t_criteria, size_t t_criteria_count)
+/* What is sent of a CSI: rows and criteria, each with its count. A list that is NULL is not sent. */
+#define CSI(...) ((camel_sent_csi){ __VA_ARGS__ })
+#define ROWS(rows, count) CSI(rows, count, NULL, 0)
+#define NO_CSI ROWS(NULL, 0)
+
+static inline camel_status insert(camel_store *store, unsigned number, camel_sent_csi o, camel_sent_csi vt)
 {
     camel_imsi imsi = imsi_of(number);
-    camel_insert sent = {
-        .o = { o, o_count, o_criteria, o_criteria_count },
-        .vt = { vt, vt_count, t_criteria, t_criteria_count },
-    };
-    return submit_insert(store, &imsi, &sent);
+    return submit_insert(store, &imsi, &(camel_insert){ o, vt });
 }
 
 static inline camel_counts counts_of(const camel_store *store)
@@ -171,15 +169,27 @@ static inline uint64_t front_of(camel_session *session)
     return answer.front;
 }
 
-/* Whether what came with two updates is the same. */
+/* How many items came in each list, side by side: the rows and the criteria of the O-CSI, and those of the VT-CSI. */
+enum { LISTS = 4 };
+static inline uint8_t *counts_in(camel_update_parts *parts)
+{
+    return (uint8_t *)parts + offsetof(camel_update_parts, o_rows);
+}
+
+static inline bool came(camel_update_parts *parts, uint8_t o, uint8_t of_o, uint8_t vt, uint8_t of_vt)
+{
+    return memcmp(counts_in(parts), (uint8_t[LISTS]){ o, of_o, vt, of_vt }, LISTS) == 0;
+}
+
+/* Whether what came with two updates is the same: all octets but those between has_vt_capability and the numbers, and
+ * those behind the withdrawal. */
 static inline bool is_same_parts(const camel_update_parts *one, const camel_update_parts *other)
 {
-    return one->imsi.number == other->imsi.number && one->kind == other->kind && one->o_rows == other->o_rows
-        && one->o_criteria == other->o_criteria && one->vt_rows == other->vt_rows
-        && one->t_criteria == other->t_criteria && one->has_o_capability == other->has_o_capability
-        && one->has_vt_capability == other->has_vt_capability && one->o_capability == other->o_capability
-        && one->vt_capability == other->vt_capability && one->withdrawal.o == other->withdrawal.o
-        && one->withdrawal.vt == other->withdrawal.vt && one->withdrawal.everything == other->withdrawal.everything;
+    size_t front = offsetof(camel_update_parts, has_vt_capability) + 1;
+    size_t back = offsetof(camel_update_parts, withdrawal) + sizeof one->withdrawal;
+    size_t numbers = offsetof(camel_update_parts, o_capability);
+    return memcmp(one, other, front) == 0
+        && memcmp((const char *)one + numbers, (const char *)other + numbers, back - numbers) == 0;
 }
 
 /* Ends a test: the status of the program. */

@@ -93,12 +93,12 @@ static void updates_are_counted(camel_store *store)
     for (size_t at = 0; at < 3; at++)
         RETURNS(CAMEL_OK, submit_register(store, &imsis[at]));
     RETURNS(CAMEL_MALFORMED, submit_register(store, &none));
-    RETURNS(CAMEL_UNIDENTIFIED_SUBSCRIBER, insert(store, 4, &row, 1, NULL, 0, NULL, 0, NULL, 0));
+    RETURNS(CAMEL_UNIDENTIFIED_SUBSCRIBER, insert(store, 4, ROWS(&row, 1), NO_CSI));
     IS(counts_are(store, 0, 0, 3, 0));
     publish(store, false);
     IS(counts_are(store, 3, 3, 0, 0));
     RETURNS(CAMEL_OK, submit_register(store, &imsis[0]));
-    RETURNS(CAMEL_OK, insert(store, 2, &row, 1, NULL, 0, NULL, 0, NULL, 0));
+    RETURNS(CAMEL_OK, insert(store, 2, ROWS(&row, 1), NO_CSI));
     RETURNS(CAMEL_OK, submit_cancel(store, &imsis[2]));
     RETURNS(CAMEL_OK, submit_cancel(store, &imsis[2]));
     IS(counts_are(store, 3, 3, 4, 0));
@@ -133,8 +133,8 @@ static void submit_data(camel_store *store)
 
     for (size_t at = 0; at < 3; at++)
         RETURNS(CAMEL_OK, submit_register(store, &imsis[at]));
-    RETURNS(CAMEL_OK, insert(store, 1, o, 1, &not_forwarded, 1, vt, 1, &cause, 1));
-    RETURNS(CAMEL_OK, insert(store, 4, &o[1], 1, NULL, 0, &vt[1], 1, NULL, 0));
+    RETURNS(CAMEL_OK, insert(store, 1, CSI(o, 1, &not_forwarded, 1), CSI(vt, 1, &cause, 1)));
+    RETURNS(CAMEL_OK, insert(store, 4, ROWS(&o[1], 1), ROWS(&vt[1], 1)));
     RETURNS(CAMEL_OK, camel_publish(store));
 }
 

@@ -19,7 +19,7 @@ static void open_filled(camel_store *store, camel_session *sessions, size_t coun
     for (unsigned number = 0; number < subscribers; number++) {
         camel_imsi imsi = imsi_of(number);
         RETURNS(CAMEL_OK, submit_register(store, &imsi));
-        RETURNS(CAMEL_OK, insert(store, number, &row, 1, NULL, 0, NULL, 0, NULL, 0));
+        RETURNS(CAMEL_OK, insert(store, number, ROWS(&row, 1), NO_CSI));
     }
     RETURNS(CAMEL_OK, camel_publish(store));
 }

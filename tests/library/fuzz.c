@@ -351,7 +351,7 @@ static bool is_whole_entry(const camel_criteria *entry)
         unsigned slot = pick_session();                                                                             \
         camel_imsi imsi = any_imsi();                                                                               \
         uint8_t dp = mostly(DPS[below(5)]);                                                                         \
-        type any = any_item(dp), *item = at_edge(1, &any, sizeof any);                                                \
+        type any = any_item, *item = at_edge(1, &any, sizeof any);                                                  \
         bool is_there = toss(), was_there = is_there, is_read;                                                      \
         is_read = is_ok(OK | NO_LOOK | MALFORMED | WRONG_HANDLE,                                                    \
                         camel_##name(AS(session, slot), at_edge(0, &imsi, sizeof imsi), dp, item, &is_there));      \
@@ -362,8 +362,8 @@ static bool is_whole_entry(const camel_criteria *entry)
             IS(memcmp(item, &any, sizeof any) == 0);                                                                \
     }
 
-READS_AT(row_at, camel_row, any_row, is_whole_row)
-READS_AT(criteria_at, camel_criteria, any_o_criteria, is_whole_entry)
+READS_AT(row_at, camel_row, any_row(dp), is_whole_row)
+READS_AT(criteria_at, camel_criteria, any_criteria(dp, true), is_whole_entry)
 
 #include "fuzz_set_ups.h"
 

@@ -36,18 +36,16 @@ static unsigned rejections_of(uint8_t kind)
 
 static camel_update_parts parts_of(const camel_change *change)
 {
-    const camel_insert *sent = &change->insert;
+    const camel_sent_csi *sent[] = { &change->insert.o, &change->insert.vt };
     const camel_withdrawal *what = &change->withdrawal;
     camel_update_parts parts = { .kind = change->kind };
     if (change->kind != CAMEL_UPDATE_CLEAR_ALL)
         parts.imsi = change->imsi;
     if (change->kind == CAMEL_UPDATE_DELETE)
         parts.withdrawal = (camel_withdrawal){ is_true(&what->o), is_true(&what->vt), is_true(&what->everything) };
-    if (change->kind == CAMEL_UPDATE_INSERT) {
-        parts.o_rows = sent->o.rows ? (uint8_t)sent->o.row_count : 0;
-        parts.o_criteria = sent->o.criteria ? (uint8_t)sent->o.criteria_count : 0;
-        parts.vt_rows = sent->vt.rows ? (uint8_t)sent->vt.row_count : 0;
-        parts.t_criteria = sent->vt.criteria ? (uint8_t)sent->vt.criteria_count : 0;
+    for (unsigned csi = 0; csi < 2 && change->kind == CAMEL_UPDATE_INSERT; csi++) {
+        counts_in(&parts)[2 * csi] = sent[csi]->rows ? (uint8_t)sent[csi]->row_count : 0;
+        counts_in(&parts)[2 * csi + 1] = sent[csi]->criteria ? (uint8_t)sent[csi]->criteria_count : 0;
     }
     return parts;
 }

@@ -108,7 +108,7 @@ static void f_update_parts_of(void)
 /* The status of a join, but that two items may be of one detection point. */
 static camel_status status_of_join(unsigned first, unsigned from, bool was_full)
 {
-    const camel_update_parts *one = &slots[first].parts, *next = &slots[from].parts;
+    camel_update_parts *one = &slots[first].parts, *next = &slots[from].parts;
     if (!holds_update(first) || !holds_update(from))
         return CAMEL_WRONG_HANDLE;
     if (was_full)
@@ -117,15 +117,16 @@ static camel_status status_of_join(unsigned first, unsigned from, bool was_full)
         return CAMEL_NO_INSERT;
     if (one->imsi.number != next->imsi.number)
         return CAMEL_OTHER_SUBSCRIBER;
-    bool is_too_long = one->o_rows + next->o_rows > 10 || one->o_criteria + next->o_criteria > 10
-        || one->vt_rows + next->vt_rows > 10 || one->t_criteria + next->t_criteria > 10;
-    return is_too_long ? CAMEL_UNEXPECTED_DATA_VALUE : CAMEL_OK;
+    for (unsigned list = 0; list < LISTS; list++)
+        if (counts_in(one)[list] + counts_in(next)[list] > 10)
+            return CAMEL_UNEXPECTED_DATA_VALUE;
+    return CAMEL_OK;
 }
 
-static void note_join(camel_update_parts *one, const camel_update_parts *next)
+static void note_join(camel_update_parts *one, camel_update_parts *next)
 {
-    one->o_rows += next->o_rows, one->o_criteria += next->o_criteria;
-    one->vt_rows += next->vt_rows, one->t_criteria += next->t_criteria;
+    for (unsigned list = 0; list < LISTS; list++)
+        counts_in(one)[list] += counts_in(next)[list];
     if (next->has_o_capability)
         one->has_o_capability = true, one->o_capability = next->o_capability;
     if (next->has_vt_capability)

@@ -73,35 +73,30 @@ static bool is_same_row(const camel_row *one, const camel_row *other)
         && is_same_isdn(&one->scf, &other->scf);
 }
 
-/* Both entries come back octet by octet, in place of octets that are all 1. */
-static void criteria_come_back(camel_session *session, const camel_imsi *imsi, const camel_criteria *o_entry,
-                               const camel_criteria *t_entry)
+/* Each of four entries comes back octet by octet, in place of octets that are all 1. */
+static void criteria_come_back(camel_session *session, const camel_imsi *imsi, const camel_criteria entries[4])
 {
-    camel_criteria of_o, of_t;
-    bool is_there = false;
-
-    memset(&of_o, 1, sizeof of_o);
-    memset(&of_t, 1, sizeof of_t);
-    RETURNS(CAMEL_OK, camel_criteria_at(session, imsi, o_entry->dp, &of_o, &is_there));
-    IS(is_there && memcmp(&of_o, o_entry, sizeof of_o) == 0);
-    is_there = false;
-    RETURNS(CAMEL_OK, camel_criteria_at(session, imsi, t_entry->dp, &of_t, &is_there));
-    IS(is_there && memcmp(&of_t, t_entry, sizeof of_t) == 0);
+    for (int at = 0; at < 4; at++) {
+        camel_criteria found;
+        bool is_there = false;
+        memset(&found, 1, sizeof found);
+        RETURNS(CAMEL_OK, camel_criteria_at(session, imsi, entries[at].dp, &found, &is_there));
+        IS(is_there && memcmp(&found, &entries[at], sizeof found) == 0);
+    }
 }
 
 /* So do entries with one criterion, and entries with none. */
 static void bare_criteria_come_back(camel_store *store, camel_session *session)
 {
-    camel_criteria o_criteria[] = { { .dp = 2, .basic = { 1, { { true, 0x18 } } } }, { .dp = 4 } };
-    camel_criteria t_criteria[] = { { .dp = 12, .basic = { 1, { { true, 0x18 } } } }, { .dp = 13 } };
+    camel_basic_services basic = { 1, { { true, 0x18 } } };
+    camel_criteria sent[] = { { .dp = 2, .basic = basic }, { .dp = 4 }, { .dp = 12, .basic = basic }, { .dp = 13 } };
     camel_row o[] = { row_of(2, 100) }, vt[] = { row_of(12, 102) };
     camel_imsi imsi = imsi_of(3);
 
     RETURNS(CAMEL_OK, submit_register(store, &imsi));
-    RETURNS(CAMEL_OK, insert(store, 3, o, 1, o_criteria, 2, vt, 1, t_criteria, 2));
+    RETURNS(CAMEL_OK, insert(store, 3, CSI(o, 1, sent, 2), CSI(vt, 1, sent + 2, 2)));
     RETURNS(CAMEL_OK, camel_publish(store));
-    for (int at = 0; at < 2; at++)
-        criteria_come_back(session, &imsi, &o_criteria[at], &t_criteria[at]);
+    criteria_come_back(session, &imsi, sent);
 }
 
 /* There is no row at 3, which is of neither CSI, and there are no criteria there and at 12: what stands is left. */
@@ -125,8 +120,9 @@ static void nothing_is_there(camel_session *session, const camel_imsi *imsi)
 static void fields_come_back(camel_store *store, camel_session *session)
 {
     camel_row o[] = { row_of(2, 100), row_of(4, 101) }, vt[] = { row_of(12, 102), row_of(13, 103), row_of(14, 104) };
-    camel_criteria o_criteria[] = { o_criteria_of(2, true), o_criteria_of(4, false) };
-    camel_criteria t_criteria[] = {
+    camel_criteria entries[] = {
+        o_criteria_of(2, true),
+        o_criteria_of(4, false),
         { .dp = 13, .basic = { 1, { { true, 0x20 } } }, .causes = { 1, { 17 } } },
         { .dp = 14, .causes = { 2, { 19, 18 } } },
     };
@@ -135,7 +131,7 @@ static void fields_come_back(camel_store *store, camel_session *session)
 
     o[1].handling = 0;
     RETURNS(CAMEL_OK, submit_register(store, &imsi));
-    RETURNS(CAMEL_OK, insert(store, 1, o, 2, o_criteria, 2, vt, 3, t_criteria, 2));
+    RETURNS(CAMEL_OK, insert(store, 1, CSI(o, 2, entries, 2), CSI(vt, 3, entries + 2, 2)));
     RETURNS(CAMEL_OK, camel_publish(store));
     for (int at = 0; at < 5; at++) {
         const camel_row *sent = at < 2 ? &o[at] : &vt[at - 2];
@@ -143,9 +139,7 @@ static void fields_come_back(camel_store *store, camel_session *session)
         RETURNS(CAMEL_OK, camel_row_at(session, &imsi, sent->dp, &row, &is_there));
         IS(is_there && is_same_row(&row, sent));
     }
-    for (int at = 0; at < 2; at++) {
-        criteria_come_back(session, &imsi, &o_criteria[at], &t_criteria[at]);
-    }
+    criteria_come_back(session, &imsi, entries);
     nothing_is_there(session, &imsi);
 }
 
@@ -205,7 +199,7 @@ static void received_handlings(camel_store *store, camel_session *session)
         bool is_there = false;
 
         sent.handling = cases[at].received;
-        RETURNS(CAMEL_OK, insert(store, 3, &sent, 1, NULL, 0, NULL, 0, NULL, 0));
+        RETURNS(CAMEL_OK, insert(store, 3, ROWS(&sent, 1), NO_CSI));
         RETURNS(CAMEL_OK, camel_publish(store));
         RETURNS(CAMEL_OK, camel_row_at(session, &imsi, 2, &row, &is_there));
         RETURNS(CAMEL_OK, camel_decide(session, &event, &answer));
@@ -242,7 +236,7 @@ static void fields_of_parts(void)
                                           &place));
     RETURNS(CAMEL_OK, camel_update_parts_of(&update, &parts));
     IS(place == CAMEL_NO_OCTET && parts.imsi.number == imsi.number && parts.kind == CAMEL_UPDATE_INSERT);
-    IS(parts.o_rows == 1 && parts.o_criteria == 2 && parts.vt_rows == 3 && parts.t_criteria == 4);
+    IS(came(&parts, 1, 2, 3, 4));
     IS(parts.has_o_capability && parts.o_capability == 2 && parts.has_vt_capability && parts.vt_capability == 16);
     IS(!parts.withdrawal.o && !parts.withdrawal.vt && !parts.withdrawal.everything);
     camel_free(&update);
@@ -266,7 +260,7 @@ static void encoded_long_record(void)
         entries[at].has_number = true, entries[at].number.number_count = 10;
     RETURNS(CAMEL_OK, camel_open(&store, &session, 1, 9, 1, 1));
     RETURNS(CAMEL_OK, submit_register(&store, &imsi));
-    RETURNS(CAMEL_OK, insert(&store, 1, rows, 2, entries, 2, NULL, 0, NULL, 0));
+    RETURNS(CAMEL_OK, insert(&store, 1, CSI(rows, 2, entries, 2), NO_CSI));
     RETURNS(CAMEL_OK, camel_publish(&store));
     RETURNS(CAMEL_OK, camel_encode_record(&session, &imsi, &argument, &is_there));
     IS(is_there && argument.count > 255);

@@ -120,7 +120,7 @@ static APART bool asks_lists(const camel_row *rows, const camel_criteria *criter
     RETURNS(wanted, camel_update_of(&change, &update));
     if (wanted == CAMEL_OK) {
         RETURNS(CAMEL_OK, camel_update_parts_of(&update, &parts));
-        IS(parts.o_rows == 0 && parts.o_criteria == 0 && parts.vt_rows == 0 && parts.t_criteria == 0);
+        IS(came(&parts, 0, 0, 0, 0));
     }
     IS(update.is_full == (wanted == CAMEL_OK));
     camel_free(&update);

@@ -134,10 +134,11 @@ static inline camel_basic_services any_services(void)
     return services;
 }
 
-/* Criteria of which each field is any, but for which of them there are. */
-static inline camel_criteria any_criteria(unsigned dp, bool has_causes)
+/* Criteria of which each field is any. But for now and then they have no causes at 2 and 12, where no call is released
+ * yet, and those of the VT-CSI neither a number nor a call type. */
+static inline camel_criteria any_criteria(unsigned dp, bool is_of_o)
 {
-    camel_criteria entry = { .dp = (uint8_t)dp };
+    camel_criteria entry = { .dp = mostly(dp) };
     toss_in(&entry.is_forwarded);
     toss_in(&entry.number.is_enabling);
     entry.number.number_count = mostly(below(11));
@@ -147,24 +148,11 @@ static inline camel_criteria any_criteria(unsigned dp, bool has_causes)
     for (int at = 0; at < 3; at++)
         entry.number.lengths[at] = mostly(1 + below(15));
     entry.basic = any_services();
-    entry.causes = any_causes(has_causes);
-    return entry;
-}
-
-static inline camel_criteria any_o_criteria(unsigned dp)
-{
-    camel_criteria entry = any_criteria(mostly(dp), dp == 4);
-    toss_in(&entry.has_number);
-    toss_in(&entry.has_call_type);
-    return entry;
-}
-
-/* Entries of the VT-CSI have neither a number nor a call type, but now and then. */
-static inline camel_criteria any_t_criteria(unsigned dp)
-{
-    camel_criteria entry = any_criteria(dp, dp != 12);
-    if (below(32) == 0)
-        toss_in(toss() ? &entry.has_number : &entry.has_call_type);
+    entry.causes = any_causes(dp != 2 && dp != 12);
+    if (is_of_o || below(64) == 0)
+        toss_in(&entry.has_number);
+    if (is_of_o || below(64) == 0)
+        toss_in(&entry.has_call_type);
     return entry;
 }
 
@@ -173,30 +161,30 @@ static inline size_t any_count(void)
     return below(32) ? 1 + below(2) : below(13);
 }
 
-/* Lists of any items, each at the edge of memory that may not be touched. */
+/* Lists of a CSI, of any items, each at the edge of memory that may not be touched. */
+static inline void fill_lists(camel_csi_lists *sent, bool is_of_o)
+{
+    camel_row rows[12];
+    camel_criteria entries[12];
+    int edge = is_of_o ? 1 : 3;
+    for (unsigned at = 0; at < 12; at++) {
+        unsigned dp = mostly(is_of_o ? DPS[at % 2] : DPS[2 + at % 3]);
+        rows[at] = any_row(dp);
+        entries[at] = any_criteria(dp, is_of_o);
+    }
+    sent->row_count = any_count();
+    sent->criteria_count = any_count();
+    sent->rows = at_edge(edge, rows, sent->row_count * sizeof *rows);
+    sent->criteria = at_edge(edge + 1, entries, sent->criteria_count * sizeof *entries);
+    toss_in(&sent->has_rows);
+    toss_in(&sent->has_criteria);
+}
+
 static inline camel_lists any_lists(void)
 {
-    camel_lists sent = {
-        .o = { .row_count = any_count(), .criteria_count = any_count() },
-        .vt = { .row_count = any_count(), .criteria_count = any_count() },
-    };
-    camel_row o[12], vt[12];
-    camel_criteria o_criteria[12];
-    camel_criteria t_criteria[12];
-    for (unsigned at = 0; at < 12; at++) {
-        unsigned dp = mostly(DPS[at % 2]), vt_dp = mostly(DPS[2 + at % 3]);
-        o[at] = any_row(dp), vt[at] = any_row(vt_dp);
-        o_criteria[at] = any_o_criteria(dp);
-        t_criteria[at] = any_t_criteria(vt_dp);
-    }
-    sent.o.rows = at_edge(1, o, sent.o.row_count * sizeof *o);
-    sent.o.criteria = at_edge(2, o_criteria, sent.o.criteria_count * sizeof *o_criteria);
-    sent.vt.rows = at_edge(3, vt, sent.vt.row_count * sizeof *vt);
-    sent.vt.criteria = at_edge(4, t_criteria, sent.vt.criteria_count * sizeof *t_criteria);
-    toss_in(&sent.o.has_rows);
-    toss_in(&sent.o.has_criteria);
-    toss_in(&sent.vt.has_rows);
-    toss_in(&sent.vt.has_criteria);
+    camel_lists sent = { 0 };
+    fill_lists(&sent.o, true);
+    fill_lists(&sent.vt, false);
     return sent;
 }
 
@@ -208,30 +196,29 @@ static inline bool is_true(const bool *place)
     return octet != 0;
 }
 
-/* The Insert that sends these lists. */
+/* What sends these lists of a CSI. */
+static inline camel_sent_csi sent_of(const camel_csi_lists *lists)
+{
+    camel_sent_csi sent = { 0 };
+    if (is_true(&lists->has_rows))
+        sent.rows = lists->rows, sent.row_count = lists->row_count;
+    if (is_true(&lists->has_criteria))
+        sent.criteria = lists->criteria, sent.criteria_count = lists->criteria_count;
+    return sent;
+}
+
 static inline camel_insert insert_of(const camel_lists *lists)
 {
-    camel_insert sent = { 0 };
-    if (is_true(&lists->o.has_rows))
-        sent.o.rows = lists->o.rows, sent.o.row_count = lists->o.row_count;
-    if (is_true(&lists->o.has_criteria))
-        sent.o.criteria = lists->o.criteria, sent.o.criteria_count = lists->o.criteria_count;
-    if (is_true(&lists->vt.has_rows))
-        sent.vt.rows = lists->vt.rows, sent.vt.row_count = lists->vt.row_count;
-    if (is_true(&lists->vt.has_criteria))
-        sent.vt.criteria = lists->vt.criteria, sent.vt.criteria_count = lists->vt.criteria_count;
-    return sent;
+    return (camel_insert){ sent_of(&lists->o), sent_of(&lists->vt) };
 }
 
 /* Has the pointer of a list be NULL, and tells whether its count says that it has items. */
 static inline bool take_pointer(camel_insert *sent)
 {
-    switch (below(4)) {
-    case 0: sent->o.rows = NULL; return sent->o.row_count > 0;
-    case 1: sent->o.criteria = NULL; return sent->o.criteria_count > 0;
-    case 2: sent->vt.rows = NULL; return sent->vt.row_count > 0;
-    default: sent->vt.criteria = NULL; return sent->vt.criteria_count > 0;
-    }
+    camel_sent_csi *csi = toss() ? &sent->o : &sent->vt;
+    if (toss())
+        return csi->rows = NULL, csi->row_count > 0;
+    return csi->criteria = NULL, csi->criteria_count > 0;
 }
 
 /* The octets of an argument as they come, or with some that are changed, left out or added. */

@@ -86,20 +86,20 @@ static const camel_criteria CAUSES = { .dp = 13, .causes = { 1, { 17 } } };
 static bool is_unknown(unsigned number)
 {
     camel_row row = row_of(2, 100);
-    return insert(&store, number, &row, 1, NULL, 0, NULL, 0, NULL, 0) == CAMEL_UNIDENTIFIED_SUBSCRIBER;
+    return insert(&store, number, ROWS(&row, 1), NO_CSI) == CAMEL_UNIDENTIFIED_SUBSCRIBER;
 }
 
 /* Whether the store has no VT-CSI of a subscriber: it rejects an Insert of criteria. */
 static bool has_no_vt(unsigned number)
 {
-    return insert(&store, number, NULL, 0, NULL, 0, NULL, 0, &CAUSES, 1) == CAMEL_DATA_MISSING;
+    return insert(&store, number, NO_CSI, CSI(NULL, 0, &CAUSES, 1)) == CAMEL_DATA_MISSING;
 }
 
 /* Whether the store has the O-CSI of a subscriber: it accepts an Insert of criteria. */
 static bool has_o(unsigned number)
 {
     camel_criteria entry = o_criteria_of(2, 1);
-    bool has = insert(&store, number, NULL, 0, &entry, 1, NULL, 0, NULL, 0) == CAMEL_OK;
+    bool has = insert(&store, number, CSI(NULL, 0, &entry, 1), NO_CSI) == CAMEL_OK;
     accepted += has;
     return has;
 }
@@ -134,18 +134,18 @@ static void send_lists(unsigned number)
     uint64_t before = shown();
     switch (number % 6) {
     case 0:
-        AGAIN(INSERT_ROWS, insert(&store, number, o, 2, NULL, 0, NULL, 0, NULL, 0),
+        AGAIN(INSERT_ROWS, insert(&store, number, ROWS(o, 2), NO_CSI),
               shown() == before && has_no_vt(number));
         break;
     case 3:
         submit_octets(number);
         break;
     case 1: case 4:
-        AGAIN(INSERT_FEW, insert(&store, number, o, 1, &few, 1, vt, 2, causes, 1),
+        AGAIN(INSERT_FEW, insert(&store, number, CSI(o, 1, &few, 1), CSI(vt, 2, causes, 1)),
               shown() == before && has_no_vt(number));
         break;
     default:
-        AGAIN(INSERT_MANY, insert(&store, number, o, 2, many, 2, vt, 2, causes, 2),
+        AGAIN(INSERT_MANY, insert(&store, number, CSI(o, 2, many, 2), CSI(vt, 2, causes, 2)),
               shown() == before && has_no_vt(number));
     }
     accepted++;

@@ -93,7 +93,7 @@ static void held_up(void)
 static void publish_key(camel_store *store, camel_session *session, uint32_t key)
 {
     camel_row row = row_of(2, key);
-    RETURNS(CAMEL_OK, insert(store, 1, &row, 1, NULL, 0, NULL, 0, NULL, 0));
+    RETURNS(CAMEL_OK, insert(store, 1, ROWS(&row, 1), NO_CSI));
     RETURNS(CAMEL_OK, camel_publish_to(store, session, 1));
 }
 
@@ -175,7 +175,7 @@ static void kept_rows(void)
 
     open_store(&store, sessions, 1);
     o[1].handling = 0;
-    RETURNS(CAMEL_OK, insert(&store, 1, o, 2, NULL, 0, vt, 2, NULL, 0));
+    RETURNS(CAMEL_OK, insert(&store, 1, ROWS(o, 2), ROWS(vt, 2)));
     RETURNS(CAMEL_OK, camel_publish_to(&store, sessions, SESSIONS));
     RETURNS(CAMEL_OK, camel_keep(sessions, &imsi, &kept, &is_there));
     RETURNS(CAMEL_OK, camel_look(sessions));

@@ -70,11 +70,10 @@ static void lists_of_none(camel_store *store, const camel_imsi *imsi)
 {
     camel_row many[11], o = row_of(2, 100), vt = row_of(12, 100);
     camel_insert none = { 0 };
-    camel_criteria o_criteria = { .dp = 2 };
-    camel_criteria t_criteria = { .dp = 12 };
+    camel_criteria entry = { .dp = 2 };
     camel_insert empty[] = {
-        { .o = { .rows = &o } }, { .o = { .criteria = &o_criteria } },
-        { .vt = { .rows = &vt } }, { .vt = { .criteria = &t_criteria } },
+        { .o = { .rows = &o } }, { .o = { .criteria = &entry } },
+        { .vt = { .rows = &vt } }, { .vt = { .criteria = &entry } },
         { .o = { .row_count = 3 } }, { .vt = { .row_count = 3 } },
         { .o = { &o, 1, NULL, 3 } }, { .vt = { &vt, 1, NULL, 3 } },
         { .o = { .row_count = SIZE_MAX } }, { .vt = { .criteria_count = SIZE_MAX } },
@@ -133,18 +132,6 @@ static void kinds_of_changes(void)
     RETURNS(CAMEL_OK, camel_close(&store));
 }
 
-/* Criteria of the VT-CSI have neither a number nor a call type, whichever detection point they are of. */
-static void criteria_of_vt(camel_store *store)
-{
-    camel_row row = row_of(13, 100);
-    camel_criteria number = { .dp = 13, .has_number = true, .number = { .length_count = 1, .lengths = { 4 } } };
-    camel_criteria call_type = { .dp = 13, .has_call_type = true }, ignored = { .dp = 3, .has_call_type = true };
-
-    RETURNS(CAMEL_UNEXPECTED_DATA_VALUE, insert(store, 1, NULL, 0, NULL, 0, &row, 1, &number, 1));
-    RETURNS(CAMEL_UNEXPECTED_DATA_VALUE, insert(store, 1, NULL, 0, NULL, 0, &row, 1, &call_type, 1));
-    RETURNS(CAMEL_UNEXPECTED_DATA_VALUE, insert(store, 1, NULL, 0, NULL, 0, &row, 1, &ignored, 1));
-}
-
 /* Updates that the store rejects, or of which the data are none. */
 static void rejected_updates(camel_store *store)
 {
@@ -159,19 +146,18 @@ static void rejected_updates(camel_store *store)
     RETURNS(CAMEL_MALFORMED, submit_delete(store, &none, &what));
     RETURNS(CAMEL_MALFORMED, submit_cancel(store, &none));
     RETURNS(CAMEL_UNIDENTIFIED_SUBSCRIBER, submit_delete(store, &imsi, &what));
-    RETURNS(CAMEL_UNIDENTIFIED_SUBSCRIBER, insert(store, 1, &row, 1, NULL, 0, NULL, 0, NULL, 0));
+    RETURNS(CAMEL_UNIDENTIFIED_SUBSCRIBER, insert(store, 1, ROWS(&row, 1), NO_CSI));
     RETURNS(CAMEL_OK, submit_register(store, &imsi));
-    RETURNS(CAMEL_DATA_MISSING, insert(store, 1, NULL, 0, &criteria, 1, NULL, 0, NULL, 0));
+    RETURNS(CAMEL_DATA_MISSING, insert(store, 1, CSI(NULL, 0, &criteria, 1), NO_CSI));
     RETURNS(CAMEL_DATA_MISSING, submit_insert(store, &imsi, &sent));
-    RETURNS(CAMEL_UNEXPECTED_DATA_VALUE, insert(store, 1, &many, 1, NULL, 0, NULL, 0, NULL, 0));
-    RETURNS(CAMEL_UNEXPECTED_DATA_VALUE, insert(store, 1, &row, 1, &causes, 1, NULL, 0, NULL, 0));
-    RETURNS(CAMEL_MALFORMED, insert(store, 1, &nowhere, 1, NULL, 0, NULL, 0, NULL, 0));
+    RETURNS(CAMEL_UNEXPECTED_DATA_VALUE, insert(store, 1, ROWS(&many, 1), NO_CSI));
+    RETURNS(CAMEL_UNEXPECTED_DATA_VALUE, insert(store, 1, CSI(&row, 1, &causes, 1), NO_CSI));
+    RETURNS(CAMEL_MALFORMED, insert(store, 1, ROWS(&nowhere, 1), NO_CSI));
     criteria.has_number = true;
     criteria.number.number_count = 11;
-    RETURNS(CAMEL_MALFORMED, insert(store, 1, &row, 1, &criteria, 1, NULL, 0, NULL, 0));
+    RETURNS(CAMEL_MALFORMED, insert(store, 1, CSI(&row, 1, &criteria, 1), NO_CSI));
     lists_of_none(store, &imsi);
-    criteria_of_vt(store);
-    RETURNS(CAMEL_OK, insert(store, 1, &row, 1, NULL, 0, NULL, 0, NULL, 0));
+    RETURNS(CAMEL_OK, insert(store, 1, ROWS(&row, 1), NO_CSI));
     RETURNS(CAMEL_OK, submit_clear_all(store));
     RETURNS(CAMEL_HISTORY_FULL, submit_register(store, &imsi));
 }

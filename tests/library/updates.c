@@ -143,7 +143,7 @@ static void parts_of_updates(void)
     update = update_in(1, all->operation, all->octets, all->count);
     parts = parts_of(&update);
     IS(parts.kind == CAMEL_UPDATE_INSERT && parts.imsi.number == imsi.number);
-    IS(parts.o_rows == 2 && parts.o_criteria == 1 && parts.vt_rows == 1 && parts.t_criteria == 1);
+    IS(came(&parts, 2, 1, 1, 1));
     IS(!parts.has_o_capability && !parts.has_vt_capability && parts.o_capability == 0 && parts.vt_capability == 0);
     camel_free(&update);
     update = update_in(1, both->operation, both->octets, both->count);
@@ -165,12 +165,12 @@ static void parts_of_lists(void)
     camel_row rows[] = { row_of(13, 100), row_of(3, 100) };
     camel_insert sent = { .vt = { .rows = rows, .row_count = 2 } };
 
-    IS(parts.o_rows == 4 && parts.o_criteria == 0 && parts.vt_rows == 0 && parts.t_criteria == 0);
+    IS(came(&parts, 4, 0, 0, 0));
     IS(parts.has_o_capability && parts.o_capability == 3 && !parts.has_vt_capability && parts.vt_capability == 0);
     camel_free(&update);
     RETURNS(CAMEL_OK, update_of_insert(&imsi, &sent, &update));
     parts = parts_of(&update);
-    IS(parts.o_rows == 0 && parts.vt_rows == 2 && !parts.has_o_capability);
+    IS(came(&parts, 0, 0, 2, 0) && !parts.has_o_capability);
     camel_free(&update);
 }
 
@@ -336,9 +336,9 @@ static void dropped(camel_store *store, camel_session *session, const camel_upda
     RETURNS(CAMEL_OK, camel_drop_pending(store));
     counts = counts_of(store);
     IS(counts.published == 2 && counts.pending == 0 && counts.subscribers == 1);
-    RETURNS(CAMEL_UNIDENTIFIED_SUBSCRIBER, insert(store, 2, &row, 1, NULL, 0, NULL, 0, NULL, 0));
+    RETURNS(CAMEL_UNIDENTIFIED_SUBSCRIBER, insert(store, 2, ROWS(&row, 1), NO_CSI));
     IS(decided(store, session, 2).is_trigger && decided(store, session, 2).front == 2);
-    RETURNS(CAMEL_OK, insert(store, 1, &row, 1, NULL, 0, NULL, 0, NULL, 0));
+    RETURNS(CAMEL_OK, insert(store, 1, ROWS(&row, 1), NO_CSI));
     RETURNS(CAMEL_OK, camel_drop_pending(store));
     IS(decided(store, session, 2).is_trigger && decided(store, session, 2).front == 2);
 }

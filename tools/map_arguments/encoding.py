@@ -50,35 +50,26 @@ def causes_element(tag, causes):
     return context(tag, [universal(OCTET_STRING, bytes([cause])) for cause in causes])
 
 
-def o_entry_element(entry):
+def entry_element(entry, name):
+    """An entry of the VT-CSI has neither a number nor a call type, and so it has other tags."""
+    basics, causes = (1, 3) if name == "oc" else (0, 1)
     elements = [universal(ENUMERATED, integer_octets(entry.point))]
     if entry.number is not None:
         elements.append(number_element(0, entry.number))
     if entry.basics is not None:
-        elements.append(basics_element(1, entry.basics))
+        elements.append(basics_element(basics, entry.basics))
     if entry.call_type is not None:
         elements.append(context(2, integer_octets(entry.call_type)))
     if entry.causes is not None:
-        elements.append(causes_element(3, entry.causes))
-    return sequence(elements, "o-entry")
-
-
-def t_entry_element(entry):
-    elements = [universal(ENUMERATED, integer_octets(entry.point))]
-    if entry.basics is not None:
-        elements.append(basics_element(0, entry.basics))
-    if entry.causes is not None:
-        elements.append(causes_element(1, entry.causes))
-    return sequence(elements, "t-entry")
+        elements.append(causes_element(causes, entry.causes))
+    return sequence(elements, f"{name[0]}-entry")
 
 
 def list_element(name, items, capability=None):
     """A CSI is a sequence whose first element is the list, perhaps with its camelCapabilityHandling; criteria are the
     list itself."""
-    if name == "oc":
-        return context(TAGS[name], [o_entry_element(entry) for entry in items])
-    if name == "tc":
-        return context(TAGS[name], [t_entry_element(entry) for entry in items])
+    if name.endswith("c"):
+        return context(TAGS[name], [entry_element(entry, name) for entry in items])
     elements = [sequence([row_element(row) for row in items])]
     if capability is not None:
         elements.append(context(0, integer_octets(capability)))

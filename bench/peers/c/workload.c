@@ -138,8 +138,8 @@ static struct csi vt_csi_of(uint64_t traits, uint32_t version)
 struct record record_of(uint64_t subscriber, uint32_t version)
 {
     uint64_t traits = traits_of(subscriber);
-    struct record record = { .o = o_csi_of(traits, version), .vt = vt_csi_of(traits, version) };
-    if (record.o.is_present && has_criteria(traits)) {
+    struct record record = { .csi = { o_csi_of(traits, version), vt_csi_of(traits, version) } };
+    if (record.csi[O].is_present && has_criteria(traits)) {
         struct number listed[3];
         list_numbers(subscriber, listed);
         for (record.numbers = 0; record.numbers < 3; record.numbers++)
@@ -179,7 +179,6 @@ static struct event event_of(uint64_t subscriber, uint64_t choice, uint64_t digi
         .imsi = imsi_of(subscriber),
         .destination = packed(&destination),
         .basic = basic_of(choice),
-        .call_type = (choice >> 6 & 1) == 0 ? NOT_FORWARDED : FORWARDED,
     };
 }
 

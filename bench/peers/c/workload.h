@@ -17,8 +17,6 @@ enum detection_point {
 
 enum service_kind { TELE, BEARER };
 
-enum call_type { NOT_FORWARDED = 1, FORWARDED = 2 };
-
 /* The first octet has the nature of address (bits 765) and the numbering plan. From the length on there are zeros. */
 struct isdn_address {
     uint8_t octets[9];
@@ -42,7 +40,6 @@ struct event {
     uint64_t imsi;
     struct isdn_address destination;
     struct basic_service basic;
-    uint8_t call_type;
 } __attribute__((aligned(32)));
 
 /* The first reason why an event triggers no row, or that it triggers one. */
@@ -59,9 +56,11 @@ struct csi {
     struct tdp_row row[2];
 };
 
+enum { O, VT, CSIS };
+
 /* The data of a subscriber. If there are listed numbers, an entry at DP2 of the O-CSI is enabled by them. */
 struct record {
-    struct csi o, vt;
+    struct csi csi[CSIS];
     size_t numbers;
     struct isdn_address number[3];
 };

@@ -1,7 +1,9 @@
-//! The slow reference: the rules over lists of digits, and plain searches. It shares with the stores only the workload.
-mod rules;
+//! The slow reference: the rules as the soak has them, and plain searches. It shares with the stores only the workload.
+mod plain;
+#[path = "../../../bindings/rust/examples/soak/rules.rs"]
+pub mod rules;
 
-pub use rules::decide;
+pub use plain::decide;
 
 use crate::protocol::Check;
 use crate::workload::{

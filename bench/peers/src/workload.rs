@@ -8,8 +8,8 @@ mod sums;
 mod updates;
 
 pub use data::{
-    BasicService, CallType, Criteria, Csi, DetectionPoint, EMERGENCY_CALLS, Event, FILLER,
-    Handling, Imsi, IsdnAddress, MatchType, NumberCriterion, Outcome, Reason, Record, TdpRow,
+    BasicService, Criteria, Csi, DetectionPoint, EMERGENCY_CALLS, Event, FILLER, Handling, Imsi,
+    IsdnAddress, MatchType, NumberCriterion, Outcome, Reason, Record, TdpRow,
 };
 pub use events::{events_of, probe};
 pub use subscribers::{MOST_KNOWN, comers, imsi_of, probed, record_of};

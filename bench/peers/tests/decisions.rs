@@ -4,8 +4,8 @@ use peers::flat::{self, FlatRecord};
 use peers::flat_table::{Octets64, Octets80, Slot};
 use peers::reference;
 use peers::workload::{
-    BasicService, CallType, Criteria, Csi, DetectionPoint, Event, Handling, Imsi, IsdnAddress,
-    MatchType, NumberCriterion, Reason, Record, TdpRow, imsi_of,
+    BasicService, Criteria, Csi, DetectionPoint, Event, Handling, Imsi, IsdnAddress, MatchType,
+    NumberCriterion, Reason, Record, TdpRow, imsi_of,
 };
 
 const INTERNATIONAL: u8 = 0x91;
@@ -44,8 +44,6 @@ fn entry(number: Option<NumberCriterion>) -> Criteria {
         detection_point: DetectionPoint::CollectedInfo,
         number,
         basic: Vec::new(),
-        call_type: None,
-        causes: Vec::new(),
     }
 }
 
@@ -65,12 +63,11 @@ fn record(criteria: Vec<Criteria>) -> Record {
     }
 }
 
-fn event(destination: IsdnAddress, basic: BasicService, call_type: CallType) -> Event {
+fn event(destination: IsdnAddress, basic: BasicService) -> Event {
     Event {
         imsi: imsi_of(0),
         destination,
         basic,
-        call_type,
     }
 }
 
@@ -95,7 +92,7 @@ fn triggers_of(match_type: MatchType, numbers: Vec<IsdnAddress>, lengths: Vec<u8
     };
     let record = record(vec![entry(Some(criterion))]);
     let triggers = |destination: &IsdnAddress| {
-        let call = event(*destination, BasicService::Tele(0x11), CallType::Forwarded);
+        let call = event(*destination, BasicService::Tele(0x11));
         decided(&record, &call).is_ok()
     };
     addresses().into_iter().filter(triggers).count()
@@ -130,38 +127,25 @@ fn numbers_and_lengths() {
 }
 
 #[test]
-fn basic_services_and_call_types() {
+fn basic_services() {
     let destination = address(INTERNATIONAL, &[1, 2, 3]);
     for listed in services() {
-        for call_type in [
-            None,
-            Some(CallType::Forwarded),
-            Some(CallType::NotForwarded),
-        ] {
-            let basic = vec![BasicService::Bearer(0x42), listed];
-            let record = record(vec![Criteria {
-                basic,
-                call_type,
-                ..entry(None)
-            }]);
-            for code in services() {
-                for call_type in [CallType::Forwarded, CallType::NotForwarded] {
-                    let _ = decided(&record, &event(destination, code, call_type));
-                }
-            }
+        let basic = vec![BasicService::Bearer(0x42), listed];
+        let record = record(vec![Criteria {
+            basic,
+            ..entry(None)
+        }]);
+        for code in services() {
+            let _ = decided(&record, &event(destination, code));
         }
     }
 }
 
 #[test]
 fn entries_of_other_detection_points() {
-    let call = event(
-        address(INTERNATIONAL, &[1]),
-        BasicService::Tele(0x11),
-        CallType::Forwarded,
-    );
+    let call = event(address(INTERNATIONAL, &[1]), BasicService::Tele(0x11));
     let never = Criteria {
-        causes: vec![17],
+        basic: vec![BasicService::Bearer(0x42)],
         ..entry(None)
     };
     let later = Criteria {

@@ -164,29 +164,12 @@ pub enum CallType {
 pub struct OCriteria(ffi::Criteria);
 
 impl OCriteria {
-    /// Criteria of a detection point, any that was received, with none in them.
-    pub fn new(dp: impl Into<u8>) -> OCriteria {
-        OCriteria(ffi::Criteria {
-            dp: dp.into(),
-            ..ffi::Criteria::NONE
-        })
-    }
-
     /// With a destination number criterion.
     #[must_use]
     pub fn with_number(mut self, number: NumberCriterion) -> OCriteria {
         self.0.has_number = true;
         self.0.number = number.0;
         self
-    }
-
-    /// With a basic service criterion of at most 5 codes; none are no criterion.
-    ///
-    /// # Errors
-    /// [`Error::Malformed`] if there are more.
-    pub fn with_basic(mut self, services: &[BasicService]) -> Result<OCriteria, Error> {
-        self.0.basic = basic_of(services)?;
-        Ok(self)
     }
 
     /// With a call type criterion.
@@ -197,29 +180,9 @@ impl OCriteria {
         self
     }
 
-    /// With a cause criterion of at most 5 causes; none are no criterion. Criteria of DP 2 with causes are refused when
-    /// they are submitted.
-    ///
-    /// # Errors
-    /// [`Error::Malformed`] if there are more.
-    pub fn with_causes(mut self, causes: &[Cause]) -> Result<OCriteria, Error> {
-        self.0.causes = causes_of(causes)?;
-        Ok(self)
-    }
-
-    /// The number of the detection point.
-    pub fn dp(&self) -> u8 {
-        self.0.dp
-    }
-
     /// The destination number criterion.
     pub fn number(&self) -> Option<NumberCriterion> {
         self.0.has_number.then_some(NumberCriterion(self.0.number))
-    }
-
-    /// The codes of the basic service criterion; none if there is none.
-    pub fn basic(&self) -> impl Iterator<Item = BasicService> + '_ {
-        services_in(&self.0.basic)
     }
 
     /// The call type criterion.
@@ -231,34 +194,6 @@ impl OCriteria {
         };
         self.0.has_call_type.then_some(call_type)
     }
-
-    /// The causes of the cause criterion; none if there is none.
-    pub fn causes(&self) -> impl Iterator<Item = Cause> + '_ {
-        causes_in(&self.0.causes)
-    }
-}
-
-impl PartialEq for OCriteria {
-    fn eq(&self, other: &OCriteria) -> bool {
-        (self.dp(), self.number(), self.call_type())
-            == (other.dp(), other.number(), other.call_type())
-            && self.basic().eq(other.basic())
-            && self.causes().eq(other.causes())
-    }
-}
-
-impl Eq for OCriteria {}
-
-impl fmt::Debug for OCriteria {
-    fn fmt(&self, out: &mut fmt::Formatter<'_>) -> fmt::Result {
-        out.debug_struct("OCriteria")
-            .field("dp", &self.dp())
-            .field("number", &self.number())
-            .field("basic", &self.basic().collect::<Vec<_>>())
-            .field("call_type", &self.call_type())
-            .field("causes", &self.causes().collect::<Vec<_>>())
-            .finish()
-    }
 }
 
 /// The criteria of a detection point of the VT-CSI. An event meets them if it meets each one that is there.
@@ -266,69 +201,80 @@ impl fmt::Debug for OCriteria {
 #[repr(transparent)]
 pub struct TCriteria(ffi::Criteria);
 
-impl TCriteria {
-    /// Criteria of a detection point, any that was received, with none in them.
-    pub fn new(dp: impl Into<u8>) -> TCriteria {
-        TCriteria(ffi::Criteria {
-            dp: dp.into(),
-            ..ffi::Criteria::NONE
-        })
-    }
+// What both have: the first detection point, at which no call is released yet, and the criteria of one's own before the
+// basic services and behind them.
+macro_rules! criteria {
+    ($name:ident, $first:literal, [$($before:ident)?], [$($behind:ident)?]) => {
+        impl $name {
+            /// Criteria of a detection point, any that was received, with none in them.
+            pub fn new(dp: impl Into<u8>) -> $name {
+                let dp = dp.into();
+                $name(ffi::Criteria { dp, ..ffi::Criteria::NONE })
+            }
 
-    /// With a basic service criterion of at most 5 codes; none are no criterion.
-    ///
-    /// # Errors
-    /// [`Error::Malformed`] if there are more.
-    pub fn with_basic(mut self, services: &[BasicService]) -> Result<TCriteria, Error> {
-        self.0.basic = basic_of(services)?;
-        Ok(self)
-    }
+            /// With a basic service criterion of at most 5 codes; none are no criterion.
+            ///
+            /// # Errors
+            /// [`Error::Malformed`] if there are more.
+            pub fn with_basic(mut self, services: &[BasicService]) -> Result<$name, Error> {
+                self.0.basic = basic_of(services)?;
+                Ok(self)
+            }
 
-    /// With a cause criterion of at most 5 causes; none are no criterion. Criteria of DP 12 with causes are refused
-    /// when they are submitted.
-    ///
-    /// # Errors
-    /// [`Error::Malformed`] if there are more.
-    pub fn with_causes(mut self, causes: &[Cause]) -> Result<TCriteria, Error> {
-        self.0.causes = causes_of(causes)?;
-        Ok(self)
-    }
+            /// With a cause criterion of at most 5 causes; none are no criterion. Criteria with causes of DP
+            #[doc = concat!($first, " are refused when they are submitted.")]
+            ///
+            /// # Errors
+            /// [`Error::Malformed`] if there are more.
+            pub fn with_causes(mut self, causes: &[Cause]) -> Result<$name, Error> {
+                self.0.causes = causes_of(causes)?;
+                Ok(self)
+            }
 
-    /// The number of the detection point.
-    pub fn dp(&self) -> u8 {
-        self.0.dp
-    }
+            /// The number of the detection point.
+            pub fn dp(&self) -> u8 {
+                self.0.dp
+            }
 
-    /// The codes of the basic service criterion; none if there is none.
-    pub fn basic(&self) -> impl Iterator<Item = BasicService> + '_ {
-        services_in(&self.0.basic)
-    }
+            /// The codes of the basic service criterion; none if there is none.
+            pub fn basic(&self) -> impl Iterator<Item = BasicService> + '_ {
+                services_in(&self.0.basic)
+            }
 
-    /// The causes of the cause criterion; none if there is none.
-    pub fn causes(&self) -> impl Iterator<Item = Cause> + '_ {
-        causes_in(&self.0.causes)
-    }
+            /// The causes of the cause criterion; none if there is none.
+            pub fn causes(&self) -> impl Iterator<Item = Cause> + '_ {
+                causes_in(&self.0.causes)
+            }
+        }
+
+        impl PartialEq for $name {
+            fn eq(&self, other: &$name) -> bool {
+                self.dp() == other.dp()
+                    $(&& self.$before() == other.$before())?
+                    && self.basic().eq(other.basic())
+                    $(&& self.$behind() == other.$behind())?
+                    && self.causes().eq(other.causes())
+            }
+        }
+
+        impl Eq for $name {}
+
+        impl fmt::Debug for $name {
+            fn fmt(&self, out: &mut fmt::Formatter<'_>) -> fmt::Result {
+                out.debug_struct(stringify!($name))
+                    .field("dp", &self.dp())
+                    $(.field(stringify!($before), &self.$before()))?
+                    .field("basic", &self.basic().collect::<Vec<_>>())
+                    $(.field(stringify!($behind), &self.$behind()))?
+                    .field("causes", &self.causes().collect::<Vec<_>>())
+                    .finish()
+            }
+        }
+    };
 }
 
-impl PartialEq for TCriteria {
-    fn eq(&self, other: &TCriteria) -> bool {
-        self.dp() == other.dp()
-            && self.basic().eq(other.basic())
-            && self.causes().eq(other.causes())
-    }
-}
-
-impl Eq for TCriteria {}
-
-impl fmt::Debug for TCriteria {
-    fn fmt(&self, out: &mut fmt::Formatter<'_>) -> fmt::Result {
-        out.debug_struct("TCriteria")
-            .field("dp", &self.dp())
-            .field("basic", &self.basic().collect::<Vec<_>>())
-            .field("causes", &self.causes().collect::<Vec<_>>())
-            .finish()
-    }
-}
+criteria! { OCriteria, 2, [number], [call_type] }
+criteria! { TCriteria, 12, [], [] }
 
 /// The criteria that are stored for a detection point: those of the O-CSI at 2 and 4, of the VT-CSI at the others.
 #[derive(Clone, Copy, Debug, PartialEq, Eq)]

@@ -178,6 +178,30 @@ pub struct Lists {
     pub vt: CsiLists,
 }
 
+/// As `camel_layouts` tells them.
+pub const SIZES: [usize; 20] = [
+    size_of::<Receipt>(),
+    size_of::<Imsi>(),
+    size_of::<Address>(),
+    size_of::<IsdnAddress>(),
+    size_of::<BasicService>(),
+    size_of::<Row>(),
+    size_of::<BasicServices>(),
+    size_of::<Causes>(),
+    size_of::<NumberCriterion>(),
+    size_of::<Criteria>(),
+    size_of::<CsiLists>(),
+    size_of::<Lists>(),
+    size_of::<Withdrawal>(),
+    size_of::<Event>(),
+    size_of::<Answer>(),
+    size_of::<Counts>(),
+    size_of::<Decisions>(),
+    size_of::<UpdateParts>(),
+    size_of::<Argument>(),
+    size_of::<Store>(),
+];
+
 unsafe extern "C" {
     pub fn camel_abi_version() -> u32;
     pub fn camel_layouts(sizes: *mut u32, size_count: usize) -> u32;

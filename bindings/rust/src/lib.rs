@@ -60,7 +60,7 @@ mod store;
 mod update;
 
 pub use answer::{Answer, Decisions, OnFailure, Outcome, Reason};
-pub use criteria::{CallType, Criteria, MatchType, NumberCriterion, OCriteria, Row, TCriteria};
+pub use criteria::*;
 pub use error::Error;
 pub use event::{BasicService, Cause, DetectionPoint, Event};
 pub use map::{MapFault, Operation};

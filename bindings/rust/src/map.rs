@@ -104,8 +104,8 @@ pub(crate) fn prepare(
 }
 
 /// What a call says of the octets of an argument. It is handed the operation's code, the IMSI of the dialogue, of which
-/// the number 0 says that the dialogue has none, the octets with their count, and the place that it writes. The pointers
-/// are fit for the call, apart from each other, and the one of no octets is not null.
+/// the number 0 says that the dialogue has none, the octets with their count, and the place that it writes. The
+/// pointers are fit for the call, apart from each other, and the one of no octets is not null.
 fn taken(
     operation: Operation,
     imsi: Option<Imsi>,

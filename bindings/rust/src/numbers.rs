@@ -9,8 +9,8 @@ use std::str::FromStr;
 /// The nibble behind the last of an odd count of digits.
 const FILLER: u8 = 15;
 
-/// An IMSI in 8 octets, made once per call. Two are equal if their digits are, which it is written as. One of fewer digits
-/// is less, and of as many the one whose digits are.
+/// An IMSI in 8 octets, made once per call. Two are equal if their digits are, which it is written as. One of fewer
+/// digits is less, and of as many the one whose digits are.
 #[derive(Clone, Copy, PartialEq, Eq, PartialOrd, Ord, Hash)]
 pub struct Imsi(NonZeroU64);
 

@@ -37,8 +37,8 @@ pub enum Update {
 /// The lists of an Insert. One that is `None` did not come, and one that came has 1 to 10 items.
 ///
 /// Rows that come take the place of the stored rows and criteria. Criteria without rows take the place of the stored
-/// criteria, and need a stored CSI, also one without rows. Items of other detection points than those below are ignored,
-/// and count among the ten.
+/// criteria, and need a stored CSI, also one without rows. Items of other detection points than those below are
+/// ignored, and count among the ten.
 #[derive(Clone, Debug, Default, PartialEq, Eq)]
 pub struct Csis {
     /// The rows of the O-CSI: those of DP 2 and 4 count.

@@ -94,7 +94,6 @@ struct call call_of(const struct event *event)
             .imsi = imsi_from(event->imsi),
             .basic = { .is_bearer = event->basic.kind == BEARER, .code = event->basic.code },
             .dp = COLLECTED_INFO,
-            .is_forwarded = event->call_type == FORWARDED,
         },
     };
     const struct isdn_address *destination = &event->destination;
@@ -157,12 +156,12 @@ struct update update_of(struct change change)
     };
     if (!change.is_cancel) {
         struct record record = record_of(change.subscriber, change.version);
-        update.has_o = record.o.is_present;
-        update.has_vt = record.vt.is_present;
-        update.o_count = rows_from(&record.o, update.o);
+        update.has_o = record.csi[O].is_present;
+        update.has_vt = record.csi[VT].is_present;
+        update.o_count = rows_from(&record.csi[O], update.o);
         update.o_criteria_count = record.numbers > 0;
         update.o_criteria = criteria_from(&record);
-        update.vt_count = rows_from(&record.vt, update.vt);
+        update.vt_count = rows_from(&record.csi[VT], update.vt);
     }
     return update;
 }

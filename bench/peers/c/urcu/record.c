@@ -2,8 +2,6 @@
 
 enum match_type { NO_NUMBERS, ENABLING, INHIBITING };
 
-enum { ANY_CALL_TYPE };
-
 /* The digits are a word in network order, the first in the highest nibble, with fillers behind the last. */
 struct flat_number {
     uint8_t first_octet;
@@ -11,14 +9,13 @@ struct flat_number {
     uint8_t digits[8];
 };
 
-/* A criteria entry. Behind its listed numbers are its lengths, its basic services and its causes. */
+/* A criteria entry. Behind its listed numbers are its lengths and its basic services. */
 struct flat_entry {
     uint8_t size;
     uint8_t detection_point;
     uint8_t match_type;
     uint8_t numbers, lengths, basics;
-    uint8_t call_type;
-    uint8_t causes;
+    uint8_t room[2]; /* for what further criteria would take */
     struct flat_number number[];
 };
 
@@ -36,7 +33,7 @@ static size_t size_of_entry(size_t numbers)
 
 size_t flat_size(const struct record *record)
 {
-    size_t rows = record->o.rows + record->vt.rows;
+    size_t rows = record->csi[O].rows + record->csi[VT].rows;
     size_t entry = record->numbers == 0 ? 0 : size_of_entry(record->numbers);
     return sizeof(struct flat_record) + rows * sizeof(struct tdp_row) + entry;
 }
@@ -71,15 +68,17 @@ static struct flat_number flat_number_of(const struct isdn_address *address)
 
 void flatten(struct flat_record *flat, const struct record *record)
 {
-    flat->o_rows = record->o.is_present ? (uint8_t)record->o.rows : ABSENT;
-    flat->vt_rows = record->vt.is_present ? (uint8_t)record->vt.rows : ABSENT;
-    flat->o_entries = record->numbers > 0;
-    flat->vt_entries = 0;
-    memcpy(flat->rows, record->o.row, record->o.rows * sizeof(struct tdp_row));
-    memcpy(flat->rows + record->o.rows, record->vt.row, record->vt.rows * sizeof(struct tdp_row));
+    struct tdp_row *rows = flat->rows;
+    for (int at = 0; at < CSIS; at++) {
+        const struct csi *csi = &record->csi[at];
+        flat->csi[at].rows = csi->is_present ? (uint8_t)csi->rows : ABSENT;
+        flat->csi[at].entries = at == O && record->numbers > 0;
+        memcpy(rows, csi->row, csi->rows * sizeof *rows);
+        rows += csi->rows;
+    }
     if (record->numbers == 0)
         return;
-    struct flat_entry *entry = (struct flat_entry *)(flat->rows + record->o.rows + record->vt.rows);
+    struct flat_entry *entry = (struct flat_entry *)rows;
     *entry = (struct flat_entry){
         .size = (uint8_t)size_of_entry(record->numbers),
         .detection_point = COLLECTED_INFO,
@@ -156,20 +155,18 @@ static bool meets_numbers(const struct flat_entry *entry, const struct isdn_addr
     return is_listed == (entry->match_type == ENABLING);
 }
 
-/* Whether the event meets all criteria of the entry. An event at DP2 has no cause. */
+/* Whether the event meets all criteria of the entry. */
 static bool is_met(const struct flat_entry *entry, const struct event *event)
 {
     return meets_numbers(entry, &event->destination)
-        && (entry->basics == 0 || lists_basic(entry, event->basic))
-        && (entry->call_type == ANY_CALL_TYPE || entry->call_type == event->call_type)
-        && entry->causes == 0;
+        && (entry->basics == 0 || lists_basic(entry, event->basic));
 }
 
 /* ---- the decision ---- */
 
 static const struct tdp_row *row_at(const struct flat_record *record, uint8_t detection_point)
 {
-    for (size_t place = 0; place < record->o_rows; place++)
+    for (size_t place = 0; place < record->csi[O].rows; place++)
         if (record->rows[place].detection_point == detection_point)
             return &record->rows[place];
     return NULL;
@@ -177,8 +174,8 @@ static const struct tdp_row *row_at(const struct flat_record *record, uint8_t de
 
 static const struct flat_entry *entry_at(const struct flat_record *record, uint8_t detection_point)
 {
-    const uint8_t *octets = (const uint8_t *)(record->rows + record->o_rows + rows_of(record->vt_rows));
-    for (size_t place = 0; place < record->o_entries; place++) {
+    const uint8_t *octets = (const uint8_t *)(record->rows + record->csi[O].rows + rows_of(record->csi[VT].rows));
+    for (size_t place = 0; place < record->csi[O].entries; place++) {
         const struct flat_entry *entry = (const struct flat_entry *)octets;
         if (entry->detection_point == detection_point)
             return entry;
@@ -191,7 +188,7 @@ struct outcome decide(const struct flat_record *record, const struct event *even
 {
     if (record == NULL)
         return (struct outcome){ .kind = UNKNOWN };
-    if (record->o_rows == ABSENT)
+    if (record->csi[O].rows == ABSENT)
         return (struct outcome){ .kind = NO_CSI };
     const struct tdp_row *row = row_at(record, COLLECTED_INFO);
     if (row == NULL)

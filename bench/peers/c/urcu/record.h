@@ -6,9 +6,9 @@
 /* In place of a count of rows, if there is no CSI. */
 enum { ABSENT = 0xFF };
 
-/* The rows of the O-CSI and the VT-CSI, and behind them the criteria entries of the O-CSI and the VT-CSI. */
+/* How many rows and entries each CSI has, the rows of both, and behind them the entries of both. */
 struct flat_record {
-    uint8_t o_rows, vt_rows, o_entries, vt_entries;
+    struct { uint8_t rows, entries; } csi[CSIS];
     struct tdp_row rows[];
 };
 

@@ -1,7 +1,5 @@
-//! A criteria entry in a block: its head, and behind it its listed numbers, lengths, basic services and causes.
-use crate::workload::{
-    BasicService, CallType, Criteria, Event, IsdnAddress, MatchType, NumberCriterion,
-};
+//! A criteria entry in a block: its head, and behind it its listed numbers, lengths and basic services.
+use crate::workload::{BasicService, Criteria, Event, IsdnAddress, MatchType, NumberCriterion};
 
 /// The places of the octets in the head of an entry.
 const LENGTH: usize = 0;
@@ -10,11 +8,10 @@ const MATCH_TYPE: usize = 2;
 const NUMBERS: usize = 3;
 const LENGTHS: usize = 4;
 const BASIC: usize = 5;
-const CALL_TYPE: usize = 6;
-const CAUSES: usize = 7;
+/// Two octets are room for what further criteria would take.
 const HEAD: usize = 8;
 
-/// In place of a match type or a call type.
+/// In place of a match type.
 const NONE: u8 = 0;
 
 /// The first octet of a listed number, the count of its digits, and its digits as those of `digits_of`.
@@ -40,13 +37,10 @@ pub(super) fn push(block: &mut Vec<u8>, criteria: &Criteria) {
     head[NUMBERS] = numbers.len() as u8;
     head[LENGTHS] = lengths.len() as u8;
     head[BASIC] = criteria.basic.len() as u8;
-    head[CALL_TYPE] = criteria.call_type.map_or(NONE, |call_type| call_type as u8);
-    head[CAUSES] = criteria.causes.len() as u8;
     block.extend(head);
     block.extend(numbers.iter().flat_map(flat_number));
     block.extend(lengths);
     block.extend(criteria.basic.iter().flat_map(|basic| flat_basic(*basic)));
-    block.extend(&criteria.causes);
     block[start + LENGTH] = (block.len() - start) as u8;
 }
 
@@ -104,9 +98,6 @@ impl<'a> FlatEntry<'a> {
         let (basic, _) = rest.split_at(2 * self.count(BASIC));
         self.meets_number(numbers, lengths, &event.destination)
             && (basic.is_empty() || covers_one(basic, event.basic))
-            && self.meets_call_type(event.call_type)
-            // An event at DP2 has no cause.
-            && self.head[CAUSES] == 0
     }
 
     fn count(&self, place: usize) -> usize {
@@ -121,10 +112,6 @@ impl<'a> FlatEntry<'a> {
         let is_listed = lists_prefix(numbers, destination)
             || !lengths.is_empty() && lists_length(lengths, destination);
         is_listed == (match_type == MatchType::Enabling as u8)
-    }
-
-    fn meets_call_type(&self, call_type: CallType) -> bool {
-        self.head[CALL_TYPE] == NONE || self.head[CALL_TYPE] == call_type as u8
     }
 }
 

@@ -132,9 +132,7 @@ impl Condition {
             [entry] => entry,
             _ => return None,
         };
-        let has_others =
-            !entry.basic.is_empty() || entry.call_type.is_some() || !entry.causes.is_empty();
-        let number = entry.number.as_ref().filter(|_| !has_others)?;
+        let number = entry.number.as_ref().filter(|_| entry.basic.is_empty())?;
         if !number.lengths.is_empty() || number.numbers.len() > LISTED {
             return None;
         }

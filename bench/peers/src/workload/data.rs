@@ -101,13 +101,6 @@ pub enum BasicService {
 
 #[derive(Clone, Copy, Debug, PartialEq, Eq)]
 #[repr(u8)]
-pub enum CallType {
-    NotForwarded = 1,
-    Forwarded = 2,
-}
-
-#[derive(Clone, Copy, Debug, PartialEq, Eq)]
-#[repr(u8)]
 pub enum MatchType {
     Enabling = 1,
     Inhibiting = 2,
@@ -126,8 +119,6 @@ pub struct Criteria {
     pub detection_point: DetectionPoint,
     pub number: Option<NumberCriterion>,
     pub basic: Vec<BasicService>,
-    pub call_type: Option<CallType>,
-    pub causes: Vec<u8>,
 }
 
 #[derive(Clone, Debug, Default)]
@@ -150,7 +141,6 @@ pub struct Event {
     pub imsi: Imsi,
     pub destination: IsdnAddress,
     pub basic: BasicService,
-    pub call_type: CallType,
 }
 
 /// Why an event triggers nothing.

@@ -1,5 +1,5 @@
 //! The events that a reader decides, again and again in their order.
-use super::data::{BasicService, CallType, EMERGENCY_CALLS, Event, IsdnAddress};
+use super::data::{BasicService, EMERGENCY_CALLS, Event, IsdnAddress};
 use super::numbers::{Generator, mix};
 use super::subscribers::{FIRST_NEVER_THERE, INTERNATIONAL, digits_of, imsi_of, listed_by};
 
@@ -44,10 +44,6 @@ fn event(subscriber: u64, choice: u64, digits: u64, begins_with_listed: bool) ->
             0 => EMERGENCY_CALLS,
             1..=15 => BasicService::Bearer(0x11),
             _ => BasicService::Tele(0x11),
-        },
-        call_type: match choice >> 6 & 1 {
-            0 => CallType::NotForwarded,
-            _ => CallType::Forwarded,
         },
     }
 }

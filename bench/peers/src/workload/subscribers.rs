@@ -173,7 +173,5 @@ fn enabling(numbers: [IsdnAddress; 3]) -> Criteria {
         detection_point: DetectionPoint::CollectedInfo,
         number: Some(number),
         basic: Vec::new(),
-        call_type: None,
-        causes: Vec::new(),
     }
 }

@@ -1,8 +1,9 @@
 //! The audit of what a session gave: each answer is compared with the decision of the model at the answer's own front.
 use crate::convert;
 use crate::counts::Counts;
-use crate::model::{Model, Record, decide};
-use crate::plain::{self, Event, POINTS};
+use crate::model::Model;
+use crate::plain::POINTS;
+use crate::rules::{self, Event, Record, decide};
 use crate::shared::{Checked, Shared};
 use camel::{Answer, Criteria, Decisions, Error, Row, Subscriber};
 use std::collections::VecDeque;
@@ -29,16 +30,16 @@ pub struct Given {
 pub enum What {
     Answer(Event, Answer),
     /// The row of a subscriber at a detection point, and the criteria.
-    Row(plain::Subscriber, u8, Option<Row>),
-    Criteria(plain::Subscriber, u8, Option<Criteria>),
+    Row(rules::Subscriber, u8, Option<Row>),
+    Criteria(rules::Subscriber, u8, Option<Criteria>),
     /// The record of a subscriber, to be kept.
-    Record(plain::Subscriber, Option<Subscriber>),
+    Record(rules::Subscriber, Option<Subscriber>),
 }
 
 /// The record of a set-up, with that of the model and their front.
 pub struct Kept {
     pub handle: Subscriber,
-    pub subscriber: plain::Subscriber,
+    pub subscriber: rules::Subscriber,
     pub record: Arc<Record>,
     pub front: u64,
 }
@@ -158,7 +159,7 @@ impl<'a> Audit<'a> {
     /// Compares what is read of a subscriber with what is stored in the record of the model.
     fn check_stored<P, T: PartialEq + Debug>(
         &mut self,
-        subscriber: plain::Subscriber,
+        subscriber: rules::Subscriber,
         read: Option<T>,
         stored: impl Fn(&Record) -> Option<&P>,
         made: fn(&P) -> Result<T, Error>,
@@ -182,7 +183,7 @@ impl<'a> Audit<'a> {
     /// Keeps a record, with that of the model.
     fn check_record(
         &mut self,
-        subscriber: plain::Subscriber,
+        subscriber: rules::Subscriber,
         handle: Option<Subscriber>,
     ) -> Checked<()> {
         match (handle, self.model.record(subscriber)) {

@@ -4,6 +4,7 @@ use crate::audit::{At, Audit, Given, What};
 use crate::convert;
 use crate::plain::{self, POINTS};
 use crate::random::Random;
+use crate::rules;
 use crate::shared::{Checked, Shared};
 use camel::{Imsi, Look, Receipt, Session};
 use std::sync::mpsc::Receiver;
@@ -62,7 +63,7 @@ impl Caller<'_> {
         u64::max(self.learnt, self.shared.published())
     }
 
-    fn made(&self, event: &plain::Event) -> Checked<camel::Event> {
+    fn made(&self, event: &rules::Event) -> Checked<camel::Event> {
         convert::event(event, self.imsis).map_err(|error| format!("{event:?}: {error}"))
     }
 
@@ -112,7 +113,7 @@ impl Caller<'_> {
     }
 
     /// Decides a call over a look. Gives its front.
-    fn ask_over(&mut self, look: &Look<'_>, event: plain::Event, least: u64) -> Checked<At> {
+    fn ask_over(&mut self, look: &Look<'_>, event: rules::Event, least: u64) -> Checked<At> {
         let answer = look
             .decide(&self.made(&event)?)
             .map_err(|error| format!("decide: {error}"))?;
@@ -126,7 +127,7 @@ impl Caller<'_> {
     fn read(
         &mut self,
         look: &Look<'_>,
-        subscriber: plain::Subscriber,
+        subscriber: rules::Subscriber,
         dp: u8,
         at: At,
     ) -> Checked<()> {
@@ -140,7 +141,7 @@ impl Caller<'_> {
     }
 
     /// Keeps the record of a subscriber.
-    fn keep(&mut self, look: &Look<'_>, subscriber: plain::Subscriber, at: At) -> Checked<()> {
+    fn keep(&mut self, look: &Look<'_>, subscriber: rules::Subscriber, at: At) -> Checked<()> {
         let handle = look
             .keep(self.imsis[subscriber])
             .map_err(|error| format!("keep: {error}"))?;

@@ -1,12 +1,13 @@
 //! From plain data to those of the crate.
 use crate::plain;
+use crate::rules;
 use camel::{
     Address, Answer, BasicService, CallType, Cause, Criteria, Csis, Decisions, DetectionPoint,
     Error, Event, Imsi, IsdnAddress, MatchType, NumberCriterion, OCriteria, OnFailure, Outcome,
     Reason, Row, TCriteria, Update, Withdrawal,
 };
 
-fn service(service: &plain::Service) -> BasicService {
+fn service(service: &rules::Service) -> BasicService {
     if service.is_bearer {
         BasicService::Bearer(service.code)
     } else {
@@ -14,7 +15,7 @@ fn service(service: &plain::Service) -> BasicService {
     }
 }
 
-fn services(services: &[plain::Service]) -> Vec<BasicService> {
+fn services(services: &[rules::Service]) -> Vec<BasicService> {
     services.iter().map(service).collect()
 }
 
@@ -22,21 +23,21 @@ fn causes(causes: &[u8]) -> Result<Vec<Cause>, Error> {
     causes.iter().map(|cause| Cause::new(*cause)).collect()
 }
 
-pub fn row(row: &plain::Row) -> Result<Row, Error> {
+pub fn row(row: &rules::Row) -> Result<Row, Error> {
     Ok(Row::new(row.dp, row.key, IsdnAddress::new(&row.scf)?).with_handling(row.handling))
 }
 
 /// Whether the default call handling of a row is release.
-fn is_release(row: &plain::Row) -> bool {
+fn is_release(row: &rules::Row) -> bool {
     row.handling == 1 || row.handling > 31
 }
 
 /// A row as a session gives it: its handling is 0 or 1.
-pub fn stored(row: &plain::Row) -> Result<Row, Error> {
+pub fn stored(row: &rules::Row) -> Result<Row, Error> {
     Ok(self::row(row)?.with_handling(u32::from(is_release(row))))
 }
 
-pub fn o_criteria(entry: &plain::Entry) -> Result<OCriteria, Error> {
+pub fn o_criteria(entry: &rules::Entry) -> Result<OCriteria, Error> {
     let mut criteria = OCriteria::new(entry.dp)
         .with_basic(&services(&entry.basic))?
         .with_causes(&causes(&entry.causes)?)?;
@@ -62,14 +63,14 @@ pub fn o_criteria(entry: &plain::Entry) -> Result<OCriteria, Error> {
 }
 
 /// The criteria of a detection point, as a session gives them.
-pub fn criteria(entry: &plain::Entry) -> Result<Criteria, Error> {
+pub fn criteria(entry: &rules::Entry) -> Result<Criteria, Error> {
     match entry.dp {
         2 | 4 => o_criteria(entry).map(Criteria::O),
         _ => t_criteria(entry).map(Criteria::T),
     }
 }
 
-pub fn t_criteria(entry: &plain::Entry) -> Result<TCriteria, Error> {
+pub fn t_criteria(entry: &rules::Entry) -> Result<TCriteria, Error> {
     TCriteria::new(entry.dp)
         .with_basic(&services(&entry.basic))?
         .with_causes(&causes(&entry.causes)?)
@@ -121,7 +122,7 @@ pub fn update(update: &plain::Update, imsis: &[Imsi]) -> Result<Update, Error> {
     })
 }
 
-pub fn event(event: &plain::Event, imsis: &[Imsi]) -> Result<Event, Error> {
+pub fn event(event: &rules::Event, imsis: &[Imsi]) -> Result<Event, Error> {
     let (imsi, basic) = (imsis[event.subscriber], service(&event.basic));
     let (destination, cause) = (Address::new(&event.destination)?, Cause::new(event.cause)?);
     let made = match event.dp {
@@ -139,7 +140,7 @@ pub fn event(event: &plain::Event, imsis: &[Imsi]) -> Result<Event, Error> {
 }
 
 /// Whether an answer says what the model has decided.
-pub fn agrees(answer: &Answer, decision: crate::model::Decision<'_>) -> bool {
+pub fn agrees(answer: &Answer, decision: rules::Decision<'_>) -> bool {
     match (answer.outcome, decision) {
         (Outcome::NoTrigger(reason), Err(number)) => reason.code() == number,
         (

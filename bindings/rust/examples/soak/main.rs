@@ -18,6 +18,7 @@ mod model;
 mod options;
 mod plain;
 mod random;
+mod rules;
 mod shared;
 mod writer;
 

@@ -1,5 +1,6 @@
 //! Updates and calls as plain data, from which those of the crate and those of the model are made.
 use crate::random::Random;
+use crate::rules::{Entry, Event, Numbers, O_POINTS, Octets, Row, Service, Subscriber, VT_POINTS};
 use std::collections::HashSet;
 
 /// How many subscribers are never known: they are the last ones in the list of IMSIs.
@@ -7,43 +8,6 @@ pub const STRANGERS: usize = 16;
 
 /// Half of all updates and calls are of the first so many subscribers, so that calls meet fresh updates.
 const OFTEN: usize = 48;
-
-/// The place of a subscriber in the list of IMSIs.
-pub type Subscriber = usize;
-
-/// Octets of an address, octet 1 first.
-pub type Octets = Vec<u8>;
-
-#[derive(Clone, Copy, Debug)]
-pub struct Service {
-    pub is_bearer: bool,
-    pub code: u8,
-}
-
-#[derive(Clone, Debug)]
-pub struct Row {
-    pub dp: u8,
-    pub key: u32,
-    pub scf: Octets,
-    pub handling: u32,
-}
-
-#[derive(Clone, Debug)]
-pub struct Numbers {
-    pub is_enabling: bool,
-    pub numbers: Vec<Octets>,
-    pub lengths: Vec<u8>,
-}
-
-/// Criteria of a detection point. Those of the VT-CSI have no numbers and no call type.
-#[derive(Clone, Debug)]
-pub struct Entry {
-    pub dp: u8,
-    pub numbers: Option<Numbers>,
-    pub basic: Vec<Service>,
-    pub is_forwarded: Option<bool>,
-    pub causes: Vec<u8>,
-}
 
 /// The rows and the criteria of a CSI, each if it comes.
 #[derive(Clone, Debug)]
@@ -61,21 +25,9 @@ pub enum Update {
     ClearAll,
 }
 
-#[derive(Clone, Debug)]
-pub struct Event {
-    pub subscriber: Subscriber,
-    pub dp: u8,
-    pub basic: Service,
-    pub destination: Octets,
-    pub is_forwarded: bool,
-    pub cause: u8,
-}
-
 /// The detection points at which calls are asked for.
 pub const POINTS: [u8; 5] = [2, 4, 12, 13, 14];
 
-const O_POINTS: [u8; 2] = [2, 4];
-const VT_POINTS: [u8; 3] = [12, 13, 14];
 const OTHER_POINTS: [u8; 5] = [0, 1, 3, 15, 255];
 
 /// IMSIs of 5 to 15 digits, no two of which are equal; some begin with others, and some with zeros.
