@@ -1,5 +1,5 @@
 -- The finite map of the entries of a bucket, after each change of them.
-use Rattle.std.proofs.Common.{◌≡◌, ◌∙◌, ℕ, zero, suc, ◌+◌, ◌<◌, ◌≤◌, Bool, true, false, not, cond, T, List, [], ◌∷◌, ◌++◌, Option, Some, None, length, filter}
+use Rattle.std.proofs.Common.{◌≡◌, ◌∙◌, ℕ, zero, suc, ◌+◌, ◌<◌, ◌≤◌, Bool, true, false, not, cond, T, List, [], ◌∷◌, ◌++◌, Option, Some, None, Bor, length, filter}
 use Rattle.std.proofs.Common.{inl, inr, true≢false, position, slice_index_or, slice_set, refl, sym, ap, ap₂, subst, arith}
 use Rattle.std.specs.Prelude.{find}
 use Rattle.std.specs.Cmp.{eq_by_cmp_equiv, tied_itself}
@@ -7,15 +7,21 @@ use Rattle.std.specs.Cmp.Lexicographic.{slice_cmp, nat_list_cmp_total}
 use Rattle.std.specs.FinMap as map
 use Rattle.std.specs.FinMap.Entries as entries
 use Rattle.std.specs.List.{position_or_len}
-use Rattle.std.specs.Option.{option_map, option_or, is_some, unwrap_or}
+use Rattle.std.specs.Option.{option_copied, option_map, option_or, is_some, unwrap_or}
 use Rattle.std.specs.Ordering.{is_eq, nat_cmp}
 use Rattle.std.specs.declared.cmp.Ordering.{Ordering}
 use Rattle.std.specs.declared.cmp.Ordering.TheVariants.{Less, Equal, Greater}
 use Rattle.std.proofs.lemmas.Bool.{cases_lt, le-ltb, lt-ltb}
 use Rattle.std.proofs.lemmas.List.Elements.{filter-append}
+use Rattle.std.proofs.lemmas.List.Quantifiers.{position-Some}
 use Rattle.std.proofs.lemmas.Map.Lookups.{exact_bytes}
 use Rattle.camel_table.specs.ByImsi.{ByImsi, is_same, map_of}
 use Rattle.camel_table.specs.Lending.{with_value_of}
+
+-- whether there is a value that a look-up lends
+pub lent_some : {A : Type 0} (o : Option (Bor A)) {value : Option A} {some b : Bool} → option_copied o ≡ value → some ≡ is_some o → some ≡ b → is_some value ≡ b
+lent_some None is said tested = ap is_some (sym is) ∙ sym said ∙ tested
+lent_some (Some value) is said tested = ap is_some (sym is) ∙ sym said ∙ tested
 
 equal : (r : Ordering) → is_eq r ≡ true → r ≡ Equal
 equal Less p = absurd (subst T (sym p) tt)
@@ -70,25 +76,17 @@ module _ {V : Type 0} where
   pub get-find : (key : List ℕ) (es : Entries V) → option_map (λ e. e.1) (find (λ e. is_same key e.0) es) ≡ map.get (map_of es) key
   get-find key es = found-find key es ∙ sym (get-is es key)
 
-  -- the place of the first entry of a key
-  abbrev IsFirst : List ℕ → ℕ → Entries V → Type 0
-  IsFirst key at [] = ⊥
-  IsFirst key zero (e ∷ es) = is_same key e.0 ≡ true
-  IsFirst key (suc at) (e ∷ es) = (is_same key e.0 ≡ false) × IsFirst key at es
+  -- at this place is the first entry of a key
+  abbrev IsFirst : List ℕ → ℕ → Entries V → List ℕ × V → Type 0
+  IsFirst key at es d =
+      (at < length es) × (is_same key (slice_index_or es at d).0 ≡ true) × ((k : ℕ) → k < at → is_same key (slice_index_or es k d).0 ≡ false)
+
+  in_rest : (key : List ℕ) (at : ℕ) (e : List ℕ × V) (es : Entries V) (d : List ℕ × V) → IsFirst key (suc at) (e ∷ es) d
+      → (is_same key e.0 ≡ false) × IsFirst key at es d
+  in_rest key at e es d first = (first.2 0 (omega arith), (omega (arith, first.0), first.1, λ k lt. first.2 (suc k) (omega (arith, lt))))
 
   abbrev place : List ℕ → Entries V → ℕ
   place key es = position_or_len (λ e. is_same key e.0) es
-
-  first_at : (key : List ℕ) (es : Entries V) → place key es < length es → IsFirst key (place key es) es
-  first_at key [] lt = absurd (omega (arith, lt))
-  first_at key (e ∷ es) lt =
-      elim (is_same key e.0) as
-      (λ b. is_same key e.0 ≡ b → cond (not b) (1 + place key es) 0 < length (e ∷ es) → IsFirst key (cond (not b) (1 + place key es) 0) (e ∷ es)) [
-        | true ↦ λ p lt. p
-        | false ↦ λ p lt.
-            let next : 1 + place key es ≡ suc (place key es) = omega arith in
-            subst (λ n. IsFirst key n (e ∷ es)) (sym next) (p, first_at key es (omega (arith, lt)))
-      ] refl lt
 
   none_at : (key : List ℕ) (es : Entries V) → length es ≤ place key es → found key es ≡ None
   none_at key [] le = refl
@@ -98,34 +96,23 @@ module _ {V : Type 0} where
         | false ↦ λ le. none_at key es (omega (arith, le))
       ] le
 
-  -- what a position says
-  pub first_of_position : (key : List ℕ) (es : Entries V) (at : ℕ) → position (λ e. is_same key e.0) es ≡ Some at → (at < length es) × IsFirst key at es
-  first_of_position key es at is = elim (cases_lt (place key es) (length es)) [
-    | inl lt ↦
-        let here : place key es ≡ at = ap (λ o. unwrap_or o 0) (rw (lt-ltb _ _ lt) at is) in
-        subst (λ n. (n < length es) × IsFirst key n es) here (lt, first_at key es lt)
-    | inr le ↦ absurd (subst (λ o. T (is_some o)) (sym (rw (le-ltb _ _ le) at is)) tt)
-  ]
-
   pub some_position : (key : List ℕ) (es : Entries V) → is_some (map.get (map_of es) key) ≡ true → is_some (position (λ e. is_same key e.0) es) ≡ true
   some_position key es some = elim (cases_lt (place key es) (length es)) [
     | inl lt ↦ rw (lt-ltb _ _ lt) refl
     | inr le ↦ absurd (true≢false (sym some ∙ ap is_some (get-is es key ∙ none_at key es le)))
   ]
 
-  found-first : (key : List ℕ) (es : Entries V) (at : ℕ) (d : List ℕ × V) → IsFirst key at es → found key es ≡ Some (slice_index_or es at d).1
-  found-first key [] at d first = absurd first
-  found-first key (e ∷ es) zero d first = ap (λ b. cond b (Some e.1) (found key es)) first
-  found-first key (e ∷ es) (suc at) d first = ap (λ b. cond b (Some e.1) (found key es)) first.0 ∙ found-first key es at d first.1
+  found-first : (key : List ℕ) (es : Entries V) (at : ℕ) (d : List ℕ × V) → IsFirst key at es d → found key es ≡ Some (slice_index_or es at d).1
+  found-first key [] at d first = absurd (omega (arith, first.0))
+  found-first key (e ∷ es) zero d first = ap (λ b. cond b (Some e.1) (found key es)) first.1
+  found-first key (e ∷ es) (suc at) d first =
+      let rest = in_rest key at e es d first in
+      ap (λ b. cond b (Some e.1) (found key es)) rest.0 ∙ found-first key es at d rest.1
 
-  pub get-first : (key : List ℕ) (es : Entries V) (at : ℕ) (e : List ℕ × V) → IsFirst key at es → e ≡ slice_index_or es at e
+  pub get-first : (key : List ℕ) (es : Entries V) (at : ℕ) (e : List ℕ × V) → position (λ e. is_same key e.0) es ≡ Some at → e ≡ slice_index_or es at e
       → map.get (map_of es) key ≡ Some e.1
-  get-first key es at e first is = get-is es key ∙ found-first key es at e first ∙ ap (λ (x : List ℕ × V). Some x.1) (sym is)
-
-  -- an entry more
-  pub added : (key : List ℕ) (value : V) (es : Entries V) → map.get (map_of es) key ≡ None
-      → map_of (es ++ (key, value) ∷ []) ≡ map.insert (map_of es) key value
-  added key value es none = map.from_entries_push nat_list_cmp_total exact_bytes es key value (sym (get-is es key) ∙ none)
+  get-first key es at e is own =
+      get-is es key ∙ found-first key es at e (position-Some (λ (x : List ℕ × V). is_same key x.0) es at e is) ∙ ap (λ (x : List ℕ × V). Some x.1) (sym own)
 
   -- the entries of some keys
   kept : (test : List ℕ → Bool) (es : Entries V) → map_of (filter (λ e. test e.0) es) ≡ map.retain_keys (map_of es) test
@@ -145,15 +132,14 @@ module _ {V : Type 0} where
   without true o = refl
   without false o = refl
 
-  pub removed : (key : List ℕ) (es : Entries V) → map_of (filter (λ e. not (is_same key e.0)) es) ≡ map.remove (map_of es) key
-  removed key es = same_when _ _ (λ q.
+  pub removed : (key : List ℕ) (xs ys : Entries V) {m : ByImsi V} → map_of (xs ++ ys) ≡ m → {es : Entries V}
+      → es ≡ filter (λ e. not (is_same key e.0)) xs ++ filter (λ e. not (is_same key e.0)) ys → map_of es ≡ map.remove m key
+  removed key xs ys {m} view is =
       let test = λ (other : List ℕ). not (is_same key other) in
-      let alike = λ (x : List ℕ) (tied : slice_cmp nat_cmp q x ≡ Equal). ap test (sym (exact_bytes q x tied)) in
-      entries.find-where_key (slice_cmp nat_cmp) test q alike es
-      ∙ without (is_same key q) (found q es)
-      ∙ ap (λ b. cond b None (found q es)) ((eq_by_cmp_equiv nat_list_cmp_total).symm key q)
-      ∙ ap (λ o. cond (is_same q key) None o) (sym (get-is es q))
-      ∙ sym (map.get-remove nat_list_cmp_total (map_of es) key q))
+      kept_in_both test xs ys view is
+      ∙ map.same_map nat_list_cmp_total exact_bytes _ _ (λ q.
+      map.get-retain_keys m test q (λ x tied. ap test (sym (exact_bytes q x tied))) ∙ without (is_same key q) (map.get m q)
+      ∙ ap (λ b. cond b None (map.get m q)) ((eq_by_cmp_equiv nat_list_cmp_total).symm key q) ∙ sym (map.get-remove nat_list_cmp_total m key q))
 
   -- entries in two lists, of which one is searched after the other
   pub found-append : (q : List ℕ) (xs ys : Entries V) → found q (xs ++ ys) ≡ option_or (found q xs) (found q ys)
@@ -173,35 +159,29 @@ module _ {V : Type 0} where
   pub get-none : (q : List ℕ) → map.get (map_of {V = V} []) q ≡ None
   get-none q = get-is [] q
 
-  found-inserted : (q key : List ℕ) (value : V) (before after : Entries V) → map_of after ≡ map.insert (map_of before) key value
-      → found q after ≡ cond (is_same q key) (Some value) (found q before)
-  found-inserted q key value before after is =
-      sym (get-is after q) ∙ ap (λ m. map.get m q) is ∙ map.get-insert nat_list_cmp_total (map_of before) key value q
-      ∙ ap (cond (is_same q key) (Some value)) (get-is before q)
-
   inserted : (key : List ℕ) (value : V) (before after : Entries V) → ((q : List ℕ) → found q after ≡ cond (is_same q key) (Some value) (found q before))
       → map_of after ≡ map.insert (map_of before) key value
   inserted key value before after finds = same_when _ _ (λ q.
       finds q ∙ sym (map.get-insert nat_list_cmp_total (map_of before) key value q ∙ ap (cond (is_same q key) (Some value)) (get-is before q)))
 
-  earlier : (b : Bool) (value : V) (x y : Option V) → option_or (cond b (Some value) x) y ≡ cond b (Some value) (option_or x y)
-  earlier true value x y = refl
-  earlier false value x y = refl
+  found-amid : (q key : List ℕ) (value : V) (xs ys : Entries V) → found key (xs ++ ys) ≡ None
+      → found q (xs ++ (key, value) ∷ ys) ≡ cond (is_same q key) (Some value) (found q (xs ++ ys))
+  found-amid q key value [] ys none = refl
+  found-amid q key value (e ∷ es) ys none =
+      elim (is_same key e.0) as (λ b. is_same key e.0 ≡ b → cond b (Some e.1) (found key (es ++ ys)) ≡ None
+      → found q (e ∷ (es ++ (key, value) ∷ ys)) ≡ cond (is_same q key) (Some value) (found q (e ∷ (es ++ ys)))) [
+        | true ↦ λ here none. absurd (subst (λ o. T (is_some o)) none tt)
+        | false ↦ λ there none.
+            ap (cond (is_same q e.0) (Some e.1)) (found-amid q key value es ys none)
+            ∙ exchanged (is_same q e.0) (is_same q key) (Some e.1) (Some value) (found q (es ++ ys)) (apart q key e.0 there)
+      ] refl none
 
-  -- a value that is put into the first list of two
-  pub inserted_first : (key : List ℕ) (value : V) (xs others ys : Entries V) → map_of others ≡ map.insert (map_of xs) key value
-      → map_of (others ++ ys) ≡ map.insert (map_of (xs ++ ys)) key value
-  inserted_first key value xs others ys is = inserted key value (xs ++ ys) (others ++ ys) (λ q.
-      found-append q others ys ∙ ap (λ o. option_or o (found q ys)) (found-inserted q key value xs others is)
-      ∙ earlier (is_same q key) value (found q xs) (found q ys)
-      ∙ ap (cond (is_same q key) (Some value)) (sym (found-append q xs ys)))
-
-  none_of_either : (x y : Option V) → option_or x y ≡ None → (x ≡ None) × (y ≡ None)
-  none_of_either None y none = (refl, none)
-  none_of_either (Some value) y none = absurd (subst (λ o. T (is_some o)) none tt)
-
-  pub none_in_first : (key : List ℕ) (xs ys : Entries V) → map.get (map_of (xs ++ ys)) key ≡ None → map.get (map_of xs) key ≡ None
-  none_in_first key xs ys none = (none_of_either (map.get (map_of xs) key) (map.get (map_of ys) key) (sym (get-append key xs ys) ∙ none)).0
+  -- an entry more of a key that has none
+  pub added : (key : List ℕ) (value : V) (xs ys : Entries V) {before after : Entries V} {m : ByImsi V} → before ≡ xs ++ ys → map_of before ≡ m
+      → map.get m key ≡ None → after ≡ xs ++ (key, value) ∷ ys → map_of after ≡ map.insert m key value
+  added key value xs ys {before} was view none is =
+      let missed = ap (found key) (sym was) ∙ sym (get-is before key) ∙ ap (λ m. map.get m key) view ∙ none in
+      ap map_of is ∙ inserted key value (xs ++ ys) _ (λ q. found-amid q key value xs ys missed) ∙ ap (λ m. map.insert m key value) (ap map_of (sym was) ∙ view)
 
   -- another value in the first entry of a key that is there
   module _ (key : List ℕ) (value : V) where
@@ -219,7 +199,7 @@ module _ {V : Type 0} where
               ∙ exchanged (is_same q e.0) (is_same q key) (Some e.1) (Some value) (found q es) (apart q key e.0 there)
         ] refl some
 
-    pub with_value : (es : Entries V) → is_some (map.get (map_of es) key) ≡ true → map_of (with_value_of key value es) ≡ map.insert (map_of es) key value
+    with_value : (es : Entries V) → is_some (map.get (map_of es) key) ≡ true → map_of (with_value_of key value es) ≡ map.insert (map_of es) key value
     with_value es some = inserted key value es (with_value_of key value es) (λ q. found-with q es (ap is_some (sym (get-is es key)) ∙ some))
 
     within-first : (xs ys : Entries V) → is_some (found key xs) ≡ true → with_value_of key value (xs ++ ys) ≡ with_value_of key value xs ++ ys
@@ -247,16 +227,27 @@ module _ {V : Type 0} where
     pub with_second : (xs ys : Entries V) → is_some (map.get (map_of xs) key) ≡ false → with_value_of key value (xs ++ ys) ≡ xs ++ with_value_of key value ys
     with_second xs ys none = within-second xs ys (ap is_some (sym (get-is xs key)) ∙ none)
 
-    pub with_set : (es : Entries V) (at : ℕ) (e : List ℕ × V) → IsFirst key at es → e ≡ slice_index_or es at e
-        → slice_set es at (e.0, value) ≡ with_value_of key value es
-    with_set es at e first is = ap (λ (x : List ℕ × V). slice_set es at (x.0, value)) is ∙ set_first es at e first
-      where
-        set_first : (es : Entries V) (at : ℕ) (d : List ℕ × V) → IsFirst key at es
-            → slice_set es at ((slice_index_or es at d).0, value) ≡ with_value_of key value es
-        set_first [] at d first = absurd first
-        set_first (e ∷ es) zero d first = sym (ap (λ b. cond b ((e.0, value) ∷ es) (e ∷ with_value_of key value es)) first)
-        set_first (e ∷ es) (suc at) d first =
-            ap (λ rest. e ∷ rest) (set_first es at d first.1) ∙ sym (ap (λ b. cond b ((e.0, value) ∷ es) (e ∷ with_value_of key value es)) first.0)
+    set_first : (es : Entries V) (at : ℕ) (d : List ℕ × V) → IsFirst key at es d
+        → slice_set es at ((slice_index_or es at d).0, value) ≡ with_value_of key value es
+    set_first [] at d first = absurd (omega (arith, first.0))
+    set_first (e ∷ es) zero d first = sym (ap (λ b. cond b ((e.0, value) ∷ es) (e ∷ with_value_of key value es)) first.1)
+    set_first (e ∷ es) (suc at) d first =
+        let rest = in_rest key at e es d first in
+        ap (λ others. e ∷ others) (set_first es at d rest.1) ∙ sym (ap (λ b. cond b ((e.0, value) ∷ es) (e ∷ with_value_of key value es)) rest.0)
+
+  -- in the second of two lists the value is that at the place that a search finds
+  pub with_second_set : (key : List ℕ) (value : V) (xs ys : Entries V) → is_some (map.get (map_of xs) key) ≡ false → {at : ℕ}
+      → position (λ e. is_same key e.0) ys ≡ Some at → {e : List ℕ × V} → e ≡ slice_index_or ys at e
+      → xs ++ slice_set ys at (e.0, value) ≡ with_value_of key value (xs ++ ys)
+  with_second_set key value xs ys none {at} is {e} own =
+      ap (λ (x : List ℕ × V). xs ++ slice_set ys at (x.0, value)) own
+      ∙ ap (λ es. xs ++ es) (set_first key value ys at e (position-Some (λ (x : List ℕ × V). is_same key x.0) ys at e is)) ∙ sym (with_second key value xs ys none)
+
+  -- the map of entries into which another value of a key is written
+  pub written : (key : List ℕ) (value : V) (es : Entries V) {after : Entries V} {m : ByImsi V} → after ≡ with_value_of key value es → map_of es ≡ m
+      → is_some (map.get m key) ≡ true → map_of after ≡ map.insert m key value
+  written key value es is view there =
+      ap map_of is ∙ with_value key value es (ap (λ m. is_some (map.get m key)) view ∙ there) ∙ ap (λ m. map.insert m key value) view
 
   pub get_of_first : (key : List ℕ) (xs ys : Entries V) (v : V) → Some v ≡ map.get (map_of xs) key → Some v ≡ map.get (map_of (xs ++ ys)) key
   get_of_first key xs ys v is = ap (λ o. option_or o (map.get (map_of ys) key)) is ∙ sym (get-append key xs ys)

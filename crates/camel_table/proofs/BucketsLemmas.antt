@@ -1,17 +1,19 @@
 -- The map of the buckets of a table: an IMSI is found in the bucket of its place, and a bucket more changes nothing.
-use Rattle.std.proofs.Common.{◌≡◌, ◌∙◌, ℕ, zero, suc, ◌<◌, ◌==◌, Bool, true, false, not, cond, T, List, [], ◌∷◌, ◌++◌, Option, Some, None, IsSome, length}
-use Rattle.std.proofs.Common.{slice_index_or, slice_set, inl, inr, refl, sym, ap, subst, arith}
+use Rattle.std.proofs.Common.{◌≡◌, ◌∙◌, ℕ, zero, suc, ◌+◌, ◌<◌, ◌==◌, Bool, true, false, not, cond, T, List, [], ◌∷◌, ◌++◌, Option, Some, None, IsSome, length}
+use Rattle.std.proofs.Common.{slice_index_or, slice_set, inl, inr, refl, sym, ap, ap₂, subst, arith}
 use Rattle.std.specs.Cmp.Lexicographic.{slice_cmp, nat_list_cmp_total}
-use Rattle.std.specs.FinMap.{empty, entries, get, get-empty, get-entries, get-from_entries, get-insert, get-remove, get-retain_keys, insert, len-empty}
-use Rattle.std.specs.FinMap.{len-entries, remove, retain_keys, same_map}
-use Rattle.std.specs.Option.{option_or}
+use Rattle.std.specs.FinMap.{empty, entries, get, get-empty, get-entries, get-from_entries, get-retain_keys, len-empty, len-entries, retain_keys, same_map}
+use Rattle.std.specs.List.{flat_map, sum_by}
+use Rattle.std.specs.Option.{is_some, option_or}
 use Rattle.std.specs.Ordering.{nat_cmp}
 use Rattle.std.proofs.lemmas.Bool.{eq-eqb, false_from_ne_true, ne_eqb}
 use Rattle.std.proofs.lemmas.Bool.Decides.{eqb_tells}
+use Rattle.std.proofs.Math.Nat.{zero-add}
+use Rattle.std.proofs.lemmas.List.Sums.{sum_by-cons}
 use Rattle.std.proofs.lemmas.List.{get_or-set_other, get_or-set_same, length-set}
 use Rattle.std.proofs.lemmas.Map.Lookups.{exact_bytes}
-use Rattle.camel_table.specs.ByImsi.{ByImsi, is_same, map_of}
-use Rattle.camel_table.specs.Buckets.{ArePlaced, all_entries, table_map}
+use Rattle.camel_table.specs.ByImsi.{ByImsi, is_same, map_of, times_stored}
+use Rattle.camel_table.specs.Buckets.{ArePlaced, table_map}
 use Rattle.camel_table.proofs.AddressingLemmas.{Moves}
 use Rattle.camel_table.proofs.BucketLemmas.{Entries, found, found-append, same_are_equal}
 
@@ -19,9 +21,22 @@ no_value : {V : Type 0} (o : Option V) → (IsSome o → ⊥) → o ≡ None
 no_value None none = refl
 no_value (Some value) none = absurd (none refl)
 
-none_listed : {A : Type 0} (es : List A) → length es ≡ 0 → es ≡ []
+pub none_listed : {A : Type 0} (es : List A) → length es ≡ 0 → es ≡ []
 none_listed [] none = refl
 none_listed (e ∷ es) none = absurd (omega (arith, none))
+
+-- of numbers that are 0 but for one, the sum is that one
+in_none : {A : Type 0} (f : A → ℕ) (d : A) (xs : List A) → ((i : ℕ) → f (slice_index_or xs i d) ≡ 0) → sum_by f xs ≡ 0
+in_none f d [] none = refl
+in_none f d (x ∷ xs) none = sum_by-cons f x xs ∙ ap₂ ◌+◌ (none 0) (in_none f d xs (λ i. none (suc i)))
+
+in_one : {A : Type 0} (f : A → ℕ) (d : A) (n : ℕ) (xs : List A) → ((i : ℕ) → (i ≡ n → ⊥) → f (slice_index_or xs i d) ≡ 0) → f d ≡ 0
+    → sum_by f xs ≡ f (slice_index_or xs n d)
+in_one f d n [] others none = sym none
+in_one f d zero (x ∷ xs) others none =
+    sum_by-cons f x xs ∙ ap (λ m. f x + m) (in_none f d xs (λ i. others (suc i) (λ e. omega (arith, e)))) ∙ omega arith
+in_one f d (suc n) (x ∷ xs) others none =
+    sum_by-cons f x xs ∙ ap₂ ◌+◌ (others 0 (λ e. omega (arith, e))) (in_one f d n xs (λ i other. others (suc i) (λ e. other (omega (arith, e)))) none) ∙ zero-add _
 
 module _ {V : Type 0} where
   found-before : (q : List ℕ) (es fs : Entries V) → found q fs ≡ None → found q (es ++ fs) ≡ found q es
@@ -39,17 +54,17 @@ module _ {V : Type 0} where
   abbrev IsAlone : List ℕ → ℕ → List (ByImsi V) → Type 0
   IsAlone q n buckets = (at : ℕ) → (at ≡ n → ⊥) → get (bucket_at buckets at) q ≡ None
 
-  in_no_bucket : (q : List ℕ) (buckets : List (ByImsi V)) → ((at : ℕ) → get (bucket_at buckets at) q ≡ None) → found q (all_entries buckets) ≡ None
+  in_no_bucket : (q : List ℕ) (buckets : List (ByImsi V)) → ((at : ℕ) → get (bucket_at buckets at) q ≡ None) → found q (flat_map entries buckets) ≡ None
   in_no_bucket q [] none = refl
   in_no_bucket q (bucket ∷ buckets) none =
-      found-after q (entries bucket) (all_entries buckets) (sym (get-entries bucket q) ∙ none 0) ∙ in_no_bucket q buckets (λ at. none (suc at))
+      found-after q (entries bucket) (flat_map entries buckets) (sym (get-entries bucket q) ∙ none 0) ∙ in_no_bucket q buckets (λ at. none (suc at))
 
-  in_its_bucket : (q : List ℕ) (n : ℕ) (buckets : List (ByImsi V)) → IsAlone q n buckets → found q (all_entries buckets) ≡ get (bucket_at buckets n) q
+  in_its_bucket : (q : List ℕ) (n : ℕ) (buckets : List (ByImsi V)) → IsAlone q n buckets → found q (flat_map entries buckets) ≡ get (bucket_at buckets n) q
   in_its_bucket q n [] alone = sym (get-empty (slice_cmp nat_cmp) q)
   in_its_bucket q zero (bucket ∷ buckets) alone =
-      found-before q (entries bucket) (all_entries buckets) (in_no_bucket q buckets (λ at. alone (suc at) (λ e. omega (arith, e)))) ∙ sym (get-entries bucket q)
+      found-before q (entries bucket) (flat_map entries buckets) (in_no_bucket q buckets (λ at. alone (suc at) (λ e. omega (arith, e)))) ∙ sym (get-entries bucket q)
   in_its_bucket q (suc n) (bucket ∷ buckets) alone =
-      found-after q (entries bucket) (all_entries buckets) (sym (get-entries bucket q) ∙ alone 0 (λ e. omega (arith, e)))
+      found-after q (entries bucket) (flat_map entries buckets) (sym (get-entries bucket q) ∙ alone 0 (λ e. omega (arith, e)))
       ∙ in_its_bucket q n buckets (λ at other. alone (suc at) (λ e. other (omega (arith, e))))
 
   module _ (place : List ℕ → ℕ) where
@@ -57,7 +72,16 @@ module _ {V : Type 0} where
     alone buckets placed q at other = no_value _ (λ some. other (sym (placed at q some)))
 
     pub get-table : (buckets : List (ByImsi V)) → ArePlaced place buckets → (q : List ℕ) → get (table_map buckets) q ≡ get (bucket_at buckets (place q)) q
-    get-table buckets placed q = get-from_entries nat_list_cmp_total (all_entries buckets) q ∙ in_its_bucket q (place q) buckets (alone buckets placed q)
+    get-table buckets placed q = get-from_entries nat_list_cmp_total (flat_map entries buckets) q ∙ in_its_bucket q (place q) buckets (alone buckets placed q)
+
+    -- how often the buckets have an IMSI
+    pub stored_in_all : (buckets : List (ByImsi V)) → ArePlaced place buckets → (q : List ℕ) → sum_by (times_stored q) buckets ≡ times_stored q (table_map buckets)
+    stored_in_all buckets placed q =
+        in_one (times_stored q) empty (place q) buckets (λ at other. ap once (alone buckets placed q at other)) (ap once (get-empty (slice_cmp nat_cmp) q))
+        ∙ ap once (sym (get-table buckets placed q))
+      where
+        once : Option V → ℕ
+        once o = cond (is_some o) 1 0
 
     -- a bucket that changes at one IMSI of its own
     module _ (buckets : List (ByImsi V)) (placed : ArePlaced place buckets) (key : List ℕ) (inside : place key < length buckets) (new : ByImsi V)
@@ -178,45 +202,19 @@ module _ {V : Type 0} where
     divided-same = same_map nat_list_cmp_total exact_bytes _ _ (λ q.
         get-table next divided divided-placed q ∙ its_new_bucket q ∙ sym (get-table place buckets placed q))
 
-  -- a value that is put, replaced or taken out
-  module _ (place : List ℕ → ℕ) (buckets : List (ByImsi V)) (placed : ArePlaced place buckets) (key : List ℕ) (inside : place key < length buckets) where
-    abbrev own : ByImsi V
-    own = bucket_at buckets (place key)
-
-    pub insert-placed : (value : V) → ArePlaced place (slice_set buckets (place key) (insert own key value))
-    insert-placed value = placed-after place buckets placed key inside _ (Some value) (get-insert nat_list_cmp_total own key value)
-
-    pub insert-table : (value : V) → table_map (slice_set buckets (place key) (insert own key value)) ≡ insert (table_map buckets) key value
-    insert-table value =
-        table-after place buckets placed key inside _ (Some value) (get-insert nat_list_cmp_total own key value) _
-        (get-insert nat_list_cmp_total (table_map buckets) key value)
-
-    pub remove-placed : ArePlaced place (slice_set buckets (place key) (remove own key))
-    remove-placed = placed-after place buckets placed key inside _ None (get-remove nat_list_cmp_total own key)
-
-    pub remove-table : table_map (slice_set buckets (place key) (remove own key)) ≡ remove (table_map buckets) key
-    remove-table =
-        table-after place buckets placed key inside _ None (get-remove nat_list_cmp_total own key) _ (get-remove nat_list_cmp_total (table_map buckets) key)
-
   -- no buckets
   pub none-placed : (place : List ℕ → ℕ) (buckets : List (ByImsi V)) → buckets ≡ [] → ArePlaced place buckets
   none-placed place buckets none at imsi some =
       absurd (subst T (sym (subst IsSome (ap (λ ls. get (bucket_at ls at) imsi) none ∙ get-empty (slice_cmp nat_cmp) imsi) some)) tt)
 
-  pub none-table : (buckets : List (ByImsi V)) → buckets ≡ [] → table_map buckets ≡ empty
-  none-table buckets none = ap table_map none
-
-  pub none-of-length : (buckets : List (ByImsi V)) → length buckets ≡ 0 → buckets ≡ []
-  none-of-length buckets none = none_listed buckets none
-
-  entries-empty : entries (empty {X = V} {R = slice_cmp nat_cmp}) ≡ []
+  pub entries-empty : entries (empty {X = V} {R = slice_cmp nat_cmp}) ≡ []
   entries-empty = none_listed _ (sym (len-entries (empty {X = V} {R = slice_cmp nat_cmp})) ∙ len-empty (slice_cmp nat_cmp) V)
 
   -- an empty bucket more
   pub all-more : (buckets : List (ByImsi V)) (bucket : ByImsi V) → bucket ≡ empty → table_map (buckets ++ bucket ∷ []) ≡ table_map buckets
   all-more buckets bucket none = ap map_of (entries-more buckets bucket none)
     where
-      entries-more : (buckets : List (ByImsi V)) (bucket : ByImsi V) → bucket ≡ empty → all_entries (buckets ++ bucket ∷ []) ≡ all_entries buckets
+      entries-more : (buckets : List (ByImsi V)) (bucket : ByImsi V) → bucket ≡ empty → flat_map entries (buckets ++ bucket ∷ []) ≡ flat_map entries buckets
       entries-more [] bucket none = ap (λ l. entries l ++ []) none ∙ ap (λ es. es ++ []) (entries-empty)
       entries-more (first ∷ rest) bucket none = ap (λ es. entries first ++ es) (entries-more rest bucket none)
 

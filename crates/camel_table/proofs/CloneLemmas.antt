@@ -1,18 +1,21 @@
 -- What a clone of entries, segments or buckets keeps.
-use Rattle.std.proofs.Common.{◌≡◌, ◌∙◌, ℕ, zero, suc, Bool, true, false, cond, List, [], ◌∷◌, ◌++◌, Option, Some, None, slice_index_or}
-use Rattle.std.proofs.Common.{refl, sym, ap, subst, arith}
-use Rattle.std.specs.FinMap.{empty}
+use Rattle.std.proofs.Common.{◌≡◌, ◌∙◌, ℕ, zero, suc, List, [], ◌∷◌, ◌++◌, Option, Some, None, length, map, refl, sym, ap, ap₂, subst, arith}
+use Rattle.std.specs.Cmp.Lexicographic.{slice_cmp, nat_list_cmp_total}
+use Rattle.std.specs.FinMap.{contains_key-keys, entries, entries-insert, keys, len, len-entries}
+use Rattle.std.specs.FinMap.Entries.{by_order, put}
 use Rattle.std.specs.Global.{Vec}
-use Rattle.std.specs.List.{AllZip}
-use Rattle.std.specs.Option.{is_some}
+use Rattle.std.specs.List.{AllZip, flat_map, list_any}
+use Rattle.std.specs.Ordering.{nat_cmp}
+use Rattle.std.specs.declared.cmp.Ordering.TheVariants.{Less, Equal, Greater}
+use Rattle.std.proofs.lemmas.List.{length-map, map-append}
 use Rattle.std.proofs.lemmas.Slice.Zip.{AllZip-long}
-use Rattle.camel_table.specs.Addressing.{place_of}
-use Rattle.camel_table.specs.ByImsi.{ByImsi, HasSameKeys, is_same, map_of}
+use Rattle.camel_table.specs.ByImsi.{ByImsi, is_same, map_of}
 use Rattle.camel_table.specs.Buckets.{IsTable, table_map}
 use Rattle.camel_table.specs.Segments.{AreFull, joined}
 use Rattle.camel_table.specs.Slots.{in_slot}
-use Rattle.camel_table.proofs.BucketLemmas.{Entries, found, get-is}
-use Rattle.camel_table.proofs.BucketsLemmas.{get-table}
+use Rattle.camel_table.proofs.BucketLemmas.{Entries}
+use Rattle.camel_table.proofs.BucketsLemmas.{bucket_at, entries-empty}
+use Rattle.camel_table.proofs.OnceLemmas.{keys_of}
 use Rattle.camel_table.proofs.TableLemmas.{whole_after}
 
 pub both_lists : {A : Type 0} (R : A → A → Type 0) (xs ys more others : List A) → AllZip R xs ys → AllZip R more others → AllZip R (xs ++ more) (ys ++ others)
@@ -48,41 +51,67 @@ module _ {A : Type 0} (R : A → A → Type 0) (C : Vec A → Vec A → Type 0) 
   joined_clone (s ∷ ss) [] all = absurd all
   joined_clone (s ∷ ss) (c ∷ cs) all = both_lists R s.items c.items (joined ss) (joined cs) (items s c all.0) (joined_clone ss cs all.1)
 
+-- what is the same of each two is the same of all
+pub all_same : {A B : Type 0} (R : A → A → Type 0) (f : A → B) → ((x y : A) → R x y → f y ≡ f x) → (xs ys : List A) → AllZip R xs ys → map f ys ≡ map f xs
+all_same R f same [] [] all = refl
+all_same R f same [] (y ∷ ys) all = absurd all
+all_same R f same (x ∷ xs) [] all = absurd all
+all_same R f same (x ∷ xs) (y ∷ ys) all = ap₂ ◌∷◌ (same x y all.0) (all_same R f same xs ys all.1)
+
+-- the keys of a map of entries are theirs, each put in its place
+abbrev key_put : List ℕ → List (List ℕ) → List (List ℕ)
+key_put key [] = key ∷ []
+key_put key (x ∷ xs) = by_order (slice_cmp nat_cmp key x) (key ∷ x ∷ xs) (x ∷ xs) (x ∷ key_put key xs)
+
+abbrev keys_put : List (List ℕ) → List (List ℕ)
+keys_put [] = []
+keys_put (key ∷ keys) = key_put key (keys_put keys)
+
 module _ {V : Type 0} where
-  -- entries with the same keys
-  pub same_keys : (R : (List ℕ × V) → (List ℕ × V) → Type 0) → ((x y : List ℕ × V) → R x y → y.0 ≡ x.0) → (es fs : Entries V) → AllZip R es fs
-      → HasSameKeys (map_of es) (map_of fs)
-  same_keys R keys es fs all imsi = ap is_some (get-is fs imsi) ∙ same es fs all ∙ ap is_some (sym (get-is es imsi))
+  key-put : (key : List ℕ) (value : V) (es : Entries V) → keys_of (put (slice_cmp nat_cmp) key value es) ≡ key_put key (keys_of es)
+  key-put key value [] = refl
+  key-put key value (e ∷ es) =
+      elim (slice_cmp nat_cmp key e.0) as (λ r.
+      keys_of (by_order r ((key, value) ∷ e ∷ es) ((e.0, value) ∷ es) (e ∷ put (slice_cmp nat_cmp) key value es))
+      ≡ by_order r (key ∷ e.0 ∷ keys_of es) (e.0 ∷ keys_of es) (e.0 ∷ key_put key (keys_of es))) [
+        | Less ↦ refl
+        | Equal ↦ refl
+        | Greater ↦ ap (λ keys. e.0 ∷ keys) (key-put key value es)
+      ]
+
+  keys-put : (es : Entries V) → keys (map_of es) ≡ keys_put (keys_of es)
+  keys-put [] = ap keys_of entries-empty
+  keys-put (e ∷ es) =
+      ap keys_of (entries-insert nat_list_cmp_total (map_of es) e.0 e.1) ∙ key-put e.0 e.1 (entries (map_of es)) ∙ ap (key_put e.0) (keys-put es)
+
+  pub same_keys : (es fs : Entries V) → keys_of fs ≡ keys_of es → keys (map_of fs) ≡ keys (map_of es)
+  same_keys es fs same = keys-put fs ∙ ap keys_put same ∙ sym (keys-put es)
+
+  same_len : (m n : ByImsi V) → keys n ≡ keys m → len n ≡ len m
+  same_len m n same = len-keys n ∙ ap length same ∙ sym (len-keys m)
     where
-      same : (es fs : Entries V) → AllZip R es fs → is_some (found imsi fs) ≡ is_some (found imsi es)
-      same [] [] all = refl
-      same [] (f ∷ fs) all = absurd all
-      same (e ∷ es) [] all = absurd all
-      same (e ∷ es) (f ∷ fs) all =
-          ap (λ k. is_some (cond (is_same imsi k) (Some f.1) (found imsi fs))) (keys e f all.0) ∙ either (is_same imsi e.0) (same es fs all.1)
-        where
-          either : (b : Bool) → is_some (found imsi fs) ≡ is_some (found imsi es)
-              → is_some (cond b (Some f.1) (found imsi fs)) ≡ is_some (cond b (Some e.1) (found imsi es))
-          either true rest = refl
-          either false rest = rest
+      len-keys : (m : ByImsi V) → len m ≡ length (keys m)
+      len-keys m = len-entries m ∙ sym (length-map (entries m) (λ e. e.0))
 
-  same_keys_at : (R : ByImsi V → ByImsi V → Type 0) → ((m n : ByImsi V) → R m n → HasSameKeys m n) → (ms ns : List (ByImsi V)) → AllZip R ms ns
-      → (at : ℕ) → HasSameKeys (slice_index_or ms at empty) (slice_index_or ns at empty)
-  same_keys_at R keys [] [] all at imsi = refl
-  same_keys_at R keys [] (n ∷ ns) all at imsi = absurd all
-  same_keys_at R keys (m ∷ ms) [] all at imsi = absurd all
-  same_keys_at R keys (m ∷ ms) (n ∷ ns) all zero imsi = keys m n all.0 imsi
-  same_keys_at R keys (m ∷ ms) (n ∷ ns) all (suc at) imsi = same_keys_at R keys ms ns all.1 at imsi
+  same_keys_at : (R : ByImsi V → ByImsi V → Type 0) → ((m n : ByImsi V) → R m n → keys n ≡ keys m) → (ms ns : List (ByImsi V)) → AllZip R ms ns
+      → (at : ℕ) → keys (bucket_at ns at) ≡ keys (bucket_at ms at)
+  same_keys_at R same [] [] all at = refl
+  same_keys_at R same [] (n ∷ ns) all at = absurd all
+  same_keys_at R same (m ∷ ms) [] all at = absurd all
+  same_keys_at R same (m ∷ ms) (n ∷ ns) all zero = same m n all.0
+  same_keys_at R same (m ∷ ms) (n ∷ ns) all (suc at) = same_keys_at R same ms ns all.1 at
 
-  -- a clone of the buckets of a table has the same keys, and is whole
-  module _ {R : ByImsi V → ByImsi V → Type 0} (keys : (m n : ByImsi V) → R m n → HasSameKeys m n) {hash : ℕ → ℕ} {level count : ℕ} {buckets : List (ByImsi V)}
-      (clones : List (ByImsi V)) (all : AllZip R buckets clones) (whole : IsTable hash level count buckets) where
-    pub whole_clone : IsTable hash level count clones
-    whole_clone = whole_after whole (AllZip-long R buckets clones all) (λ at imsi some.
-        whole.placed at imsi (sym (same_keys_at R keys buckets clones all at imsi) ∙ some))
+  keys-all : (buckets : List (ByImsi V)) → keys_of (flat_map entries buckets) ≡ flat_map (λ keys. keys) (map keys buckets)
+  keys-all [] = refl
+  keys-all (bucket ∷ buckets) = map-append (λ e. e.0) (entries bucket) (flat_map entries buckets) ∙ ap (λ rest. keys bucket ++ rest) (keys-all buckets)
 
-    pub table_keys : HasSameKeys (table_map buckets) (table_map clones)
-    table_keys imsi =
-        ap is_some (get-table (place_of hash level count) clones whole_clone.placed imsi)
-        ∙ same_keys_at R keys buckets clones all (place_of hash level count imsi) imsi
-        ∙ ap is_some (sym (get-table (place_of hash level count) buckets whole.placed imsi))
+  -- a clone of the buckets of a table is whole
+  pub whole_clone : {R : ByImsi V → ByImsi V → Type 0} → ((m n : ByImsi V) → R m n → keys n ≡ keys m) → {hash : ℕ → ℕ} {level count values : ℕ}
+      {buckets : List (ByImsi V)} (clones : List (ByImsi V)) → AllZip R buckets clones → IsTable hash level count values buckets
+      → IsTable hash level count values clones
+  whole_clone {R} same {buckets = buckets} clones all whole =
+      let all_keys = keys-all clones ∙ ap (flat_map (λ keys. keys)) (all_same R keys same buckets clones all) ∙ sym (keys-all buckets) in
+      whole_after whole (AllZip-long R buckets clones all)
+      (λ at imsi some. whole.placed at imsi (contains_key-keys (bucket_at buckets at) imsi
+      ∙ ap (list_any (is_same imsi)) (sym (same_keys_at R same buckets clones all at)) ∙ sym (contains_key-keys (bucket_at clones at) imsi) ∙ some))
+      (whole.counted ∙ sym (same_len (table_map buckets) (table_map clones) (same_keys (flat_map entries buckets) (flat_map entries clones) all_keys)))

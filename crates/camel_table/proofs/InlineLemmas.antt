@@ -1,16 +1,14 @@
 -- The value of an IMSI in a slot, and in one list or another.
-use Rattle.std.proofs.Common.{◌≡◌, ◌∙◌, ℕ, Bool, true, false, T, cond, List, [], ◌∷◌, ◌++◌, Option, Some, None, Bor, refl, sym, ap, subst}
+use Rattle.std.proofs.Common.{◌≡◌, ◌∙◌, ℕ, Bool, true, false, T, cond, List, [], ◌∷◌, ◌++◌, Option, Some, None, Bor, append_assoc, option_to_list, refl, sym, ap, ap₂, subst}
 use Rattle.std.specs.FinMap as map
 use Rattle.std.specs.Option.{is_some, option_copied, option_or}
+use Rattle.std.proofs.lemmas.List.{map-append}
 use Rattle.camel_tbcd.specs.ImsiSlot.{is_in_slot}
 use Rattle.camel_table.specs.ByImsi.{map_of}
 use Rattle.camel_table.specs.Lending.{with_value_of}
 use Rattle.camel_table.specs.Slots.{in_slot}
+use Rattle.camel_table.proofs.OnceLemmas.{keys_of}
 use Rattle.camel_table.proofs.BucketLemmas.{get-append, get-none, get-one, get_of_first, get_of_second, with_first, with_second}
-
-pub copied_or : {A : Type 0} (a b : Option (Bor A)) → option_copied (option_or a b) ≡ option_or (option_copied a) (option_copied b)
-copied_or None b = refl
-copied_or (Some value) b = refl
 
 -- a value that is found first, and one that is found if there is no such
 pub or_first : {A : Type 0} (o : Option (Bor A)) (other : Option A) → is_some o ≡ true → option_copied o ≡ option_or (option_copied o) other
@@ -20,6 +18,21 @@ or_first (Some value) other some = refl
 pub or_second : {A : Type 0} (o : Option (Bor A)) (other : Option A) → is_some o ≡ false → other ≡ option_or (option_copied o) other
 or_second None other none = refl
 or_second (Some value) other none = absurd (subst T none tt)
+
+-- the IMSIs of three slots, listed one after the other
+pub three_listed : {V : Type 0} (before : List (List ℕ)) (a b c : Option (List ℕ)) (x y z : V) {es : List (List ℕ × V)} → in_slot a x ++ (in_slot b y ++ in_slot c z) ≡ es
+    → {one two three : List (List ℕ)} → one ≡ before ++ option_to_list a → two ≡ one ++ option_to_list b → three ≡ two ++ option_to_list c
+    → three ≡ before ++ keys_of es
+three_listed before a b c x y z view one_is two_is three_is =
+    three_is ∙ ap (λ l. l ++ option_to_list c) (two_is ∙ ap (λ l. l ++ option_to_list b) one_is)
+    ∙ append_assoc (before ++ option_to_list a) (option_to_list b) (option_to_list c)
+    ∙ append_assoc before (option_to_list a) (option_to_list b ++ option_to_list c)
+    ∙ ap (λ l. before ++ l) (ap₂ ◌++◌ (listed a x) (ap₂ ◌++◌ (listed b y) (listed c z) ∙ sym (map-append (λ e. e.0) (in_slot b y) (in_slot c z)))
+    ∙ sym (map-append (λ e. e.0) (in_slot a x) (in_slot b y ++ in_slot c z)) ∙ ap keys_of view)
+  where
+    listed : {V : Type 0} (key : Option (List ℕ)) (value : V) → option_to_list key ≡ keys_of (in_slot key value)
+    listed None value = refl
+    listed (Some key) value = refl
 
 module _ {V : Type 0} (imsi : List ℕ) where
   -- the value of an IMSI in a slot
@@ -44,14 +57,6 @@ module _ {V : Type 0} (imsi : List ℕ) where
 
   pub is_slot : (key : Option (List ℕ)) (value : V) → is_some (map.get (map_of (in_slot key value)) imsi) ≡ is_in_slot imsi key
   is_slot key value = ap is_some (get_slot key value) ∙ some_here (is_in_slot imsi key) value
-
-  pub is_either_slot : (a b : Option (List ℕ)) (x y : V)
-      → is_some (map.get (map_of (in_slot a x ++ in_slot b y)) imsi) ≡ cond (is_in_slot imsi a) true (is_in_slot imsi b)
-  is_either_slot a b x y = ap is_some (get_or a x _ _ (get_slot b y)) ∙ either (is_in_slot imsi a) (is_in_slot imsi b)
-    where
-      either : (first second : Bool) → is_some (cond first (Some x) (cond second (Some y) None)) ≡ cond first true second
-      either true second = refl
-      either false second = some_here second y
 
   -- writing gives the entries with another value of the IMSI, and the value before is that of the IMSI
   abbrev pub IsLent : (V → List (List ℕ × V)) → V → List (List ℕ × V) → Type 0

@@ -4,8 +4,6 @@ pub mod BucketsLemmas
 pub mod CloneLemmas
 pub mod CountLemmas
 pub mod InlineLemmas
-pub mod KeyCountLemmas
-pub mod ListedLemmas
+pub mod OnceLemmas
 pub mod SegmentsLemmas
-pub mod SlotsLemmas
 pub mod TableLemmas

@@ -1,8 +1,9 @@
 -- A table stays whole, and its map is the one that is meant, after each change of a bucket.
 use Rattle.std.proofs.Common.{◌≡◌, ◌⊎◌, ◌∙◌, ℕ, zero, suc, ◌+◌, ◌-◌, ◌*◌, ◌%◌, ◌<◌, ◌≤◌, ◌^◌, ◌==◌, Bool, true, false, cond, not, T, List, [], ◌∷◌, ◌++◌}
-use Rattle.std.proofs.Common.{Option, None, length, slice_index_or, slice_set, inl, inr, refl, sym, ap, subst, arith, length-append}
-use Rattle.std.specs.FinMap.{empty, get, get-empty, get-remove, insert, remove, retain_keys, same_map}
+use Rattle.std.proofs.Common.{Option, Some, None, length, slice_index_or, slice_set, inl, inr, refl, sym, ap, subst, arith, length-append}
+use Rattle.std.specs.FinMap.{empty, get, get-empty, get-insert, get-remove, insert, len, len-empty, remove, retain_keys, same_map}
 use Rattle.std.specs.Cmp.Lexicographic.{slice_cmp, nat_list_cmp_total}
+use Rattle.std.specs.Int.{from_bool}
 use Rattle.std.specs.Option.{is_some}
 use Rattle.std.specs.Ordering.{nat_cmp}
 use Rattle.std.proofs.lemmas.Map.Lookups.{exact_bytes}
@@ -11,8 +12,9 @@ use Rattle.camel_tbcd.specs.ImsiNumber.{imsi_number}
 use Rattle.camel_table.specs.ByImsi.{ByImsi, is_same}
 use Rattle.camel_table.specs.Buckets.{ArePlaced, IsTable, table_map}
 use Rattle.camel_table.specs.Addressing.{bucket_in, place_of}
-use Rattle.camel_table.proofs.BucketsLemmas.{all-more, divided-placed, divided-same, get-table, insert-placed, insert-table, bucket_at}
-use Rattle.camel_table.proofs.BucketsLemmas.{none-of-length, none-placed, none-table, placed-more, remove-placed, remove-table}
+use Rattle.camel_table.proofs.BucketsLemmas.{all-more, divided-placed, divided-same, get-table, bucket_at}
+use Rattle.camel_table.proofs.BucketsLemmas.{none-placed, none_listed, placed-after, placed-more, table-after}
+use Rattle.camel_table.proofs.CountLemmas.{inserted_counted, removed_counted, replaced_counted}
 use Rattle.camel_table.proofs.AddressingLemmas.{Moves, place_below, place_more, shifted_one, some_power}
 
 one_place : (hash : ℕ → ℕ) (key : List ℕ) → place_of hash 0 1 key ≡ 0
@@ -26,29 +28,42 @@ module _ {V : Type 0} where
       → slice_set buckets at new ≡ buckets
   unchanged buckets at {old} own same = ap (slice_set buckets at) (same ∙ own) ∙ set-get_or buckets at old
 
+  -- the buckets make a table that contracts see as this map
+  abbrev pub Makes : (ℕ → ℕ) → (level count values : ℕ) → ByImsi V → List (ByImsi V) → Type 0
+  Makes hash level count values m buckets = IsTable hash level count values buckets × (table_map buckets ≡ m)
+
 module _ {V : Type 0} {hash : ℕ → ℕ} where
-  pub no_table : {buckets : List (ByImsi V)} → buckets ≡ [] → IsTable hash 0 0 buckets
+  pub no_table : {buckets : List (ByImsi V)} → buckets ≡ [] → IsTable hash 0 0 0 buckets
   no_table {buckets} none = record {
     low = omega arith;
     round = inl (refl, ap length none);
     few = subst (λ (ls : List (ByImsi V)). length ls ≤ 2 ^ 32) (sym none) (omega arith);
     placed = none-placed (place_of hash 0 0) buckets none;
+    counted = sym (ap (λ ls. len (table_map ls)) none ∙ len-empty _ _);
   }
 
   -- a table of one bucket
-  pub one_bucket : {bucket : ByImsi V} {buckets : List (ByImsi V)} → buckets ≡ bucket ∷ [] → IsTable hash 0 1 buckets × (table_map buckets ≡ bucket)
-  one_bucket {bucket} is =
-      subst (λ (ls : List (ByImsi V)). IsTable hash 0 1 ls × (table_map ls ≡ bucket)) (sym is) (
-        record { low = omega arith; round = inr (omega arith, (omega arith, omega arith)); few = omega arith; placed = placed },
-        same_map nat_list_cmp_total exact_bytes _ _ (λ q.
-            get-table (place_of hash 0 1) (bucket ∷ []) placed q ∙ ap (λ n. get (bucket_at (bucket ∷ []) n) q) (one_place hash q)),
+  pub one_bucket : {bucket : ByImsi V} {buckets : List (ByImsi V)} → buckets ≡ bucket ∷ [] → (key : List ℕ) (value : V) → bucket ≡ insert empty key value
+      → Makes hash 0 1 1 (insert empty key value) buckets
+  one_bucket {bucket} is key value first =
+      subst (Makes hash 0 1 1 (insert empty key value)) (sym is) (
+        record { low = omega arith; round = inr (omega arith, (omega arith, omega arith)); few = omega arith; placed = placed; counted = one ∙ sym (ap len same) },
+        same,
       )
     where
       placed : ArePlaced (place_of hash 0 1) (bucket ∷ [])
       placed zero imsi some = one_place hash imsi
       placed (suc at) imsi some = absurd (subst T (sym (sym (ap is_some (get-empty (slice_cmp nat_cmp) imsi)) ∙ some)) tt)
 
-  module _ {level count : ℕ} {buckets : List (ByImsi V)} (whole : IsTable hash level count buckets) where
+      one : 1 ≡ len {R = slice_cmp nat_cmp} (insert empty key value)
+      one = inserted_counted empty key value 1 (sym (ap (λ o. from_bool (not (is_some o))) (get-empty (slice_cmp nat_cmp) key))) 0
+          (sym (len-empty (slice_cmp nat_cmp) V))
+
+      same : table_map (bucket ∷ []) ≡ insert empty key value
+      same = same_map nat_list_cmp_total exact_bytes _ bucket (λ q.
+          get-table (place_of hash 0 1) (bucket ∷ []) placed q ∙ ap (λ n. get (bucket_at (bucket ∷ []) n) q) (one_place hash q)) ∙ first
+
+  module _ {level count values : ℕ} {buckets : List (ByImsi V)} (whole : IsTable hash level count values buckets) where
     abbrev place : List ℕ → ℕ
     place = place_of hash level count
 
@@ -69,18 +84,23 @@ module _ {V : Type 0} {hash : ℕ → ℕ} where
     ]
 
     -- as many buckets, each IMSI in that of its place
-    pub whole_after : {after : List (ByImsi V)} → length after ≡ length buckets → ArePlaced place after → IsTable hash level count after
-    whole_after same placed = record {
+    pub whole_after : {after : List (ByImsi V)} {total : ℕ} → length after ≡ length buckets → ArePlaced place after → total ≡ len (table_map after)
+        → IsTable hash level count total after
+    whole_after same placed counted = record {
       low = whole.low;
       round = elim whole.round [ inl none ↦ inl (none.0, same ∙ none.1) | inr round ↦ inr (round.0, (round.1.0, subst (λ n. count ≤ n) (sym same) round.1.1)) ];
       few = subst (λ n. n ≤ 2 ^ 32) (sym same) whole.few;
       placed = placed;
+      counted = counted;
     }
 
     -- the map that contracts see
     module _ {self : ByImsi V} (view : table_map buckets ≡ self) where
+      pub self_counted : values ≡ len self
+      self_counted = whole.counted ∙ ap len view
+
       pub empty_table : count ≡ 0 → self ≡ empty
-      empty_table none = sym view ∙ none-table buckets (none-of-length buckets (no_length none))
+      empty_table none = sym view ∙ ap table_map (none_listed buckets (no_length none))
 
       pub nothing : count ≡ 0 → (key : List ℕ) → get self key ≡ None
       nothing none key = ap (λ m. get m key) (empty_table none) ∙ get-empty (slice_cmp nat_cmp) key
@@ -112,50 +132,59 @@ module _ {V : Type 0} {hash : ℕ → ℕ} where
           pub value_before : get old key ≡ get self key
           value_before = ap (λ bucket. get bucket key) the_bucket ∙ sym (get-table place buckets whole.placed key) ∙ ap (λ m. get m key) view
 
+          -- the table after a change at this IMSI
+          changed_table : (new : ByImsi V) (value : Option V) {m : ByImsi V} {total : ℕ} → ((q : List ℕ) → get new q ≡ cond (is_same q key) value (get old q))
+              → ((q : List ℕ) → get m q ≡ cond (is_same q key) value (get self q)) → total ≡ len m → Makes hash level count total m (slice_set buckets at new)
+          changed_table new value {m} differs is total_is =
+              let inside = in_buckets some key in
+              let there = ap (λ n. slice_set buckets n new) its_place in
+              let owns = λ (q : List ℕ). differs q ∙ ap (λ bucket. cond (is_same q key) value (get bucket q)) the_bucket in
+              let is_map = λ (q : List ℕ). is q ∙ ap (λ m. cond (is_same q key) value (get m q)) (sym view) in
+              let same = ap table_map there ∙ table-after place buckets whole.placed key inside new value owns m is_map in
+              let placed = subst (ArePlaced place) (sym there) (placed-after place buckets whole.placed key inside new value owns) in
+              (whole_after (length-set buckets at new) placed (total_is ∙ sym (ap len same)), same)
+
           module _ {new : ByImsi V} where
-            set_there : {changed : ByImsi V} → new ≡ changed → slice_set buckets at new ≡ slice_set buckets (place key) changed
-            set_there same = ap (λ n. slice_set buckets n new) its_place ∙ ap (slice_set buckets (place key)) same
-
-            -- the table after a change, if each IMSI is in the bucket of its place
-            changed_table : {changed : ByImsi V} → new ≡ changed → ArePlaced place (slice_set buckets (place key) changed)
-                → IsTable hash level count (slice_set buckets at new)
-            changed_table same placed = whole_after (length-set buckets at new) (subst (ArePlaced place) (sym (set_there same)) placed)
-
-            pub inserted : (value : V) → new ≡ insert old key value
-                → IsTable hash level count (slice_set buckets at new) × (table_map (slice_set buckets at new) ≡ insert self key value)
+            inserted : (value : V) {total : ℕ} → new ≡ insert old key value → total ≡ len (insert self key value)
+                → Makes hash level count total (insert self key value) (slice_set buckets at new)
             inserted value same =
-                let put = same ∙ ap (λ bucket. insert bucket key value) the_bucket in (
-                  changed_table put (insert-placed place buckets whole.placed key (in_buckets some key) value),
-                  ap table_map (set_there put) ∙ insert-table place buckets whole.placed key (in_buckets some key) value ∙ ap (λ m. insert m key value) view,
-                )
+                changed_table _ (Some value) (λ q. ap (λ bucket. get bucket q) same ∙ get-insert nat_list_cmp_total old key value q)
+                (get-insert nat_list_cmp_total self key value)
 
-            -- a value that is inserted, and whether it is the first of its key
-            pub put : (value : V) {is_new : Bool} → new ≡ insert old key value → is_new ≡ not (is_some (get old key))
-                → (table_map (slice_set buckets at new) ≡ insert self key value) × (is_new ≡ not (is_some (get self key)))
-            put value same first = ((inserted value same).1, first ∙ ap (λ o. not (is_some o)) value_before)
+            pub replaced : (value : V) → is_some (get self key) ≡ true → new ≡ insert old key value → Makes hash level count values (insert self key value) (slice_set buckets at new)
+            replaced value there same = inserted value same (self_counted ∙ sym (replaced_counted self key value there))
 
-            pub removed : new ≡ remove old key → IsTable hash level count (slice_set buckets at new) × (table_map (slice_set buckets at new) ≡ remove self key)
-            removed same =
-                let without = same ∙ ap (λ bucket. remove bucket key) the_bucket in (
-                  changed_table without (remove-placed place buckets whole.placed key (in_buckets some key)),
-                  ap table_map (set_there without) ∙ remove-table place buckets whole.placed key (in_buckets some key) ∙ ap (λ m. remove m key) view,
+            pub put : (value : V) {is_new : Bool} {more : ℕ} → new ≡ insert old key value → is_new ≡ not (is_some (get old key)) → more ≡ from_bool is_new
+                → Makes hash level count (values + more) (insert self key value) (slice_set buckets at new)
+            put value same first more_is = inserted value same
+                (inserted_counted self key value _ (more_is ∙ ap from_bool (first ∙ ap (λ o. not (is_some o)) value_before)) values self_counted)
+
+            pub removed : {was : Bool} {gone : ℕ} → new ≡ remove old key → was ≡ is_some (get old key) → gone ≡ from_bool was
+                → (gone ≤ values) × Makes hash level count (values - gone) (remove self key) (slice_set buckets at new)
+            removed {was} {gone} same there gone_is =
+                let fewer = removed_counted self key gone (gone_is ∙ ap from_bool (there ∙ ap is_some value_before)) in (
+                  subst (λ n. gone ≤ n) (sym self_counted) fewer.0,
+                  changed_table _ None (λ q. ap (λ bucket. get bucket q) same ∙ get-remove nat_list_cmp_total old key q)
+                      (get-remove nat_list_cmp_total self key) (ap (λ n. n - gone) self_counted ∙ fewer.1),
                 )
 
       -- perhaps with a spare bucket
       pub with_spare : (count ≡ 0 → ⊥) → {after : List (ByImsi V)} → length after ≤ 2 ^ 32 → (after ≡ buckets) ⊎ (after ≡ buckets ++ empty ∷ [])
-          → IsTable hash level count after × (table_map after ≡ self)
-      with_spare some few (inl same) = (subst (IsTable hash level count) (sym same) whole, ap table_map same ∙ view)
+          → Makes hash level count values self after
+      with_spare some few (inl same) = (subst (IsTable hash level count values) (sym same) whole, ap table_map same ∙ view)
       with_spare some {after} few (inr more) =
           let longer : length after ≡ length buckets + 1 = ap length more ∙ length-append buckets (empty ∷ []) in
           let round = rounds some in
-          let enough = round.1.1 in (
+          let enough = round.1.1 in
+          let same = ap table_map more ∙ all-more buckets empty refl in (
             record {
               low = whole.low;
               round = inr (round.0, (round.1.0, omega (arith, longer, enough)));
               few = few;
               placed = subst (ArePlaced place) (sym more) (placed-more place buckets empty refl whole.placed);
+              counted = whole.counted ∙ sym (ap len same);
             },
-            ap table_map more ∙ all-more buckets empty refl ∙ view,
+            same ∙ view,
           )
 
       -- a bucket more: the entries of one are divided by the addressing of the next table
@@ -171,8 +200,7 @@ module _ {V : Type 0} {hash : ℕ → ℕ} where
         -- the table that such a division makes
         abbrev Grows : ByImsi V → ByImsi V → (ℕ → ℕ) → ℕ → Type 0
         Grows stay leave hash more = stay ≡ kept (λ is_at. is_at) more hash old → leave ≡ kept not more hash old
-            → IsTable hash next more (slice_set (slice_set buckets at stay) count leave)
-            × (table_map (slice_set (slice_set buckets at stay) count leave) ≡ self)
+            → Makes hash next more values self (slice_set (slice_set buckets at stay) count leave)
 
         apart : at < count
         apart = omega (arith, is, shifted_one next low, began, some_power next)
@@ -186,15 +214,17 @@ module _ {V : Type 0} {hash : ℕ → ℕ} where
             let there = ap (λ b. slice_set (slice_set buckets at b) count leave) (stays ∙ ap (kept (λ is_at. is_at) (count + 1) hash) the_bucket)
             ∙ ap (slice_set _ count) (leaves ∙ ap (kept not (count + 1) hash) the_bucket) in
             let long : length (slice_set (slice_set buckets at stay) count leave) ≡ length buckets = length-set _ count leave ∙ length-set buckets at stay in
-            let below = λ (q : List ℕ). place_below level count (hash (imsi_number q)) (rounds some).0 in (
+            let below = λ (q : List ℕ). place_below level count (hash (imsi_number q)) (rounds some).0 in
+            let same = ap table_map there ∙ divided-same place (place_of hash next (count + 1)) buckets whole.placed at count apart spare below moves in (
               record {
                 low = low;
                 round = inr (omega (arith, began), (subst (λ n. n ≤ 2 ^ (1 + next)) counted within, omega (arith, long, spare)));
                 few = subst (λ n. n ≤ 2 ^ 32) (sym long) whole.few;
                 placed = subst (ArePlaced (place_of hash next (count + 1))) (sym there)
                     (divided-placed place (place_of hash next (count + 1)) buckets whole.placed at count apart spare below moves);
+                counted = whole.counted ∙ sym (ap len same);
               },
-              ap table_map there ∙ divided-same place (place_of hash next (count + 1)) buckets whole.placed at count apart spare below moves ∙ view,
+              same ∙ view,
             )
 
         pub grown : {stay leave : ByImsi V} → Grows stay leave hash_after more

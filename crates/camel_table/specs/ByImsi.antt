@@ -1,5 +1,5 @@
 -- Finite maps from IMSIs, each the list of its digits.
-use Rattle.std.specs.Prelude.{◌≡◌, ℕ, ◌+◌, Bool, List, count_by, if◌then◌else◌}
+use Rattle.std.specs.Prelude.{◌≡◌, ℕ, ◌+◌, ◌≤◌, Bool, List, count_by, if◌then◌else◌}
 use Rattle.std.specs.Cmp.Lexicographic.{slice_cmp}
 use Rattle.std.specs.FinMap.{FinMap, from_entries, get}
 use Rattle.std.specs.Option.{is_some}
@@ -16,9 +16,9 @@ map_of entries = from_entries entries
 abbrev pub is_same : List ℕ → List ℕ → Bool
 is_same imsi other = eq_by_cmp (slice_cmp nat_cmp) imsi other
 
--- two maps have values of the same IMSIs
-abbrev pub HasSameKeys : {V : Type 0} → ByImsi V → ByImsi V → Type 0
-HasSameKeys m n = (imsi : List ℕ) → is_some (get n imsi) ≡ is_some (get m imsi)
+-- no IMSI has two entries
+abbrev pub HasEachOnce : {V : Type 0} → List (List ℕ × V) → Type 0
+HasEachOnce entries = (imsi : List ℕ) → count_by (λ entry. is_same imsi entry.0) entries ≤ 1
 
 -- how often a list has an IMSI
 abbrev pub times_listed : List ℕ → List (List ℕ) → ℕ

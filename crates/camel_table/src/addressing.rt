@@ -39,7 +39,8 @@ impl<S: BuildHasher> Addressing<S> {
     /// The number of its bucket, from 0.
     pub(crate) fn bucket(&self, number: u64) -> usize
         requires { self.now.level ≤ 32 }
-        ensures { result ≡ bucket_in self.now.level self.now.count (hash_of S.Hasher.finish S.Hasher.write (S.build_hasher self.now.hashes) number) }
+        ensures { result ≡ bucket_in self.now.level self.now.count
+            (hash_of S.Hasher.finish S.Hasher.write (S.build_hasher self.now.hashes) number) }
     {
         let hash = self.hashes.hash_one(number);
         let bucket = (hash & self.mask) as usize;
@@ -71,7 +72,8 @@ impl<S: Copy> Addressing<S> {
         ensures count { result.count ≡ self.now.count + 1 }
         ensures hashes { result.hashes ≡ self.now.hashes }
         ensures low { result.level ≤ 32 }
-        ensures level { (result.level ≡ self.now.level) ⊎ ((result.level ≡ 1 + self.now.level) × (self.now.count ≡ 2 ^ (1 + self.now.level))) }
+        ensures level { (result.level ≡ self.now.level)
+            ⊎ ((result.level ≡ 1 + self.now.level) × (self.now.count ≡ 2 ^ (1 + self.now.level))) }
         ensures began { 2 ^ result.level ≤ self.now.count }
         ensures within { result.count ≤ 2 ^ (1 + result.level) }
     {

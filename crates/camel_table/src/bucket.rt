@@ -1,4 +1,5 @@
-ghost use Rattle.std.specs.Prelude.{◌≡◌, ◌≤◌, ◌++◌, [], not, filter, find, vec_capacity, vec_len, IfOk, position, OnErr, OnOk, IsSome, None, Some};
+ghost use Rattle.std.specs.Prelude.{◌≡◌, ◌≤◌, ◌++◌, [], not, filter, find, vec_capacity, vec_len, IfOk, position};
+ghost use Rattle.std.specs.Prelude.{OnErr, OnOk, IsSome, None, Some};
 ghost use Rattle.std.specs.Borrow.{sem};
 ghost use Rattle.std.specs.FinMap as map;
 ghost use Rattle.std.specs.Option.{is_some, option_copied, option_map};
@@ -23,7 +24,7 @@ pub(crate) struct Bucket<V> {
     // The further entries. There may be some while there is room for more of the first ones. The list stands before
     // those, so that mostly one cache line says where all entries lie.
     more: Vec<Entry<V>>,
-    // The first entries. They lie in the bucket itself, so that most look-ups do not wait for a further block of memory.
+    // The first entries. They lie in the bucket itself, so that most look-ups wait for no further block of memory.
     inline: InlineEntries<V>,
 }
 
@@ -31,13 +32,15 @@ impl<V> Model for Bucket<V> {
     ghost use Rattle.std.specs.Prelude.{◌++◌};
     ghost use Rattle.std.specs.FinMap as map;
     ghost use Rattle.std.specs.Coded.{coded_ℕ, coded_list};
-    ghost use Rattle.camel_table.specs.ByImsi.{ByImsi, map_of};
+    ghost use Rattle.camel_table.specs.ByImsi.{ByImsi, HasEachOnce, map_of};
 
     ghost Value = { ByImsi V };
 
     ghost coded = { map.code (coded_list coded_ℕ) V.code };
 
     ghost view = { λ a. map_of (a.inline ++ a.more.items) };
+
+    ghost invariant = { λ a. HasEachOnce (a.inline ++ a.more.items) };
 }
 
 impl<V> Bucket<V> {
@@ -69,7 +72,7 @@ impl<V> Bucket<V> {
         } else {
             let at = position(&self.more, imsi).unwrap();
             let entry = &mut self.more[at];
-            &mut entry.value
+            entry.lend()
         }
     }
 
@@ -79,15 +82,7 @@ impl<V> Bucket<V> {
     {
         self.inline.push_imsis(imsis)?;
         for at in 0..self.more.len() {
-            let imsi = self.more[at].imsi();
-            let before = self
-                .inline
-                .get(&imsi)
-                .or(find_value(&self.more[..at], &imsi));
-            // Only the first entry of an IMSI counts, and no invariant says that there is no other one.
-            if before.is_none() {
-                imsis.push(imsi)?;
-            }
+            imsis.push(self.more[at].imsi())?;
         }
         Ok(())
     }
@@ -179,11 +174,11 @@ impl<V: Default + Drop> Bucket<V> {
 }
 
 impl<V: Clone> Clone for Bucket<V> {
-    ghost use Rattle.std.specs.Prelude.{◌≡◌, ℕ, List};
-    ghost use Rattle.camel_table.specs.ByImsi.{HasSameKeys};
+    ghost use Rattle.std.specs.Prelude.{◌≡◌};
+    ghost use Rattle.std.specs.FinMap as map;
 
     // A clone has the same keys, and the same values if a clone of a value is the same.
-    ghost is_clone = { λ old new. HasSameKeys old new × (((x y : V) → V.is_clone x y → y ≡ x) → new ≡ old) };
+    ghost is_clone = { λ old new. (map.keys new ≡ map.keys old) × (((x y : V) → V.is_clone x y → y ≡ x) → new ≡ old) };
 
     fn clone(&self) -> Result<Bucket<V>, AllocError> {
         Ok(Bucket {
@@ -229,7 +224,8 @@ fn split<V: Drop, S: BuildHasher>(
 }
 
 fn find_value<'a, V>(entries: &'a [Entry<V>], imsi: &Imsi) -> Option<&'a V>
-    ensures { option_copied result ≡ option_map (λ entry. entry.1) (find (λ entry. is_same imsi.now entry.0) entries.now) }
+    ensures { option_copied result
+        ≡ option_map (λ entry. entry.1) (find (λ entry. is_same imsi.now entry.0) entries.now) }
 {
     let entry = entries.iter().find(|entry| entry.is(imsi))?;
     Some(entry.value())

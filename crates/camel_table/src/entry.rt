@@ -1,6 +1,8 @@
 ghost use Rattle.std.specs.Prelude.{◌≡◌, ◌≤◌};
+ghost use Rattle.std.specs.Borrow.{sem};
 ghost use Rattle.camel_table.specs.ByImsi.{is_same};
 ghost use Rattle.camel_table.specs.Addressing.{is_at};
+ghost use Rattle.camel_table.specs.Lending.{lends_entry};
 
 use crate::addressing::Addressing;
 use camel_tbcd::Imsi;
@@ -40,6 +42,14 @@ impl<V> Entry<V> {
         ensures { result.now ≡ self.now.1 }
     {
         &self.value
+    }
+
+    /// Its value, to be changed in its place.
+    pub(crate) fn lend(&mut self) -> &mut V
+        ensures* writes_back { sem 𝓛 (lends_entry V.row self.entry result) }
+        ensures value { result.now ≡ self.old.1 }
+    {
+        &mut self.value
     }
 
     pub(crate) fn is_at<S: BuildHasher>(&self, addressing: &Addressing<S>, at: usize) -> bool

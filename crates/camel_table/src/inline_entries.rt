@@ -1,9 +1,10 @@
-ghost use Rattle.std.specs.Prelude.{◌≡◌, ◌≤◌, ◌<◌, ◌++◌, [], ◌∷◌, if◌then◌else◌, not, filter, length, nat_lt, option_to_list, IsSome, OnOk, Some};
+ghost use Rattle.std.specs.Prelude.{◌≡◌, ◌≤◌, ◌<◌, ◌++◌, [], ◌∷◌, not, filter, length, map as map_list, nat_lt};
+ghost use Rattle.std.specs.Prelude.{option_to_list, IsSome, OnOk, Some};
 ghost use Rattle.std.specs.Borrow.{sem};
 ghost use Rattle.std.specs.FinMap as map;
 ghost use Rattle.std.specs.Option.{option_copied};
 ghost use Rattle.camel_table.specs.Addressing.{is_at};
-ghost use Rattle.camel_table.specs.ByImsi.{ListsEachOnceMore, is_same, map_of};
+ghost use Rattle.camel_table.specs.ByImsi.{is_same, map_of};
 ghost use Rattle.camel_table.specs.Lending.{lends_inline};
 
 use crate::addressing::Addressing;
@@ -90,17 +91,13 @@ impl<V> InlineEntries<V> {
         }
     }
 
-    /// Lists each IMSI that has a value, after those that are listed. Fails with `AllocError` if memory is refused.
+    /// Lists the IMSI of each entry, after those that are listed. Fails with `AllocError` if memory is refused.
     pub(crate) fn push_imsis(&self, imsis: &mut Vec<Imsi>) -> Result<(), AllocError>
-        ensures { OnOk result (ListsEachOnceMore imsis.old.items imsis.new.items (map_of self.now)) }
+        ensures { OnOk result (imsis.new.items ≡ imsis.old.items ++ map_list (λ entry. entry.0) self.now) }
     {
-        // Only the first entry of an IMSI counts, and no invariant says that there is no other one.
-        let is_second_listed = slot::has_imsi_of(&self.first_key, &self.second_key);
-        let is_third_listed = slot::has_imsi_of(&self.first_key, &self.third_key)
-            || slot::has_imsi_of(&self.second_key, &self.third_key);
-        push_imsi(&self.first_key, false, imsis)?;
-        push_imsi(&self.second_key, is_second_listed, imsis)?;
-        push_imsi(&self.third_key, is_third_listed, imsis)?;
+        push_imsi(&self.first_key, imsis)?;
+        push_imsi(&self.second_key, imsis)?;
+        push_imsi(&self.third_key, imsis)?;
         Ok(())
     }
 }
@@ -204,13 +201,12 @@ impl<V: Clone> Clone for InlineEntries<V> {
     }
 }
 
-/// Lists the IMSI of the entry in a slot, if there is one, unless it is listed already.
-fn push_imsi(key: &ImsiSlot, is_listed: bool, imsis: &mut Vec<Imsi>) -> Result<(), AllocError>
-    ensures { OnOk result (imsis.new.items ≡ imsis.old.items ++ (if is_listed then [] else option_to_list key.now)) }
+/// Lists the IMSI of the entry in a slot, if there is one.
+fn push_imsi(key: &ImsiSlot, imsis: &mut Vec<Imsi>) -> Result<(), AllocError>
+    ensures { OnOk result (imsis.new.items ≡ imsis.old.items ++ option_to_list key.now) }
 {
-    match key.imsi() {
-        Some(imsi) if !is_listed => imsis.push(imsi)?,
-        _ => {}
+    if let Some(imsi) = key.imsi() {
+        imsis.push(imsi)?;
     }
     Ok(())
 }

@@ -3,7 +3,6 @@
 
 mod addressing;
 mod bucket;
-mod buckets;
 mod entry;
 mod inline_entries;
 mod seed;

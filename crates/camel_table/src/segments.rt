@@ -1,4 +1,5 @@
-ghost use Rattle.std.specs.Prelude.{◌≡◌, ◌<◌, ◌^◌, ◌+◌, ◌/◌, ◌++◌, [], ◌∷◌, length, slice_index_or, vec_capacity, vec_len, OnErr, OnOk};
+ghost use Rattle.std.specs.Prelude.{◌≡◌, ◌<◌, ◌^◌, ◌+◌, ◌/◌, ◌++◌, [], ◌∷◌, length, slice_index_or, vec_capacity};
+ghost use Rattle.std.specs.Prelude.{vec_len, OnErr, OnOk};
 ghost use Rattle.std.specs.Borrow.{sem};
 ghost use Rattle.camel_table.specs.Lending.{lends_item};
 ghost use Rattle.camel_table.specs.Segments.{AreFull, HasRoom, joined, segment};

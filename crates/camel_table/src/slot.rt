@@ -5,7 +5,7 @@ ghost use Rattle.std.specs.Prelude.{◌≡◌, ◌≤◌, not, filter};
 ghost use Rattle.std.specs.Option.{is_none};
 ghost use Rattle.camel_table.specs.Addressing.{is_at};
 ghost use Rattle.camel_table.specs.ByImsi.{is_same};
-ghost use Rattle.camel_table.specs.Slots.{has_imsi_of, in_slot};
+ghost use Rattle.camel_table.specs.Slots.{in_slot};
 
 use crate::addressing::Addressing;
 use camel_tbcd::{Imsi, ImsiSlot};
@@ -17,16 +17,6 @@ pub(crate) fn is_free(key: &ImsiSlot) -> bool
     ensures { result ≡ is_none key.now }
 {
     key.imsi().is_none()
-}
-
-/// Whether a slot has an entry of the IMSI that the entry of another slot has.
-pub(crate) fn has_imsi_of(key: &ImsiSlot, other: &ImsiSlot) -> bool
-    ensures { result ≡ has_imsi_of key.now other.now }
-{
-    match other.imsi() {
-        Some(imsi) => key.is(&imsi),
-        None => false,
-    }
 }
 
 /// Takes the entry of a slot out if it has this IMSI.
@@ -50,8 +40,9 @@ pub(crate) fn split<V: Default + Drop, S: BuildHasher>(
     requires { addressing.now.level ≤ 32 }
     ensures stay { in_slot key.new value.new ≡ filter (λ entry.
         is_at S.Hasher.finish S.Hasher.write S.build_hasher addressing.now at entry.0) (in_slot key.old value.old) }
-    ensures leave { in_slot result.0 result.1 ≡ filter (λ entry.
-        not (is_at S.Hasher.finish S.Hasher.write S.build_hasher addressing.now at entry.0)) (in_slot key.old value.old) }
+    ensures leave { in_slot result.0 result.1 ≡ filter
+        (λ entry. not (is_at S.Hasher.finish S.Hasher.write S.build_hasher addressing.now at entry.0))
+        (in_slot key.old value.old) }
 {
     let leaves = match key.imsi() {
         Some(imsi) => addressing.bucket(imsi.number()) != at,

@@ -1,6 +1,5 @@
-use Rattle.std.proofs.Common.{◌∙◌, ap, sym}
-use Rattle.std.specs.FinMap.{len, len-empty}
+use Rattle.camel_table.proofs.TableLemmas.{no_table}
 use Rattle.camel_table.proofs.table.Table.new.Goals as goal
 
 pub invariant_of-result : goal.invariant_of-result
-invariant_of-result g c = sym (ap len c.new.ensures ∙ len-empty _ _)
+invariant_of-result g c = let is = c.new.ensures in rw (is.hashes, is.level, is.count) (no_table c.new-2.ensures)

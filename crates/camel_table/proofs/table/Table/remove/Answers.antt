@@ -1,15 +1,24 @@
-use Rattle.std.proofs.Common.{◌∙◌, ◌-◌, arith, sym, ap}
-use Rattle.std.specs.FinMap as map
-use Rattle.std.specs.Int.{from_bool}
-use Rattle.camel_table.proofs.CountLemmas.{removed_counted}
+use Rattle.std.proofs.Common.{sym}
+use Rattle.camel_table.proofs.TableLemmas.{nothing_removed, removed}
 use Rattle.camel_table.proofs.table.Table.remove.Goals as goal
+
+pub returns-then-self-eq0 : goal.returns-then-self-eq0
+returns-then-self-eq0 g c = sym (nothing_removed c.self.invariant c.self.view_is c.if-self-eq0.true c.args.imsi.now)
 
 pub overflow_sub-self : goal.overflow_sub-self
 overflow_sub-self g c =
-    let counted = removed_counted c.self.inside.buckets c.args.imsi.now c.from.result (c.from.ensures ∙ ap from_bool c.remove.ensures.was) in
-    omega (arith, counted.0, c.self.invariant)
+    let own = c.get_mut-bucket.ensures.item in
+    let is = c.remove.ensures in
+    (removed c.self.invariant c.self.view_is c.if-self-eq0.false c.args.imsi.now c.number.ensures.number c.bucket.ensures own is.removed is.was c.from.ensures).0
 
 pub invariant_of-self : goal.invariant_of-self
 invariant_of-self g c =
-    let counted = removed_counted c.self.inside.buckets c.args.imsi.now c.from.result (c.from.ensures ∙ ap from_bool c.remove.ensures.was) in
-    ap (λ n. n - c.from.result) c.self.invariant ∙ counted.1 ∙ sym (ap map.len c.remove.ensures.removed)
+    let own = c.get_mut-bucket.ensures.item in
+    let is = c.remove.ensures in
+    (removed c.self.invariant c.self.view_is c.if-self-eq0.false c.args.imsi.now c.number.ensures.number c.bucket.ensures own is.removed is.was c.from.ensures).1.0
+
+pub returns : goal.returns
+returns g c =
+    let own = c.get_mut-bucket.ensures.item in
+    let is = c.remove.ensures in
+    (removed c.self.invariant c.self.view_is c.if-self-eq0.false c.args.imsi.now c.number.ensures.number c.bucket.ensures own is.removed is.was c.from.ensures).1.1

@@ -2,7 +2,7 @@ use Rattle.std.proofs.Common.{◌∙◌, refl, ap}
 use Rattle.camel_table.specs.Addressing.{hash_of}
 use Rattle.camel_table.specs.Buckets.{table_map}
 use Rattle.camel_table.proofs.TableLemmas.{grown, unchanged, with_spare}
-use Rattle.camel_table.proofs.buckets.Buckets.grow.Goals as goal
+use Rattle.camel_table.proofs.table.Table.grow.Goals as goal
 
 pub invariant_of-self : goal.invariant_of-self
 invariant_of-self g c =

@@ -1,6 +1,6 @@
 use Rattle.std.proofs.Common.{◌∙◌, sym}
 use Rattle.camel_table.proofs.TableLemmas.{inside, nothing, value_before}
-use Rattle.camel_table.proofs.buckets.Buckets.get.Goals as goal
+use Rattle.camel_table.proofs.table.Table.get.Goals as goal
 
 pub returns-then-self-eq0 : goal.returns-then-self-eq0
 returns-then-self-eq0 g c = sym (nothing c.self.invariant c.self.view_is c.if-self-eq0.true c.args.imsi.now)
