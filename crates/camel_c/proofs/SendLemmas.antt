@@ -26,6 +26,7 @@ use Rattle.camel_vlr.specs.contracts.published_copy.PublishedCopyApplyOperation.
 use Rattle.camel_vlr.specs.contracts.writer.Vlr as Vlr
 use Rattle.camel_vlr.specs.contracts.writer.Vlr.TheInside as Inside
 use Rattle.camel_vlr.specs.contracts.writer.operation.Operation as Operation
+use Rattle.camel_vlr.specs.contracts.writer.state.State as state
 use Rattle.two_copies.specs.contracts.copies.Copies as Copies
 use Rattle.camel_c.specs.contracts.object.LiveStore as live
 use Rattle.camel_c.specs.contracts.object.Stage as stage
@@ -40,29 +41,20 @@ copies_send =
     copies.the_send Copy.the_row Operation.the_row Fronts.the_row (Tuple (Records.the_row ∷ u64 ∷ Prefix.the_row ∷ [])) applies rules_of
     copy.the_send operation.the_send copy.the_sync
 
-inside_send : IsSend (Inside.the_row writer Seat.the_row publisher seat)
-inside_send = declared_send (Inside.the_type writer Seat.the_row publisher seat) (
-  search (sendable, copies_send),
+state_send : IsSend state.the_row
+state_send = declared_send state.the_type (
+  search (sendable, history.the_send),
   (
-    search (sendable, history.the_send),
+    search (sendable, admission.the_send),
     (
-      search (sendable, admission.the_send),
-      (
-        search (sendable, crosses, operation.the_send) depth 20,
-        (
-          search (sendable, profile.the_send),
-          (
-            search (sendable, crosses),
-            (
-              search sendable,
-              (search (sendable, crosses), tt),
-            ),
-          ),
-        ),
-      ),
+      search (sendable, crosses, operation.the_send) depth 20,
+      (search (sendable, profile.the_send), (search (sendable, crosses), (search sendable, (search (sendable, crosses), tt)))),
     ),
   ),
 )
+
+inside_send : IsSend (Inside.the_row writer Seat.the_row publisher seat)
+inside_send = declared_send (Inside.the_type writer Seat.the_row publisher seat) (search (sendable, copies_send), (state_send, tt))
 
 vlr_send : IsSend (as_row (Vlr.the_field writer Seat.the_row publisher seat))
 vlr_send = search (sendable, inside_send)

@@ -1,22 +1,25 @@
 -- The data of a store from its fields, and what the fields keep.
-use Rattle.std.specs.Prelude.{◌≡◌, ℕ, ◌≤◌, Bool, List, ◌++◌, not, true, false, unwrap_or}
+use Rattle.std.specs.Prelude.{◌≡◌, ℕ, ◌≤◌, Bool, List, [], ◌++◌, None, not, true, false, unwrap_or}
+use Rattle.camel_rows.specs.Admission.{no_admissions}
 use Rattle.camel_rows.specs.Front.{Extends, IsFront}
 use Rattle.camel_rows.specs.Store.{IsAdmissionOfUpdates, Updates, accepted_updates}
 use Rattle.camel_rows.specs.declared.subscriber.update.Update.{Update}
 use Rattle.camel_vlr.specs.Operation.{updates_among}
+use Rattle.camel_vlr.specs.Prefix.{PrefixData}
 use Rattle.camel_vlr.specs.PublishedCopy.{IsOfItsFront}
 use Rattle.camel_vlr.specs.Store.{StoreData}
 use Rattle.camel_vlr.specs.declared.base.publisher.Publisher.{Ghosts}
 use Rattle.camel_vlr.specs.declared.writer.TheConstants.{MAX_UPDATES}
 use Rattle.camel_vlr.specs.declared.writer.Vlr.TheInside.{Inside}
 use Rattle.camel_vlr.specs.declared.writer.operation.Operation.{Operation}
+use Rattle.camel_vlr.specs.declared.writer.state.State.{State}
 
 abbrev pub published_in : {W S : Type 0} → Ghosts W S → Inside W S → List Update
 published_in g a = (g.shown a.writer).front.updates
 
 -- the operations that are pending: those that the base has, and behind them those that it was not handed yet
 abbrev pub operations_in : {W S : Type 0} → Ghosts W S → Inside W S → List Operation
-operations_in g a = g.pending a.writer ++ a.pending.items
+operations_in g a = g.pending a.writer ++ a.state.pending.items
 
 abbrev pub pending_in : {W S : Type 0} → Ghosts W S → Inside W S → List Update
 pending_in g a = updates_among (operations_in g a)
@@ -28,26 +31,35 @@ abbrev pub limit_in : {W S : Type 0} → Ghosts W S → Inside W S → ℕ
 limit_in g a = (g.shown a.writer).front.store.limit
 
 abbrev pub known_free : {W S : Type 0} → Inside W S → Bool
-known_free a = unwrap_or a.is_free.value false
+known_free a = unwrap_or a.state.is_free.value false
 
 abbrev pub known_held : {W S : Type 0} → Inside W S → Bool
-known_held a = not (unwrap_or a.is_free.value true)
+known_held a = not (unwrap_or a.state.is_free.value true)
 
 abbrev pub store_of : {W S : Type 0} → Ghosts W S → Inside W S → StoreData
 store_of g a =
-    record { store = (g.shown a.writer).front.store; updates = updates_in g a; free = known_free a; held = known_held a; ahead = a.is_ahead }
+    record { store = (g.shown a.writer).front.store; updates = updates_in g a; free = known_free a; held = known_held a; ahead = a.state.is_ahead }
 
 pub record IsStore {W S : Type 0} (g : Ghosts W S) (a : Inside W S) : Type 0 where
   pub shown : IsOfItsFront (g.shown a.writer)
   pub all : IsFront (limit_in g a) (accepted_updates (updates_in g a))
-  pub admits : IsAdmissionOfUpdates a.admission (limit_in g a) (updates_in g a)
+  pub admits : IsAdmissionOfUpdates a.state.admission (limit_in g a) (updates_in g a)
   pub greatest : limit_in g a ≤ MAX_UPDATES
   pub tells : g.tells a.writer (g.shown a.writer).front
-  pub store : a.history.store ≡ (g.shown a.writer).front.store
-  pub profile : a.profile ≡ (g.shown a.writer).front.store.profile
+  pub store : a.state.history.store ≡ (g.shown a.writer).front.store
+  pub profile : a.state.profile ≡ (g.shown a.writer).front.store.profile
   -- the history goes beyond what is published, and not beyond what is pending
-  pub within : Extends (accepted_updates (updates_in g a)) a.history.updates
-  pub beyond : Extends a.history.updates (published_in g a)
-  pub ahead : a.is_ahead ≡ false → a.history.updates ≡ published_in g a
+  pub within : Extends (accepted_updates (updates_in g a)) a.state.history.updates
+  pub beyond : Extends a.state.history.updates (published_in g a)
+  pub ahead : a.state.is_ahead ≡ false → a.state.history.updates ≡ published_in g a
   pub free : known_free a ≡ true → g.free a.writer
   pub held : known_held a ≡ true → g.held a.writer
+
+-- the state of a store that has this history, and no updates yet
+pub record IsNew (history : PrefixData) (state : State) : Type 0 where
+  pub same : state.history ≡ history
+  pub none : state.pending.items ≡ []
+  pub admission : state.admission ≡ no_admissions history.store.limit
+  pub profile : state.profile ≡ history.store.profile
+  pub level : state.is_ahead ≡ false
+  pub unknown : state.is_free.value ≡ None

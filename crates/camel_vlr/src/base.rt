@@ -1,5 +1,5 @@
-//! The base that publishes the copies of a store: what a store asks of it, the one over `left_right`, whose writer waits
-//! for looks, and the one over `two_copies`, whose writer does not wait.
+//! The base that publishes the copies of a store: what a store asks of it, the one over `left_right`, whose writer
+//! waits for looks, and the one over `two_copies`, whose writer does not wait.
 
 pub(crate) mod left_right_seat;
 pub(crate) mod left_right_writer;

@@ -1,4 +1,4 @@
-ghost use Rattle.std.specs.Prelude.{◌≡◌, ◌+◌, ◌-◌, ◌^◌, min, MatchResult};
+ghost use Rattle.std.specs.Prelude.{◌≡◌, ◌-◌, MatchResult};
 ghost use Rattle.camel_rows.specs.Records.{no_records};
 ghost use Rattle.camel_vlr.specs.Operation.{copy_after, copy_restored, data_of};
 ghost use Rattle.camel_vlr.specs.PublishedCopy.{IsOfItsFront};
@@ -74,7 +74,8 @@ impl PublishedCopy {
 }
 
 impl PublishedCopy {
-    /// Applies an operation, and moves in what it brings. If memory is refused, it comes back, and the copy is as before.
+    /// Applies an operation, and moves in what it brings. If memory is refused, it comes back, and the copy is as
+    /// before.
     fn move_operation(&mut self, operation: Operation) -> Result<(), Operation>
         ensures { MatchResult result
             (λ _. data_of self.new ≡ copy_after (data_of self.old) operation)

@@ -115,7 +115,8 @@ impl<S: Seat> Session<S> {
     /// what the session was told of. Then the session keeps what it had seen and learnt.
     #[inline]
     pub fn look(&mut self) -> Result<Look<'_, S>, NoLook>
-        ensures* refused { sem 𝓛 (RestsIfErr (the_row S.row S.Seat) self.entry (λ l. l.session.ghost_name) result (LeavesLook self.old)) }
+        ensures* refused { sem 𝓛 (RestsIfErr (the_row S.row S.Seat) self.entry (λ l. l.session.ghost_name) result
+            (LeavesLook self.old)) }
         ensures same_session { IfOk result (λ l. l.session.ghost_name ≡ self.entry.ghost_name) }
         ensures sees { IfOk result (λ l. Sees self.old l.session.now) }
     {
@@ -126,8 +127,9 @@ impl<S: Seat> Session<S> {
         }
     }
 
-    /// Begins a look that lasts until [`Session::leave`], and returns whether there is one: for a caller that cannot keep
-    /// the borrow of a [`Look`], as one in C. What a look shows is lent by [`Session::decide`] and the calls beside it.
+    /// Begins a look that lasts until [`Session::leave`], and returns whether there is one: for a caller that cannot
+    /// keep the borrow of a [`Look`], as one in C. What a look shows is lent by [`Session::decide`] and the calls
+    /// beside it.
     ///
     /// If it returns false, [`Session::look`] says why. A look that has begun before is left first. It takes no lock,
     /// does not wait, and takes no memory.

@@ -1,10 +1,11 @@
 //! The writer of a store.
 
-ghost use Rattle.std.specs.Prelude.{◌≡◌, ◌+◌, ◌≤◌, ◌⊎◌, [], ◌∷◌, ◌++◌, Some, None, fold, length, true, false, vec_len, All, IfErr, IfOk, IfSome, OnErr, OnOk};
+ghost use Rattle.std.specs.Prelude.{◌≡◌, ◌+◌, ◌⊎◌, [], ◌++◌, Some, None, fold, length, true, false, vec_len};
+ghost use Rattle.std.specs.Prelude.{All, IfErr, IfOk, IfSome, OnErr, OnOk};
 ghost use Rattle.camel_rows.specs.Front.{Extends, IsFront};
 ghost use Rattle.std.specs.FinMap as map;
 ghost use Rattle.camel_rows.specs.Update.{records_of};
-ghost use Rattle.camel_rows.specs.Store.{accepted_updates, no_updates, with_update};
+ghost use Rattle.camel_rows.specs.Store.{accepted_updates, with_update};
 ghost use Rattle.camel_vlr.specs.Group.{AcceptsAll, RejectsAt};
 ghost use Rattle.camel_vlr.specs.Store.{fresh_session, submission_refusal, with_accepted, with_all_published};
 
@@ -14,23 +15,21 @@ pub(crate) mod group;
 pub(crate) mod opening;
 pub(crate) mod operation;
 pub(crate) mod publication;
+pub(crate) mod state;
 pub(crate) mod submission;
 pub(crate) mod wait_free;
 
 use crate::base::left_right_writer::LeftRightWriter;
 use crate::base::publisher::{Publisher, Publishes};
-use crate::history::History;
 use crate::receipt::Receipt;
 use crate::session::Session;
 use crate::writer::group::{Rejected, accept_all};
-use crate::writer::operation::Operation;
 use crate::writer::publication::{extend_history, hand_over, make_room};
+use crate::writer::state::State;
 use crate::writer::submission::accept;
 use camel_criteria::Refusal;
-use camel_rows::{Admission, Update};
+use camel_rows::Update;
 use camel_tbcd::Profile;
-use std::alloc::Global;
-use std::collections::VecDeque;
 use std::marker::Model;
 use std::snapshot::Snapshot;
 
@@ -47,20 +46,7 @@ pub const MAX_PLACES: usize = 64;
 /// [`Vlr::end`] ends it.
 pub struct Vlr<W: Publisher = LeftRightWriter> {
     writer: W,
-    history: History,
-    /// Which updates are accepted, by the published and the pending ones.
-    admission: Admission,
-    /// The updates that were accepted since the last publication was tried. Its base has those before them.
-    pending: VecDeque<Operation, Global>,
-    /// The profile of its sessions.
-    profile: Profile,
-    /// Where the pending updates are.
-    alloc: Global,
-    /// Whether the history has updates that are not published.
-    is_ahead: bool,
-    /// Whether no look holds up the next publication, as far as it is known. One field: the writer is to be sent to
-    /// another thread, and the check's own search for that gives up at nine.
-    is_free: Snapshot<Option<bool>>,
+    state: State,
 }
 
 impl<W: Publisher> Model for Vlr<W> {
@@ -84,7 +70,7 @@ impl<W: Publisher> Vlr<W> {
         ensures sessions { IfOk result (λ sessions. All (λ s. s ≡ fresh_session self.new.store) sessions.items) }
         ensures only { IfErr result (λ why. (why ≡ Refusal.OutOfMemory) ⊎ (why ≡ Refusal.NoPlace)) }
     {
-        let mut sessions = Vec::with_capacity(self.alloc, places)?;
+        let mut sessions = Vec::with_capacity(self.state.alloc, places)?;
         while sessions.len() < places {
             sessions.push_reserved(self.seat()?);
         }
@@ -100,7 +86,7 @@ impl<W: Publisher> Vlr<W> {
         ensures only { IfErr result (λ why. (why ≡ Refusal.OutOfMemory) ⊎ (why ≡ Refusal.NoPlace)) }
     {
         let place = self.writer.place()?;
-        Ok(Session::new(place, self.receipt(), self.profile))
+        Ok(Session::new(place, self.receipt(), self.state.profile))
     }
 
     /// Accepts an update behind those that are pending, and returns its number, the first being 1.
@@ -108,22 +94,24 @@ impl<W: Publisher> Vlr<W> {
     /// It is rejected, by the data that all accepted updates leave, with `UnidentifiedSubscriber` (5) or `DataMissing`
     /// (35) as `Records::apply` says, then with `HistoryFull` (101) if the store has accepted as many updates as its
     /// limit, then with `OutOfMemory` (102). A rejected update is as if it had not been submitted.
+    #[inline(always)]
     pub fn submit(&mut self, update: Update) -> Result<u64, Refusal>
         ensures refused { IfSome (submission_refusal self.old update) (λ why. result ≡ Err why) }
-        ensures only { IfErr result (λ why. (why ≡ Refusal.OutOfMemory) ⊎ (submission_refusal self.old update ≡ Some why)) }
+        ensures only { IfErr result
+            (λ why. (why ≡ Refusal.OutOfMemory) ⊎ (submission_refusal self.old update ≡ Some why)) }
         ensures accepted { OnOk result (self.new ≡ record self.old { updates = with_update self.old.updates update }) }
         ensures number { IfOk result (λ number. number ≡ length (accepted_updates self.new.updates)) }
         ensures unchanged { OnErr result (self.new ≡ self.old) }
     {
-        let change = self.admission.change(&update)?;
+        let change = self.state.admission.change(&update)?;
         accept(
-            &mut self.pending,
-            &mut self.admission,
-            self.alloc,
+            &mut self.state.pending,
+            &mut self.state.admission,
+            self.state.alloc,
             update,
             change,
         )?;
-        Ok(self.admission.accepted())
+        Ok(self.state.admission.accepted())
     }
 
     /// Accepts several updates in their order, behind those that are pending, or none of them, and returns the number
@@ -131,22 +119,29 @@ impl<W: Publisher> Vlr<W> {
     ///
     /// It fails with the first update that is rejected by the data that those before it leave, as [`Vlr::submit`] says,
     /// and why. An update that leaves no record, a Cancel or a ClearAll, is rejected with `UnexpectedDataValue` (36),
-    /// since taking it back could be refused memory. If memory is refused, it fails with `OutOfMemory` (102). Then it is
-    /// as if none of them had been submitted.
+    /// since taking it back could be refused memory. If memory is refused, it fails with `OutOfMemory` (102). Then it
+    /// is as if none of them had been submitted.
     pub fn submit_all(&mut self, updates: Vec<Update>) -> Result<u64, Rejected>
         ensures all { OnOk result (AcceptsAll submission_refusal with_accepted self.old updates.items) }
         ensures accepted { OnOk result (self.new ≡ fold with_accepted self.old updates.items) }
         ensures pending { OnOk result (self.new.updates
             ≡ record { published = self.old.updates.published; pending = self.old.updates.pending ++ updates.items }) }
         ensures number { IfOk result (λ number. number ≡ length (accepted_updates self.new.updates)) }
-        ensures rejected { IfErr result (λ r. (r.why ≡ Refusal.OutOfMemory) ⊎ RejectsAt submission_refusal with_accepted self.old updates.items r.at r.why) }
+        ensures rejected { IfErr result
+            (λ r. (r.why ≡ Refusal.OutOfMemory)
+            ⊎ RejectsAt submission_refusal with_accepted self.old updates.items r.at r.why) }
         ensures unchanged { OnErr result (self.new ≡ self.old) }
     {
-        let taken = accept_all(&mut self.pending, &mut self.admission, self.alloc, updates);
+        let taken = accept_all(
+            &mut self.state.pending,
+            &mut self.state.admission,
+            self.state.alloc,
+            updates,
+        );
         if let Err(rejected) = taken {
             return Err(rejected);
         }
-        Ok(self.admission.accepted())
+        Ok(self.state.admission.accepted())
     }
 
     /// Publishes all that is pending, at once, also if nothing is, by a handle of its base. If it fails, nothing was
@@ -161,20 +156,20 @@ impl<W: Publisher> Vlr<W> {
         ensures known { self.old.free ≡ true → (writer : W) × W.free writer }
     {
         // What the updates need is asked for before the history has them, so that they can be dropped if it is refused.
-        let Ok(()) = make_room(&mut self.writer, &mut self.pending) else {
+        let Ok(()) = make_room(&mut self.writer, &mut self.state.pending) else {
             return Err(W::out_of_memory());
         };
-        extend_history(&mut self.history, &self.writer, &self.pending);
-        self.is_ahead = true;
-        let front = self.history.prefix();
-        let Ok(()) = hand_over(&mut self.writer, &mut self.pending, front.copy()) else {
+        extend_history(&mut self.state.history, &self.writer, &self.state.pending);
+        self.state.is_ahead = true;
+        let front = self.state.history.prefix();
+        let Ok(()) = hand_over(&mut self.writer, &mut self.state.pending, front.copy()) else {
             return Err(W::out_of_memory());
         };
         if let Err(why) = self.writer.publish_all(by, front) {
             return Err(why);
         }
-        self.is_ahead = false;
-        self.is_free = Snapshot::of(&None);
+        self.state.is_ahead = false;
+        self.state.is_free = Snapshot::of(&None);
         Ok(())
     }
 
@@ -198,14 +193,14 @@ impl<W: Publisher> Vlr<W> {
         ensures published { self.old.ahead ≡ false → Extends self.old.updates.published receipt.now.updates }
         ensures accepted { Extends (accepted_updates self.old.updates) receipt.now.updates }
     {
-        self.history.bounds(&receipt.prefix);
+        self.state.history.bounds(&receipt.prefix);
     }
 
     /// The profile under which its sessions decide: that with which it was opened.
     pub fn profile(&self) -> Profile
         ensures { result ≡ self.now.store.profile }
     {
-        self.profile
+        self.state.profile
     }
 
     /// How many subscribers have a record in what is published.
@@ -226,6 +221,6 @@ impl<W: Publisher> Vlr<W> {
     pub fn pending(&self) -> u64
         ensures { result ≡ length self.now.updates.pending }
     {
-        self.admission.accepted() - self.writer.published().count
+        self.state.admission.accepted() - self.writer.published().count
     }
 }

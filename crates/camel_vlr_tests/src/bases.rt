@@ -2,6 +2,7 @@
 
 ghost use Rattle.std.specs.Prelude.{◌≡◌, IfOk};
 
+use crate::stores::{WaitFree, Waiting};
 use camel_criteria::Refusal;
 use camel_fixtures::{
     EntrySummary, RowSummary, StoredSummary, entry_summary, row_summary, stored_summary,
@@ -201,81 +202,85 @@ impl AnySession for WaitFreeSession {
     }
 }
 
-impl<R: Wait> AnyStore<R> for Vlr {
+impl<R: Wait> AnyStore<R> for Waiting {
     type Session = Session;
 
-    fn opened(rt: &R, alloc: Global) -> Result<(Vlr, Session, Session), Refusal> {
-        opened(rt, alloc)
+    fn opened(rt: &R, alloc: Global) -> Result<(Waiting, Session, Session), Refusal> {
+        let (store, first, second) = opened(rt, alloc)?;
+        Ok((Waiting { store }, first, second))
     }
 
     fn accept(&mut self, update: Update) -> Result<u64, Refusal> {
-        self.submit(update)
+        self.store.submit(update)
     }
 
     fn accept_all(&mut self, updates: Vec<Update>) -> Result<u64, Rejected> {
-        self.submit_all(updates)
+        self.store.submit_all(updates)
     }
 
     fn accept_and_drop(&mut self, update: Update) -> Result<(), Refusal> {
-        self.submit(update)?;
-        self.drop_pending()
+        self.store.submit(update)?;
+        self.store.drop_pending()
     }
 
     fn published_front(&mut self, rt: &R) -> Option<u64> {
-        Some(self.publish(rt).ok()?.front())
+        Some(self.store.publish(rt).ok()?.front())
     }
 
     fn counts(&self) -> Counts {
         (
-            self.published(),
-            self.pending(),
-            self.subscribers(),
-            self.profile(),
+            self.store.published(),
+            self.store.pending(),
+            self.store.subscribers(),
+            self.store.profile(),
         )
     }
 
     fn ended(self, rt: &R) {
-        self.end(rt);
+        let Waiting { store } = self;
+        store.end(rt);
     }
 }
 
-impl<R> AnyStore<R> for WaitFreeVlr {
+impl<R> AnyStore<R> for WaitFree {
     type Session = WaitFreeSession;
 
     fn opened(
         _rt: &R,
         alloc: Global,
-    ) -> Result<(WaitFreeVlr, WaitFreeSession, WaitFreeSession), Refusal> {
-        opened_wait_free(alloc)
+    ) -> Result<(WaitFree, WaitFreeSession, WaitFreeSession), Refusal> {
+        let (store, first, second) = opened_wait_free(alloc)?;
+        Ok((WaitFree { store }, first, second))
     }
 
     fn accept(&mut self, update: Update) -> Result<u64, Refusal> {
-        self.submit(update)
+        self.store.submit(update)
     }
 
     fn accept_all(&mut self, updates: Vec<Update>) -> Result<u64, Rejected> {
-        self.submit_all(updates)
+        self.store.submit_all(updates)
     }
 
     fn accept_and_drop(&mut self, update: Update) -> Result<(), Refusal> {
-        self.submit(update)?;
-        self.drop_pending()
+        self.store.submit(update)?;
+        self.store.drop_pending()
     }
 
     fn published_front(&mut self, _rt: &R) -> Option<u64> {
-        Some(self.publish().ok()?.front())
+        Some(self.store.publish().ok()?.front())
     }
 
     fn counts(&self) -> Counts {
         (
-            self.published(),
-            self.pending(),
-            self.subscribers(),
-            self.profile(),
+            self.store.published(),
+            self.store.pending(),
+            self.store.subscribers(),
+            self.store.profile(),
         )
     }
 
     fn ended(self, _rt: &R) {
-        self.abandon();
+        let WaitFree { store } = self;
+        store.abandon();
     }
 }

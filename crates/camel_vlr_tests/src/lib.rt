@@ -15,6 +15,7 @@ mod limits;
 mod lives;
 #[cfg(test)]
 mod seeds;
+mod stores;
 #[cfg(test)]
 mod threads;
 #[cfg(test)]

@@ -1,11 +1,11 @@
 //! Publications beside sessions in threads of their own, over both bases.
 
 use crate::bases::{AnySession, AnyStore, LIMIT};
+use crate::stores::{WaitFree, Waiting};
 use camel_criteria::Refusal;
 use camel_fixtures::{call_of, imsi_of};
 use camel_rows::{CallEvent, Outcome, Reason, Update};
 use camel_tbcd::Imsi;
-use camel_vlr::{Vlr, WaitFreeVlr};
 use std::alloc::Global;
 use std::sync::atomic::{AtomicBool, AtomicU64, Ordering};
 use std::test::Fail;
@@ -29,8 +29,8 @@ fn front_of<S: AnySession>(session: &mut S) -> Option<u64> {
     front
 }
 
-// Whether a session sees the front before a publication of two updates, or the one after it, and nothing else, until the
-// publication has returned. Then it looks once more: the front is the one after it.
+// Whether a session sees the front before a publication of two updates, or the one after it, and nothing else, until
+// the publication has returned. Then it looks once more: the front is the one after it.
 fn sees_both<S: AnySession>(session: &mut S, has_published: &AtomicBool) -> bool {
     for _ in 0..u64::MAX {
         let is_last = has_published.load(Ordering::SeqCst);
@@ -46,8 +46,8 @@ fn sees_both<S: AnySession>(session: &mut S, has_published: &AtomicBool) -> bool
     false
 }
 
-// Both sessions look before the publication, and one holds its look until the publication has returned. Whether both see
-// the front before it, and then the one after it, though they learn nothing.
+// Both sessions look before the publication, and one holds its look until the publication has returned. Whether both
+// see the front before it, and then the one after it, though they learn nothing.
 fn watches<S: AnySession>(
     first: &mut S,
     second: &mut S,
@@ -106,8 +106,8 @@ fn two_are_seen_whole<R: Threads + Sync, W: AnyStore<R>>(
 
 #[test]
 fn a_publication_is_seen_whole(rt: HostRuntime) -> Result<(), Fail> {
-    assert!(rt; two_are_seen_whole::<HostRuntime, Vlr>(&rt, rt.alloc())?);
-    assert!(rt; two_are_seen_whole::<HostRuntime, WaitFreeVlr>(&rt, rt.alloc())?);
+    assert!(rt; two_are_seen_whole::<HostRuntime, Waiting>(&rt, rt.alloc())?);
+    assert!(rt; two_are_seen_whole::<HostRuntime, WaitFree>(&rt, rt.alloc())?);
     Ok(())
 }
 
@@ -219,7 +219,7 @@ fn each_is_seen<R: Threads + Sync, W: AnyStore<R>>(rt: &R, alloc: Global) -> Res
 
 #[test]
 fn sessions_see_each_publication_beside_their_writer(rt: HostRuntime) -> Result<(), Fail> {
-    assert!(rt; each_is_seen::<HostRuntime, Vlr>(&rt, rt.alloc())?);
-    assert!(rt; each_is_seen::<HostRuntime, WaitFreeVlr>(&rt, rt.alloc())?);
+    assert!(rt; each_is_seen::<HostRuntime, Waiting>(&rt, rt.alloc())?);
+    assert!(rt; each_is_seen::<HostRuntime, WaitFree>(&rt, rt.alloc())?);
     Ok(())
 }

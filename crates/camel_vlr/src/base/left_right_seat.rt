@@ -48,7 +48,8 @@ impl Seat for LeftRightSeat {
 impl LeftRightSeat {
     /// Takes the copy that is published. Returns whether it has one then: if the store has ended, it has none.
     fn take_copy(self, _nothing: ()) -> (LeftRightSeat, bool)
-        ensures yes { result.1 ≡ true → IsSomeAnd (copy_of result.0) (λ copy. Looks (known_of self) copy copy (known_of result.0)) }
+        ensures yes { result.1 ≡ true
+            → IsSomeAnd (copy_of result.0) (λ copy. Looks (known_of self) copy copy (known_of result.0)) }
         ensures no { result.1 ≡ false → (copy_of result.0 ≡ None) × (known_of result.0 ≡ known_of self) }
     {
         match self.into_reader().enter_as::<Looking>() {
@@ -64,8 +65,8 @@ impl LeftRightSeat {
         LeftRightSeat::idle(self.into_reader())
     }
 
-    /// A seat with no copy. It is a function of its own so that it begins once a copy is given back: the compiler clears
-    /// a new seat where the function that makes it begins, and moves it in more steps over what is atomic.
+    /// A seat with no copy. It is a function of its own so that it begins once a copy is given back: the compiler
+    /// clears a new seat where the function that makes it begins, and moves it in more steps over what is atomic.
     fn idle(reader: Reader<PublishedCopy, Known, PublicationRule>) -> (LeftRightSeat, ())
         ensures { (copy_of result.0 ≡ None) × (known_of result.0 ≡ view reader.place) }
     {

@@ -114,8 +114,10 @@ pub(crate) fn publish_all<R: Wait>(
         ≡ writer.desk.shown.value.front.updates ++ updates_among (pending_operations writer) }
     requires front { IsFront with.1.store.limit with.1.updates }
     requires limit { with.1.store.limit ≤ MAX_UPDATES }
-    requires last { (operations : List Operation) × (pending_operations writer ≡ operations ++ operation.Front with.1 ∷ []) }
-    ensures shown { OnOk result.1 (IsOfItsFront result.0.desk.shown.value × (result.0.desk.shown.value.front ≡ with.entry.1)) }
+    requires last { (operations : List Operation)
+        × (pending_operations writer ≡ operations ++ operation.Front with.1 ∷ []) }
+    ensures shown { OnOk result.1
+        (IsOfItsFront result.0.desk.shown.value × (result.0.desk.shown.value.front ≡ with.entry.1)) }
     ensures seat { OnOk result.1 (Knows (view result.0.desk.place) with.entry.1) }
     ensures none { OnOk result.1 (pending_operations result.0 ≡ []) }
     ensures unchanged { OnErr result.1 ((result.0.desk.shown.value ≡ writer.desk.shown.value)

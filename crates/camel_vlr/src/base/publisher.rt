@@ -100,7 +100,8 @@ pub trait Publisher: Sized {
         ensures tells { KnowsNoLess tells self.old self.new }
         ensures pending { pending self.new ≡ pending self.old }
         ensures idle { IfOk result (λ place. Self.Place.copy_of place ≡ None) }
-        ensures knows { IfOk result (λ place. (prefix : PrefixData) → tells self.old prefix → Self.Place.knows place prefix) }
+        ensures knows { IfOk result
+            (λ place. (prefix : PrefixData) → tells self.old prefix → Self.Place.knows place prefix) }
         ensures only { IfErr result (λ why. (why ≡ Refusal.OutOfMemory) ⊎ (why ≡ Refusal.NoPlace)) };
 }
 
@@ -120,10 +121,12 @@ pub trait Publishes<H>: Publisher {
     fn publish_all(&mut self, by: H, front: Prefix) -> Result<(), Self::Why>
         requires shown { IsOfItsFront (Self.shown self.old) }
         requires store { front.store ≡ (Self.shown self.old).front.store }
-        requires updates { front.updates ≡ (Self.shown self.old).front.updates ++ updates_among (Self.pending self.old) }
+        requires updates { front.updates ≡ (Self.shown self.old).front.updates
+            ++ updates_among (Self.pending self.old) }
         requires front { IsFront front.store.limit front.updates }
         requires limit { front.store.limit ≤ MAX_UPDATES }
-        requires last { (operations : List Operation) × (Self.pending self.old ≡ operations ++ operation.Front front ∷ []) }
+        requires last { (operations : List Operation)
+            × (Self.pending self.old ≡ operations ++ operation.Front front ∷ []) }
         ensures shown { OnOk result (IsOfItsFront (Self.shown self.new) × ((Self.shown self.new).front ≡ front)) }
         ensures tells { OnOk result (Self.tells self.new front) }
         ensures none { OnOk result (Self.pending self.new ≡ []) }

@@ -1,6 +1,7 @@
 //! What a session answers to call events.
 
-ghost use Rattle.std.specs.Prelude.{◌≡◌, ◌<◌, ◌+◌, ◌⊎◌, [], ◌∷◌, ◌++◌, false, Err, List, length, take, vec_len, IfErr, IfOk, OnErr, OnOk};
+ghost use Rattle.std.specs.Prelude.{◌≡◌, ◌<◌, ◌+◌, ◌⊎◌, [], ◌∷◌, ◌++◌, false, Err, List, length, take, vec_len, IfErr};
+ghost use Rattle.std.specs.Prelude.{IfOk, OnErr, OnOk};
 ghost use Rattle.camel_rows.specs.Event.{event_data};
 ghost use Rattle.camel_rows.specs.declared.trigger.outcome.Answer.{Answer};
 ghost use Rattle.camel_vlr.specs.Run.{Answers};
@@ -55,8 +56,10 @@ impl<S: Seat> Session<S> {
         ensures run { (new : List Answer) × (answers.new.items ≡ answers.old.items ++ new)
             × Answers self.old (take (length new) events.now) new self.new }
         ensures all { OnOk result (vec_len answers.new ≡ vec_len answers.old + length events.now) }
-        ensures no_guard { result ≡ Err Refusal.NoGuard → vec_len answers.new < vec_len answers.old + length events.now }
-        ensures no_memory { result ≡ Err Refusal.OutOfMemory → (answers.new.items ≡ answers.old.items) × (self.new ≡ self.old) }
+        ensures no_guard { result ≡ Err Refusal.NoGuard
+            → vec_len answers.new < vec_len answers.old + length events.now }
+        ensures no_memory { result ≡ Err Refusal.OutOfMemory
+            → (answers.new.items ≡ answers.old.items) × (self.new ≡ self.old) }
         ensures only { IfErr result (λ why. (why ≡ Refusal.OutOfMemory) ⊎ (why ≡ Refusal.NoGuard)) }
         ensures looks { self.old.looks ≡ false → self.new.looks ≡ false }
     {

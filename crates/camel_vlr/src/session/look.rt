@@ -35,7 +35,9 @@ impl<S: Seat> Look<'_, S> {
     #[inline(always)]
     pub fn decide(&self, event: &Event) -> Decision<'_>
         requires { self.now.session.now.looks ≡ true }
-        ensures decision { decision_data result ≡ decision self.now.session.now.store.profile (records_of self.now.session.now.seen) (event_data event.now) }
+        ensures decision { decision_data result
+            ≡ decision self.now.session.now.store.profile (records_of self.now.session.now.seen)
+            (event_data event.now) }
         ensures own { DecidedByOwn self.now.session.now.store self.now.session.now.seen (event_data event.now)
             (decision_data result) }
     {
@@ -53,7 +55,8 @@ impl<S: Seat> Look<'_, S> {
     /// The TDP row of a subscriber at a detection point, if it is armed.
     pub fn row(&self, imsi: &Imsi, dp: u8) -> Option<&TdpRow>
         requires { self.now.session.now.looks ≡ true }
-        ensures { option_copied result ≡ option_and_then (row_at dp) (map.get (records_of self.now.session.now.seen) imsi.now) }
+        ensures { option_copied result
+            ≡ option_and_then (row_at dp) (map.get (records_of self.now.session.now.seen) imsi.now) }
     {
         self.session.row(imsi, dp)
     }
@@ -61,7 +64,8 @@ impl<S: Seat> Look<'_, S> {
     /// The criteria entry of a subscriber at a detection point, if there is one.
     pub fn criteria(&self, imsi: &Imsi, dp: u8) -> Option<Lent<'_>>
         requires { self.now.session.now.looks ≡ true }
-        ensures { option_map entry_data result ≡ option_and_then (entry_at dp) (map.get (records_of self.now.session.now.seen) imsi.now) }
+        ensures { option_map entry_data result
+            ≡ option_and_then (entry_at dp) (map.get (records_of self.now.session.now.seen) imsi.now) }
     {
         self.session.criteria(imsi, dp)
     }

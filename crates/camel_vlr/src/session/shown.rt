@@ -19,7 +19,8 @@ impl<S: Seat> Session<S> {
     #[inline(always)]
     pub fn decide(&self, event: &Event) -> Decision<'_>
         requires { self.now.looks ≡ true }
-        ensures decision { decision_data result ≡ decision self.now.store.profile (records_of self.now.seen) (event_data event.now) }
+        ensures decision { decision_data result
+            ≡ decision self.now.store.profile (records_of self.now.seen) (event_data event.now) }
         ensures own { DecidedByOwn self.now.store self.now.seen (event_data event.now) (decision_data result) }
     {
         decide_in(&self.published().records, event, self.profile())
@@ -45,7 +46,8 @@ impl<S: Seat> Session<S> {
     /// The criteria entry of a subscriber at a detection point, if there is one.
     pub fn criteria(&self, imsi: &Imsi, dp: u8) -> Option<Lent<'_>>
         requires { self.now.looks ≡ true }
-        ensures { option_map entry_data result ≡ option_and_then (entry_at dp) (map.get (records_of self.now.seen) imsi.now) }
+        ensures { option_map entry_data result
+            ≡ option_and_then (entry_at dp) (map.get (records_of self.now.seen) imsi.now) }
     {
         self.published().records.get(imsi)?.criteria(dp)
     }

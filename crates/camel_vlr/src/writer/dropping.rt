@@ -1,6 +1,6 @@
 //! Dropping what is pending.
 
-ghost use Rattle.std.specs.Prelude.{◌≡◌, ◌↔◌, [], ◌∷◌, ◌++◌, false, true, IfErr, IsOk, IsTrue, OnErr, OnOk};
+ghost use Rattle.std.specs.Prelude.{◌≡◌, [], ◌∷◌, ◌++◌, false, true, IfErr, IsOk, OnErr, OnOk};
 ghost use Rattle.camel_vlr.specs.Dropping.{HasAll, IsAdmissionOver, IsRestored};
 ghost use Rattle.camel_vlr.specs.Operation.{updates_among};
 ghost use Rattle.camel_vlr.specs.PublishedCopy.{IsOfItsFront};
@@ -26,17 +26,23 @@ impl<W: Publisher> Vlr<W> {
     pub fn drop_pending(&mut self) -> Result<(), Refusal>
         ensures dropped { OnOk result (self.new ≡ with_none_pending self.old) }
         ensures level { OnOk result (self.old.ahead ≡ false) }
-        ensures droppable { W.always_droppable → self.old.ahead ≡ false → AllLeave self.old.updates.pending → IsOk result }
+        ensures droppable { W.always_droppable → self.old.ahead ≡ false → AllLeave self.old.updates.pending
+            → IsOk result }
         ensures unchanged { OnErr result (self.new ≡ self.old) }
         ensures only { IfErr result (λ why. why ≡ Refusal.OutOfMemory) }
     {
         // No run over `two_copies` fails once the history is ahead of what is published.
-        if self.is_ahead {
+        if self.state.is_ahead {
             return Err(Refusal::OutOfMemory);
         }
-        restore_admission(&self.writer, &mut self.admission, self.alloc, &self.pending)?;
+        restore_admission(
+            &self.writer,
+            &mut self.state.admission,
+            self.state.alloc,
+            &self.state.pending,
+        )?;
         self.writer.drop_pending();
-        self.pending.clear();
+        self.state.pending.clear();
         Ok(())
     }
 }
@@ -50,10 +56,12 @@ fn restore_admission<W: Publisher>(
     pending: &VecDeque<Operation, Global>,
 ) -> Result<(), Refusal>
     requires shown { IsOfItsFront (W.shown writer.now) }
-    requires over { IsAdmissionOver (W.shown writer.now).front admission.old (updates_among (W.pending writer.now ++ pending.now.items)) }
+    requires over { IsAdmissionOver (W.shown writer.now).front admission.old
+        (updates_among (W.pending writer.now ++ pending.now.items)) }
     ensures over { OnOk result (IsAdmissionOver (W.shown writer.now).front admission.new []) }
     ensures droppable { OnOk result (W.droppable writer.now) }
-    ensures leave { W.always_droppable → AllLeave (updates_among (W.pending writer.now ++ pending.now.items)) → IsOk result }
+    ensures leave { W.always_droppable → AllLeave (updates_among (W.pending writer.now ++ pending.now.items))
+        → IsOk result }
     ensures unchanged { OnErr result (admission.new ≡ admission.old) }
     ensures only { IfErr result (λ why. why ≡ Refusal.OutOfMemory) }
 {
@@ -75,7 +83,8 @@ fn restore_from(
     second: &VecDeque<Operation, Global>,
 ) -> Result<(), Refusal>
     requires shown { IsOfItsFront published.now }
-    requires over { IsAdmissionOver published.now.front admission.old (updates_among (first.now.items ++ second.now.items)) }
+    requires over { IsAdmissionOver published.now.front admission.old
+        (updates_among (first.now.items ++ second.now.items)) }
     ensures over { OnOk result (IsAdmissionOver published.now.front admission.new []) }
     ensures leave { AllLeave (updates_among (first.now.items ++ second.now.items)) → IsOk result }
     ensures unchanged { OnErr result (admission.new ≡ admission.old) }

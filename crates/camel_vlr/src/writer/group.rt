@@ -1,6 +1,6 @@
 //! Several updates that are accepted in their order, or none of them.
 
-ghost use Rattle.std.specs.Prelude.{◌≡◌, ◌<◌, ◌≤◌, ◌⊎◌, [], ◌∷◌, ◌++◌, fold, length, IfErr, OnErr, OnOk};
+ghost use Rattle.std.specs.Prelude.{◌≡◌, ◌<◌, ◌⊎◌, [], ◌∷◌, fold, IfErr, OnErr, OnOk};
 ghost use Rattle.camel_criteria.specs.declared.refusal.Refusal.TheVariants.{OutOfMemory};
 ghost use Rattle.camel_rows.specs.Admission.{AdmissionData, admission_refusal};
 ghost use Rattle.camel_vlr.specs.Group.{AcceptsAll, RejectsAt, refusal_among};
@@ -42,7 +42,8 @@ pub(crate) fn accept_all(
     ensures all { OnOk result (AcceptsAll admission_refusal admitted admission.old updates.items) }
     ensures accepted { OnOk result (admission.new ≡ fold admitted admission.old updates.items) }
     ensures pending { OnOk result (HasMore updates.items pending.old.items pending.new.items) }
-    ensures rejected { IfErr result (λ r. (r.why ≡ OutOfMemory) ⊎ RejectsAt admission_refusal admitted admission.old updates.items r.at r.why) }
+    ensures rejected { IfErr result
+        (λ r. (r.why ≡ OutOfMemory) ⊎ RejectsAt admission_refusal admitted admission.old updates.items r.at r.why) }
     ensures unchanged { OnErr result ((admission.new ≡ admission.old) × (pending.new.items ≡ pending.old.items)) }
 {
     let count = pending.len();
@@ -67,8 +68,10 @@ fn accept_each(
     ensures all { OnOk result (AcceptsAll admission_refusal admitted admission.old updates.items) }
     ensures accepted { OnOk result (admission.new ≡ fold admitted admission.old updates.items) }
     ensures pending { OnOk result (HasMore updates.items pending.old.items pending.new.items) }
-    ensures rejected { IfErr result (λ r. (r.why ≡ OutOfMemory) ⊎ RejectsAt admission_refusal admitted admission.old updates.items r.at r.why) }
-    ensures made { OnErr result (IsMadeFrom admission.old pending.old.items admission.new pending.new.items accepted.new.items) }
+    ensures rejected { IfErr result
+        (λ r. (r.why ≡ OutOfMemory) ⊎ RejectsAt admission_refusal admitted admission.old updates.items r.at r.why) }
+    ensures made { OnErr result
+        (IsMadeFrom admission.old pending.old.items admission.new pending.new.items accepted.new.items) }
 {
     for update in updates {
         if let Err(why) = accept_next(pending, admission, alloc, update, accepted) {
@@ -94,7 +97,8 @@ fn accept_next(
     ensures pending { OnOk result (HasMore (update ∷ []) pending.old.items pending.new.items) }
     ensures listed { OnOk result ((one : Accepted) × (accepted.new.items ≡ one ∷ accepted.old.items)
         × IsTakenBackTo admission.old one admission.new) }
-    ensures refused { IfErr result (λ why. (why ≡ OutOfMemory) ⊎ (refusal_among (admission_refusal admission.old update) update ≡ Some why)) }
+    ensures refused { IfErr result
+        (λ why. (why ≡ OutOfMemory) ⊎ (refusal_among (admission_refusal admission.old update) update ≡ Some why)) }
     ensures unchanged { OnErr result ((admission.new ≡ admission.old)
         × (pending.new.items ≡ pending.old.items) × (accepted.new.items ≡ accepted.old.items)) }
 {

@@ -12,16 +12,14 @@ use crate::published_copy::PublishedCopy;
 use crate::receipt::Receipt;
 use crate::session::Session;
 use crate::writer::operation::Operation;
+use crate::writer::state::State;
 use crate::writer::{MAX_PLACES, MAX_UPDATES, Vlr};
 use camel_criteria::Refusal;
-use camel_rows::Admission;
 use camel_table::Seed;
 use camel_tbcd::Profile;
 use left_right::writer::Writer;
 use std::alloc::Global;
-use std::collections::VecDeque;
 use std::random::RandomSource;
-use std::snapshot::Snapshot;
 use std::sync::Wait;
 
 impl Vlr {
@@ -111,13 +109,7 @@ impl Vlr {
         match done {
             Ok(()) => Ok(Vlr {
                 writer,
-                history,
-                admission: Admission::seeded(alloc, terms.limit, seed),
-                pending: VecDeque::new(alloc),
-                profile: terms.profile,
-                alloc,
-                is_ahead: false,
-                is_free: Snapshot::of(&None),
+                state: State::new(alloc, history, terms, seed),
             }),
             Err(_) => {
                 drop(writer.take(rt));
@@ -134,7 +126,8 @@ impl Vlr {
     /// it may be tried again.
     pub fn publish<R: Wait>(&mut self, rt: &R) -> Result<Receipt, Refusal>
         ensures published { OnOk result (self.new ≡ with_all_published self.old) }
-        ensures receipt { IfOk result (λ receipt. receipt ≡ record { store = self.old.store; updates = self.new.updates.published }) }
+        ensures receipt { IfOk result
+            (λ receipt. receipt ≡ record { store = self.old.store; updates = self.new.updates.published }) }
         ensures front { OnOk result (IsFront self.new.store.limit self.new.updates.published) }
         ensures unchanged { OnErr result (self.new ≡ record self.old { ahead = self.new.ahead }) }
         ensures only { IfErr result (λ why. why ≡ Refusal.OutOfMemory) }
@@ -156,13 +149,7 @@ impl Vlr {
     pub fn end<R: Wait>(self, rt: &R) {
         let Vlr {
             writer,
-            history: _history,
-            admission: _admission,
-            pending: _pending,
-            profile: _profile,
-            alloc: _alloc,
-            is_ahead: _is_ahead,
-            is_free: _is_free,
+            state: _state,
         } = self;
         drop(writer.take(rt));
     }

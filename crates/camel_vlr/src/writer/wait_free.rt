@@ -1,6 +1,7 @@
 //! A store over `two_copies`, whose writer does not wait: how it begins, publishes and ends.
 
-ghost use Rattle.std.specs.Prelude.{◌≡◌, ◌≢◌, ◌==◌, ◌≤◌, ◌⊎◌, not, true, false, vec_len, All, Err, IfErr, IfOk, MatchResult, OnErr, OnOk};
+ghost use Rattle.std.specs.Prelude.{◌≡◌, ◌≢◌, ◌==◌, ◌≤◌, ◌⊎◌, not, true, false, vec_len, All, Err, IfErr, IfOk};
+ghost use Rattle.std.specs.Prelude.{MatchResult, OnOk};
 ghost use Rattle.camel_rows.specs.Front.{IsFront};
 ghost use Rattle.camel_rows.specs.Store.{no_updates};
 ghost use Rattle.camel_rows.specs.Update.{records_of};
@@ -14,19 +15,19 @@ use crate::published_copy::PublishedCopy;
 use crate::receipt::Receipt;
 use crate::session::Session;
 use crate::session::look::Look;
+use crate::writer::state::State;
 use crate::writer::{MAX_PLACES, MAX_UPDATES, Vlr};
 use camel_criteria::Refusal;
-use camel_rows::{Admission, Records};
+use camel_rows::Records;
 use camel_table::Seed;
 use camel_tbcd::Profile;
 use std::alloc::{AllocError, Global};
-use std::collections::VecDeque;
 use std::marker::Model;
 use std::snapshot::Snapshot;
 use two_copies::{Copies, Ending, Unpublished};
 
-/// A store whose writer does not wait: where that of a [`Vlr`] would wait for a look, a publication is refused. It takes
-/// no handle that is `Wait`, and all else is as with a [`Vlr`].
+/// A store whose writer does not wait: where that of a [`Vlr`] would wait for a look, a publication is refused. It
+/// takes no handle that is `Wait`, and all else is as with a [`Vlr`].
 ///
 /// A publication becomes visible session by session while it is made, and to all sessions when it returns.
 pub type WaitFreeVlr = Vlr<TwoCopiesWriter>;
@@ -85,13 +86,7 @@ impl Vlr<TwoCopiesWriter> {
         let writer = Copies::new(alloc, first, second)?;
         Ok(Vlr {
             writer,
-            history,
-            admission: Admission::seeded(alloc, terms.limit, seed),
-            pending: VecDeque::new(alloc),
-            profile: terms.profile,
-            alloc,
-            is_ahead: false,
-            is_free: Snapshot::of(&None),
+            state: State::new(alloc, history, terms, seed),
         })
     }
 
@@ -103,7 +98,8 @@ impl Vlr<TwoCopiesWriter> {
     /// published, all is pending as before, and it may be tried again.
     pub fn publish(&mut self) -> Result<Receipt, Unpublished>
         ensures published { OnOk result (self.new ≡ with_all_published self.old) }
-        ensures receipt { IfOk result (λ receipt. receipt ≡ record { store = self.old.store; updates = self.new.updates.published }) }
+        ensures receipt { IfOk result
+            (λ receipt. receipt ≡ record { store = self.old.store; updates = self.new.updates.published }) }
         ensures front { OnOk result (IsFront self.new.store.limit self.new.updates.published) }
         ensures held { result ≡ Err Unpublished.Held → self.new ≡ record self.old { held = true } }
         ensures refused { result ≡ Err Unpublished.OutOfMemory
@@ -126,7 +122,7 @@ impl Vlr<TwoCopiesWriter> {
         ensures keeps { self.old.free ≡ true → result ≡ true }
     {
         let is_free = self.writer.is_free();
-        self.is_free = Snapshot::of(&Some(is_free));
+        self.state.is_free = Snapshot::of(&Some(is_free));
         is_free
     }
 
@@ -138,15 +134,15 @@ impl Vlr<TwoCopiesWriter> {
         ensures keeps { self.old.free ≡ true → result ≡ 0 }
     {
         let holders = self.writer.holders();
-        self.is_free = Snapshot::of(&Some(holders == 0));
+        self.state.is_free = Snapshot::of(&Some(holders == 0));
         holders
     }
 
     /// Ends the store, and gives the records that the published updates leave. What is pending is dropped. It does not
     /// wait, and takes no memory.
     ///
-    /// Whether it succeeds or fails, each look that begins once it has returned fails, and looks that are held go on. If
-    /// there is one, it fails, and [`Closing::close`] is to be tried again.
+    /// Whether it succeeds or fails, each look that begins once it has returned fails, and looks that are held go on.
+    /// If there is one, it fails, and [`Closing::close`] is to be tried again.
     pub fn close(self) -> Result<Records, Closing>
         ensures { MatchResult result
             (λ records. records ≡ records_of self.updates.published)
@@ -154,13 +150,7 @@ impl Vlr<TwoCopiesWriter> {
     {
         let Vlr {
             writer,
-            history: _history,
-            admission: _admission,
-            pending: _pending,
-            profile: _profile,
-            alloc: _alloc,
-            is_ahead: _is_ahead,
-            is_free: _is_free,
+            state: _state,
         } = self;
         match writer.end() {
             Ok(copy) => Ok(copy.records),
@@ -168,8 +158,8 @@ impl Vlr<TwoCopiesWriter> {
         }
     }
 
-    /// Ends the store, as [`Vlr::close`] does, and leaves the data to the looks that are held: they go on, and each copy
-    /// is freed once the last look at it is left. It has no clause, since it gives nothing.
+    /// Ends the store, as [`Vlr::close`] does, and leaves the data to the looks that are held: they go on, and each
+    /// copy is freed once the last look at it is left. It has no clause, since it gives nothing.
     pub fn abandon(self) {
         if let Err(closing) = self.close() {
             closing.abandon();
@@ -210,8 +200,8 @@ impl Closing {
         }
     }
 
-    /// Leaves the data to the looks that are held: each copy is freed once the last look at it is left. It has no clause,
-    /// since it gives nothing.
+    /// Leaves the data to the looks that are held: each copy is freed once the last look at it is left. It has no
+    /// clause, since it gives nothing.
     pub fn abandon(self) {
         let Closing { ending } = self;
         ending.abandon();

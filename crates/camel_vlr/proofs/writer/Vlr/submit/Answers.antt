@@ -18,19 +18,19 @@ use Rattle.camel_vlr.proofs.writer.Vlr.submit.Goals as goal
 refused : (g : Over) (c : In_err-change g) → submission_refusal (store_of g.W.Publisher c.self.inside) c.args.update ≡ Some c.in_err-change.field-0.0
 refused g c =
     let a = c.self.inside in let g = g.W.Publisher in
-    sym (same_refusal a.admission (store_of g a) c.args.update (own g a c.self.invariant)) ∙ c.in_err-change.ensures.refused
+    sym (same_refusal a.state.admission (store_of g a) c.args.update (own g a c.self.invariant)) ∙ c.in_err-change.ensures.refused
 
 not_refused : (g : Over) (c : In_ok-change g) → submission_refusal (store_of g.W.Publisher c.self.inside) c.args.update ≡ None
 not_refused g c =
     let a = c.self.inside in let g = g.W.Publisher in
-    sym (same_refusal a.admission (store_of g a) c.args.update (own g a c.self.invariant)) ∙ c.in_ok-change.ensures.taken
+    sym (same_refusal a.state.admission (store_of g a) c.args.update (own g a c.self.invariant)) ∙ c.in_ok-change.ensures.taken
 
 -- the update stands behind what was pending, and is admitted
 pending : (g : Over) (c : In_ok-accept g)
     → updates_among (g.W.Publisher.pending c.self.inside.writer ++ c.accept.new.pending.items) ≡ pending_in g.W.Publisher c.self.inside ++ c.args.update ∷ []
 pending g c =
     let a = c.self.inside in
-    updates_among-more (g.W.Publisher.pending a.writer) a.pending.items c.accept.new.pending.items (c.args.update ∷ []) c.in_ok-accept.ensures.pending
+    updates_among-more (g.W.Publisher.pending a.writer) a.state.pending.items c.accept.new.pending.items (c.args.update ∷ []) c.in_ok-accept.ensures.pending
 
 admits : (g : Over) (c : In_ok-accept g) → submission_refusal (store_of g.W.Publisher c.self.inside) c.args.update ≡ None
     → IsOf c.accept.new.admission (with_accepted (store_of g.W.Publisher c.self.inside) c.args.update)
@@ -38,10 +38,10 @@ admits g c taken =
     let a = c.self.inside in let i = c.self.invariant in let update = c.args.update in
     let limit = limit_in g.W.Publisher a in let updates = updates_in g.W.Publisher a in
     let change = c.in_ok-change.ensures in
-    let now : c.accept.new.admission ≡ admitted a.admission update = c.in_ok-accept.ensures.accepted
-    ∙ ap (with_admission a.admission (update_imsi update)) (change.after ∙ ap (λ before. csis_after before update) change.before) in
+    let now : c.accept.new.admission ≡ admitted a.state.admission update = c.in_ok-accept.ensures.accepted
+    ∙ ap (with_admission a.state.admission (update_imsi update)) (change.after ∙ ap (λ before. csis_after before update) change.before) in
     record {
-      admits = rw now (IsAdmissionOf-with_update a.admission limit updates update i.admits taken);
+      admits = rw now (IsAdmissionOf-with_update a.state.admission limit updates update i.admits taken);
       front = IsFront-with_update limit updates update i.all taken;
     }
 

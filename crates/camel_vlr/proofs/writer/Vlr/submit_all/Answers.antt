@@ -14,20 +14,20 @@ pending : (g : Over) (c : In_default g) → updates_among (g.W.Publisher.pending
     ≡ pending_in g.W.Publisher c.self.inside ++ c.args.updates.items
 pending g c =
     let a = c.self.inside in let more = c.accept_all-taken.new.pending.items in
-    updates_among-more (g.W.Publisher.pending a.writer) a.pending.items more c.args.updates.items c.in_default.ensures.pending
+    updates_among-more (g.W.Publisher.pending a.writer) a.state.pending.items more c.args.updates.items c.in_default.ensures.pending
 
 -- the admission is that of the store with all of them
 admits : (g : Over) (c : In_default g) → IsOf c.accept_all-taken.new.admission
     (with_pending (store_of g.W.Publisher c.self.inside) (pending_in g.W.Publisher c.self.inside ++ c.args.updates.items))
 admits g c =
     let a = c.self.inside in let store = store_of g.W.Publisher a in
-    let all = with_all a.admission store c.args.updates.items (own g.W.Publisher a c.self.invariant) c.in_default.ensures.all in
+    let all = with_all a.state.admission store c.args.updates.items (own g.W.Publisher a c.self.invariant) c.in_default.ensures.all in
     subst (λ (s : StoreData). IsOf c.accept_all-taken.new.admission s) (with_all-pending store c.args.updates.items) (rw c.in_default.ensures.accepted all)
 
 pub returns-in-Err-clause-rejected : goal.returns-in-Err-clause-rejected
 returns-in-Err-clause-rejected g c = rw (← c.self.view_is) (elim c.in-Err.ensures.rejected [
   | inl why ↦ inl why
-  | inr at ↦ inr (rejects c.self.inside.admission (store_of g.W.Publisher c.self.inside) c.args.updates.items _ _
+  | inr at ↦ inr (rejects c.self.inside.state.admission (store_of g.W.Publisher c.self.inside) c.args.updates.items _ _
       (own g.W.Publisher c.self.inside c.self.invariant) at)
 ])
 
@@ -39,7 +39,7 @@ invariant_of-self-2 g c =
 pub returns-clause-all : goal.returns-clause-all
 returns-clause-all g c =
     let a = c.self.inside in
-    rw (← c.self.view_is) (accepts a.admission (store_of g.W.Publisher a) c.args.updates.items (own g.W.Publisher a c.self.invariant)
+    rw (← c.self.view_is) (accepts a.state.admission (store_of g.W.Publisher a) c.args.updates.items (own g.W.Publisher a c.self.invariant)
     (goal.at.returns-clause-all g c).In_default.in_default.ensures.all)
 
 pub returns-clause-accepted : goal.returns-clause-accepted

@@ -1,12 +1,12 @@
-use Rattle.std.proofs.Common.{rules, ◌≡◌, ◌∙◌, ℕ, ◌≤◌, false, T, Ok, Err, List, [], ◌∷◌, ◌++◌, ap, subst, sym}
+use Rattle.std.proofs.Common.{◌≡◌, ◌∙◌, ℕ, ◌≤◌, false, T, Ok, Err, List, [], ◌∷◌, ◌++◌, ap, subst, sym}
 use Rattle.std.specs.Result.{is_err, MatchResult}
 use Rattle.std.proofs.lemmas.Result.{IfOk-at_ok}
 use Rattle.left_right.specs.Sides.{view}
 use Rattle.camel_vlr.specs.Prefix.{PrefixData}
-use Rattle.camel_rows.proofs.AdmissionLemmas.{IsAdmissionOf-empty}
 use Rattle.camel_vlr.proofs.FieldsLemmas.{begins}
-use Rattle.camel_vlr.specs.Operation.{pending_operations, updates_among}
+use Rattle.camel_vlr.specs.Operation.{pending_operations}
 use Rattle.camel_vlr.specs.Rule.{Knows}
+use Rattle.camel_vlr.specs.StoreFields.{IsNew}
 use Rattle.camel_vlr.specs.declared.writer.TheConstants.{MAX_UPDATES}
 use Rattle.camel_vlr.specs.declared.writer.operation.Operation.{Operation}
 use Rattle.camel_vlr.specs.declared.writer.operation.Operation.TheVariants.{Front}
@@ -14,16 +14,14 @@ use Rattle.camel_vlr.proofs.writer.opening.Vlr.empty.Goals as goal
 
 pub invariant_of-result : goal.invariant_of-result
 invariant_of-result g c =
-    let writer = c.publish_all-writer.result.0 in let items = c.new-in-Ok.result.items in let e = c.publish_all-writer.ensures in
+    let writer = c.publish_all-writer.result.0 in let e = c.publish_all-writer.ensures in
     let shown = IfOk-at_ok _ c.in-Ok.is e.shown in
     let same : writer.desk.shown.value.front ≡ c.new-history.result = shown.1 ∙ c.prefix-front.ensures in
-    let pending : updates_among (pending_operations writer ++ items) ≡ [] =
-    ap (λ operations. updates_among (operations ++ items)) (IfOk-at_ok _ c.in-Ok.is e.none) ∙ ap updates_among c.new-in-Ok.ensures.items in
     let limit : writer.desk.shown.value.front.store.limit ≡ c.args.terms.limit = ap (λ x. x.store.limit) same ∙ c.new-history.ensures.limit in
-    begins _ _ shown.0 same (ap (λ x. x.updates) same ∙ c.new-history.ensures.updates) pending
-    (subst (λ (n : ℕ). n ≤ MAX_UPDATES) (sym limit) c.requires.limit.1) (rw (c.seeded.ensures, limit) (IsAdmissionOf-empty c.args.terms.limit))
+    begins _ _ shown.0 (subst (λ (x : PrefixData). IsNew x c.new-in-Ok.result) (sym same) c.new-in-Ok.ensures)
+    (ap (λ x. x.updates) same ∙ c.new-history.ensures.updates) (IfOk-at_ok _ c.in-Ok.is e.none)
+    (subst (λ (n : ℕ). n ≤ MAX_UPDATES) (sym limit) c.requires.limit.1)
     (subst (λ (x : PrefixData). Knows (view writer.desk.place) x) (sym shown.1) (IfOk-at_ok _ c.in-Ok.is e.seat))
-    (sym c.new-history.ensures.profile) (search rules) (search rules)
 
 pub publish_all-writer-requires-clause-last : goal.publish_all-writer-requires-clause-last
 publish_all-writer-requires-clause-last g c =
