@@ -4,7 +4,8 @@ use Rattle.std.specs.Prelude.{Option, Result, Ok, Err, is_ok}
 use Rattle.camel_rows.specs.declared.subscriber.update.Update.{Update}
 use Rattle.camel_map.specs.declared.arrival.ItemCounts.{ItemCounts}
 use Rattle.camel_c_data.specs.DataFault.{data_fault_code}
-use Rattle.camel_c_data.specs.Reading.{ReadsAs}
+use Rattle.camel_reading.specs.Reading.{ReadsAs}
+use Rattle.camel_c_data.specs.Reading.{IsMemory}
 use Rattle.camel_c_data.specs.declared.data_fault.DataFault.{DataFault}
 use Rattle.camel_c.specs.Submission.{ReadsAndSubmits, Submits}
 use Rattle.camel_c.specs.Updates.{Makes, ReadsAndMakes, counted}
@@ -23,7 +24,7 @@ no_fault a b e = true≢false (ap is_ok e)
 
 -- what is submitted as read is submitted as the fields are, unless memory was refused
 pub submits_as : (read reading : Result Update DataFault) (status : ℕ) (before after : Option Object)
-    → ReadsAs read reading → Submits read status before after → ReadsAndSubmits reading status before after
+    → ReadsAs IsMemory read reading → Submits read status before after → ReadsAndSubmits reading status before after
 submits_as (Ok update) reading status before after is as_read =
     inl (subst (λ (r : Result Update DataFault). Submits r status before after) (sym is) as_read)
 submits_as (Err fault) reading status before after (inr is) as_read =
@@ -34,7 +35,7 @@ submits_as (Err fault) reading status before after (inl memory) as_read =
 
 -- what is made as read is made as the fields are, unless memory was refused
 pub makes_as : (counts : ItemCounts) (read reading : Result Update DataFault) (status : ℕ) (before after : Option Object)
-    → ReadsAs read reading → Makes (counted counts read) status before after
+    → ReadsAs IsMemory read reading → Makes (counted counts read) status before after
     → ReadsAndMakes (counted counts reading) status before after
 makes_as counts (Ok update) reading status before after is as_read =
     inl (subst (λ (r : Result Update DataFault). Makes (counted counts r) status before after) (sym is) as_read)

@@ -4,11 +4,13 @@ use Rattle.std.specs.Prelude.{Option, Some, None, Result, Ok, if◌then◌else�
 use Rattle.camel_criteria.specs.declared.refusal.Refusal.{Refusal}
 use Rattle.camel_map.specs.Arrival.{count_of, kept_in}
 use Rattle.camel_map.specs.Lists.{list_of}
-use Rattle.camel_c_data.specs.Reading.{each_of, or_refused}
+use Rattle.camel_reading.specs.Reading.{each_of}
+use Rattle.camel_c_data.specs.Reading.{or_refused}
 use Rattle.camel_c_data.specs.SentList.{few_of, sent_list}
 use Rattle.camel_c_data.specs.declared.data_fault.DataFault.{DataFault}
 use Rattle.camel_c.proofs.ReadingLemmas.{same_value}
-use Rattle.camel_c.proofs.StepLemmas.{each_of-length, few_ok, refused_ok, step_ok}
+use Rattle.camel_c.proofs.StepLemmas.{each_of-length, few_ok, refused_ok}
+use Rattle.camel_reading.proofs.StepLemmas.{step_ok}
 
 -- a list that is sent is what is kept of one that came, with the items that are counted
 pub record Came {A : Type 0} (kept_of : List A → Result (List A) Refusal) (kept : Option (List A)) (count : ℕ) : Type 0 where

@@ -2,15 +2,11 @@
 use Rattle.std.proofs.Common.{◌≡◌, ◌∙◌, suc, Bool, true, false, List, [], ◌∷◌, length, refl, sym, ap}
 use Rattle.std.specs.Prelude.{Result, Ok, Err, if◌then◌else◌}
 use Rattle.camel_criteria.specs.declared.refusal.Refusal.{Refusal}
-use Rattle.camel_c_data.specs.Reading.{◌>>=◌, each_of, or_refused}
+use Rattle.camel_reading.proofs.StepLemmas.{step_ok}
+use Rattle.camel_reading.specs.Reading.{each_of}
+use Rattle.camel_c_data.specs.Reading.{or_refused}
 use Rattle.camel_c_data.specs.declared.data_fault.DataFault.{DataFault}
 use Rattle.camel_c.proofs.ReadingLemmas.{no_fault, same_value}
-
--- a step that has a value, and what comes of it
-pub step_ok : {A B : Type 0} (step : Result A DataFault) (next : A → Result B DataFault) (whole : B)
-    → (step >>= next) ≡ Ok whole → (value : A) × (step ≡ Ok value) × (next value ≡ Ok whole)
-step_ok (Ok value) next whole is = (value, refl, is)
-step_ok (Err fault) next whole is = absurd (no_fault whole fault (sym is))
 
 pub each_of-length : {A S : Type 0} (value_of : S → Result A DataFault) (items : List S) (values : List A)
     → each_of value_of items ≡ Ok values → length values ≡ length items

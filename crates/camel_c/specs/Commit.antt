@@ -3,12 +3,12 @@ use Rattle.std.specs.Prelude.{◌≡◌, ◌⊎◌, ◌≤◌, ℕ, true, List, 
 use Rattle.camel_criteria.specs.Refusal.{refusal_code}
 use Rattle.camel_criteria.specs.declared.refusal.Refusal.{Refusal}
 use Rattle.camel_rows.specs.declared.subscriber.update.Update.{Update}
-use Rattle.camel_c_data.specs.declared.receipt.CamelReceipt.{CamelReceipt}
 use Rattle.camel_c.specs.Change.{with_dropped, with_free, with_held, with_published}
 use Rattle.camel_c.specs.GroupSubmission.{AcceptsTogether, RejectsTogether, with_all_pending}
 use Rattle.camel_c.specs.HeldUpdates.{HoldUpdates}
 use Rattle.camel_c.specs.Object.{HoldsLiveStore, live_store}
 use Rattle.camel_c.specs.Publication.{AllLearn, AllMayLook, AllReady, FirstUnready, IsAsBefore}
+use Rattle.camel_c.specs.Receipts.{receipt_of}
 use Rattle.camel_c.specs.declared.handle.CamelHandle.{CamelHandle}
 use Rattle.camel_c.specs.declared.object.LiveStore.{LiveStore}
 use Rattle.camel_c.specs.declared.object.Object.{Object}
@@ -20,10 +20,6 @@ with_committed updates live = with_published (with_all_pending updates (with_dro
 -- a store that has dropped all that was pending, and whose next publication no look holds up
 abbrev pub with_cleared : LiveStore → LiveStore
 with_cleared live = with_free true (with_dropped live)
-
--- a receipt of all that a store has published
-abbrev pub receipt_of : LiveStore → CamelReceipt
-receipt_of live = record { store = live.number; front = length live.vlr.updates.published }
 
 -- a store has published what it had published; what is pending may be another
 abbrev pub ShowsNoMore : LiveStore → LiveStore → Type 0

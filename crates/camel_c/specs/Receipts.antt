@@ -10,10 +10,13 @@ use Rattle.camel_c.specs.declared.object.Object.{Object}
 use Rattle.camel_c.specs.declared.object.Object.TheVariants as object
 use Rattle.camel_c.specs.declared.thread_session.ThreadSession.{ThreadSession}
 
+-- a receipt of all that a store has published
+abbrev pub receipt_of : LiveStore → CamelReceipt
+receipt_of live = record { store = live.number; front = length live.vlr.updates.published }
+
 -- it is a store that takes updates, and this is a receipt of all that it has published
 abbrev pub GivesReceipt : Option Object → CamelReceipt → Type 0
-GivesReceipt held receipt = (live : LiveStore) × (held ≡ Some (live_store live))
-    × (receipt ≡ record { store = live.number; front = length live.vlr.updates.published })
+GivesReceipt held receipt = (live : LiveStore) × (held ≡ Some (live_store live)) × (receipt ≡ receipt_of live)
 
 -- the session is of the receipt's store, and has looked at a front with at least as many updates; so all its later looks
 -- are at fronts which extend that one

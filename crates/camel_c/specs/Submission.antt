@@ -6,7 +6,7 @@ use Rattle.camel_rows.specs.declared.subscriber.update.Update.TheVariants as upd
 use Rattle.camel_vlr.specs.Store.{submission_refusal}
 use Rattle.camel_c_data.specs.DataFault.{data_fault_code}
 use Rattle.camel_c_data.specs.Imsi.{imsi_in}
-use Rattle.camel_c_data.specs.Reading.{◌>>=◌}
+use Rattle.camel_reading.specs.Reading.{◌>>=◌}
 use Rattle.camel_c_data.specs.declared.data_fault.DataFault.{DataFault}
 use Rattle.camel_c_data.specs.declared.imsi.CamelImsi.{CamelImsi}
 use Rattle.camel_c.specs.Change.{ChangesStore, with_pending}

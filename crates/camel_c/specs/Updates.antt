@@ -6,7 +6,7 @@ use Rattle.camel_map.specs.declared.arrival.Arrival.{Arrival}
 use Rattle.camel_map.specs.declared.arrival.ItemCounts.{ItemCounts}
 use Rattle.camel_c_data.specs.DataFault.{data_fault_code}
 use Rattle.camel_c_data.specs.Flag.{is_set}
-use Rattle.camel_c_data.specs.Reading.{◌>>=◌}
+use Rattle.camel_reading.specs.Reading.{◌>>=◌}
 use Rattle.camel_c_data.specs.Update.{insert_in}
 use Rattle.camel_c_data.specs.declared.data_fault.DataFault.{DataFault}
 use Rattle.camel_c_data.specs.declared.imsi.CamelImsi.{CamelImsi}

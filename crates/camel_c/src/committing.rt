@@ -2,8 +2,9 @@
 
 ghost use Rattle.std.specs.Prelude.{◌≡◌, ◌⊎◌, true};
 ghost use Rattle.camel_c.specs.Change.{with_published};
-ghost use Rattle.camel_c.specs.Commit.{Commits, CommitsTo, ShowsNoMore, receipt_of};
+ghost use Rattle.camel_c.specs.Commit.{Commits, CommitsTo, ShowsNoMore};
 ghost use Rattle.camel_c.specs.Publication.{AllLearn, AllMayLook, AllReady};
+ghost use Rattle.camel_c.specs.Receipts.{receipt_of};
 
 use crate::copies::{copies_of, hold_updates};
 use crate::failure::Failure;
@@ -33,7 +34,8 @@ pub extern "C" fn camel_commit_nonnull(
     sessions: &mut [CamelHandle],
     rejected: &mut usize,
 ) -> u32
-    ensures commits { CommitsTo updates.old result rejected.new store.old.value store.new.value sessions.old sessions.new }
+    ensures commits { CommitsTo updates.old result rejected.new store.old.value store.new.value sessions.old
+        sessions.new }
     ensures same { updates.new ≡ updates.old }
 {
     *rejected = updates.len();
@@ -86,7 +88,8 @@ impl LiveStore {
     fn publish_or_drop(&mut self, sessions: &mut [CamelHandle]) -> u32
         requires free { self.old.vlr.free ≡ true }
         requires ready { AllReady self.old.number sessions.old }
-        ensures published { result ≡ 0 → (self.new ≡ with_published self.old) × AllLearn (receipt_of self.new) sessions.old sessions.new }
+        ensures published { result ≡ 0
+            → (self.new ≡ with_published self.old) × AllLearn (receipt_of self.new) sessions.old sessions.new }
         ensures refused { result ≡ 102 → ShowsNoMore self.old self.new × (sessions.new ≡ sessions.old) }
         ensures unseen { (result ≡ 104) ⊎ (result ≡ 505)
             → (self.new ≡ with_published self.old) × AllMayLook sessions.old sessions.new }

@@ -19,8 +19,8 @@ use camel_rows::Event;
 /// Decides an event, over the look that has begun, or else by a look of its own, writes the answer, and counts it. It
 /// takes no memory and does not wait.
 ///
-/// It fails with 502 if the event is none, with 503 if the handle holds no session, and with 104 if the store has ended.
-/// Then nothing is changed, and the answer is as it was.
+/// It fails with 502 if the event is none, with 503 if the handle holds no session, and with 104 if the store has
+/// ended. Then nothing is changed, and the answer is as it was.
 #[unsafe(no_mangle)]
 pub extern "C" fn camel_decide(
     session: &mut CamelHandle,

@@ -18,11 +18,11 @@ use camel_c_data::{CamelAnswer, CamelEvent};
 use camel_rows::Event;
 
 /// Decides an event by a record that is kept, whatever was published since, writes the answer, with the front that the
-/// record is from, and has a session count it. The IMSI of the event has to be one, and is not compared with that of the
-/// record. The session may be of another store, or of one that has ended. It takes no memory and does not wait.
+/// record is from, and has a session count it. The IMSI of the event has to be one, and is not compared with that of
+/// the record. The session may be of another store, or of one that has ended. It takes no memory and does not wait.
 ///
-/// It fails with 502 if the event is none, and with 503 if the first handle holds no session or the other one no record;
-/// then nothing is changed, and the answer is as it was.
+/// It fails with 502 if the event is none, and with 503 if the first handle holds no session or the other one no
+/// record; then nothing is changed, and the answer is as it was.
 #[unsafe(no_mangle)]
 pub extern "C" fn camel_decide_kept(
     session: &mut CamelHandle,

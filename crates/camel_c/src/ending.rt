@@ -14,9 +14,9 @@ use std::alloc::Global;
 
 /// Ends a store and frees it, which leaves its handle empty. What is pending is dropped. It does not wait.
 ///
-/// Each look that is held goes on until it is left, and no session begins another. It fails with 501 if one is held: then
-/// the store takes no more updates, and it is to be called again once the look is left. It fails with 503 if the handle
-/// holds no store; then nothing is changed.
+/// Each look that is held goes on until it is left, and no session begins another. It fails with 501 if one is held:
+/// then the store takes no more updates, and it is to be called again once the look is left. It fails with 503 if the
+/// handle holds no store; then nothing is changed.
 #[unsafe(no_mangle)]
 pub extern "C" fn camel_close(alloc: Global, store: &mut CamelHandle) -> u32
     ensures closed { result ≡ 0 → store.new.value ≡ None }

@@ -12,7 +12,8 @@ use std::ptr::null_mut;
 
 /// A handle of C: the pointer of a box that holds an object, or nothing. All zeros are an empty handle.
 ///
-/// A call changes the object in its box: a call that fills the handle allocates the box, and one that empties it frees it.
+/// A call changes the object in its box: a call that fills the handle allocates the box, and one that empties it frees
+/// it.
 #[repr(C)]
 pub struct CamelHandle {
     at: *mut u8,
@@ -75,7 +76,9 @@ impl CamelHandle {
     /// What a handle holds, if it is of this kind, borrowed where it is.
     #[inline]
     pub(crate) fn lend<K: Kind>(&mut self) -> Option<&mut K>
-        ensures* writes_back { sem 𝓛 (LendsIf handle_row K.row self.entry result (λ own. with_object self.entry.now (K.whole own)) self.entry.now) }
+        ensures* writes_back { sem 𝓛
+            (LendsIf handle_row K.row self.entry result
+            (λ own. with_object self.entry.now (K.whole own)) self.entry.now) }
         ensures value { MatchOption (option_copied_mut result)
             ((own : K) × (self.old.value ≡ Some (K.whole own)) → ⊥) (λ own. self.old.value ≡ Some (K.whole own)) }
     {

@@ -25,9 +25,9 @@ use std::alloc::Global;
 /// Fills an empty handle with a copy of the record of a subscriber, over the look that has begun, or else by a look of
 /// its own, and tells whether there is a record; if there is none, the handle stays empty.
 ///
-/// It fails with 502 if the IMSI is none, with 503 if the first handle holds no session, with 504 if the one to be filled
-/// is not empty, and with 104 if the store has ended; then nothing is changed. It fails with 102 if memory was refused:
-/// then the session has looked. Nothing is written if it fails.
+/// It fails with 502 if the IMSI is none, with 503 if the first handle holds no session, with 504 if the one to be
+/// filled is not empty, and with 104 if the store has ended; then nothing is changed. It fails with 102 if memory was
+/// refused: then the session has looked. Nothing is written if it fails.
 #[unsafe(no_mangle)]
 pub extern "C" fn camel_keep(
     alloc: Global,
@@ -97,7 +97,8 @@ pub(crate) fn keep_shown(
     requires looks { session.now.looks ≡ true }
     requires empty { subscriber.old.value ≡ None }
     ensures kept { OnOk result
-        (FillsKept session.now (record_shown session.now imsi.now) subscriber.old.value subscriber.new.value is_there.new) }
+        (FillsKept session.now (record_shown session.now imsi.now)
+        subscriber.old.value subscriber.new.value is_there.new) }
     ensures unwritten { OnErr result
         ((subscriber.new.value ≡ subscriber.old.value) × (is_there.new ≡ is_there.old)) }
     ensures only { IfErr result (λ why. why ≡ refusal.OutOfMemory) }

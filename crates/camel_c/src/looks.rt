@@ -10,7 +10,8 @@ use crate::thread_session::ThreadSession;
 use camel_criteria::Refusal;
 
 /// Begins a look, so that all calls until `camel_leave` are over one front, which extends all that the session saw and
-/// learnt. It takes no memory and does not wait. It lets the next publication go through, and holds up the one after it.
+/// learnt. It takes no memory and does not wait. It lets the next publication go through, and holds up the one after
+/// it.
 ///
 /// It fails with 501 if a look has begun, with 503 if the handle holds no session, and with 104 if the store has ended.
 /// Then nothing is changed.

@@ -29,7 +29,8 @@ pub extern "C" fn camel_imsi_of_tbcd_nonnull(octets: &[u8], imsi: &mut CamelImsi
     }
 }
 
-/// Writes the IMSI that 5 to 15 characters 0 to 9 are. It fails with 502 if they are none, and leaves the IMSI as it was.
+/// Writes the IMSI that 5 to 15 characters 0 to 9 are. It fails with 502 if they are none, and leaves the IMSI as it
+/// was.
 #[unsafe(no_mangle)]
 pub extern "C" fn camel_imsi_of_digits_nonnull(digits: &[u8], imsi: &mut CamelImsi) -> u32
     ensures written { result ≡ 0 → imsi_in imsi.new ≡ ok_or_malformed (imsi_of_ascii digits.now) }
@@ -64,8 +65,8 @@ pub extern "C" fn camel_address_of_nonnull(octets: &[u8], address: &mut CamelAdd
     }
 }
 
-/// Writes the ISDN-AddressString of these octets, 1 to 9 (TS 29.002). It fails with 502 if they are none, and leaves the
-/// address as it was.
+/// Writes the ISDN-AddressString of these octets, 1 to 9 (TS 29.002). It fails with 502 if they are none, and leaves
+/// the address as it was.
 #[unsafe(no_mangle)]
 pub extern "C" fn camel_isdn_address_of_nonnull(
     octets: &[u8],

@@ -43,8 +43,8 @@ pub enum Stage {
     Closed,
 }
 
-/// A store that may be dropped, as an object of C has to be: a [`WaitFreeVlr`] may not. The looks that are held then free
-/// what they keep.
+/// A store that may be dropped, as an object of C has to be: a [`WaitFreeVlr`] may not. The looks that are held then
+/// free what they keep.
 pub struct Store {
     pub stage: Stage,
 }
@@ -95,7 +95,8 @@ pub(crate) trait Kind: Sized {
     /// What an object has of this kind, borrowed where it is.
     fn within(held: &mut Object) -> Option<&mut Self>
         ensures* writes_back { sem 𝓛 (LendsIf the_row Self.row held.entry result whole held.entry.now) }
-        ensures value { MatchOption (option_copied_mut result) ((own : Self) → held.old ≢ whole own) (λ own. held.old ≡ whole own) };
+        ensures value { MatchOption (option_copied_mut result) ((own : Self) → held.old ≢ whole own)
+            (λ own. held.old ≡ whole own) };
 }
 
 impl Kind for Store {

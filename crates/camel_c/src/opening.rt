@@ -1,10 +1,11 @@
 //! Opening a store with its sessions.
 
-ghost use Rattle.std.specs.Prelude.{◌≡◌, ◌≢◌, ◌≤◌, ◌⊎◌, Some, None, All, IfErr, OnErr, OnOk, length, true, false, vec_len};
+ghost use Rattle.std.specs.Prelude.{◌≡◌, ◌≢◌, ◌≤◌, ◌⊎◌, Some, None, All, IfErr, OnErr, OnOk, length, true, vec_len};
 ghost use Rattle.camel_vlr.specs.Session.{SessionData};
 ghost use Rattle.camel_c_data.specs.Decisions.{no_decisions};
 ghost use Rattle.camel_c.specs.Object.{live_store};
-ghost use Rattle.camel_c.specs.Opening.{AllEmpty, AllHold, CanOpen, HoldAsBefore, IsNew, Opens, new_session, profile_of};
+ghost use Rattle.camel_c.specs.Opening.{AllEmpty, AllHold, CanOpen, HoldAsBefore, IsNew, Opens, new_session};
+ghost use Rattle.camel_c.specs.Opening.{profile_of};
 ghost use Rattle.camel_c.specs.declared.failure.Failure.TheVariants as failure;
 ghost use Rattle.camel_c.specs.declared.object.LiveStore.{LiveStore};
 ghost use Rattle.camel_c.specs.declared.object.Object.TheVariants as object;
@@ -23,13 +24,14 @@ use camel_vlr::{MAX_PLACES, MAX_UPDATES, WaitFreeSession, WaitFreeVlr};
 use core::mem::replace_with;
 use std::alloc::Global;
 
-/// Opens a store that takes at most `limit` updates (1 to 2^63 - 1), with 1 to 64 sessions, which decide under profile 1
-/// or 2, and fills the handles. The seed of its tables is secret and random: with one that is known, whoever chooses
-/// IMSIs can make look-ups slow. It is the store's number too, so only receipts of stores with one seed are not told apart.
+/// Opens a store that takes at most `limit` updates (1 to 2^63 - 1), with 1 to 64 sessions, which decide under profile
+/// 1 or 2, and fills the handles. The seed of its tables is secret and random: with one that is known, whoever chooses
+/// IMSIs can make look-ups slow. It is the store's number too, so only receipts of stores with one seed are not told
+/// apart.
 ///
-/// It fails with 506 if the caller knows another version of the layouts, with 502 for an argument out of range, with 504
-/// if a handle is not empty, and with 102 if memory was refused; it names 103 too, which no run meets. Then all handles
-/// are as before.
+/// It fails with 506 if the caller knows another version of the layouts, with 502 for an argument out of range, with
+/// 504 if a handle is not empty, and with 102 if memory was refused; it names 103 too, which no run meets. Then all
+/// handles are as before.
 #[unsafe(no_mangle)]
 pub extern "C" fn camel_open_version(
     alloc: Global,
@@ -102,7 +104,8 @@ fn open(
     requires places { (1 ≤ length sessions.old) × (length sessions.old ≤ 64) }
     requires limit { (1 ≤ limit) × (limit ≤ 9223372036854775807) }
     requires empty { (store.old.value ≡ None) × AllEmpty sessions.old }
-    ensures opened { OnOk result ((live : LiveStore) × (store.new.value ≡ Some (live_store live)) × IsNew limit profile seed live
+    ensures opened { OnOk result
+        ((live : LiveStore) × (store.new.value ≡ Some (live_store live)) × IsNew limit profile seed live
         × AllHold (object.Session (new_session live.vlr.store live.number)) sessions.new) }
     ensures unchanged { OnErr result ((store.new.value ≡ store.old.value) × HoldAsBefore sessions.old sessions.new) }
     ensures only { IfErr result (λ why. (why ≡ Refusal.OutOfMemory) ⊎ (why ≡ Refusal.NoPlace)) }
@@ -142,7 +145,8 @@ fn fill_all(
     requires count { length handles.old ≡ vec_len sessions.old }
     requires empty { AllEmpty handles.old }
     ensures filled { (fresh : SessionData) → All (λ session. session ≡ fresh) sessions.old.items
-        → OnOk result (AllHold (object.Session (record { session = fresh; store = number; decisions = no_decisions })) handles.new) }
+        → OnOk result (AllHold
+        (object.Session (record { session = fresh; store = number; decisions = no_decisions })) handles.new) }
     ensures unchanged { OnErr result (HoldAsBefore handles.old handles.new) }
     ensures only { IfErr result (λ why. why ≡ Refusal.OutOfMemory) }
 {

@@ -13,9 +13,9 @@ use camel_vlr::Unpublished;
 impl LiveStore {
     /// Publishes all that is pending, also if nothing is, and counts it if a look holds that up. It does not wait.
     ///
-    /// It fails with 501 if a look keeps the copy that is to be changed, and with 102 if memory was refused. Then nothing
-    /// was published, and all is pending as before. It does not fail with 501 if `camel_holders` has told of no session,
-    /// or it has failed with 102, since the last publication.
+    /// It fails with 501 if a look keeps the copy that is to be changed, and with 102 if memory was refused. Then
+    /// nothing was published, and all is pending as before. It does not fail with 501 if `camel_holders` has told of no
+    /// session, or it has failed with 102, since the last publication.
     pub(crate) fn publish(&mut self) -> u32
         ensures published { result ≡ 0 → self.new ≡ with_published self.old }
         ensures held { result ≡ 501 → self.new ≡ with_held self.old }

@@ -1,8 +1,10 @@
 //! Publishing what is pending, and telling sessions of it.
 
-ghost use Rattle.std.specs.Prelude.{◌≡◌, ◌≢◌, ◌⊎◌, length, Some, true};
+ghost use Rattle.std.specs.Prelude.{◌≡◌, ◌≢◌, ◌⊎◌, Some, true};
 ghost use Rattle.camel_c.specs.Change.{IsRefused, with_held, with_published};
-ghost use Rattle.camel_c.specs.Publication.{AllLearn, AllMayLook, AllReady, FirstUnready, IsReady, IsUnready, PublishesTo};
+ghost use Rattle.camel_c.specs.Publication.{AllLearn, AllMayLook, AllReady, FirstUnready, IsReady, IsUnready};
+ghost use Rattle.camel_c.specs.Publication.{PublishesTo};
+ghost use Rattle.camel_c.specs.Receipts.{receipt_of};
 
 use crate::failure::Failure;
 use crate::handle::CamelHandle;
@@ -16,10 +18,10 @@ use camel_vlr::MAX_PLACES;
 /// `camel_learn` does: each shows it from then on. It does not wait.
 ///
 /// It fails with 502 if there are more than 64, with 503 if the first handle holds no store that takes updates, with
-/// 503, 501 or 505 for the first session that is none, has begun a look or is of another store, with 501 if a look keeps
-/// the copy that is to be changed, which is counted, and with 102 if memory was refused. Then nothing was published, and
-/// all is pending as before. It names 104 and 505 too for a session that does not see what is published then, which no
-/// run meets.
+/// 503, 501 or 505 for the first session that is none, has begun a look or is of another store, with 501 if a look
+/// keeps the copy that is to be changed, which is counted, and with 102 if memory was refused. Then nothing was
+/// published, and all is pending as before. It names 104 and 505 too for a session that does not see what is published
+/// then, which no run meets.
 #[unsafe(no_mangle)]
 pub extern "C" fn camel_publish_to_nonnull(
     store: &mut CamelHandle,
@@ -40,8 +42,7 @@ impl LiveStore {
     /// Publishes all that is pending if the sessions are ready, and has them learn it.
     fn publish_to(&mut self, sessions: &mut [CamelHandle]) -> u32
         ensures published { result ≡ 0 → self.new ≡ with_published self.old }
-        ensures learnt { result ≡ 0 → AllLearn (record { store = self.new.number; front = length self.new.vlr.updates.published })
-            sessions.old sessions.new }
+        ensures learnt { result ≡ 0 → AllLearn (receipt_of self.new) sessions.old sessions.new }
         ensures held { AllReady self.old.number sessions.old → result ≡ 501
             → (self.new ≡ with_held self.old) × (sessions.new ≡ sessions.old) }
         ensures refused { AllReady self.old.number sessions.old → result ≡ 102
@@ -52,7 +53,8 @@ impl LiveStore {
             → (result ≡ 0) ⊎ ((result ≡ 102) ⊎ ((result ≡ 501) ⊎ ((result ≡ 104) ⊎ (result ≡ 505)))) }
         ensures free { self.old.vlr.free ≡ true → AllReady self.old.number sessions.old → result ≢ 501 }
         ensures unready { AllReady self.old.number sessions.old
-            ⊎ (FirstUnready self.old.number sessions.old result × (self.new ≡ self.old) × (sessions.new ≡ sessions.old)) }
+            ⊎ (FirstUnready self.old.number sessions.old result × (self.new ≡ self.old)
+            × (sessions.new ≡ sessions.old)) }
     {
         match first_unready(sessions, self.number) {
             0 => match self.publish() {

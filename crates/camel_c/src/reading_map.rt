@@ -4,7 +4,8 @@ ghost use Rattle.std.specs.Prelude.{◌≡◌, IfOk};
 ghost use Rattle.camel_map.specs.Lists.{IsReceived};
 ghost use Rattle.camel_map.specs.Reading.{whole};
 ghost use Rattle.camel_map.specs.Update.{arrival_of};
-ghost use Rattle.camel_c.specs.Octets.{ReadsOctets, dialogue_in, in_argument, octets_fault_code, octets_fault_place, arrival_in, operation_in};
+ghost use Rattle.camel_c.specs.Octets.{ReadsOctets, dialogue_in, in_argument, octets_fault_code, octets_fault_place};
+ghost use Rattle.camel_c.specs.Octets.{arrival_in, operation_in};
 
 use camel_c_data::CamelImsi;
 use camel_criteria::Refusal;

@@ -3,7 +3,7 @@
 ghost use Rattle.std.specs.Prelude.{◌≡◌, ◌≢◌, ◌⊎◌, length, Some, None, IfSome};
 ghost use Rattle.camel_vlr.specs.Session.{SessionData};
 ghost use Rattle.camel_c.specs.Object.{HoldsAnySession, HoldsLiveStore, HoldsLook, HoldsSession};
-ghost use Rattle.camel_c.specs.Receipts.{GivesReceipt, IsForeign, LearnsReceipt, MayLook, RejectsReceipt};
+ghost use Rattle.camel_c.specs.Receipts.{GivesReceipt, IsForeign, LearnsReceipt, MayLook, RejectsReceipt, receipt_of};
 ghost use Rattle.camel_c.specs.Shows.{Shows};
 ghost use Rattle.camel_c.specs.declared.object.Object.TheVariants as object;
 ghost use Rattle.camel_c.specs.declared.thread_session.ThreadSession.{ThreadSession};
@@ -36,7 +36,7 @@ pub extern "C" fn camel_receipt_of(store: &mut CamelHandle, receipt: &mut CamelR
 impl LiveStore {
     /// A receipt of all that is published.
     pub(crate) fn receipt(&self) -> CamelReceipt
-        ensures { result ≡ record { store = self.now.number; front = length self.now.vlr.updates.published } }
+        ensures { result ≡ receipt_of self.now }
     {
         CamelReceipt {
             store: self.number,
@@ -48,9 +48,9 @@ impl LiveStore {
 /// Lets a session learn a receipt: it looks at what is published, and leaves the look, so its later looks show at least
 /// what the receipt says. It takes no memory and does not wait.
 ///
-/// It fails with 501 if a look has begun, with 503 if the handle holds no session, with 505 if the receipt is of another
-/// store, and with 104 if the store has ended; then nothing is changed. It fails with 505 too if the receipt is of more
-/// updates than the session's store has published: then the session has looked.
+/// It fails with 501 if a look has begun, with 503 if the handle holds no session, with 505 if the receipt is of
+/// another store, and with 104 if the store has ended; then nothing is changed. It fails with 505 too if the receipt is
+/// of more updates than the session's store has published: then the session has looked.
 #[unsafe(no_mangle)]
 pub extern "C" fn camel_learn(session: &mut CamelHandle, receipt: &CamelReceipt) -> u32
     ensures learnt { result ≡ 0 → (own : ThreadSession) × (shown : SessionData) × (left : ThreadSession)
@@ -83,7 +83,8 @@ pub extern "C" fn camel_learn(session: &mut CamelHandle, receipt: &CamelReceipt)
 impl ThreadSession {
     /// Looks, and tells how many updates the front has; None if the store has ended.
     fn see(&mut self) -> Option<u64>
-        ensures seen { IfSome result (λ front. (shown : SessionData) × Shows self.old shown self.new × (front ≡ length shown.seen)) }
+        ensures seen { IfSome result
+            (λ front. (shown : SessionData) × Shows self.old shown self.new × (front ≡ length shown.seen)) }
         ensures no_look { result ≡ None → self.new ≡ self.old }
     {
         let had_begun = self.begin()?;

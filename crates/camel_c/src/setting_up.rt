@@ -63,7 +63,8 @@ impl ThreadSession {
     ) -> u32
         requires { subscriber.old.value ≡ None }
         ensures set_up { result ≡ 0 → (shown : SessionData)
-            × SetsUp (event_data event.now) answer.new subscriber.old.value subscriber.new.value is_there.new self.old shown self.new }
+            × SetsUp (event_data event.now)
+            answer.new subscriber.old.value subscriber.new.value is_there.new self.old shown self.new }
         ensures unwritten { result ≢ 0 → (answer.new ≡ answer.old)
             × (subscriber.new.value ≡ subscriber.old.value) × (is_there.new ≡ is_there.old) }
         ensures unchanged { result ≡ 104 → self.new ≡ self.old }

@@ -23,13 +23,15 @@ pub(crate) const CANCEL: u8 = 4;
 
 pub(crate) const CLEAR_ALL: u8 = 5;
 
-/// Submits a Register (kind 1), an Insert of the lists that are sent (2), a Delete of what is named (3), a Cancel (4) or
-/// a ClearAll (5). Only an Insert looks at the lists, only a Delete at what is named, and all but a ClearAll at the IMSI.
+/// Submits a Register (kind 1), an Insert of the lists that are sent (2), a Delete of what is named (3), a Cancel (4)
+/// or a ClearAll (5). Only an Insert looks at the lists, only a Delete at what is named, and all but a ClearAll at the
+/// IMSI.
 ///
 /// It fails with 502 if the kind is none of these, with 502 or 36 if the data are none, and with 35 if a list that is
 /// sent has no items, or if criteria come without their CSI and that is not stored. It fails with 5 if an Insert or a
 /// Delete is of an IMSI without a record, with 101 if the store has taken as many updates as it may, with 102 if memory
-/// was refused, and with 503 if the handle holds no store that takes updates. Then it is as if it had not been submitted.
+/// was refused, and with 503 if the handle holds no store that takes updates. Then it is as if it had not been
+/// submitted.
 #[unsafe(no_mangle)]
 pub extern "C" fn camel_submit_change_nonnull(
     alloc: Global,

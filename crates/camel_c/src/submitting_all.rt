@@ -14,15 +14,15 @@ use camel_rows::Update;
 use camel_vlr::Rejected;
 use std::alloc::Global;
 
-/// Submits copies of updates, in their order: all of them are accepted, or none is. So a Register and the Inserts behind
-/// it are one step, as a location update is. The handles keep the updates. It writes the index of the update that was
-/// rejected, the first being 0, or how many there are if none was.
+/// Submits copies of updates, in their order: all of them are accepted, or none is. So a Register and the Inserts
+/// behind it are one step, as a location update is. The handles keep the updates. It writes the index of the update
+/// that was rejected, the first being 0, or how many there are if none was.
 ///
 /// It fails for the first update that the store does not accept over those before it: with 5 or 35 for its data, with
 /// 101 if the store has taken as many as it may, and with 36 for a Cancel and a ClearAll among several, which leave no
 /// record; then that update was rejected. It fails with 102 if memory was refused, and with 503 if the first handle
-/// holds no store that takes updates, or another one no update: then none was rejected. If it fails, it is as if nothing
-/// had been submitted.
+/// holds no store that takes updates, or another one no update: then none was rejected. If it fails, it is as if
+/// nothing had been submitted.
 #[unsafe(no_mangle)]
 pub extern "C" fn camel_submit_all_nonnull(
     alloc: Global,

@@ -15,9 +15,9 @@ use std::alloc::Global;
 /// dialogue, and its number is 0 if the dialogue has none. The argument is the parameter of a TCAP invoke.
 ///
 /// It fails with 502 if the operation is none of these or the IMSI is none, and with 401 to 407, 35 or 36 if the
-/// argument has a fault, whose octet it writes to the place; else the place is 2^64 - 1. It fails with 5 or 35 if the store
-/// does not accept the update, with 101 if it has taken as many as it may, with 102 if memory was refused, and with 503
-/// if the handle holds no store that takes updates. Then it is as if it had not been submitted.
+/// argument has a fault, whose octet it writes to the place; else the place is 2^64 - 1. It fails with 5 or 35 if the
+/// store does not accept the update, with 101 if it has taken as many as it may, with 102 if memory was refused, and
+/// with 503 if the handle holds no store that takes updates. Then it is as if it had not been submitted.
 #[unsafe(no_mangle)]
 pub extern "C" fn camel_submit_map_nonnull(
     alloc: Global,
@@ -27,7 +27,8 @@ pub extern "C" fn camel_submit_map_nonnull(
     argument: &[u8],
     place: &mut u64,
 ) -> u32
-    ensures { SubmitsOctets (octets_in operation imsi.now argument.now) result place.new store.old.value store.new.value }
+    ensures { SubmitsOctets (octets_in operation imsi.now argument.now)
+        result place.new store.old.value store.new.value }
 {
     let read = read_octets(alloc, operation, imsi, argument);
     submit_read(store, read, place)

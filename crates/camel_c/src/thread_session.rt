@@ -18,12 +18,13 @@ pub struct ThreadSession {
 }
 
 impl ThreadSession {
-    /// Begins a look, unless one has begun. Returns whether one had begun; None if the store has ended, and then nothing
-    /// is changed.
+    /// Begins a look, unless one has begun. Returns whether one had begun; None if the store has ended, and then
+    /// nothing is changed.
     #[inline]
     pub(crate) fn begin(&mut self) -> Option<bool>
         ensures same { self.new ≡ with_session self.old self.new.session }
-        ensures looks { IfSome result (λ had_begun. (had_begun ≡ self.old.session.looks) × (self.new.session.looks ≡ true)) }
+        ensures looks { IfSome result
+            (λ had_begun. (had_begun ≡ self.old.session.looks) × (self.new.session.looks ≡ true)) }
         ensures sees { IfSome result (λ had_begun. had_begun ≡ false → Sees self.old.session self.new.session) }
         ensures shares { self.old.session.looks ≡ true → (result ≡ Some true) × (self.new.session ≡ self.old.session) }
         ensures no_look { result ≡ None → self.new ≡ self.old }

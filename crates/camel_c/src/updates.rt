@@ -3,7 +3,8 @@
 ghost use Rattle.std.specs.Prelude.{◌≡◌, Ok};
 ghost use Rattle.camel_c_data.specs.Update.{delete_in};
 ghost use Rattle.camel_c.specs.Submission.{IsNoKind, cancel_in, register_in};
-ghost use Rattle.camel_c.specs.Updates.{HoldsLists, Makes, ReadsAndMakes, alone, count_in, counted, counts_in, lists_in};
+ghost use Rattle.camel_c.specs.Updates.{HoldsLists, Makes, ReadsAndMakes, alone, count_in, counted, counts_in};
+ghost use Rattle.camel_c.specs.Updates.{lists_in};
 
 use crate::failure::Failure;
 use crate::filling::put;

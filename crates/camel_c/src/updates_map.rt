@@ -17,8 +17,8 @@ use std::alloc::Global;
 /// many items came in each list and with the camelCapabilityHandling of each CSI.
 ///
 /// It fails with 502, 401 to 407, 35 or 36 as `camel_submit_map` does, and writes the octet of a fault of the argument
-/// to the place; else the place is 2^64 - 1. It fails with 504 if the handle is not empty, and with 102 if memory was refused.
-/// Then the handle is as before.
+/// to the place; else the place is 2^64 - 1. It fails with 504 if the handle is not empty, and with 102 if memory was
+/// refused. Then the handle is as before.
 #[unsafe(no_mangle)]
 pub extern "C" fn camel_update_of_map_nonnull(
     alloc: Global,

@@ -3,7 +3,8 @@ use Rattle.std.proofs.Common.{◌≡◌, ◌<◌, ◌≤◌, List, length, Resul
 use Rattle.std.proofs.lemmas.Bool.Decides.{leb_tells}
 use Rattle.camel_criteria.specs.declared.refusal.Refusal.TheVariants.{UnexpectedDataValue}
 use Rattle.camel_rows.specs.Received.{max_tdp_data}
-use Rattle.camel_c_data.specs.Reading.{FailsAs, each_of}
+use Rattle.camel_reading.specs.Reading.{FailsAs, each_of}
+use Rattle.camel_c_data.specs.Reading.{IsMemory}
 use Rattle.camel_c_data.specs.SentList.{few_of}
 use Rattle.camel_c_data.specs.declared.data_fault.DataFault.{DataFault}
 use Rattle.camel_c_data.specs.declared.data_fault.DataFault.TheVariants.{Refused}
@@ -25,5 +26,5 @@ module _ {A S : Type 0} (item_in : S → Result A DataFault) (items : List S) wh
         | inr above ↦ ap (λ b. cond b (each_of item_in items) (Err (Refused UnexpectedDataValue))) above.0
       ]
 
-  pub refused : (fault : DataFault) → (max_tdp_data < length items) × (fault ≡ Refused UnexpectedDataValue) → FailsAs fault (few_of item_in items)
+  pub refused : (fault : DataFault) → (max_tdp_data < length items) × (fault ≡ Refused UnexpectedDataValue) → FailsAs IsMemory fault (few_of item_in items)
   refused fault why = inr (rw why.1 (many why.0))

@@ -11,7 +11,8 @@ use Rattle.camel_tbcd.specs.ImsiNumber.{IsNumberOfNone, digits_of_number, imsi_n
 use Rattle.camel_tbcd.specs.declared.imsi.ImsiFault.{ImsiFault}
 use Rattle.camel_tbcd.proofs.ImsiNumberLemmas.{digits_of_imsi}
 use Rattle.camel_c_data.specs.Imsi.{imsi_in, with_number}
-use Rattle.camel_c_data.specs.Reading.{◌>>=◌, ok_or_malformed}
+use Rattle.camel_reading.specs.Reading.{◌>>=◌}
+use Rattle.camel_c_data.specs.Reading.{ok_or_malformed}
 use Rattle.camel_c_data.specs.declared.data_fault.DataFault.TheVariants.{Malformed}
 use Rattle.camel_c_data.specs.declared.imsi.CamelImsi.{CamelImsi}
 

@@ -1,15 +1,14 @@
 -- Entries of criteria, and sets of them, by their fields.
-use Rattle.std.specs.Prelude.{◌≡◌, ◌||◌, Bool, true, false, List, Option, Some, None, IfSome, is_some, Result, Ok, Err, if◌then◌else◌}
+use Rattle.std.specs.Prelude.{◌≡◌, ◌||◌, Bool, true, false, Option, Some, None, IfSome, is_some, Result, Ok, Err, if◌then◌else◌}
 use Rattle.camel_criteria.specs.Criteria.{NumberCriterionData, OCriteriaData, TCriteriaData, o_criteria_of, t_criteria_of}
 use Rattle.camel_criteria.specs.declared.criteria.CallType.{CallType}
 use Rattle.camel_criteria.specs.declared.criteria.CallType.TheVariants.{Forwarded, NotForwarded}
 use Rattle.camel_criteria.specs.declared.refusal.Refusal.TheVariants.{UnexpectedDataValue}
-use Rattle.camel_rows.specs.Received.{o_criteria_set_of, t_criteria_set_of}
 use Rattle.camel_c_data.specs.EntryLists.{AreFlags, basic_services_in, causes_in}
 use Rattle.camel_c_data.specs.Flag.{flag_of, is_set}
 use Rattle.camel_c_data.specs.NumberCriterion.{ShowsNumber, number_criterion_in}
-use Rattle.camel_c_data.specs.Reading.{◌>>=◌, or_refused}
-use Rattle.camel_c_data.specs.SentList.{sent_list}
+use Rattle.camel_reading.specs.Reading.{◌>>=◌}
+use Rattle.camel_c_data.specs.Reading.{or_refused}
 use Rattle.camel_c_data.specs.declared.criteria.CamelCriteria.{CamelCriteria}
 use Rattle.camel_c_data.specs.declared.data_fault.DataFault.{DataFault}
 use Rattle.camel_c_data.specs.declared.data_fault.DataFault.TheVariants.{Refused}
@@ -65,11 +64,3 @@ pub record ShowsT (entry : TCriteriaData) (fields : CamelCriteria) : Type 0 wher
   pub basic : basic_services_in fields.basic ≡ Ok entry.basic
   pub bearers : AreFlags fields.basic
   pub causes : causes_in fields.causes ≡ Ok entry.causes
-
--- the criteria of the O-CSI of these entries
-unfoldable pub o_criteria_set_in : Bool → List CamelCriteria → Result (Option (List OCriteriaData)) DataFault
-o_criteria_set_in is_sent entries = sent_list o_entry_in o_criteria_set_of is_sent entries
-
--- the criteria of the VT-CSI of these entries
-unfoldable pub t_criteria_set_in : Bool → List CamelCriteria → Result (Option (List TCriteriaData)) DataFault
-t_criteria_set_in is_sent entries = sent_list t_entry_in t_criteria_set_of is_sent entries

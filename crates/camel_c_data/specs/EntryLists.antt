@@ -3,7 +3,7 @@ use Rattle.std.specs.Prelude.{ℕ, ◌≤◌, All, List, map, Result, Ok}
 use Rattle.camel_criteria.specs.declared.basic_service.BasicService.{BasicService}
 use Rattle.camel_c_data.specs.BasicService.{basic_service_in}
 use Rattle.camel_c_data.specs.FirstItems.{first_items}
-use Rattle.camel_c_data.specs.Reading.{◌>>=◌}
+use Rattle.camel_reading.specs.Reading.{◌>>=◌}
 use Rattle.camel_c_data.specs.declared.data_fault.DataFault.{DataFault}
 use Rattle.camel_c_data.specs.declared.entry_lists.CamelBasicServices.{CamelBasicServices}
 use Rattle.camel_c_data.specs.declared.entry_lists.CamelCauses.{CamelCauses}

@@ -7,7 +7,8 @@ use Rattle.camel_c_data.specs.Address.{call_address_in}
 use Rattle.camel_c_data.specs.BasicService.{basic_service_in}
 use Rattle.camel_c_data.specs.Flag.{is_set}
 use Rattle.camel_c_data.specs.Imsi.{imsi_in}
-use Rattle.camel_c_data.specs.Reading.{◌>>=◌, some_or_malformed}
+use Rattle.camel_reading.specs.Reading.{◌>>=◌}
+use Rattle.camel_c_data.specs.Reading.{some_or_malformed}
 use Rattle.camel_c_data.specs.declared.data_fault.DataFault.{DataFault}
 use Rattle.camel_c_data.specs.declared.data_fault.DataFault.TheVariants.{Malformed}
 use Rattle.camel_c_data.specs.declared.event.CamelEvent.{CamelEvent}

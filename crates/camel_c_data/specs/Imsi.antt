@@ -2,7 +2,8 @@
 use Rattle.std.specs.Prelude.{◌==◌, ℕ, List, Result, Ok, Err, if◌then◌else◌}
 use Rattle.camel_tbcd.specs.Imsi.{imsi_of}
 use Rattle.camel_tbcd.specs.ImsiNumber.{digits_of_number, imsi_number}
-use Rattle.camel_c_data.specs.Reading.{◌>>=◌, ok_or_malformed}
+use Rattle.camel_reading.specs.Reading.{◌>>=◌}
+use Rattle.camel_c_data.specs.Reading.{ok_or_malformed}
 use Rattle.camel_c_data.specs.declared.data_fault.DataFault.{DataFault}
 use Rattle.camel_c_data.specs.declared.data_fault.DataFault.TheVariants.{Malformed}
 use Rattle.camel_c_data.specs.declared.imsi.CamelImsi.{CamelImsi}

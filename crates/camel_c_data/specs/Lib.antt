@@ -12,5 +12,6 @@ pub mod Imsi
 pub mod NumberCriterion
 pub mod Reading
 pub mod Row
+pub mod SentCsi
 pub mod SentList
 pub mod Update

@@ -6,7 +6,8 @@ use Rattle.camel_criteria.specs.declared.criteria.MatchType.TheVariants.{Inhibit
 use Rattle.camel_c_data.specs.Address.{isdn_address_in}
 use Rattle.camel_c_data.specs.Flag.{is_set}
 use Rattle.camel_c_data.specs.FirstItems.{first_items}
-use Rattle.camel_c_data.specs.Reading.{◌>>=◌, each_of, or_refused}
+use Rattle.camel_reading.specs.Reading.{◌>>=◌, each_of}
+use Rattle.camel_c_data.specs.Reading.{or_refused}
 use Rattle.camel_c_data.specs.declared.data_fault.DataFault.{DataFault}
 use Rattle.camel_c_data.specs.declared.number_criterion.CamelNumberCriterion.{CamelNumberCriterion}
 
@@ -14,11 +15,11 @@ abbrev pub match_type_in : CamelNumberCriterion → MatchType
 match_type_in criterion = if is_set criterion.is_enabling then Enabling else Inhibiting
 
 -- the listed numbers, each as its octets
-unfoldable pub numbers_in : CamelNumberCriterion → Result (List (List ℕ)) DataFault
+abbrev pub numbers_in : CamelNumberCriterion → Result (List (List ℕ)) DataFault
 numbers_in criterion = first_items criterion.number_count criterion.numbers >>= each_of isdn_address_in
 
 -- the listed lengths
-unfoldable pub lengths_in : CamelNumberCriterion → Result (List ℕ) DataFault
+abbrev pub lengths_in : CamelNumberCriterion → Result (List ℕ) DataFault
 lengths_in criterion = first_items criterion.length_count criterion.lengths
 
 -- the fields are each part of a criterion

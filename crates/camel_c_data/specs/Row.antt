@@ -1,27 +1,18 @@
 -- TDP rows and CSIs by their fields.
-use Rattle.std.specs.Prelude.{◌≡◌, ℕ, Bool, List, Option, Result, Ok}
+use Rattle.std.specs.Prelude.{◌≡◌, ℕ, Result, Ok}
 use Rattle.camel_criteria.specs.Handling.{handling_of}
 use Rattle.camel_criteria.specs.declared.handling.Handling.{Handling}
 use Rattle.camel_criteria.specs.declared.handling.Handling.TheVariants.{Continue, Release}
-use Rattle.camel_rows.specs.Received.{o_csi_of, vt_csi_of}
 use Rattle.camel_rows.specs.TdpRow.{TdpRowData, tdp_row_of}
 use Rattle.camel_c_data.specs.Address.{isdn_address_in}
-use Rattle.camel_c_data.specs.Reading.{◌>>=◌, or_refused}
-use Rattle.camel_c_data.specs.SentList.{sent_list}
+use Rattle.camel_reading.specs.Reading.{◌>>=◌}
+use Rattle.camel_c_data.specs.Reading.{or_refused}
 use Rattle.camel_c_data.specs.declared.data_fault.DataFault.{DataFault}
 use Rattle.camel_c_data.specs.declared.row.CamelRow.{CamelRow}
 
 -- the row that the fields are
 unfoldable pub row_in : CamelRow → Result TdpRowData DataFault
 row_in row = isdn_address_in row.scf >>= λ scf. or_refused (tdp_row_of row.dp row.key scf (handling_of row.handling))
-
--- the O-CSI of these rows
-unfoldable pub o_csi_in : Bool → List CamelRow → Result (Option (List TdpRowData)) DataFault
-o_csi_in is_sent rows = sent_list row_in o_csi_of is_sent rows
-
--- the VT-CSI of these rows
-unfoldable pub vt_csi_in : Bool → List CamelRow → Result (Option (List TdpRowData)) DataFault
-vt_csi_in is_sent rows = sent_list row_in vt_csi_of is_sent rows
 
 -- the number of a default call handling, of those that TS 29.002 names
 abbrev pub handling_number : Handling → ℕ

@@ -3,7 +3,8 @@ use Rattle.std.specs.Prelude.{nat_le, Bool, true, false, List, length, Option, S
 use Rattle.camel_criteria.specs.declared.refusal.Refusal.{Refusal}
 use Rattle.camel_criteria.specs.declared.refusal.Refusal.TheVariants.{UnexpectedDataValue}
 use Rattle.camel_rows.specs.Received.{max_tdp_data}
-use Rattle.camel_c_data.specs.Reading.{◌>>=◌, each_of, or_refused}
+use Rattle.camel_reading.specs.Reading.{◌>>=◌, each_of}
+use Rattle.camel_c_data.specs.Reading.{or_refused}
 use Rattle.camel_c_data.specs.declared.data_fault.DataFault.{DataFault}
 use Rattle.camel_c_data.specs.declared.data_fault.DataFault.TheVariants.{Refused}
 

@@ -1,13 +1,14 @@
 -- The updates Insert and Delete (TS 29.002) by their fields.
 use Rattle.std.specs.Prelude.{Result, Ok}
+use Rattle.camel_criteria.specs.DetectionPoint.{o_detection_points, vt_detection_points}
 use Rattle.camel_rows.specs.declared.subscriber.update.Update.{Update}
 use Rattle.camel_rows.specs.declared.subscriber.update.Update.TheVariants as update
 use Rattle.camel_rows.specs.declared.subscriber.update.Withdrawal.{Withdrawal}
-use Rattle.camel_c_data.specs.Criteria.{o_criteria_set_in, t_criteria_set_in}
+use Rattle.camel_c_data.specs.Criteria.{o_entry_in, t_entry_in}
 use Rattle.camel_c_data.specs.Flag.{is_set}
 use Rattle.camel_c_data.specs.Imsi.{imsi_in}
-use Rattle.camel_c_data.specs.Reading.{◌>>=◌}
-use Rattle.camel_c_data.specs.Row.{o_csi_in, vt_csi_in}
+use Rattle.camel_reading.specs.Reading.{◌>>=◌}
+use Rattle.camel_c_data.specs.SentCsi.{entries_in, rows_in}
 use Rattle.camel_c_data.specs.declared.data_fault.DataFault.{DataFault}
 use Rattle.camel_c_data.specs.declared.imsi.CamelImsi.{CamelImsi}
 use Rattle.camel_c_data.specs.declared.update.CamelInsert.{CamelInsert}
@@ -17,10 +18,10 @@ use Rattle.camel_c_data.specs.declared.update.CamelWithdrawal.{CamelWithdrawal}
 unfoldable pub insert_in : CamelInsert → CamelImsi → Result Update DataFault
 insert_in sent held = do
   imsi ← imsi_in held
-  o ← o_csi_in (is_set sent.o.has_rows) sent.o.rows.now
-  o_criteria ← o_criteria_set_in (is_set sent.o.has_criteria) sent.o.criteria.now
-  vt ← vt_csi_in (is_set sent.vt.has_rows) sent.vt.rows.now
-  t_criteria ← t_criteria_set_in (is_set sent.vt.has_criteria) sent.vt.criteria.now
+  o ← rows_in o_detection_points sent.o
+  o_criteria ← entries_in o_entry_in o_detection_points (λ entry. entry.dp) sent.o
+  vt ← rows_in vt_detection_points sent.vt
+  t_criteria ← entries_in t_entry_in vt_detection_points (λ entry. entry.dp) sent.vt
   Ok (update.Insert imsi o o_criteria vt t_criteria)
 
 -- what is named

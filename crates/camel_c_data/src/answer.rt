@@ -1,4 +1,4 @@
-ghost use Rattle.std.specs.Prelude.{◌≡◌, ◌≤◌, Ok};
+ghost use Rattle.std.specs.Prelude.{◌≡◌, ◌≤◌};
 ghost use Rattle.camel_rows.specs.Decision.{decision_data};
 ghost use Rattle.camel_rows.specs.Outcome.{outcome_of};
 ghost use Rattle.camel_c_data.specs.Answer.{ShowsAnswer, reason_number};
@@ -10,8 +10,8 @@ use std::mem::size_of;
 
 /// What is returned for a call event: what was decided, and the front over whose data it was decided.
 ///
-/// If a service is invoked, `key`, `scf`, `dp` and `is_release` are the row's four values, and `reason` is 0. If none is,
-/// these are 0, with no octets of an address, and `reason` is 1 to 5.
+/// If a service is invoked, `key`, `scf`, `dp` and `is_release` are the row's four values, and `reason` is 0. If none
+/// is, these are 0, with no octets of an address, and `reason` is 1 to 5.
 #[repr(C)]
 #[derive(Clone, Copy, Debug)]
 pub struct CamelAnswer {
@@ -35,7 +35,8 @@ pub struct CamelAnswer {
 const _: () = prove!(size_of::<CamelAnswer>() == 32);
 
 impl CamelAnswer {
-    /// Writes the answer that a decision is, over a front of so many updates. Each field is written once, where it lies.
+    /// Writes the answer that a decision is, over a front of so many updates. Each field is written once, where it
+    /// lies.
     #[inline]
     pub fn write(&mut self, front: u64, decision: &Decision)
         ensures { ShowsAnswer (record { front = front; outcome = outcome_of (decision_data decision.now) }) self.new }

@@ -2,10 +2,9 @@ ghost use Rattle.std.specs.Prelude.{◌≡◌};
 ghost use Rattle.camel_c_data.specs.DataFault.{data_fault_code};
 
 use camel_criteria::Refusal;
+use camel_reading::Fault;
 use camel_tbcd::{AddressFault, ImsiFault};
 use std::alloc::{AllocError, AllocFailed};
-use std::error::Error;
-use std::fmt;
 
 /// Why the data of a C caller are not taken. Nothing was made, and no memory is held.
 #[derive(Clone, Copy, Debug, PartialEq, Eq)]
@@ -29,16 +28,15 @@ impl DataFault {
     }
 }
 
-impl fmt::Display for DataFault {
-    fn fmt<W: fmt::Write>(&self, f: &mut fmt::Formatter<W>) -> fmt::Result {
-        match self {
-            DataFault::Malformed => f.write_str("fields are not what they stand for"),
-            DataFault::Refused(refusal) => refusal.fmt(f),
-        }
+impl Fault for DataFault {
+    ghost use Rattle.camel_c_data.specs.Reading.{IsMemory};
+
+    ghost is_out_of_memory = { IsMemory };
+
+    fn out_of_memory() -> DataFault {
+        DataFault::Refused(Refusal::OutOfMemory)
     }
 }
-
-impl Error for DataFault {}
 
 impl From<Refusal> for DataFault {
     ghost use Rattle.std.specs.Prelude.{◌≡◌};

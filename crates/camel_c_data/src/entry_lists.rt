@@ -3,13 +3,14 @@
 ghost use Rattle.std.specs.Prelude.{◌≡◌, ◌≤◌, All, Ok, IfErr, IfOk, length, map, take};
 ghost use Rattle.camel_c_data.specs.BasicService.{basic_service_in};
 ghost use Rattle.camel_c_data.specs.EntryLists.{AreFlags, basic_services_in, causes_in};
-ghost use Rattle.camel_c_data.specs.Reading.{ReadsList};
+ghost use Rattle.camel_reading.specs.Reading.{ReadsList};
+ghost use Rattle.camel_c_data.specs.Reading.{IsMemory};
 
 use crate::basic_service::CamelBasicService;
 use crate::data_fault::DataFault;
 use crate::first_items::{first_items, room_with};
-use crate::read_each::read_each;
 use camel_criteria::{BasicService, MAX_BASIC_SERVICES, MAX_CAUSES};
+use camel_reading::read_each;
 use std::alloc::Global;
 use std::mem::size_of;
 
@@ -42,7 +43,7 @@ impl CamelBasicServices {
     /// Fails with `Malformed` (502) for more than 5, and with `OutOfMemory` (102) if memory is refused.
     #[tactic(auto, unfolding(crate::specs::EntryLists::basic_services_in))]
     pub fn read(&self, alloc: Global) -> Result<Vec<BasicService>, DataFault>
-        ensures { ReadsList result (basic_services_in self.now) }
+        ensures { ReadsList IsMemory result (basic_services_in self.now) }
     {
         read_services(alloc, first_items(&self.services, self.count)?)
     }
@@ -65,7 +66,7 @@ fn read_services(
     alloc: Global,
     services: &[CamelBasicService],
 ) -> Result<Vec<BasicService>, DataFault>
-    ensures { ReadsList result (Ok (map basic_service_in services.now)) }
+    ensures { ReadsList IsMemory result (Ok (map basic_service_in services.now)) }
 {
     read_each(alloc, services, |service| Ok(service.read()))
 }

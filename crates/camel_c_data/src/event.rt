@@ -1,6 +1,7 @@
 ghost use Rattle.std.specs.Prelude.{◌≡◌, Ok, Err, IfErr, IfOk};
 ghost use Rattle.camel_rows.specs.Event.{event_data};
-ghost use Rattle.camel_c_data.specs.Event.{busy_in, cause_in, collected_info_in, event_in, no_answer_in, route_select_failure_in, terminating_attempt_in};
+ghost use Rattle.camel_c_data.specs.Event.{busy_in, cause_in, collected_info_in, event_in, no_answer_in};
+ghost use Rattle.camel_c_data.specs.Event.{route_select_failure_in, terminating_attempt_in};
 
 use crate::address::CamelAddress;
 use crate::basic_service::CamelBasicService;
@@ -56,8 +57,8 @@ impl CamelEvent {
         }
     }
 
-    // Each kind of event is made by a call of its own. Put into one function, the fields of all kinds would be written in
-    // the pieces of each other, and a processor waits when it reads a field that was written in pieces.
+    // Each kind of event is made by a call of its own. Put into one function, the fields of all kinds would be written
+    // in the pieces of each other, and a processor waits when it reads a field that was written in pieces.
     #[inline(never)]
     fn collected_info(&self) -> Result<Event<'_>, DataFault>
         ensures lent { IfOk result (λ event. collected_info_in self.now ≡ Ok (event_data event)) }

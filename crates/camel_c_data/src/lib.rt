@@ -1,7 +1,7 @@
 //! The data of subscribers, call events and answers as a C caller has them, and what they are in the product's terms.
 //!
-//! Each type with a name that begins with `Camel` has the layout of a C structure of plain numbers. A C caller may write
-//! any number into it, so a read checks its fields. A read that fails made nothing, and holds no memory.
+//! Each type with a name that begins with `Camel` has the layout of a C structure of plain numbers. A C caller may
+//! write any number into it, so a read checks its fields. A read that fails made nothing, and holds no memory.
 #![tactic(auto)]
 
 mod address;
@@ -15,21 +15,22 @@ mod event;
 mod first_items;
 mod imsi;
 mod number_criterion;
-mod read_each;
 mod receipt;
 mod row;
+mod sent_csi;
 mod update;
 
 pub use address::{CamelAddress, CamelIsdnAddress};
 pub use answer::CamelAnswer;
 pub use basic_service::CamelBasicService;
 pub use counts::{CamelCounts, CamelDecisions};
-pub use criteria::{CamelCriteria, read_o_criteria_set, read_t_criteria_set};
+pub use criteria::{CamelCriteria, SentEntry};
 pub use data_fault::DataFault;
 pub use entry_lists::{CamelBasicServices, CamelCauses};
 pub use event::CamelEvent;
 pub use imsi::CamelImsi;
 pub use number_criterion::CamelNumberCriterion;
 pub use receipt::CamelReceipt;
-pub use row::{CamelRow, read_o_csi, read_vt_csi};
-pub use update::{CamelInsert, CamelSentCsi, CamelWithdrawal};
+pub use row::CamelRow;
+pub use sent_csi::CamelSentCsi;
+pub use update::{CamelInsert, CamelWithdrawal};

@@ -1,13 +1,14 @@
 ghost use Rattle.std.specs.Prelude.{◌≡◌, ◌≤◌, Ok, length, take};
 ghost use Rattle.camel_c_data.specs.NumberCriterion.{ShowsNumber, match_type_in, number_criterion_in};
 ghost use Rattle.camel_c_data.specs.Address.{isdn_address_in};
-ghost use Rattle.camel_c_data.specs.Reading.{ReadsAs, each_of};
+ghost use Rattle.camel_reading.specs.Reading.{ReadsAs, each_of};
+ghost use Rattle.camel_c_data.specs.Reading.{IsMemory};
 
 use crate::address::CamelIsdnAddress;
 use crate::data_fault::DataFault;
 use crate::first_items::{first_items, room_with};
-use crate::read_each::read_into;
 use camel_criteria::{MAX_LENGTHS, MAX_NUMBERS, MatchType, NumberCriterion};
+use camel_reading::read_into;
 use camel_tbcd::IsdnAddress;
 use std::alloc::Global;
 use std::mem::size_of;
@@ -29,7 +30,6 @@ const _: () = prove!(size_of::<CamelNumberCriterion>() == 106);
 
 impl CamelNumberCriterion {
     /// The fields of a criterion.
-    #[tactic(auto, unfolding(crate::specs::NumberCriterion::numbers_in, crate::specs::NumberCriterion::lengths_in))]
     pub(crate) fn of(criterion: &NumberCriterion) -> CamelNumberCriterion
         ensures { ShowsNumber criterion.now result }
     {
@@ -58,9 +58,9 @@ impl CamelNumberCriterion {
     /// Fails with `Malformed` (502) for more than 10 numbers, for a number that is no address and for more than 3
     /// lengths, then as [`NumberCriterion::new`], and with `OutOfMemory` (102) if memory is refused. Nothing was made
     /// then.
-    #[tactic(auto, unfolding(crate::specs::NumberCriterion::number_criterion_in, crate::specs::NumberCriterion::numbers_in, crate::specs::NumberCriterion::lengths_in))]
+    #[tactic(auto, unfolding(crate::specs::NumberCriterion::number_criterion_in))]
     pub fn read(&self, alloc: Global) -> Result<NumberCriterion, DataFault>
-        ensures { ReadsAs result (number_criterion_in self.now) }
+        ensures { ReadsAs IsMemory result (number_criterion_in self.now) }
     {
         let listed = first_items(&self.numbers, self.number_count)?;
         let mut numbers = [no_number(); MAX_NUMBERS];

@@ -1,14 +1,10 @@
-ghost use Rattle.std.specs.Prelude.{◌≡◌, ◌≤◌, length, take, OnOk};
-ghost use Rattle.camel_c_data.specs.Reading.{ReadsAs, ReadsInto};
-ghost use Rattle.camel_c_data.specs.SentList.{few_of};
-ghost use Rattle.camel_c_data.specs.Row.{ShowsRow, o_csi_in, row_in, vt_csi_in};
+ghost use Rattle.std.specs.Prelude.{◌≡◌};
+ghost use Rattle.camel_c_data.specs.Row.{ShowsRow, row_in};
 
 use crate::address::CamelIsdnAddress;
 use crate::data_fault::DataFault;
-use crate::read_each::{check_count, read_into};
 use camel_criteria::Handling;
-use camel_rows::{MAX_TDP_DATA, OCsi, TdpRow, VtCsi};
-use camel_tbcd::IsdnAddress;
+use camel_rows::TdpRow;
 use std::mem::size_of;
 
 /// A TDP row of a CSI (O-BcsmCamelTDPData and T-BcsmCamelTDPData of TS 29.002).
@@ -57,53 +53,4 @@ impl CamelRow {
         let handling = Handling::of_received(self.handling);
         Ok(TdpRow::new(self.dp, self.key, scf, handling)?)
     }
-}
-
-/// The O-CSI of received rows, or none if it is not sent: the rows are not looked at then. It takes no memory.
-///
-/// Fails with `UnexpectedDataValue` (36) for more than 10 rows, then as the first row that fails to read, and then as
-/// [`OCsi::new`].
-#[tactic(auto, unfolding(crate::specs::Row::o_csi_in))]
-pub fn read_o_csi(is_sent: bool, rows: &[CamelRow]) -> Result<Option<OCsi>, DataFault>
-    ensures { ReadsAs result (o_csi_in is_sent rows.now) }
-{
-    if !is_sent {
-        return Ok(None);
-    }
-    let mut room = [no_row(); MAX_TDP_DATA];
-    read_rows(rows, &mut room)?;
-    Ok(Some(OCsi::new(&room[..rows.len()])?))
-}
-
-/// The VT-CSI of received rows, or none if it is not sent: the rows are not looked at then. It takes no memory.
-///
-/// Fails with `UnexpectedDataValue` (36) for more than 10 rows, then as the first row that fails to read, and then as
-/// [`VtCsi::new`].
-#[tactic(auto, unfolding(crate::specs::Row::vt_csi_in))]
-pub fn read_vt_csi(is_sent: bool, rows: &[CamelRow]) -> Result<Option<VtCsi>, DataFault>
-    ensures { ReadsAs result (vt_csi_in is_sent rows.now) }
-{
-    if !is_sent {
-        return Ok(None);
-    }
-    let mut room = [no_row(); MAX_TDP_DATA];
-    read_rows(rows, &mut room)?;
-    Ok(Some(VtCsi::new(&room[..rows.len()])?))
-}
-
-// Reads rows into the first places of a room for as many as are sent.
-fn read_rows(rows: &[CamelRow], room: &mut [TdpRow]) -> Result<(), DataFault>
-    requires { length room.old ≡ MAX_TDP_DATA }
-    ensures len { length room.new ≡ MAX_TDP_DATA }
-    ensures few { OnOk result (length rows.now ≤ MAX_TDP_DATA) }
-    ensures rows { ReadsInto result (take (length rows.now) room.new) (few_of row_in rows.now) }
-{
-    check_count(rows.len())?;
-    read_into(rows, |row| row.read(), room)
-}
-
-// What stands in a place for a row until one is read into it.
-fn no_row() -> TdpRow {
-    let no_address = IsdnAddress::from_bytes(&[0]).unwrap();
-    TdpRow::new(0, 0, no_address, Handling::Continue).unwrap()
 }

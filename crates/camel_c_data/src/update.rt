@@ -1,30 +1,16 @@
 //! The updates that a C caller submits with data.
 
 ghost use Rattle.std.specs.Prelude.{◌≡◌};
-ghost use Rattle.camel_c_data.specs.Reading.{ReadsAs};
+ghost use Rattle.camel_reading.specs.Reading.{ReadsAs};
+ghost use Rattle.camel_c_data.specs.Reading.{IsMemory};
 ghost use Rattle.camel_c_data.specs.Update.{delete_in, insert_in, withdrawal_in};
 
-use crate::criteria::{CamelCriteria, read_o_criteria_set, read_t_criteria_set};
 use crate::data_fault::DataFault;
 use crate::imsi::CamelImsi;
-use crate::row::{CamelRow, read_o_csi, read_vt_csi};
+use crate::sent_csi::CamelSentCsi;
 use camel_rows::{Update, Withdrawal};
 use std::alloc::Global;
 use std::mem::size_of;
-
-/// What an Insert sends of a CSI (InsertSubscriberData of TS 29.002). A list that is not sent is omitted from the
-/// [`Update::Insert`], and is not looked at. One that is sent has 1 to 10 items; none of them needs to be of a detection
-/// point of the CSI, so criteria can be replaced by none.
-#[repr(C)]
-#[derive(Clone, Copy, Debug)]
-pub struct CamelSentCsi<'a> {
-    pub rows: &'a [CamelRow],
-    pub criteria: &'a [CamelCriteria],
-    /// Not 0 if the rows are sent.
-    pub has_rows: u8,
-    /// Not 0 if the criteria are sent.
-    pub has_criteria: u8,
-}
 
 /// What an Insert sends.
 #[repr(C)]
@@ -47,14 +33,14 @@ impl CamelInsert<'_> {
     /// [`CriteriaSet::new`]: camel_rows::CriteriaSet::new
     #[tactic(auto, unfolding(crate::specs::Update::insert_in))]
     pub fn read(&self, alloc: Global, imsi: &CamelImsi) -> Result<Update, DataFault>
-        ensures { ReadsAs result (insert_in self.now imsi.now) }
+        ensures { ReadsAs IsMemory result (insert_in self.now imsi.now) }
     {
         Ok(Update::Insert {
             imsi: imsi.read()?,
-            o: read_o_csi(self.o.has_rows != 0, self.o.rows)?,
-            o_criteria: read_o_criteria_set(alloc, self.o.has_criteria != 0, self.o.criteria)?,
-            vt: read_vt_csi(self.vt.has_rows != 0, self.vt.rows)?,
-            t_criteria: read_t_criteria_set(alloc, self.vt.has_criteria != 0, self.vt.criteria)?,
+            o: self.o.read_rows()?,
+            o_criteria: self.o.read_criteria(alloc)?,
+            vt: self.vt.read_rows()?,
+            t_criteria: self.vt.read_criteria(alloc)?,
         })
     }
 }

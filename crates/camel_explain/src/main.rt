@@ -1,6 +1,6 @@
 //! Explains a script of subscriber data updates and calls, record by record, for people (docs/SCRIPT.md). Its answers
-//! are those of `camel_replay`: both read a record by `parse_fields`, answer it by the same `Store`, and print the answer
-//! by `push_line`. What it says beside the answers is tested, and not proved.
+//! are those of `camel_replay`: both read a record by `parse_fields`, answer it by the same `Store`, and print the
+//! answer by `push_line`. What it says beside the answers is tested, and not proved.
 #![tactic(auto)]
 
 mod colours;

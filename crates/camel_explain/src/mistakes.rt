@@ -6,7 +6,7 @@ mod texts;
 use crate::mistakes::data::say_refused;
 use crate::mistakes::texts::say_unreadable;
 use crate::shown::Shown;
-use camel_script::{Expected, Mistake, RecordFault};
+use camel_script::{Expected, Mistake, RecordFault, parse_decimal};
 use csv::ByteRecord;
 use std::alloc::AllocError;
 
@@ -132,7 +132,7 @@ pub(crate) fn is_like_digits(address: &[u8]) -> bool {
     matches!(address.first(), Some(b'0'..=b'7' | b'+' | b'*' | b'#'))
 }
 
-/// The value of a text of decimal digits, if it has no more than 64 bits.
-pub(crate) fn decimal(text: &[u8]) -> Option<u64> {
-    std::str::from_utf8(text).ok()?.parse::<u64>().ok()
+/// The value of a text that is read as a decimal.
+pub(crate) fn decimal(text: &[u8]) -> Option<u32> {
+    parse_decimal(text, u32::MAX).ok()
 }

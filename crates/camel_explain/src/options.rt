@@ -56,23 +56,22 @@ pub(crate) fn command<'a>(alloc: Global) -> Result<Command<'a>, Error> {
                 'c',
                 "Reads the script, prints its mistakes, and runs nothing",
             ))?
-            .arg(
-                Arg::new(alloc, "limit")
-                    .long("limit")
-                    .value_name("N")
-                    .default_value("1000000")
-                    .value_parser(ValueParser::unsigned(1, MAX_LIMIT))
-                    .help("The greatest number of updates that are accepted, 1 to 1000000"),
-            )?
-            .arg(
-                Arg::new(alloc, "profile")
-                    .long("profile")
-                    .value_name("N")
-                    .default_value("1")
-                    .value_parser(ValueParser::unsigned(1, 2))
-                    .help("The profile: with 1 numbering plans are not compared, with 2 they are"),
-            )?,
+            .arg(number(alloc, "limit", "1000000", MAX_LIMIT).help(
+                "The greatest number of updates that are accepted, 1 to 1000000",
+            ))?
+            .arg(number(alloc, "profile", "1", 2).help(
+                "The profile: with 1 numbering plans are not compared, with 2 they are",
+            ))?,
     )
+}
+
+/// An option with a number from 1 to `most`.
+fn number<'a>(alloc: Global, name: &'a str, default: &'a str, most: u64) -> Arg<'a> {
+    Arg::new(alloc, name)
+        .long(name)
+        .value_name("N")
+        .default_value(default)
+        .value_parser(ValueParser::unsigned(1, most))
 }
 
 fn flag<'a>(alloc: Global, name: &'a str, letter: char, help: &'a str) -> Arg<'a> {

@@ -5,8 +5,8 @@ use std::io::Read;
 /// What is printed before a line is typed.
 const PROMPT: &[u8] = b"camel> ";
 
-/// A reader that prints a prompt before each read, if it has to. A terminal gives a line for each read, so that each line
-/// is asked for: that of a record, an empty one, a comment, and one inside of a quote.
+/// A reader that prints a prompt before each read, if it has to. A terminal gives a line for each read, so that each
+/// line is asked for: that of a record, an empty one, a comment, and one inside of a quote.
 #[derive(Drop)]
 pub(crate) struct Prompted<'r, R: Read> {
     rt: &'r HostRuntime,

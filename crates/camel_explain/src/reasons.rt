@@ -82,29 +82,30 @@ fn say_not_armed(out: &mut String, subscriber: &Subscriber, dp: u8) -> Result<()
 }
 
 /// Appends that a CSI has no row of a detection point, and the detection points of those that it has.
-fn say_rows<const MOST: usize>(
+fn say_rows<K: Copy, const MOST: usize>(
     out: &mut String,
-    csi: Option<&Csi<MOST>>,
+    csi: Option<&Csi<K, MOST>>,
     dp: u8,
 ) -> Result<(), AllocError> {
     let name = csi_name(dp);
-    let count = csi.map_or(0, |csi| csi.len());
-    if count == 0 {
+    let rows = match csi {
+        Some(csi) => csi.as_slice(),
+        None => &[],
+    };
+    if rows.is_empty() {
         return write!(
             out,
             "the {name} has no rows: items of detection points of other CSIs are ignored"
         );
     }
     write!(out, "the {name} has no row of DP {dp}, only of DP ")?;
-    for at in 0..count {
+    for (at, row) in rows.iter().enumerate() {
         let between = match at {
             0 => "",
-            _ if at + 1 == count => " and ",
+            _ if at + 1 == rows.len() => " and ",
             _ => ", ",
         };
-        if let Some(row) = csi.and_then(|csi| csi.get(at)) {
-            write!(out, "{between}{}", row.dp())?;
-        }
+        write!(out, "{between}{}", row.dp())?;
     }
     Ok(())
 }

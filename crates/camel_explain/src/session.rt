@@ -28,15 +28,8 @@ pub(crate) fn explain<R: Read + IsTerminal + Drop>(
     let is_typed = reader.is_terminal();
     let is_shown = rt.stdout().is_terminal();
     let is_at_prompt = is_typed && is_shown;
-    let view = View {
-        is_at_prompt,
-        is_quiet: options.quiet,
-        only_mistakes: options.mistakes,
-        only_checks: options.check,
-        colours: Colours {
-            are_on: is_shown && !forbids_colours(rt),
-        },
-    };
+    let are_on = is_shown && !forbids_colours(rt);
+    let view = view_of(options, is_at_prompt, Colours { are_on });
     let mut explainer = Explainer::new(rt.alloc(), options.limit, options.profile, view);
     // Where records are printed as they come, they say how far the run is.
     let leaves_out = options.quiet || options.mistakes;
@@ -65,6 +58,17 @@ pub(crate) fn explain<R: Read + IsTerminal + Drop>(
     write_said(rt, &mut explainer)?;
     read?;
     Ok(explainer.counts.has_faults())
+}
+
+/// What is shown of a script with these options.
+fn view_of(options: &Options<'_>, is_at_prompt: bool, colours: Colours) -> View {
+    View {
+        is_at_prompt,
+        is_quiet: options.quiet,
+        only_mistakes: options.mistakes,
+        only_checks: options.check,
+        colours,
+    }
 }
 
 /// Whether the variable `NO_COLOR` is there and not empty (no-color.org).

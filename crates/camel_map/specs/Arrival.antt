@@ -9,6 +9,7 @@ use Rattle.camel_map.specs.declared.arrival.Arrival.{Arrival}
 use Rattle.camel_map.specs.declared.arrival.CapabilityHandling.{CapabilityHandling}
 use Rattle.camel_map.specs.declared.items.ReceivedList.{ReceivedList}
 use Rattle.camel_map.specs.declared.row.ReceivedCsi.{ReceivedCsi}
+use Rattle.camel_map.specs.declared.row.ReceivedLists.{ReceivedLists}
 
 -- how many items came in a list; none, if it did not come
 abbrev pub count_of : {A : Type 0} → Option (ReceivedList A) → ℕ
@@ -48,8 +49,8 @@ insert_with imsi o o_criteria vt t_criteria capabilities = record {
 }
 
 -- an Insert of what came
-abbrev pub insert_of : List ℕ → Option (ReceivedCsi (List TdpRowData)) → Option (ReceivedList (List OCriteriaData))
-    → Option (ReceivedCsi (List TdpRowData)) → Option (ReceivedList (List TCriteriaData)) → Arrival
-insert_of imsi o o_criteria vt t_criteria =
-    insert_with imsi (rows_in o) o_criteria (rows_in vt) t_criteria
-    (record { o = capability_in o; vt = capability_in vt })
+abbrev pub insert_of : List ℕ → ReceivedLists (List TdpRowData) (List OCriteriaData)
+    → ReceivedLists (List TdpRowData) (List TCriteriaData) → Arrival
+insert_of imsi o vt =
+    insert_with imsi (rows_in o.csi) o.criteria (rows_in vt.csi) vt.criteria
+    (record { o = capability_in o.csi; vt = capability_in vt.csi })

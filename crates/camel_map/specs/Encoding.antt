@@ -78,30 +78,34 @@ abbrev pub handling_number : Handling → ℕ
 handling_number Continue = 0
 handling_number Release = 1
 
--- O-BcsmCamelTDPData and T-BcsmCamelTDPData
-abbrev pub row_element : TdpRowData → ElementData
-row_element row = parent sequence (
-    leaf enumerated (number_octets row.dp)
-    ∷ leaf integer (number_octets row.key)
-    ∷ leaf (primitive 0) row.scf
-    ∷ leaf (primitive 1) (handling_number row.handling ∷ [])
-    ∷ []
-    )
-
 -- a list of one item at least: in the place of none it has one that every receiver ignores
 abbrev pub sent : {A : Type 0} → A → List A → List A
 sent ignored [] = ignored ∷ []
 sent ignored (first ∷ more) = first ∷ more
 
+-- an item that is a SEQUENCE of its fields
+abbrev pub item_element : {A : Type 0} → (A → List ElementData) → A → ElementData
+item_element fields_of item = parent sequence (fields_of item)
+
+-- a list of such items, as it is sent
+abbrev pub list_element : {A : Type 0} → (A → List ElementData) → A → ℕ → List A → ElementData
+list_element fields_of ignored identifier items = parent identifier (map (item_element fields_of) (sent ignored items))
+
+-- O-BcsmCamelTDPData and T-BcsmCamelTDPData
+abbrev pub row_fields : TdpRowData → List ElementData
+row_fields row =
+    leaf enumerated (number_octets row.dp)
+    ∷ leaf integer (number_octets row.key)
+    ∷ leaf (primitive 0) row.scf
+    ∷ leaf (primitive 1) (handling_number row.handling ∷ [])
+    ∷ []
+
 abbrev pub ignored_row : TdpRowData
 ignored_row = record { dp = 255; key = 0; scf = 0 ∷ []; handling = Continue }
 
-abbrev pub sent_rows : List TdpRowData → List TdpRowData
-sent_rows rows = sent ignored_row rows
-
 -- O-CSI and T-CSI
 abbrev pub csi_element : ℕ → List TdpRowData → ElementData
-csi_element identifier rows = parent identifier (parent sequence (map row_element (sent_rows rows)) ∷ [])
+csi_element identifier rows = parent identifier (list_element row_fields ignored_row sequence rows ∷ [])
 
 -- MatchType
 abbrev pub match_type_number : MatchType → ℕ
@@ -131,22 +135,20 @@ abbrev pub cause_element : ℕ → ElementData
 cause_element cause = leaf octet_string (cause ∷ [])
 
 -- O-BcsmCamelTDP-Criteria
-abbrev pub o_entry_element : OCriteriaData → ElementData
-o_entry_element entry = parent sequence (
+abbrev pub o_entry_fields : OCriteriaData → List ElementData
+o_entry_fields entry =
     leaf enumerated (number_octets entry.dp)
     ∷ if_any number_element entry.number
     ++ if_some (constructed 1) service_element entry.basic
     ++ if_any (λ call_type. leaf (primitive 2) (call_type_number call_type ∷ [])) entry.call_type
     ++ if_some (constructed 3) cause_element entry.causes
-    )
 
 -- T-BCSM-CAMEL-TDP-Criteria
-abbrev pub t_entry_element : TCriteriaData → ElementData
-t_entry_element entry = parent sequence (
+abbrev pub t_entry_fields : TCriteriaData → List ElementData
+t_entry_fields entry =
     leaf enumerated (number_octets entry.dp)
     ∷ if_some (constructed 0) service_element entry.basic
     ++ if_some (constructed 1) cause_element entry.causes
-    )
 
 abbrev pub ignored_o_entry : OCriteriaData
 ignored_o_entry = record { dp = 255; number = None; basic = []; call_type = None; causes = [] }
@@ -154,20 +156,14 @@ ignored_o_entry = record { dp = 255; number = None; basic = []; call_type = None
 abbrev pub ignored_t_entry : TCriteriaData
 ignored_t_entry = record { dp = 255; basic = []; causes = [] }
 
-abbrev pub sent_o_entries : List OCriteriaData → List OCriteriaData
-sent_o_entries entries = sent ignored_o_entry entries
-
-abbrev pub sent_t_entries : List TCriteriaData → List TCriteriaData
-sent_t_entries entries = sent ignored_t_entry entries
-
 -- the fields of VlrCamelSubscriptionInfo
 abbrev pub camel_parts : Option (List TdpRowData) → Option (List OCriteriaData) → Option (List TdpRowData)
     → Option (List TCriteriaData) → List ElementData
 camel_parts o o_criteria vt t_criteria =
     if_any (csi_element (constructed 0)) o
-    ++ if_any (λ entries. parent (constructed 4) (map o_entry_element (sent_o_entries entries))) o_criteria
+    ++ if_any (list_element o_entry_fields ignored_o_entry (constructed 4)) o_criteria
     ++ if_any (csi_element (constructed 7)) vt
-    ++ if_any (λ entries. parent (constructed 8) (map t_entry_element (sent_t_entries entries))) t_criteria
+    ++ if_any (list_element t_entry_fields ignored_t_entry (constructed 8)) t_criteria
 
 -- the specificCSI-Withdraw of the CSIs that a Delete names, if it names any
 abbrev pub specific_parts : Bool → Bool → List ElementData

@@ -1,6 +1,7 @@
 -- The lists of an Insert as they are received, and what comes of lists that an HLR splits over the operations of a
 -- dialogue: all rules of received lists hold for the whole.
 use Rattle.std.specs.Prelude.{◌≡◌, ◌⊎◌, ℕ, false, List, ◌++◌, length, Option, Some, None, Result, Ok, Err, if◌then◌else◌}
+use Rattle.std.specs.Option.{option_or}
 use Rattle.std.specs.Str.{bytes_eq}
 use Rattle.camel_ber.specs.Reading.{◌>>=◌}
 use Rattle.camel_criteria.specs.Criteria.{OCriteriaData, TCriteriaData}
@@ -66,14 +67,9 @@ as_one earlier later = record {
   t_criteria = joined earlier.t_criteria later.t_criteria;
 }
 
--- what came later, or what came before it
-abbrev pub later_or : Option ℕ → Option ℕ → Option ℕ
-later_or earlier None = earlier
-later_or earlier (Some later) = Some later
-
 -- the camelCapabilityHandling of each CSI that came last
 abbrev pub latest : CapabilityHandling → CapabilityHandling → CapabilityHandling
-latest earlier later = record { o = later_or earlier.o later.o; vt = later_or earlier.vt later.vt }
+latest earlier later = record { o = option_or later.o earlier.o; vt = option_or later.vt earlier.vt }
 
 -- a join has the refusal of what is meant, or is out of memory
 abbrev pub JoinsAs : Result Arrival JoinFault → Result Arrival Refusal → Type 0

@@ -6,12 +6,14 @@ use Rattle.camel_criteria.specs.declared.refusal.Refusal.{Refusal}
 use Rattle.camel_rows.specs.TdpRow.{TdpRowData, tdp_row_of}
 use Rattle.camel_map.specs.Field.{field_of, identified, if_present, mandatory}
 use Rattle.camel_map.specs.Identifier.{enumerated, integer, primitive, sequence}
-use Rattle.camel_map.specs.Items.{received_as}
+use Rattle.camel_map.specs.Items.{item_in, received_as}
 use Rattle.camel_map.specs.Reading.{contents, elements_in, fails_at, or_refused_at}
 use Rattle.camel_map.specs.Value.{detection_point_in, isdn_address_in, unsigned_in}
+use Rattle.camel_map.specs.declared.items.ReceivedList.{ReceivedList}
 use Rattle.camel_map.specs.declared.map_fault.MapFault.{MapFault}
 use Rattle.camel_map.specs.declared.map_fault.MapFaultKind.TheVariants.{MissingField}
 use Rattle.camel_map.specs.declared.row.ReceivedCsi.{ReceivedCsi}
+use Rattle.camel_map.specs.declared.row.ReceivedLists.{ReceivedLists}
 
 -- the detection point, serviceKey, gsmSCF-Address [0] and defaultCallHandling [1] of a row
 unfoldable pub row_of_fields : PlacedData → List PlacedData → Result TdpRowData MapFault
@@ -21,13 +23,6 @@ row_of_fields item fields = do
   scf ← mandatory item (primitive 0) fields >>= isdn_address_in
   received ← mandatory item (primitive 1) fields >>= unsigned_in
   or_refused_at item.place (tdp_row_of dp key scf (handling_of received))
-
--- a row, with all of its fields
-unfoldable pub row_in : PlacedData → Result TdpRowData MapFault
-row_in item = do
-  row ← identified sequence item
-  fields ← elements_in (contents row)
-  row_of_fields row fields
 
 -- the first element of the contents of another, which must have one
 abbrev pub first_of : PlacedData → List PlacedData → Result PlacedData MapFault
@@ -45,6 +40,15 @@ unfoldable pub csi_in : (List TdpRowData → Result (List TdpRowData) Refusal) �
 csi_in kept_of csi = do
   fields ← elements_in (contents csi)
   list ← first_of csi fields >>= identified sequence
-  rows ← received_as row_in kept_of list
+  rows ← received_as (item_in row_of_fields) kept_of list
   capability ← capability_in fields
   Ok (record { rows = rows; capability = capability })
+
+-- a CSI and its criteria, which are fields of these identifiers
+unfoldable pub lists_of_fields : {Entry : Type 0} → ℕ → (List TdpRowData → Result (List TdpRowData) Refusal) → ℕ
+    → (PlacedData → Result (ReceivedList (List Entry)) MapFault) → List PlacedData
+    → Result (ReceivedLists (List TdpRowData) (List Entry)) MapFault
+lists_of_fields csi kept_of criteria criteria_in fields = do
+  csi ← field_of csi fields >>= if_present (csi_in kept_of)
+  criteria ← field_of criteria fields >>= if_present criteria_in
+  Ok (record { csi = csi; criteria = criteria })

@@ -1,16 +1,15 @@
 -- What an argument brings: InsertSubscriberDataArg, DeleteSubscriberDataArg and CancelLocationArg of TS 29.002.
 use Rattle.std.specs.Prelude.{ℕ, List, [], ◌∷◌, Option, Some, None, Result, Ok, if◌then◌else◌}
 use Rattle.camel_ber.specs.Reading.{◌>>=◌, OctetsData, PlacedData}
-use Rattle.camel_rows.specs.Received.{o_csi_of, vt_csi_of}
 use Rattle.camel_rows.specs.declared.subscriber.update.Update.{Update}
 use Rattle.camel_rows.specs.declared.subscriber.update.Update.TheVariants as update
 use Rattle.camel_map.specs.Arrival.{bare, insert_of}
-use Rattle.camel_map.specs.Criteria.{o_criteria_set_in, t_criteria_set_in}
-use Rattle.camel_map.specs.Field.{field_of, identified, if_present, is_identified, mandatory}
+use Rattle.camel_map.specs.Criteria.{o_lists_in, vt_lists_in}
+use Rattle.camel_map.specs.Field.{field_of, identified, is_identified, mandatory}
 use Rattle.camel_map.specs.Identifier.{constructed, octet_string, primitive, sequence}
 use Rattle.camel_map.specs.Imsi.{imsi_or_of_dialogue, own_imsi}
 use Rattle.camel_map.specs.Reading.{contents, elements_in, fails_at}
-use Rattle.camel_map.specs.Row.{csi_in, first_of}
+use Rattle.camel_map.specs.Row.{first_of}
 use Rattle.camel_map.specs.Withdrawal.{is_named, withdrawal_with}
 use Rattle.camel_map.specs.declared.arrival.Arrival.{Arrival}
 use Rattle.camel_map.specs.declared.map_fault.MapFault.{MapFault}
@@ -18,8 +17,7 @@ use Rattle.camel_map.specs.declared.map_fault.MapFaultKind.TheVariants.{MissingF
 use Rattle.camel_map.specs.declared.operation.Operation.{Operation}
 use Rattle.camel_map.specs.declared.operation.Operation.TheVariants as operation
 
--- the fields of VlrCamelSubscriptionInfo: o-CSI [0], o-BcsmCamelTDP-CriteriaList [4], vt-CSI [7] and
--- t-BCSM-CAMEL-TDP-CriteriaList [8]; without it, none
+-- the fields of VlrCamelSubscriptionInfo; without it, none
 abbrev pub camel_fields : Option PlacedData → Result (List PlacedData) MapFault
 camel_fields None = Ok []
 camel_fields (Some field) = elements_in (contents field)
@@ -27,11 +25,9 @@ camel_fields (Some field) = elements_in (contents field)
 -- the Insert of an IMSI and of the fields of VlrCamelSubscriptionInfo
 unfoldable pub insert_of_fields : List ℕ → List PlacedData → Result Arrival MapFault
 insert_of_fields imsi fields = do
-  o ← field_of (constructed 0) fields >>= if_present (csi_in o_csi_of)
-  o_criteria ← field_of (constructed 4) fields >>= if_present o_criteria_set_in
-  vt ← field_of (constructed 7) fields >>= if_present (csi_in vt_csi_of)
-  t_criteria ← field_of (constructed 8) fields >>= if_present t_criteria_set_in
-  Ok (insert_of imsi o o_criteria vt t_criteria)
+  o ← o_lists_in fields
+  vt ← vt_lists_in fields
+  Ok (insert_of imsi o vt)
 
 -- InsertSubscriberDataArg: imsi [0] and vlrCamelSubscriptionInfo [13], each if it is there
 unfoldable pub insert_in : Option (List ℕ) → PlacedData → Result Arrival MapFault

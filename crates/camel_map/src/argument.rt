@@ -5,7 +5,8 @@ ghost use Rattle.camel_ber.specs.Reading.{views};
 ghost use Rattle.camel_map.specs.Encoding.{Encodes, IsInDialogue};
 ghost use Rattle.camel_map.specs.Kept.{IsKept};
 ghost use Rattle.camel_map.specs.Lists.{IsReceived};
-ghost use Rattle.camel_map.specs.Reading.{LendsElement, ReadsAs, ReadsUpdate, whole};
+ghost use Rattle.camel_map.specs.Reading.{IsMemory, LendsElement, whole};
+ghost use Rattle.camel_reading.specs.Reading.{ReadsAs, ReadsBy};
 ghost use Rattle.camel_map.specs.Update.{arrival_of, one_of, update_of};
 ghost use Rattle.camel_rows.specs.declared.subscriber.update.Update.{Update};
 
@@ -50,14 +51,15 @@ pub fn decode(
     octets: &[u8],
 ) -> Result<Arrival, MapFault>
     // It is what the octets bring, or has their first fault, unless memory runs out.
-    ensures answer { ReadsAs result (arrival_of operation dialogue_imsi (whole octets.now)) }
+    ensures answer { ReadsAs IsMemory result (arrival_of operation dialogue_imsi (whole octets.now)) }
     // An Insert is of lists, so it can be joined with another one. Another update has nothing beside it.
     ensures received { IfOk result IsReceived }
     // Its update is that which the octets are.
-    ensures update { ReadsUpdate result (update_of operation dialogue_imsi (whole octets.now)) }
+    ensures update { ReadsBy IsMemory (λ arrival. arrival.update) result
+        (update_of operation dialogue_imsi (whole octets.now)) }
     // Each update that an operation can say has an encoding that is decoded to it.
     ensures encoded { (update : Update) → IsKept update → Encodes operation update octets.now
-        → IsInDialogue dialogue_imsi update → ReadsUpdate result (Ok update) }
+        → IsInDialogue dialogue_imsi update → ReadsBy IsMemory (λ arrival. arrival.update) result (Ok update) }
 {
     read_argument(alloc, operation, dialogue_imsi, octets)
 }
@@ -70,7 +72,7 @@ fn read_argument(
     dialogue_imsi: Option<Imsi>,
     octets: &[u8],
 ) -> Result<Arrival, MapFault>
-    ensures { ReadsAs result (arrival_of operation dialogue_imsi (whole octets.now)) }
+    ensures { ReadsAs IsMemory result (arrival_of operation dialogue_imsi (whole octets.now)) }
 {
     let elements = read_elements(alloc, Octets::new(octets))?;
     let argument = one_of(&elements)?;

@@ -4,7 +4,7 @@ ghost use Rattle.std.specs.Prelude.{◌≡◌};
 ghost use Rattle.camel_map.specs.Arrival.{bare, capability_in, count_of, insert_of, insert_with, kept_in, rows_in};
 
 use crate::items::ReceivedList;
-use crate::row::ReceivedCsi;
+use crate::row::{ReceivedCsi, ReceivedLists};
 use camel_rows::{OCriteriaSet, OCsi, TCriteriaSet, Update, VtCsi};
 use camel_tbcd::Imsi;
 
@@ -92,20 +92,18 @@ impl Arrival {
     /// The Insert of what came.
     pub(crate) fn insert_of(
         imsi: Imsi,
-        o: Option<ReceivedCsi<OCsi>>,
-        o_criteria: Option<ReceivedList<OCriteriaSet>>,
-        vt: Option<ReceivedCsi<VtCsi>>,
-        t_criteria: Option<ReceivedList<TCriteriaSet>>,
+        o: ReceivedLists<OCsi, OCriteriaSet>,
+        vt: ReceivedLists<VtCsi, TCriteriaSet>,
     ) -> Arrival
-        ensures { result ≡ insert_of imsi o o_criteria vt t_criteria }
+        ensures { result ≡ insert_of imsi o vt }
     {
-        let (o, o_capability) = parts_of(o);
-        let (vt, vt_capability) = parts_of(vt);
+        let (o_rows, o_capability) = parts_of(o.csi);
+        let (vt_rows, vt_capability) = parts_of(vt.csi);
         let capabilities = CapabilityHandling {
             o: o_capability,
             vt: vt_capability,
         };
-        Arrival::insert(imsi, o, o_criteria, vt, t_criteria, capabilities)
+        Arrival::insert(imsi, o_rows, o.criteria, vt_rows, vt.criteria, capabilities)
     }
 }
 

@@ -2,7 +2,8 @@
 
 ghost use Rattle.std.specs.Prelude.{◌≡◌};
 ghost use Rattle.camel_ber.specs.Reading.{view};
-ghost use Rattle.camel_map.specs.Reading.{ReadsAs};
+ghost use Rattle.camel_map.specs.Reading.{IsMemory};
+ghost use Rattle.camel_reading.specs.Reading.{ReadsAs};
 ghost use Rattle.camel_map.specs.Update.{cancel_in, cancelled_in, first_identity_in, identity_in, imsi_of_pair};
 
 use crate::field::{identified, is_identified};
@@ -23,7 +24,7 @@ fn read_pair(
     dialogue_imsi: Option<Imsi>,
     pair: &Element<'_>,
 ) -> Result<Imsi, MapFault>
-    ensures { ReadsAs result (imsi_of_pair dialogue_imsi (view pair.now)) }
+    ensures { ReadsAs IsMemory result (imsi_of_pair dialogue_imsi (view pair.now)) }
 {
     let elements = read_elements(alloc, pair.content)?;
     let imsi = identified(first_of(pair, &elements)?, OCTET_STRING)?;
@@ -37,7 +38,7 @@ fn read_identity(
     dialogue_imsi: Option<Imsi>,
     identity: &Element<'_>,
 ) -> Result<Imsi, MapFault>
-    ensures { ReadsAs result (identity_in dialogue_imsi (view identity.now)) }
+    ensures { ReadsAs IsMemory result (identity_in dialogue_imsi (view identity.now)) }
 {
     if is_identified(identity, SEQUENCE) {
         return read_pair(alloc, dialogue_imsi, identity);
@@ -53,7 +54,7 @@ fn read_first_identity(
     dialogue_imsi: Option<Imsi>,
     argument: &Element<'_>,
 ) -> Result<Imsi, MapFault>
-    ensures { ReadsAs result (first_identity_in dialogue_imsi (view argument.now)) }
+    ensures { ReadsAs IsMemory result (first_identity_in dialogue_imsi (view argument.now)) }
 {
     let elements = read_elements(alloc, argument.content)?;
     let identity = first_of(argument, &elements)?;
@@ -67,7 +68,7 @@ fn read_cancelled(
     dialogue_imsi: Option<Imsi>,
     argument: &Element<'_>,
 ) -> Result<Imsi, MapFault>
-    ensures { ReadsAs result (cancelled_in dialogue_imsi (view argument.now)) }
+    ensures { ReadsAs IsMemory result (cancelled_in dialogue_imsi (view argument.now)) }
 {
     if is_identified(argument, CONSTRUCTED + 3) {
         read_first_identity(alloc, dialogue_imsi, argument)
@@ -83,7 +84,7 @@ pub(crate) fn read_cancel(
     dialogue_imsi: Option<Imsi>,
     argument: &Element<'_>,
 ) -> Result<Update, MapFault>
-    ensures { ReadsAs result (cancel_in dialogue_imsi (view argument.now)) }
+    ensures { ReadsAs IsMemory result (cancel_in dialogue_imsi (view argument.now)) }
 {
     Ok(Update::Cancel {
         imsi: read_cancelled(alloc, dialogue_imsi, argument)?,

@@ -3,7 +3,8 @@
 ghost use Rattle.std.specs.Prelude.{◌≡◌, ◌≤◌};
 ghost use Rattle.std.specs.Option.{option_map};
 ghost use Rattle.camel_ber.specs.Reading.{view, views};
-ghost use Rattle.camel_map.specs.Reading.{ReadsAs};
+ghost use Rattle.camel_map.specs.Reading.{IsMemory};
+ghost use Rattle.camel_reading.specs.Reading.{ReadsAs};
 ghost use Rattle.camel_map.specs.Update.{delete_in};
 ghost use Rattle.camel_map.specs.Withdrawal.{is_bit_set, is_bit_string, is_named, unused_bits, withdrawal_with};
 
@@ -85,7 +86,7 @@ pub(crate) fn read_delete(
     dialogue_imsi: Option<Imsi>,
     element: &Element<'_>,
 ) -> Result<Update, MapFault>
-    ensures { ReadsAs result (delete_in dialogue_imsi (view element.now)) }
+    ensures { ReadsAs IsMemory result (delete_in dialogue_imsi (view element.now)) }
 {
     let argument = identified(*element, SEQUENCE)?;
     let fields = read_elements(alloc, argument.content)?;

@@ -8,13 +8,11 @@ ghost use Rattle.camel_map.specs.Update.{update_of};
 ghost use Rattle.camel_map.specs.Written.{octets_of_update, operation_of_update};
 
 pub(crate) mod argument;
-pub(crate) mod criteria;
+pub(crate) mod csi;
 pub(crate) mod element;
 pub(crate) mod imsi;
-pub(crate) mod items;
 pub(crate) mod list;
 pub(crate) mod record;
-pub(crate) mod row;
 pub(crate) mod value;
 pub(crate) mod writer;
 
@@ -34,7 +32,7 @@ use std::alloc::AllocError;
 ///
 /// Fails if memory is refused, and for an argument of more than [`MAX_ARGUMENT_OCTETS`] octets, which no update has
 /// whose data are those that the constructors keep. `out` is as before then.
-#[tactic(auto, using(crate::proofs::EncodedLimits::update_few))]
+#[tactic(auto, using(crate::proofs::EncodedSizes::Limits::update_few))]
 pub fn encode(update: &Update, out: &mut Vec<u8>) -> Result<Option<Operation>, AllocError>
     // The operation is the one that says the update, and the octets are those of its argument.
     ensures operation { IfOk result (λ operation. operation ≡ operation_of_update update.now) }
@@ -51,7 +49,7 @@ pub fn encode(update: &Update, out: &mut Vec<u8>) -> Result<Option<Operation>, A
 }
 
 /// Appends the octets of the argument that says an update, and gives the operation.
-fn append(update: &Update, out: &mut Vec<u8>) -> Result<Option<Operation>, AllocError>
+pub(crate) fn append(update: &Update, out: &mut Vec<u8>) -> Result<Option<Operation>, AllocError>
     ensures operation { IfOk result (λ operation. operation ≡ operation_of_update update.now) }
     ensures appended { OnOk result (out.new.items ≡ out.old.items ++ octets_of_update update.now) }
     ensures unchanged { OnErr result (out.new.items ≡ out.old.items) }

@@ -5,7 +5,8 @@ ghost use Rattle.std.specs.Fn.{FnReturnsAt};
 ghost use Rattle.std.specs.Option.{option_map};
 ghost use Rattle.camel_ber.specs.Reading.{PlacedData, view, views};
 ghost use Rattle.camel_map.specs.Field.{field_of, identified, if_present, is_identified, is_tagged, mandatory};
-ghost use Rattle.camel_map.specs.Reading.{AnswersAs, LendsElement, LendsField, ReadsAs};
+ghost use Rattle.camel_map.specs.Reading.{IsMemory, LendsElement, LendsField};
+ghost use Rattle.camel_reading.specs.Reading.{AnswersAs, ReadsAs};
 ghost use Rattle.camel_map.specs.declared.map_fault.MapFault.{MapFault};
 
 use crate::map_fault::{MapFault, MapFaultKind};
@@ -83,8 +84,8 @@ pub(crate) fn read_present<T: Drop, F: Fn(&Element<'_>) -> Result<T, MapFault>>(
 ) -> Result<Option<T>, MapFault>
     requires { F.IsAlwaysCallable read }
     ensures { (value_of : PlacedData → Result T MapFault)
-        → AnswersAs (FnReturnsAt F.Fn read) value_of
-        → ReadsAs result (if_present value_of (option_map view field.entry)) }
+        → AnswersAs IsMemory (FnReturnsAt F.Fn read) (λ item. value_of (view item))
+        → ReadsAs IsMemory result (if_present value_of (option_map view field.entry)) }
 {
     match field {
         Some(field) => Ok(Some(read(&field)?)),

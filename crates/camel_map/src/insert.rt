@@ -1,19 +1,27 @@
 //! InsertSubscriberDataArg.
 
+ghost use Rattle.std.specs.Prelude.{◌≡◌, ◌≤◌, length};
 ghost use Rattle.std.specs.Option.{option_map};
 ghost use Rattle.camel_ber.specs.Reading.{view, views};
-ghost use Rattle.camel_map.specs.Reading.{ReadsAs, ReadsElements};
+ghost use Rattle.camel_map.specs.Reading.{IsMemory};
+ghost use Rattle.camel_reading.specs.Reading.{ReadsAs, ReadsBy};
 ghost use Rattle.camel_map.specs.Update.{camel_fields, insert_in, insert_of_fields};
+ghost use Rattle.camel_map.specs.Items.{item_in, received_as};
+ghost use Rattle.camel_map.specs.Row.{lists_of_fields};
+ghost use Rattle.camel_rows.specs.Received.{kept_of};
 
 use crate::arrival::Arrival;
-use crate::criteria::{read_criteria, read_o_entry, read_t_entry};
-use crate::field::{find_field, identified, read_present};
+use crate::criteria::read_criteria;
+use crate::field::{find_field, identified};
 use crate::identifier::{CONSTRUCTED, PRIMITIVE, SEQUENCE};
 use crate::imsi::read_imsi_or_of_dialogue;
+use crate::item::MapItem;
 use crate::map_fault::MapFault;
 use crate::reading::read_elements;
-use crate::row::{read_o_csi, read_vt_csi};
+use crate::row::{ReceivedLists, read_csi};
 use camel_ber::Element;
+use camel_criteria::CriteriaEntry;
+use camel_rows::{CriteriaSet, Csi, CsiKind};
 use camel_tbcd::Imsi;
 use std::alloc::Global;
 
@@ -22,12 +30,36 @@ fn read_camel_fields<'a>(
     alloc: Global,
     field: Option<Element<'a>>,
 ) -> Result<Vec<Element<'a>>, MapFault>
-    ensures { ReadsElements result (camel_fields (option_map view field.entry)) }
+    ensures { ReadsBy IsMemory (λ elements. views elements.items) result (camel_fields (option_map view field.entry)) }
 {
     match field {
         Some(field) => read_elements(alloc, field.content),
         None => Ok(Vec::new(alloc)),
     }
+}
+
+/// A CSI and its criteria, which are fields of these identifiers.
+#[tactic(auto, unfolding(crate::specs::Row::lists_of_fields))]
+fn read_lists<K: CsiKind, E: CriteriaEntry + MapItem, const MOST: usize>(
+    alloc: Global,
+    csi: u8,
+    criteria: u8,
+    fields: &[Element<'_>],
+) -> Result<ReceivedLists<Csi<K, MOST>, CriteriaSet<E>>, MapFault>
+    requires few { MOST ≤ 3 }
+    requires points { length K.Entry.points ≡ MOST }
+    ensures { ReadsAs IsMemory result (lists_of_fields csi (kept_of K.Entry.points (λ row. row.dp))
+        criteria (received_as (item_in E.of_fields) (kept_of E.points E.dp_of)) (views fields.now)) }
+{
+    let csi = match find_field(fields, csi)? {
+        Some(csi) => Some(read_csi(alloc, &csi)?),
+        None => None,
+    };
+    let criteria = match find_field(fields, criteria)? {
+        Some(list) => Some(read_criteria(alloc, &list)?),
+        None => None,
+    };
+    Ok(ReceivedLists { csi, criteria })
 }
 
 /// The Insert of an IMSI and of the fields of VlrCamelSubscriptionInfo.
@@ -37,25 +69,11 @@ fn read_insert_fields(
     imsi: Imsi,
     fields: &[Element<'_>],
 ) -> Result<Arrival, MapFault>
-    ensures { ReadsAs result (insert_of_fields imsi (views fields.now)) }
+    ensures { ReadsAs IsMemory result (insert_of_fields imsi (views fields.now)) }
 {
-    let o = read_present(
-        find_field(fields, CONSTRUCTED)?,
-        |csi| read_o_csi(alloc, csi),
-    )?;
-    let o_criteria = read_present(
-        find_field(fields, CONSTRUCTED + 4)?,
-        |list| read_criteria(alloc, list, |item| read_o_entry(alloc, item)),
-    )?;
-    let vt = read_present(
-        find_field(fields, CONSTRUCTED + 7)?,
-        |csi| read_vt_csi(alloc, csi),
-    )?;
-    let t_criteria = read_present(
-        find_field(fields, CONSTRUCTED + 8)?,
-        |list| read_criteria(alloc, list, |item| read_t_entry(alloc, item)),
-    )?;
-    Ok(Arrival::insert_of(imsi, o, o_criteria, vt, t_criteria))
+    let o = read_lists(alloc, CONSTRUCTED, CONSTRUCTED + 4, fields)?;
+    let vt = read_lists(alloc, CONSTRUCTED + 7, CONSTRUCTED + 8, fields)?;
+    Ok(Arrival::insert_of(imsi, o, vt))
 }
 
 /// The Insert that an argument brings. Without CAMEL data it is an Insert of nothing.
@@ -65,7 +83,7 @@ pub(crate) fn read_insert(
     dialogue_imsi: Option<Imsi>,
     element: &Element<'_>,
 ) -> Result<Arrival, MapFault>
-    ensures { ReadsAs result (insert_in dialogue_imsi (view element.now)) }
+    ensures { ReadsAs IsMemory result (insert_in dialogue_imsi (view element.now)) }
 {
     let argument = identified(*element, SEQUENCE)?;
     let fields = read_elements(alloc, argument.content)?;

@@ -1,16 +1,18 @@
 //! The items of a SEQUENCE OF.
 
-ghost use Rattle.std.specs.Prelude.{◌≡◌, Result};
+ghost use Rattle.std.specs.Prelude.{Result};
 ghost use Rattle.std.specs.Fn.{FnReturnsAt};
 ghost use Rattle.camel_ber.specs.Reading.{PlacedData, view, views};
 ghost use Rattle.camel_map.specs.Items.{items_as};
-ghost use Rattle.camel_map.specs.Reading.{AnswersAs, ReadsList, each_of};
+ghost use Rattle.camel_map.specs.Reading.{IsMemory};
+ghost use Rattle.camel_reading.specs.Reading.{AnswersAs, ReadsList, each_of};
 ghost use Rattle.camel_map.specs.declared.map_fault.MapFault.{MapFault};
 
 use crate::map_fault::{MapFault, MapFaultKind};
 use crate::reading::read_elements;
 use camel_ber::Element;
 use camel_criteria::Refusal;
+use camel_reading::read_each;
 use std::alloc::Global;
 
 /// A list that came.
@@ -31,28 +33,26 @@ pub(crate) fn read_items<T: Drop, F: Fn(&Element<'_>) -> Result<T, MapFault>>(
 ) -> Result<Vec<T>, MapFault>
     requires { F.IsAlwaysCallable read }
     ensures { (value_of : PlacedData → Result T MapFault)
-        → AnswersAs (FnReturnsAt F.Fn read) value_of → ReadsList result (items_as value_of (view list.now)) }
+        → AnswersAs IsMemory (FnReturnsAt F.Fn read) (λ item. value_of (view item))
+        → ReadsList IsMemory result (items_as value_of (view list.now)) }
 {
     let items = read_elements(alloc, list.content)?;
     if items.is_empty() {
         return Err(MapFault::at(list.place, MapFaultKind::Refused(Refusal::DataMissing)));
     }
-    read_each(alloc, &items, read)
+    read_all(alloc, &items, read)
 }
 
 /// What `read` returns for each element, in their order, or the first fault. It takes one block of memory.
-fn read_each<T: Drop, F: Fn(&Element<'_>) -> Result<T, MapFault>>(
+fn read_all<T: Drop, F: Fn(&Element<'_>) -> Result<T, MapFault>>(
     alloc: Global,
     items: &[Element<'_>],
     read: F,
 ) -> Result<Vec<T>, MapFault>
     requires { F.IsAlwaysCallable read }
     ensures { (value_of : PlacedData → Result T MapFault)
-        → AnswersAs (FnReturnsAt F.Fn read) value_of → ReadsList result (each_of value_of (views items.now)) }
+        → AnswersAs IsMemory (FnReturnsAt F.Fn read) (λ item. value_of (view item))
+        → ReadsList IsMemory result (each_of value_of (views items.now)) }
 {
-    let mut values = Vec::with_capacity(alloc, items.len())?;
-    for item in items {
-        values.push(read(item)?)?;
-    }
-    Ok(values)
+    read_each(alloc, items, read)
 }

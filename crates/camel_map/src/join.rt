@@ -1,7 +1,7 @@
 //! Lists that an HLR splits over the operations of a dialogue, joined.
 
 ghost use Rattle.std.specs.Prelude.{◌≡◌, Err, IfOk, IfSome};
-ghost use Rattle.camel_map.specs.Lists.{IsJoin, IsOfLists, IsReceived, join_fault, later_or, latest};
+ghost use Rattle.camel_map.specs.Lists.{IsJoin, IsOfLists, IsReceived, join_fault};
 ghost use Rattle.camel_map.specs.MapFault.{join_fault_code};
 
 pub(crate) mod list;
@@ -104,6 +104,7 @@ impl Arrival {
             return Err(JoinFault::OtherSubscriber);
         }
         let (counts, more) = (&self.counts, &next.counts);
+        let (earlier, later) = (&self.capabilities, &next.capabilities);
         Ok(Arrival::insert(
             *imsi,
             join_lists(alloc, o, counts.o, next_o, more.o)?,
@@ -122,29 +123,10 @@ impl Arrival {
                 next_t_criteria,
                 more.t_criteria,
             )?,
-            self.capabilities.latest(&next.capabilities),
+            CapabilityHandling {
+                o: later.o.or(earlier.o),
+                vt: later.vt.or(earlier.vt),
+            },
         ))
-    }
-}
-
-impl CapabilityHandling {
-    /// What came last of these, and then of the next ones.
-    fn latest(&self, next: &CapabilityHandling) -> CapabilityHandling
-        ensures { result ≡ latest self.now next.now }
-    {
-        CapabilityHandling {
-            o: later_or(self.o, next.o),
-            vt: later_or(self.vt, next.vt),
-        }
-    }
-}
-
-/// What came later, or what came before it.
-fn later_or(earlier: Option<u32>, later: Option<u32>) -> Option<u32>
-    ensures { result ≡ later_or earlier later }
-{
-    match later {
-        Some(later) => Some(later),
-        None => earlier,
     }
 }

@@ -3,6 +3,7 @@ ghost use Rattle.camel_map.specs.MapFault.{map_fault_code};
 
 use camel_ber::{FaultKind, ReadError};
 use camel_criteria::Refusal;
+use camel_reading::Fault;
 use std::alloc::{AllocError, AllocFailed};
 use std::error::Error;
 use std::fmt;
@@ -100,6 +101,19 @@ impl fmt::Display for MapFault {
 
 impl Error for MapFault {}
 
+impl Fault for MapFault {
+    ghost use Rattle.std.specs.Prelude.{◌≡◌};
+    ghost use Rattle.camel_map.specs.Reading.{IsMemory, out_of_memory};
+
+    ghost is_out_of_memory = { IsMemory };
+
+    fn out_of_memory() -> MapFault
+        ensures { result ≡ out_of_memory }
+    {
+        MapFault::at(0, MapFaultKind::Refused(Refusal::OutOfMemory))
+    }
+}
+
 impl From<ReadError> for MapFault {
     ghost use Rattle.std.specs.Prelude.{◌≡◌};
     ghost use Rattle.camel_map.specs.Reading.{fault_of_error};
@@ -108,7 +122,7 @@ impl From<ReadError> for MapFault {
 
     fn from(error: ReadError) -> MapFault {
         match error {
-            ReadError::Memory => MapFault::at(0, MapFaultKind::Refused(Refusal::OutOfMemory)),
+            ReadError::Memory => MapFault::out_of_memory(),
             ReadError::Fault(fault) => MapFault::at(
                 fault.place,
                 MapFaultKind::Malformed(fault.kind),
@@ -124,7 +138,7 @@ impl From<AllocError> for MapFault {
     ghost from_gives = { λ _ fault. fault ≡ out_of_memory };
 
     fn from(_error: AllocError) -> MapFault {
-        MapFault::at(0, MapFaultKind::Refused(Refusal::OutOfMemory))
+        MapFault::out_of_memory()
     }
 }
 
@@ -135,6 +149,6 @@ impl<T: Drop> From<AllocFailed<T>> for MapFault {
     ghost from_gives = { λ _ fault. fault ≡ out_of_memory };
 
     fn from(_error: AllocFailed<T>) -> MapFault {
-        MapFault::at(0, MapFaultKind::Refused(Refusal::OutOfMemory))
+        MapFault::out_of_memory()
     }
 }

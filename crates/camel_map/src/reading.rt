@@ -1,8 +1,9 @@
 //! What every part of an argument is read by.
 
 ghost use Rattle.std.specs.Prelude.{◌≡◌};
-ghost use Rattle.camel_ber.specs.Reading.{octets_data};
-ghost use Rattle.camel_map.specs.Reading.{ReadsElements, elements_in, or_refused_at};
+ghost use Rattle.camel_ber.specs.Reading.{octets_data, views};
+ghost use Rattle.camel_map.specs.Reading.{IsMemory, elements_in, or_refused_at};
+ghost use Rattle.camel_reading.specs.Reading.{ReadsBy};
 
 use crate::map_fault::{MapFault, MapFaultKind};
 use camel_ber::{Element, Octets, series};
@@ -17,7 +18,7 @@ pub(crate) fn read_elements<'a>(
     alloc: Global,
     octets: Octets<'a>,
 ) -> Result<Vec<Element<'a>>, MapFault>
-    ensures { ReadsElements result (elements_in (octets_data octets.entry)) }
+    ensures { ReadsBy IsMemory (λ elements. views elements.items) result (elements_in (octets_data octets.entry)) }
 {
     Ok(series(alloc, octets, MAX_DEPTH)?)
 }

@@ -1,21 +1,27 @@
 //! O-CSI and T-CSI, and their TDP rows.
 
-ghost use Rattle.std.specs.Prelude.{◌≡◌};
+ghost use Rattle.std.specs.Prelude.{◌≡◌, ◌≤◌, length, IfOk, OnOk};
 ghost use Rattle.camel_ber.specs.Reading.{view, views};
-ghost use Rattle.camel_map.specs.Reading.{LendsElement, ReadsAs};
-ghost use Rattle.camel_map.specs.Row.{csi_in, first_of, row_in, row_of_fields};
-ghost use Rattle.camel_rows.specs.Received.{o_csi_of, vt_csi_of};
+ghost use Rattle.camel_map.specs.Reading.{IsMemory, LendsElement};
+ghost use Rattle.camel_reading.specs.Reading.{ReadsAs};
+ghost use Rattle.camel_map.specs.Encoding.{encoding};
+ghost use Rattle.camel_map.specs.Row.{csi_in, first_of};
+ghost use Rattle.camel_rows.specs.Received.{kept_of};
 
+use crate::encoding::element::{put_leaf, put_number_leaf};
+use crate::encoding::value::handling_number;
+use crate::encoding::writer::{TooLong, Writer};
 use crate::field::{find_field, identified, mandatory, read_present};
 use crate::identifier::{ENUMERATED, INTEGER, PRIMITIVE, SEQUENCE};
+use crate::item::{MapItem, read_item};
 use crate::items::{ReceivedList, read_items};
 use crate::map_fault::{MapFault, MapFaultKind};
 use crate::reading::{or_refused_at, read_elements};
 use crate::value::{read_detection_point, read_isdn_address, read_unsigned};
 use camel_ber::Element;
 use camel_criteria::Handling;
-use camel_rows::{OCsi, TdpRow, VtCsi};
-use std::alloc::Global;
+use camel_rows::{Csi, CsiKind, TdpRow};
+use std::alloc::{AllocError, Global};
 
 /// A CSI that came.
 #[derive(Drop)]
@@ -26,26 +32,59 @@ pub(crate) struct ReceivedCsi<C> {
     pub capability: Option<u32>,
 }
 
-/// A row of its fields.
-#[tactic(auto, unfolding(crate::specs::Row::row_of_fields))]
-fn read_row_fields(item: &Element<'_>, fields: &[Element<'_>]) -> Result<TdpRow, MapFault>
-    ensures { result ≡ row_of_fields (view item.now) (views fields.now) }
-{
-    let dp = read_detection_point(&mandatory(item, ENUMERATED, fields)?)?;
-    let key = read_unsigned(&mandatory(item, INTEGER, fields)?)?;
-    let scf = read_isdn_address(&mandatory(item, PRIMITIVE, fields)?)?;
-    let received = read_unsigned(&mandatory(item, PRIMITIVE + 1, fields)?)?;
-    let handling = Handling::of_received(received);
-    or_refused_at(item.place, TdpRow::new(dp, key, scf, handling))
+/// A CSI and its criteria, each if it came.
+#[derive(Drop)]
+pub(crate) struct ReceivedLists<C, L> {
+    /// The CSI.
+    pub csi: Option<ReceivedCsi<C>>,
+    /// Its criteria.
+    pub criteria: Option<ReceivedList<L>>,
 }
 
-#[tactic(auto, unfolding(crate::specs::Row::row_in))]
-fn read_row(alloc: Global, item: &Element<'_>) -> Result<TdpRow, MapFault>
-    ensures { ReadsAs result (row_in (view item.now)) }
-{
-    let row = identified(*item, SEQUENCE)?;
-    let fields = read_elements(alloc, row.content)?;
-    read_row_fields(&row, &fields)
+/// The row that is sent for none, with the detection point 255, which is in no CSI.
+const IGNORED_ROW: [u8; 15] = [
+    0x30, 13, 0x0a, 2, 0, 255, 0x02, 1, 0, 0x80, 1, 0, 0x81, 1, 0,
+];
+
+impl MapItem for TdpRow {
+    ghost use Rattle.camel_map.specs.Encoding.{ignored_row, row_fields};
+    ghost use Rattle.camel_map.specs.Row.{row_of_fields};
+
+    ghost of_fields = { row_of_fields };
+
+    ghost fields_of = { row_fields };
+
+    ghost ignored = { ignored_row };
+
+    #[tactic(auto, unfolding(crate::specs::Row::row_of_fields))]
+    fn read_fields(
+        _alloc: Global,
+        item: &Element<'_>,
+        fields: &[Element<'_>],
+    ) -> Result<TdpRow, MapFault> {
+        let dp = read_detection_point(&mandatory(item, ENUMERATED, fields)?)?;
+        let key = read_unsigned(&mandatory(item, INTEGER, fields)?)?;
+        let scf = read_isdn_address(&mandatory(item, PRIMITIVE, fields)?)?;
+        let received = read_unsigned(&mandatory(item, PRIMITIVE + 1, fields)?)?;
+        let handling = Handling::of_received(received);
+        or_refused_at(item.place, TdpRow::new(dp, key, scf, handling))
+    }
+
+    fn copy(&self) -> Result<TdpRow, AllocError> {
+        Ok(*self)
+    }
+
+    fn put_fields(&self, writer: &mut Writer) -> Result<(), TooLong> {
+        put_leaf(writer, PRIMITIVE + 1, &[handling_number(self.handling())])?;
+        put_leaf(writer, PRIMITIVE, self.scf().bytes())?;
+        put_number_leaf(writer, INTEGER, self.key())?;
+        put_number_leaf(writer, ENUMERATED, u32::from(self.dp()))
+    }
+
+    #[tactic(auto, unfolding(crate::specs::Encoding::encodings))]
+    fn put_ignored(writer: &mut Writer) -> Result<(), TooLong> {
+        writer.put_all(&IGNORED_ROW)
+    }
 }
 
 /// The first element of the contents of another.
@@ -61,34 +100,21 @@ pub(crate) fn first_of<'a>(
     }
 }
 
-/// The O-CSI.
+/// A CSI.
 #[tactic(auto, unfolding(crate::specs::Row::csi_in, crate::specs::Items::received_as))]
-pub(crate) fn read_o_csi(alloc: Global, csi: &Element<'_>) -> Result<ReceivedCsi<OCsi>, MapFault>
-    ensures { ReadsAs result (csi_in o_csi_of (view csi.now)) }
+pub(crate) fn read_csi<K: CsiKind, const MOST: usize>(
+    alloc: Global,
+    csi: &Element<'_>,
+) -> Result<ReceivedCsi<Csi<K, MOST>>, MapFault>
+    requires few { MOST ≤ 3 }
+    requires points { length K.Entry.points ≡ MOST }
+    ensures { ReadsAs IsMemory result (csi_in (kept_of K.Entry.points (λ row. row.dp)) (view csi.now)) }
 {
     let fields = read_elements(alloc, csi.content)?;
     let list = identified(first_of(csi, &fields)?, SEQUENCE)?;
-    let rows = read_items(alloc, &list, |item| read_row(alloc, item))?;
+    let rows = read_items(alloc, &list, |item| read_item::<TdpRow>(alloc, item))?;
     let rows = ReceivedList {
-        kept: or_refused_at(list.place, OCsi::new(&rows))?,
-        count: rows.len(),
-    };
-    Ok(ReceivedCsi {
-        rows,
-        capability: read_present(find_field(&fields, PRIMITIVE)?, read_unsigned)?,
-    })
-}
-
-/// The VT-CSI.
-#[tactic(auto, unfolding(crate::specs::Row::csi_in, crate::specs::Items::received_as))]
-pub(crate) fn read_vt_csi(alloc: Global, csi: &Element<'_>) -> Result<ReceivedCsi<VtCsi>, MapFault>
-    ensures { ReadsAs result (csi_in vt_csi_of (view csi.now)) }
-{
-    let fields = read_elements(alloc, csi.content)?;
-    let list = identified(first_of(csi, &fields)?, SEQUENCE)?;
-    let rows = read_items(alloc, &list, |item| read_row(alloc, item))?;
-    let rows = ReceivedList {
-        kept: or_refused_at(list.place, VtCsi::new(&rows))?,
+        kept: or_refused_at(list.place, Csi::of_received(&rows))?,
         count: rows.len(),
     };
     Ok(ReceivedCsi {

@@ -5,7 +5,9 @@ ghost use Rattle.camel_criteria.specs.declared.refusal.Refusal.TheVariants.{Unex
 ghost use Rattle.camel_map.specs.declared.map_fault.MapFaultKind.TheVariants.{Refused};
 ghost use Rattle.camel_ber.specs.Grammar.{value_of};
 ghost use Rattle.camel_ber.specs.Reading.{view};
-ghost use Rattle.camel_map.specs.Value.{basic_service_in, call_type_in, cause_in, detection_point_in, greatest, isdn_address_in, length_in, match_type_in, number_in, service_code_in, unsigned_in};
+ghost use Rattle.camel_map.specs.Value.{basic_service_in, call_type_in, cause_in, detection_point_in, greatest};
+ghost use Rattle.camel_map.specs.Value.{isdn_address_in, length_in, match_type_in, number_in, service_code_in};
+ghost use Rattle.camel_map.specs.Value.{unsigned_in};
 
 use crate::field::{identified, is_identified};
 use crate::identifier::{INTEGER, OCTET_STRING, PRIMITIVE};

@@ -5,7 +5,7 @@ use Rattle.camel_rows.specs.declared.subscriber.stored_csi.StoredCsi.{StoredCsi}
 use Rattle.camel_rows.specs.declared.subscriber.stored_csi.StoredCsi.TheVariants.{NotStored, InPlace, Apart}
 
 -- the rows with the entries, if the CSI is stored
-abbrev pub stored_in : {most : ℕ} {Entry : Type 0} → StoredCsi most Entry → Option (StoredCsiData Entry)
+abbrev pub stored_in : {Kind : Type 0} {most : ℕ} {Entry : Type 0} → StoredCsi Kind most Entry → Option (StoredCsiData Entry)
 stored_in NotStored = None
 stored_in (InPlace has_entry rows entry) = Some (record { rows = rows; entries = if has_entry then entry else [] })
 stored_in (Apart rows entries) = Some (record { rows = rows; entries = entries.items })

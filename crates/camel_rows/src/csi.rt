@@ -8,36 +8,39 @@ ghost use Rattle.camel_rows.specs.Subscriber.{item_among};
 
 pub(crate) mod criteria_set;
 pub(crate) mod entries;
+pub(crate) mod kind;
 pub(crate) mod received;
 pub(crate) mod tdp_row;
 
+use crate::csi::kind::{CsiKind, Originating, VmscTerminating};
 use crate::csi::received::{check_list, has_no_two};
 use crate::csi::tdp_row::TdpRow;
-use camel_criteria::{O_DETECTION_POINTS, Refusal, VT_DETECTION_POINTS, is_among};
+use camel_criteria::{CriteriaEntry, Refusal, is_among};
 use std::fmt;
-use std::marker::Model;
+use std::marker::{Model, PhantomData};
 use std::mem::size_of;
 
-/// The TDP rows of a CSI (TS 23.078), in the order received, without the ignored ones. `MOST` is the number of the
-/// detection points that are tested against it.
+/// The TDP rows of a CSI of the kind `K` (TS 23.078), in the order received, without the ignored ones. `MOST` is the
+/// number of the detection points that are tested against it.
 ///
 /// Contracts see it as the list of its rows. It may hold none. It takes no memory.
 #[derive(Clone, Copy)]
-pub struct Csi<const MOST: usize> {
+pub struct Csi<K, const MOST: usize> {
     // The rows, and fillers from `len` on, so that equal lists have equal fields.
     room: [TdpRow; MOST],
     len: u8,
+    kind: PhantomData<K>,
 }
 
 const _: () = prove!(size_of::<OCsi>() == 36);
 
 /// The O-CSI, whose rows are of detection points 2 and 4.
-pub type OCsi = Csi<2>;
+pub type OCsi = Csi<Originating, 2>;
 
 /// The VT-CSI, whose rows are of detection points 12, 13 and 14.
-pub type VtCsi = Csi<3>;
+pub type VtCsi = Csi<VmscTerminating, 3>;
 
-impl<const MOST: usize> Model for Csi<MOST> {
+impl<K, const MOST: usize> Model for Csi<K, MOST> {
     ghost use Rattle.std.specs.Prelude.{List, length, take};
     ghost use Rattle.std.proofs.Common.{sym};
     ghost use Rattle.camel_rows.specs.RowRoom.{IsKept, room_with};
@@ -49,12 +52,12 @@ impl<const MOST: usize> Model for Csi<MOST> {
 
     ghost invariant = { λ a. IsKept MOST a.room a.len };
 
-    ghost inverse = { λ rows. record { room = room_with MOST rows; len = length rows } };
+    ghost inverse = { λ rows. record { room = room_with MOST rows; len = length rows; kind = record {} } };
 
-    ghost inverse_ok = { λ a h i. record { room = sym h.fill i; len = sym h.counted i } };
+    ghost inverse_ok = { λ a h i. record { room = sym h.fill i; len = sym h.counted i; kind = record {} } };
 }
 
-impl Csi<2> {
+impl OCsi {
     /// Takes the received rows, and keeps those of detection points 2 and 4 in their order. The others are
     /// ignored; a list of which all rows are ignored leaves a CSI without rows.
     ///
@@ -63,11 +66,11 @@ impl Csi<2> {
     pub fn new(received: &[TdpRow]) -> Result<OCsi, Refusal>
         ensures { result ≡ o_csi_of received.now }
     {
-        Csi::from_received(received, &O_DETECTION_POINTS)
+        Csi::of_received(received)
     }
 }
 
-impl Csi<3> {
+impl VtCsi {
     /// Takes the received rows, and keeps those of detection points 12, 13 and 14 in their order. The others are
     /// ignored; a list of which all rows are ignored leaves a CSI without rows.
     ///
@@ -76,17 +79,22 @@ impl Csi<3> {
     pub fn new(received: &[TdpRow]) -> Result<VtCsi, Refusal>
         ensures { result ≡ vt_csi_of received.now }
     {
-        Csi::from_received(received, &VT_DETECTION_POINTS)
+        Csi::of_received(received)
     }
 }
 
-impl<const MOST: usize> Csi<MOST> {
-    /// Keeps the rows of these detection points.
-    fn from_received(received: &[TdpRow], points: &[u8]) -> Result<Csi<MOST>, Refusal>
+impl<K: CsiKind, const MOST: usize> Csi<K, MOST> {
+    /// Takes the received rows of any kind of CSI, and keeps those of its detection points, as [`OCsi::new`] and
+    /// [`VtCsi::new`] do.
+    ///
+    /// Fails with `DataMissing` (35) for no rows, and with `UnexpectedDataValue` (36) for more than 10, or for two of
+    /// one of its detection points.
+    pub fn of_received(received: &[TdpRow]) -> Result<Csi<K, MOST>, Refusal>
         requires few { MOST ≤ 3 }
-        requires points { length points.now ≡ MOST }
-        ensures { result ≡ kept_of points.now (λ row. row.dp) received.now }
+        requires points { length K.Entry.points ≡ MOST }
+        ensures { result ≡ kept_of K.Entry.points (λ row. row.dp) received.now }
     {
+        let points = K::Entry::detection_points();
         check_list(received.len(), has_no_two(received, points))?;
         let mut csi = Csi::without_rows();
         for row in received {
@@ -96,14 +104,17 @@ impl<const MOST: usize> Csi<MOST> {
         }
         Ok(csi)
     }
+}
 
-    fn without_rows() -> Csi<MOST>
+impl<K: Copy, const MOST: usize> Csi<K, MOST> {
+    fn without_rows() -> Csi<K, MOST>
         requires { MOST ≤ 3 }
         ensures { result ≡ [] }
     {
         Csi {
             room: [TdpRow::filler(); MOST],
             len: 0,
+            kind: PhantomData,
         }
     }
 
@@ -115,7 +126,8 @@ impl<const MOST: usize> Csi<MOST> {
         self.len += 1;
     }
 
-    fn as_slice(&self) -> &[TdpRow]
+    /// Its rows.
+    pub fn as_slice(&self) -> &[TdpRow]
         ensures rows { result.now ≡ self.now }
         ensures few { length self.now ≤ MOST }
     {
@@ -152,8 +164,8 @@ impl<const MOST: usize> Csi<MOST> {
     }
 }
 
-/// The place of the first row of a detection point, or how many places there are. Each place is looked at, from the last
-/// one on, so that no branch depends on where the row lies, which cannot be foreseen.
+/// The place of the first row of a detection point, or how many places there are. Each place is looked at, from the
+/// last one on, so that no branch depends on where the row lies, which cannot be foreseen.
 fn place_of(rows: &[TdpRow], dp: u8) -> usize
     ensures { result ≡ position_or_len (λ row. row.dp == dp) rows.now }
 {
@@ -166,7 +178,7 @@ fn place_of(rows: &[TdpRow], dp: u8) -> usize
     place
 }
 
-impl<const MOST: usize> fmt::Debug for Csi<MOST> {
+impl<K: Copy, const MOST: usize> fmt::Debug for Csi<K, MOST> {
     fn fmt<W: fmt::Write>(&self, f: &mut fmt::Formatter<W>) -> fmt::Result {
         f.debug_list().entries(self.as_slice()).finish()
     }

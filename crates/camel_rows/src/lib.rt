@@ -7,6 +7,7 @@ mod subscriber;
 mod trigger;
 
 pub use csi::criteria_set::{CriteriaSet, OCriteriaSet, TCriteriaSet};
+pub use csi::kind::{CsiKind, Originating, VmscTerminating};
 pub use csi::received::MAX_TDP_DATA;
 pub use csi::tdp_row::{MAX_SERVICE_KEY, TdpRow};
 pub use csi::{Csi, OCsi, VtCsi};

@@ -18,6 +18,7 @@ pub(crate) mod stored_csi;
 pub(crate) mod update;
 
 use crate::csi::criteria_set::{OCriteriaSet, TCriteriaSet};
+use crate::csi::kind::{Originating, VmscTerminating};
 use crate::csi::tdp_row::TdpRow;
 use crate::csi::{OCsi, VtCsi};
 use crate::subscriber::boxed::Boxed;
@@ -33,10 +34,10 @@ use std::marker::Model;
 use std::mem::size_of;
 
 /// A stored O-CSI with its criteria.
-pub(crate) type StoredOCsi = StoredCsi<2, OCriteria>;
+pub(crate) type StoredOCsi = StoredCsi<Originating, 2, OCriteria>;
 
 /// A stored VT-CSI with its criteria.
-pub(crate) type StoredVtCsi = StoredCsi<3, TCriteria>;
+pub(crate) type StoredVtCsi = StoredCsi<VmscTerminating, 3, TCriteria>;
 
 /// The record of one subscriber: the O-CSI and the VT-CSI, if they are stored, each with its criteria.
 ///
@@ -179,10 +180,12 @@ impl Subscriber {
         vt: &Option<VtCsi>,
         t_criteria: &Option<TCriteriaSet>,
     ) -> Result<(), Refusal>
-        ensures refused { IfSome (insert_refusal (Some (csis_of self.old)) o.now o_criteria.now vt.now t_criteria.now) (λ why. result ≡ Err why) }
+        ensures refused { IfSome (insert_refusal (Some (csis_of self.old)) o.now o_criteria.now vt.now t_criteria.now)
+            (λ why. result ≡ Err why) }
         ensures only { IfErr result (λ why. (why ≡ Refusal.OutOfMemory)
             ⊎ (insert_refusal (Some (csis_of self.old)) o.now o_criteria.now vt.now t_criteria.now ≡ Some why)) }
-        ensures inserted { OnOk result (self.new ≡ record_with_insert o.now o_criteria.now vt.now t_criteria.now self.old) }
+        ensures inserted { OnOk result
+            (self.new ≡ record_with_insert o.now o_criteria.now vt.now t_criteria.now self.old) }
         ensures unchanged { OnErr result (self.new ≡ self.old) }
     {
         check_insert(self.csis(), o, o_criteria, vt, t_criteria)?;
@@ -193,15 +196,16 @@ impl Subscriber {
         Ok(())
     }
 
-    /// Stores what an Insert brings, as [`Subscriber::insert`] does, and moves it in. One that is refused is dropped, and
-    /// nothing changes. If memory is refused, it comes back, and nothing changes.
+    /// Stores what an Insert brings, as [`Subscriber::insert`] does, and moves it in. One that is refused is dropped,
+    /// and nothing changes. If memory is refused, it comes back, and nothing changes.
     pub(crate) fn insert_owned(
         &mut self,
         alloc: Global,
         update: Box<Update>,
     ) -> Result<(), Box<Update>>
         requires { IsTrue (is_insert update.value) }
-        ensures refused { OnOk result (IsSome (csis_refusal (Some (csis_of self.old)) update.value) → self.new ≡ self.old) }
+        ensures refused { OnOk result
+            (IsSome (csis_refusal (Some (csis_of self.old)) update.value) → self.new ≡ self.old) }
         ensures inserted { OnOk result (csis_refusal (Some (csis_of self.old)) update.value ≡ None
             → Some self.new ≡ record_after (Some self.old) update.value) }
         ensures back { IfErr result (λ back. back ≡ update) }

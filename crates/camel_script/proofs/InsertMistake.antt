@@ -5,17 +5,18 @@ use Rattle.std.proofs.lemmas.Bool.Decides.{nat_tests}
 use Rattle.std.specs.Result.{result_err}
 use Rattle.camel_criteria.specs.DetectionPoint.{o_detection_points, vt_detection_points}
 use Rattle.camel_criteria.specs.declared.refusal.Refusal.{Refusal}
+use Rattle.camel_criteria.specs.declared.refusal.Refusal.TheVariants.{DataMissing}
 use Rattle.camel_rows.specs.Received.{o_criteria_set_of, o_csi_of, t_criteria_set_of, vt_csi_of}
 use Rattle.csv.specs.Records.{field_at}
+use Rattle.camel_reading.proofs.StepLemmas.{step_err}
 use Rattle.camel_script.proofs.ListDps.{by_dps_in, dps_in, none_refused, points_of}
 use Rattle.camel_script.proofs.ReceivedLists.{refused_as}
 use Rattle.camel_script.proofs.RefusedListLemmas.{find, none_read}
-use Rattle.camel_script.proofs.StepLemmas.{step_err}
 use Rattle.camel_script.proofs.ItemPlace.{at_place}
 use Rattle.camel_script.specs.Field.{field}
 use Rattle.camel_script.specs.Item.{ItemsData, items_of, no_items, refused_item}
 use Rattle.camel_script.specs.Reading.{numbered, record_fault_of}
-use Rattle.camel_script.specs.Record.{imsi_of, insert_of, insert_of_items, kind_of_word, or_refused_item, reading_of, received_list}
+use Rattle.camel_script.specs.Record.{imsi_of, insert_of, insert_of_items, kind_of_word, list_or_mistake, reading_of}
 use Rattle.camel_script.specs.RefusedList.{InsertList, ORows, OCriteria, VtRows, TCriteria, IsAtRefusedItem, IsReadInsert, item_name, refusal_in, refusal_of}
 use Rattle.camel_script.specs.Texts.{imsi_of_text}
 use Rattle.camel_script.specs.declared.mistake.Mistake.{Mistake}
@@ -26,33 +27,31 @@ module _ (fields : List (List ℕ)) (mistake : Mistake) where
   RefusedFor name points refusal =
       (why : Refusal) × (refusal ≡ Some why) × (refused_item (record_fault_of why) name points [] (numbered 3 (drop 2 fields)) ≡ mistake)
 
-  refused_for : {A : Type 0} (name points : List ℕ) (kept : Result A Refusal) → or_refused_item name points fields kept ≡ Err mistake
-      → RefusedFor name points (result_err kept)
-  unfolding RefusedFor
-  refused_for name points (Ok kept) e = absurd (cc)
-  refused_for name points (Err why) e = (why, refl, cc)
-
   of_list : {A : Type 0} (name points : List ℕ) (kept_of : List A → Result (List A) Refusal) (items : List A)
-      → received_list name points fields kept_of items ≡ Err mistake → RefusedFor name points (refusal_of kept_of items)
-  of_list name points kept_of [] e = absurd (cc)
-  of_list name points kept_of (first ∷ more) e =
-      elim (step_err (or_refused_item name points fields (kept_of (first ∷ more))) (λ kept. Ok (Some kept)) mistake e) [
-        | inl refused ↦ refused_for name points (kept_of (first ∷ more)) refused
-        | inr kept ↦ absurd (let none = kept.2 in cc)
-      ]
+      → kept_of [] ≡ Err DataMissing → list_or_mistake name points fields (kept_of items) ≡ Err mistake
+      → RefusedFor name points (refusal_of kept_of items)
+  unfolding RefusedFor
+  of_list name points kept_of [] omitted e = absurd (let none = rw omitted at e in cc)
+  of_list name points kept_of (first ∷ more) omitted e = by (kept_of (first ∷ more)) e
+    where
+      by : {B : Type 0} (kept : Result B Refusal) → list_or_mistake name points fields kept ≡ Err mistake
+          → RefusedFor name points (result_err kept)
+      by (Ok kept) e = absurd (cc)
+      by (Err DataMissing) e = absurd (cc)
+      by (Err why) e = (why, refl, cc)
 
   of_items : (imsi : List ℕ) (items : ItemsData) → insert_of_items fields imsi items ≡ Err mistake
       → (list : InsertList) × RefusedFor (item_name list) (points_of list) (refusal_in items list)
   unfolding insert_of_items
   of_items imsi items e =
-      elim (step_err (received_list (codes "o") o_detection_points fields o_csi_of items.o) _ mistake e) [
-        | inl refused ↦ (ORows, of_list (codes "o") o_detection_points o_csi_of items.o refused)
-        | inr o ↦ elim (step_err (received_list (codes "oc") o_detection_points fields o_criteria_set_of items.o_criteria) _ mistake o.2) [
-          | inl refused ↦ (OCriteria, of_list (codes "oc") o_detection_points o_criteria_set_of items.o_criteria refused)
-          | inr o_criteria ↦ elim (step_err (received_list (codes "t") vt_detection_points fields vt_csi_of items.vt) _ mistake o_criteria.2) [
-            | inl refused ↦ (VtRows, of_list (codes "t") vt_detection_points vt_csi_of items.vt refused)
-            | inr vt ↦ elim (step_err (received_list (codes "tc") vt_detection_points fields t_criteria_set_of items.t_criteria) _ mistake vt.2) [
-              | inl refused ↦ (TCriteria, of_list (codes "tc") vt_detection_points t_criteria_set_of items.t_criteria refused)
+      elim (step_err (list_or_mistake (codes "o") o_detection_points fields (o_csi_of items.o)) _ mistake e) [
+        | inl refused ↦ (ORows, of_list (codes "o") o_detection_points o_csi_of items.o refl refused)
+        | inr o ↦ elim (step_err (list_or_mistake (codes "oc") o_detection_points fields (o_criteria_set_of items.o_criteria)) _ mistake o.2) [
+          | inl refused ↦ (OCriteria, of_list (codes "oc") o_detection_points o_criteria_set_of items.o_criteria refl refused)
+          | inr o_criteria ↦ elim (step_err (list_or_mistake (codes "t") vt_detection_points fields (vt_csi_of items.vt)) _ mistake o_criteria.2) [
+            | inl refused ↦ (VtRows, of_list (codes "t") vt_detection_points vt_csi_of items.vt refl refused)
+            | inr vt ↦ elim (step_err (list_or_mistake (codes "tc") vt_detection_points fields (t_criteria_set_of items.t_criteria)) _ mistake vt.2) [
+              | inl refused ↦ (TCriteria, of_list (codes "tc") vt_detection_points t_criteria_set_of items.t_criteria refl refused)
               | inr t_criteria ↦ absurd (let none = t_criteria.2 in cc)
             ]
           ]

@@ -2,6 +2,7 @@ pub mod CsvRecords
 pub mod Elements
 pub mod FieldLemmas
 pub mod FirstRefused
+pub mod Hexadecimal
 pub mod InTurn
 pub mod InsertMistake
 pub mod ItemAdded

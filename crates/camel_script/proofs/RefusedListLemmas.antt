@@ -3,10 +3,10 @@ use Rattle.std.proofs.Common.{◌≡◌, ◌∙◌, inl, inr, ℕ, suc, ◌+◌,
 use Rattle.std.proofs.Common.{Some, None, Ok, refl, sym, ap, arith, append_assoc, length-append}
 use Rattle.camel_criteria.specs.declared.refusal.Refusal.{Refusal}
 use Rattle.camel_criteria.specs.declared.refusal.Refusal.TheVariants.{UnexpectedDataValue}
+use Rattle.camel_reading.proofs.StepLemmas.{step_ok}
 use Rattle.camel_script.proofs.FirstRefused.{at_item}
 use Rattle.camel_script.proofs.ItemAdded.{adds}
 use Rattle.camel_script.proofs.ListDps.{by_dps_in, dps_in, points_of}
-use Rattle.camel_script.proofs.StepLemmas.{step_ok}
 use Rattle.camel_script.specs.Item.{ItemsData, item_into, items_of, no_items, refused_item}
 use Rattle.camel_script.specs.Parts.{item_part}
 use Rattle.camel_script.specs.Reading.{in_turn, numbered}

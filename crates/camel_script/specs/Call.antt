@@ -5,7 +5,7 @@ use Rattle.camel_criteria.specs.declared.basic_service.BasicService.{BasicServic
 use Rattle.camel_rows.specs.declared.trigger.event.TdpEvent.TheVariants.{CollectedInfo, RouteSelectFailure, TerminatingAttempt, Busy, NoAnswer}
 use Rattle.camel_script.specs.Field.{field}
 use Rattle.camel_script.specs.Mistake.{at_field, field_count, mistake_at, with_fields}
-use Rattle.camel_script.specs.Reading.{◌>>=◌}
+use Rattle.camel_reading.specs.Reading.{◌>>=◌}
 use Rattle.camel_script.specs.Texts.{basic_service_of, call_address_of, cause_of_value, decimal_of, imsi_of_text, is_forwarded_of, octets_of}
 use Rattle.camel_script.specs.declared.mistake.Expected.{Expected}
 use Rattle.camel_script.specs.declared.mistake.Expected.TheVariants as expected
@@ -67,23 +67,13 @@ route_select_failure_of fields = do
 unfoldable pub terminating_attempt_of : List (List ℕ) → Result Record Mistake
 terminating_attempt_of fields = subscriber_of fields >>= λ subscriber. Ok (Call (TerminatingAttempt subscriber.0 subscriber.1))
 
--- the cause of a call that was not reached
-unfoldable pub release_cause_of : List (List ℕ) → Result ℕ Mistake
-release_cause_of fields = do
+-- the IMSI, the basic service and the cause of a call that was not reached
+unfoldable pub not_reached_of : List (List ℕ) → Result (List ℕ × BasicService × ℕ) Mistake
+not_reached_of fields = with_fields not_reached_texts fields (do
+  subscriber ← subscriber_of fields
   value ← at_field 5 expected.Cause (decimal_of 255 (field fields 4))
-  at_field 5 expected.Cause (cause_of_value value)
-
-unfoldable pub busy_of : List (List ℕ) → Result Record Mistake
-busy_of fields = do
-  subscriber ← subscriber_of fields
-  cause ← release_cause_of fields
-  Ok (Call (Busy subscriber.0 subscriber.1 cause))
-
-unfoldable pub no_answer_of : List (List ℕ) → Result Record Mistake
-no_answer_of fields = do
-  subscriber ← subscriber_of fields
-  cause ← release_cause_of fields
-  Ok (Call (NoAnswer subscriber.0 subscriber.1 cause))
+  cause ← at_field 5 expected.Cause (cause_of_value value)
+  Ok (subscriber.0, subscriber.1, cause))
 
 -- the record that a call reads as; its second field is the detection point, which says what the others are
 unfoldable pub call_of : List (List ℕ) → Result Record Mistake
@@ -94,6 +84,8 @@ call_of fields =
     then with_fields route_select_failure_texts fields (route_select_failure_of fields)
     else if bytes_eq (field fields 1) (codes "12")
     then with_fields terminating_attempt_texts fields (terminating_attempt_of fields)
-    else if bytes_eq (field fields 1) (codes "13") then with_fields not_reached_texts fields (busy_of fields)
-    else if bytes_eq (field fields 1) (codes "14") then with_fields not_reached_texts fields (no_answer_of fields)
+    else if bytes_eq (field fields 1) (codes "13")
+    then (not_reached_of fields >>= λ call. Ok (Call (Busy call.0 call.1 call.2)))
+    else if bytes_eq (field fields 1) (codes "14")
+    then (not_reached_of fields >>= λ call. Ok (Call (NoAnswer call.0 call.1 call.2)))
     else Err (mistake_at 2 0 expected.CallDetectionPoint record_fault.Word)

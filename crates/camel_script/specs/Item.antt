@@ -1,6 +1,6 @@
 -- The items of an insert (profile 1's own format): rows and entries of criteria, in two lists for each CSI. The
 -- texts of an item are read before its data are checked.
-use Rattle.std.specs.Prelude.{ℕ, ◌==◌, ◌&&◌, not, nat_le, List, [], ◌∷◌, ◌++◌, length, codes, Option, Some, None, Result, Ok, Err, if◌then◌else◌}
+use Rattle.std.specs.Prelude.{ℕ, ◌&&◌, not, nat_le, List, [], ◌∷◌, ◌++◌, length, codes, Option, Some, None, Result, Ok, Err, if◌then◌else◌}
 use Rattle.std.specs.Result.{result_unwrap_or}
 use Rattle.std.specs.Str.{bytes_eq}
 use Rattle.camel_criteria.specs.Criteria.{NumberCriterionData, OCriteriaData, TCriteriaData, number_criterion_of, o_criteria_of, t_criteria_of}
@@ -10,9 +10,10 @@ use Rattle.camel_criteria.specs.declared.basic_service.BasicService.{BasicServic
 use Rattle.camel_criteria.specs.declared.criteria.MatchType.{MatchType}
 use Rattle.camel_rows.specs.Received.{max_tdp_data}
 use Rattle.camel_rows.specs.TdpRow.{TdpRowData, tdp_row_of}
-use Rattle.camel_script.specs.Mistake.{at_part, mistake_at, part_count}
-use Rattle.camel_script.specs.Reading.{◌>>=◌, each_of, elements_as, in_turn, numbered, of_count, or_refused}
-use Rattle.camel_script.specs.Parts.{item_part, item_separator, number_separator, part, parts_of}
+use Rattle.camel_reading.specs.Reading.{◌>>=◌, each_of}
+use Rattle.camel_script.specs.Mistake.{at_part, mistake_at, with_parts}
+use Rattle.camel_script.specs.Reading.{elements_as, in_turn, numbered, of_count, or_refused}
+use Rattle.camel_script.specs.Parts.{item_part, number_separator, part, parts_of}
 use Rattle.camel_script.specs.Texts.{basic_service_of, call_type_of, decimal_of, isdn_address_of, match_type_of, octets_of}
 use Rattle.camel_script.specs.declared.mistake.Expected.{Expected}
 use Rattle.camel_script.specs.declared.mistake.Expected.TheVariants.{ItemName, DetectionPoint, ServiceKey, GsmScfAddress, Handling}
@@ -25,14 +26,14 @@ use Rattle.camel_script.specs.declared.text.record_fault.RecordFault.TheVariants
 abbrev pub row_texts : List Expected
 row_texts = ItemName ∷ DetectionPoint ∷ ServiceKey ∷ GsmScfAddress ∷ Handling ∷ []
 
-unfoldable pub row_of_parts : ℕ × List ℕ → Result TdpRowData Mistake
-row_of_parts (number, item) = do
+unfoldable pub row_of : ℕ × List ℕ → Result TdpRowData Mistake
+row_of (number, item) = with_parts row_texts number item (do
   dp ← at_part number 2 DetectionPoint (decimal_of 255 (item_part item 1))
   key ← at_part number 3 ServiceKey (decimal_of 4294967295 (item_part item 2))
   octets ← at_part number 4 GsmScfAddress (octets_of (item_part item 3))
   received ← at_part number 5 Handling (decimal_of 4294967295 (item_part item 4))
   scf ← at_part number 4 GsmScfAddress (isdn_address_of octets)
-  at_part number 3 ServiceKey (or_refused (tdp_row_of dp key scf (handling_of received)))
+  at_part number 3 ServiceKey (or_refused (tdp_row_of dp key scf (handling_of received))))
 
 -- the texts of NUMBER: its match type, the octets of its listed numbers, and its lengths
 pub record NumberTextsData : Type 0 where
@@ -61,37 +62,36 @@ number_criterion_from (Some texts) = do
   criterion ← or_refused (number_criterion_of texts.match_type numbers texts.lengths)
   Ok (Some criterion)
 
--- what of an entry is refused, and which part that is: the basic services if there are too many, else the causes
-abbrev pub refused_text : List BasicService → Expected
-refused_text basic = if nat_le (length basic) 5 then Causes else BasicServices
-
-abbrev pub refused_part : ℕ → ℕ → List BasicService → ℕ
-refused_part basic_part causes_part basic = if nat_le (length basic) 5 then causes_part else basic_part
+-- what of an entry is refused, and in which part: the basic services if there are too many, else the causes
+abbrev pub refused_part : ℕ → ℕ → List BasicService → ℕ × Expected
+refused_part basic_part causes_part basic =
+    if nat_le (length basic) 5 then (causes_part, Causes) else (basic_part, BasicServices)
 
 -- oc:DP:NUMBER:BASICS:TYPE:CAUSES
 abbrev pub o_entry_texts : List Expected
 o_entry_texts = ItemName ∷ DetectionPoint ∷ NumberCriterion ∷ BasicServices ∷ ItemCallType ∷ Causes ∷ []
 
-unfoldable pub o_entry_of_parts : ℕ × List ℕ → Result OCriteriaData Mistake
-o_entry_of_parts (number, item) = do
+unfoldable pub o_entry_of : ℕ × List ℕ → Result OCriteriaData Mistake
+o_entry_of (number, item) = with_parts o_entry_texts number item (do
   dp ← at_part number 2 DetectionPoint (decimal_of 255 (item_part item 1))
   texts ← at_part number 3 NumberCriterion (number_texts_of (item_part item 2))
   basic ← at_part number 4 BasicServices (elements_as basic_service_of (item_part item 3))
   call_type ← at_part number 5 ItemCallType (call_type_of (item_part item 4))
   causes ← at_part number 6 Causes (elements_as (decimal_of 255) (item_part item 5))
   criterion ← at_part number 3 NumberCriterion (number_criterion_from texts)
-  at_part number (refused_part 4 6 basic) (refused_text basic) (or_refused (o_criteria_of dp criterion basic call_type causes))
+  at_part number (refused_part 4 6 basic).0 (refused_part 4 6 basic).1
+      (or_refused (o_criteria_of dp criterion basic call_type causes)))
 
 -- tc:DP:BASICS:CAUSES
 abbrev pub t_entry_texts : List Expected
 t_entry_texts = ItemName ∷ DetectionPoint ∷ BasicServices ∷ Causes ∷ []
 
-unfoldable pub t_entry_of_parts : ℕ × List ℕ → Result TCriteriaData Mistake
-t_entry_of_parts (number, item) = do
+unfoldable pub t_entry_of : ℕ × List ℕ → Result TCriteriaData Mistake
+t_entry_of (number, item) = with_parts t_entry_texts number item (do
   dp ← at_part number 2 DetectionPoint (decimal_of 255 (item_part item 1))
   basic ← at_part number 3 BasicServices (elements_as basic_service_of (item_part item 2))
   causes ← at_part number 4 Causes (elements_as (decimal_of 255) (item_part item 3))
-  at_part number (refused_part 3 4 basic) (refused_text basic) (or_refused (t_criteria_of dp basic causes))
+  at_part number (refused_part 3 4 basic).0 (refused_part 3 4 basic).1 (or_refused (t_criteria_of dp basic causes)))
 
 -- the rows and entries of an insert, each list in the order of its items
 pub record ItemsData : Type 0 where
@@ -104,27 +104,17 @@ pub record ItemsData : Type 0 where
 abbrev pub no_items : ItemsData
 no_items = record { o = []; o_criteria = []; vt = []; t_criteria = [] }
 
--- a list with what an item reads as at its end; the item is in the field of this number, and of these parts
-abbrev pub with_item : {A : Type 0} → List Expected → (ℕ × List ℕ → Result A Mistake) → List A → ℕ × List ℕ
-    → Result (List A) Mistake
-with_item texts item_of items (number, item) =
-    if length (parts_of item_separator item) == length texts
-    then (item_of (number, item) >>= λ value. Ok (items ++ value ∷ []))
-    else Err (part_count number texts (length (parts_of item_separator item)))
-
--- the lists with one item more, in the list that its name says
+-- the lists with what an item reads as at the end of the one that its name says
 unfoldable pub item_into : ItemsData → ℕ × List ℕ → Result ItemsData Mistake
 item_into items (number, item) =
     if bytes_eq (item_part item 0) (codes "o")
-    then (with_item row_texts row_of_parts items.o (number, item) >>= λ rows. Ok (record items { o = rows }))
+    then (row_of (number, item) >>= λ row. Ok (record items { o = items.o ++ row ∷ [] }))
     else if bytes_eq (item_part item 0) (codes "t")
-    then (with_item row_texts row_of_parts items.vt (number, item) >>= λ rows. Ok (record items { vt = rows }))
+    then (row_of (number, item) >>= λ row. Ok (record items { vt = items.vt ++ row ∷ [] }))
     else if bytes_eq (item_part item 0) (codes "oc")
-    then (with_item o_entry_texts o_entry_of_parts items.o_criteria (number, item)
-    >>= λ entries. Ok (record items { o_criteria = entries }))
+    then (o_entry_of (number, item) >>= λ entry. Ok (record items { o_criteria = items.o_criteria ++ entry ∷ [] }))
     else if bytes_eq (item_part item 0) (codes "tc")
-    then (with_item t_entry_texts t_entry_of_parts items.t_criteria (number, item)
-    >>= λ entries. Ok (record items { t_criteria = entries }))
+    then (t_entry_of (number, item) >>= λ entry. Ok (record items { t_criteria = items.t_criteria ++ entry ∷ [] }))
     else Err (mistake_at number 1 ItemName record_fault.Word)
 
 -- the lists that the items of an insert make, whose first stands in field 3

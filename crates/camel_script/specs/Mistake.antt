@@ -1,6 +1,7 @@
 -- Where a record has a mistake: the number of the field, from 1; the number of the part of an item, from 1, or 0 for the
 -- whole field; what is expected there; and the fault of the check that fails.
 use Rattle.std.specs.Prelude.{ℕ, ◌+◌, ◌==◌, min, List, length, slice_get, unwrap_or, Result, Ok, Err, if◌then◌else◌}
+use Rattle.camel_script.specs.Parts.{item_separator, parts_of}
 use Rattle.camel_script.specs.declared.mistake.Expected.{Expected}
 use Rattle.camel_script.specs.declared.mistake.Expected.TheVariants.{Nothing}
 use Rattle.camel_script.specs.declared.mistake.Mistake.{Mistake}
@@ -34,6 +35,12 @@ abbrev pub part_count : ℕ → List Expected → ℕ → Mistake
 part_count number texts count =
     let present = min count (length texts) in
     mistake_at number (present + 1) (expected_behind texts present) FieldCount
+
+-- what an item reads as of which these parts are expected
+abbrev pub with_parts : {A : Type 0} → List Expected → ℕ → List ℕ → Result A Mistake → Result A Mistake
+with_parts texts number item reading =
+    let count = length (parts_of item_separator item) in
+    if count == length texts then reading else Err (part_count number texts count)
 
 -- what a record reads as of which these fields are expected
 abbrev pub with_fields : {A : Type 0} → List Expected → List (List ℕ) → Result A Mistake → Result A Mistake

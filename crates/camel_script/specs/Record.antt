@@ -3,15 +3,17 @@
 use Rattle.std.specs.Prelude.{ℕ, nat_lt, true, false, List, [], ◌∷◌, length, drop, codes, Option, Some, None, Result, Ok, Err, if◌then◌else◌}
 use Rattle.std.specs.Str.{bytes_eq}
 use Rattle.camel_criteria.specs.declared.refusal.Refusal.{Refusal}
+use Rattle.camel_criteria.specs.declared.refusal.Refusal.TheVariants.{DataMissing}
 use Rattle.camel_criteria.specs.DetectionPoint.{o_detection_points, vt_detection_points}
 use Rattle.camel_rows.specs.Received.{o_criteria_set_of, o_csi_of, t_criteria_set_of, vt_csi_of}
 use Rattle.camel_rows.specs.declared.subscriber.update.Update.TheVariants as update
 use Rattle.camel_rows.specs.declared.subscriber.update.Withdrawal.{Withdrawal}
+use Rattle.camel_reading.specs.Reading.{◌>>=◌}
 use Rattle.camel_script.specs.Call.{call_of}
 use Rattle.camel_script.specs.Field.{field}
 use Rattle.camel_script.specs.Item.{ItemsData, items_of, refused_item}
 use Rattle.camel_script.specs.Mistake.{at_field, field_count, mistake_at, with_fields}
-use Rattle.camel_script.specs.Reading.{◌>>=◌, in_turn, numbered, record_fault_of}
+use Rattle.camel_script.specs.Reading.{in_turn, numbered, record_fault_of}
 use Rattle.camel_script.specs.Texts.{imsi_of_text}
 use Rattle.camel_script.specs.declared.mistake.Expected.{Expected}
 use Rattle.camel_script.specs.declared.mistake.Expected.TheVariants.{Word, Imsi, Withdrawal as What}
@@ -49,24 +51,19 @@ cancel_of fields = imsi_alone_of fields >>= λ imsi. Ok (record_of_script.Update
 
 -- the received list that the items of a name make; without items the list is omitted. If it is refused, the mistake is at
 -- the first item that it can't take
-abbrev pub or_refused_item : {A : Type 0} → List ℕ → List ℕ → List (List ℕ) → Result A Refusal → Result A Mistake
-or_refused_item name points fields (Ok kept) = Ok kept
-or_refused_item name points fields (Err refusal) =
+abbrev pub list_or_mistake : {A : Type 0} → List ℕ → List ℕ → List (List ℕ) → Result A Refusal → Result (Option A) Mistake
+list_or_mistake name points fields (Ok kept) = Ok (Some kept)
+list_or_mistake name points fields (Err DataMissing) = Ok None
+list_or_mistake name points fields (Err refusal) =
     Err (refused_item (record_fault_of refusal) name points [] (numbered 3 (drop 2 fields)))
-
-abbrev pub received_list : {A : Type 0} → List ℕ → List ℕ → List (List ℕ) → (List A → Result (List A) Refusal) → List A
-    → Result (Option (List A)) Mistake
-received_list name points fields kept_of [] = Ok None
-received_list name points fields kept_of (first ∷ more) =
-    or_refused_item name points fields (kept_of (first ∷ more)) >>= λ kept. Ok (Some kept)
 
 -- the update Insert of an IMSI and the lists of its items
 unfoldable pub insert_of_items : List (List ℕ) → List ℕ → ItemsData → Result Record Mistake
 insert_of_items fields imsi items = do
-  o ← received_list (codes "o") o_detection_points fields o_csi_of items.o
-  o_criteria ← received_list (codes "oc") o_detection_points fields o_criteria_set_of items.o_criteria
-  vt ← received_list (codes "t") vt_detection_points fields vt_csi_of items.vt
-  t_criteria ← received_list (codes "tc") vt_detection_points fields t_criteria_set_of items.t_criteria
+  o ← list_or_mistake (codes "o") o_detection_points fields (o_csi_of items.o)
+  o_criteria ← list_or_mistake (codes "oc") o_detection_points fields (o_criteria_set_of items.o_criteria)
+  vt ← list_or_mistake (codes "t") vt_detection_points fields (vt_csi_of items.vt)
+  t_criteria ← list_or_mistake (codes "tc") vt_detection_points fields (t_criteria_set_of items.t_criteria)
   Ok (record_of_script.Update (update.Insert imsi o o_criteria vt t_criteria))
 
 -- insert,IMSI,ITEM..

@@ -4,10 +4,11 @@ use Rattle.std.specs.Prelude.{◌≡◌, ◌+◌, ℕ, List, [], ◌∷◌, take
 use Rattle.std.specs.Result.{result_err}
 use Rattle.camel_criteria.specs.declared.refusal.Refusal.{Refusal}
 use Rattle.camel_rows.specs.Received.{o_criteria_set_of, o_csi_of, t_criteria_set_of, vt_csi_of}
+use Rattle.camel_reading.specs.Reading.{◌>>=◌}
 use Rattle.camel_script.specs.Field.{field}
 use Rattle.camel_script.specs.Item.{ItemsData, items_of}
 use Rattle.camel_script.specs.Parts.{item_part}
-use Rattle.camel_script.specs.Reading.{◌>>=◌, record_fault_of}
+use Rattle.camel_script.specs.Reading.{record_fault_of}
 use Rattle.camel_script.specs.Record.{imsi_of}
 use Rattle.camel_script.specs.declared.mistake.Mistake.{Mistake}
 

@@ -17,7 +17,7 @@ use Rattle.camel_criteria.specs.declared.refusal.Refusal.TheVariants.{Unexpected
 use Rattle.camel_tbcd.specs.AddressLength.{max_address_length, max_isdn_address_length}
 use Rattle.camel_tbcd.specs.Imsi.{imsi_of_ascii}
 use Rattle.camel_tbcd.specs.declared.imsi.ImsiFault.{ImsiFault}
-use Rattle.camel_script.specs.Reading.{◌>>=◌}
+use Rattle.camel_reading.specs.Reading.{◌>>=◌}
 use Rattle.camel_script.specs.declared.text.record_fault.RecordFault.{RecordFault}
 use Rattle.camel_script.specs.declared.text.record_fault.RecordFault.TheVariants.{Word, Hexadecimal, Number, Refused}
 

@@ -1,10 +1,10 @@
 //! The items of an insert.
 
-ghost use Rattle.std.specs.Prelude.{◌≡◌, ◌≢◌, Err, IfErr, Ok, OnOk, length};
-ghost use Rattle.camel_script.specs.Item.{item_into, no_items, o_entry_of_parts, o_entry_texts, refused_part, refused_text, row_of_parts, row_texts, t_entry_of_parts, t_entry_texts, with_item};
-ghost use Rattle.camel_criteria.specs.Criteria.{o_criteria_of};
-ghost use Rattle.camel_script.specs.Mistake.{at_part, part_count};
-ghost use Rattle.camel_script.specs.Reading.{MistakenAs, ReadsAt, or_refused};
+ghost use Rattle.std.specs.Prelude.{◌≡◌, ◌≢◌, ◌++◌, ◌∷◌, [], IfErr, OnOk, length};
+ghost use Rattle.camel_reading.specs.Reading.{ReadsAs, ReadsInto};
+ghost use Rattle.camel_script.specs.Item.{item_into, no_items, o_entry_of, refused_part, row_of, t_entry_of};
+ghost use Rattle.camel_script.specs.Mistake.{part_count};
+ghost use Rattle.camel_script.specs.Reading.{IsMemoryMistake};
 ghost use Rattle.camel_script.specs.Parts.{item_part, item_separator, parts_of};
 
 pub(crate) mod number;
@@ -21,7 +21,7 @@ use crate::text::record_fault::RecordFault;
 use crate::text::{
     make_isdn_address, parse_call_type, parse_decimal, parse_octets, parse_small_decimal,
 };
-use camel_criteria::{BasicService, CallType, Handling, MAX_BASIC_SERVICES, OCriteria, TCriteria};
+use camel_criteria::{BasicService, Handling, MAX_BASIC_SERVICES, OCriteria, TCriteria};
 use camel_rows::TdpRow;
 use std::alloc::Global;
 use std::marker::Model;
@@ -65,20 +65,20 @@ impl Items {
         }
     }
 
-    /// Pushes the next item, a row or an entry, to the list that its name says. It is in the field of this number. After
-    /// an Err the record has that mistake, and the lists are of no use.
+    /// Pushes the next item, a row or an entry, to the list that its name says. It is in the field of this number.
+    /// After an Err the record has that mistake, and the lists are of no use.
     #[tactic(auto, unfolding(crate::specs::Item::item_into))]
     pub(crate) fn push(&mut self, alloc: Global, number: usize, item: &[u8]) -> Result<(), Mistake>
-        ensures taken { OnOk result (item_into self.old (number, item.now) ≡ Ok self.new) }
-        ensures fails { IfErr result (λ mistake. MistakenAs mistake (item_into self.old (number, item.now))) }
+        ensures { ReadsInto IsMemoryMistake result self.new (item_into self.old (number, item.now)) }
     {
         match cut_part(item, ITEM_SEPARATOR).0 {
-            b"o" => push_row(alloc, &mut self.o, number, item),
-            b"t" => push_row(alloc, &mut self.vt, number, item),
-            b"oc" => push_o_entry(alloc, &mut self.o_criteria, number, item),
-            b"tc" => push_t_entry(alloc, &mut self.t_criteria, number, item),
-            _ => Err(mistake_at(number, 1, ItemName, RecordFault::Word)),
+            b"o" => self.o.push(parse_row(alloc, number, item)?)?,
+            b"t" => self.vt.push(parse_row(alloc, number, item)?)?,
+            b"oc" => push_entry(&mut self.o_criteria, parse_o_entry(alloc, number, item)?)?,
+            b"tc" => push_entry(&mut self.t_criteria, parse_t_entry(alloc, number, item)?)?,
+            _ => return Err(mistake_at(number, 1, ItemName, RecordFault::Word)),
         }
+        Ok(())
     }
 }
 
@@ -114,76 +114,23 @@ fn check_parts(texts: &[Expected], number: usize, item: &[u8]) -> Result<(), Mis
     Ok(())
 }
 
-fn push_row(
-    alloc: Global,
-    rows: &mut Vec<TdpRow>,
-    number: usize,
-    item: &[u8],
-) -> Result<(), Mistake>
-    ensures pushed { OnOk result (with_item row_texts row_of_parts rows.old.items (number, item.now) ≡ Ok rows.new.items) }
-    ensures fails { IfErr result (λ mistake.
-        MistakenAs mistake (with_item row_texts row_of_parts rows.old.items (number, item.now))) }
+/// Pushes an entry. A set of several keeps the vector itself: room for one more and no other.
+fn push_entry<E: Drop>(entries: &mut Vec<E>, entry: E) -> Result<(), Mistake>
+    ensures pushed { OnOk result (entries.new.items ≡ entries.old.items ++ entry ∷ []) }
+    ensures fails { IfErr result IsMemoryMistake }
 {
-    check_parts(&ROW, number, item)?;
-    rows.push(parse_row(alloc, number, item)?)?;
-    Ok(())
-}
-
-fn push_o_entry(
-    alloc: Global,
-    entries: &mut Vec<OCriteria>,
-    number: usize,
-    item: &[u8],
-) -> Result<(), Mistake>
-    ensures pushed { OnOk result
-        (with_item o_entry_texts o_entry_of_parts entries.old.items (number, item.now) ≡ Ok entries.new.items) }
-    ensures fails { IfErr result (λ mistake.
-        MistakenAs mistake (with_item o_entry_texts o_entry_of_parts entries.old.items (number, item.now))) }
-{
-    check_parts(&O_ENTRY, number, item)?;
-    let entry = parse_o_entry(alloc, number, item)?;
-    // A set of several entries keeps the vector itself: room for one more and no other.
     entries.reserve_exact(1)?;
     entries.push(entry)?;
     Ok(())
 }
 
-fn push_t_entry(
-    alloc: Global,
-    entries: &mut Vec<TCriteria>,
-    number: usize,
-    item: &[u8],
-) -> Result<(), Mistake>
-    ensures pushed { OnOk result
-        (with_item t_entry_texts t_entry_of_parts entries.old.items (number, item.now) ≡ Ok entries.new.items) }
-    ensures fails { IfErr result (λ mistake.
-        MistakenAs mistake (with_item t_entry_texts t_entry_of_parts entries.old.items (number, item.now))) }
-{
-    check_parts(&T_ENTRY, number, item)?;
-    let entry = parse_t_entry(alloc, number, item)?;
-    // A set of several entries keeps the vector itself: room for one more and no other.
-    entries.reserve_exact(1)?;
-    entries.push(entry)?;
-    Ok(())
-}
-
-/// The parts of an item behind its name; empty past the last.
-#[derive(Clone, Copy)]
-struct ItemParts<'a> {
-    first: &'a [u8],
-    second: &'a [u8],
-    third: &'a [u8],
-    fourth: &'a [u8],
-    fifth: &'a [u8],
-}
-
-/// Cuts an item into its parts.
-fn item_parts(item: &[u8]) -> ItemParts<'_>
-    ensures first { result.first.now ≡ item_part item.now 1 }
-    ensures second { result.second.now ≡ item_part item.now 2 }
-    ensures third { result.third.now ≡ item_part item.now 3 }
-    ensures fourth { result.fourth.now ≡ item_part item.now 4 }
-    ensures fifth { result.fifth.now ≡ item_part item.now 5 }
+/// The five parts of an item behind its name; empty past the last.
+fn item_parts(item: &[u8]) -> (&[u8], &[u8], &[u8], &[u8], &[u8])
+    ensures first { result.0.now ≡ item_part item.now 1 }
+    ensures second { result.1.now ≡ item_part item.now 2 }
+    ensures third { result.2.now ≡ item_part item.now 3 }
+    ensures fourth { result.3.now ≡ item_part item.now 4 }
+    ensures fifth { result.4.now ≡ item_part item.now 5 }
 {
     let (_name, rest) = cut_part(item, ITEM_SEPARATOR);
     let (first, rest) = cut_part(rest, ITEM_SEPARATOR);
@@ -191,25 +138,20 @@ fn item_parts(item: &[u8]) -> ItemParts<'_>
     let (third, rest) = cut_part(rest, ITEM_SEPARATOR);
     let (fourth, rest) = cut_part(rest, ITEM_SEPARATOR);
     let (fifth, _rest) = cut_part(rest, ITEM_SEPARATOR);
-    ItemParts {
-        first,
-        second,
-        third,
-        fourth,
-        fifth,
-    }
+    (first, second, third, fourth, fifth)
 }
 
 /// Reads a row. The texts of all its parts are read before its data are checked.
-#[tactic(auto, unfolding(crate::specs::Item::row_of_parts))]
+#[tactic(auto, unfolding(crate::specs::Item::row_of))]
 fn parse_row(alloc: Global, number: usize, item: &[u8]) -> Result<TdpRow, Mistake>
-    ensures { ReadsAt result (row_of_parts (number, item.now)) }
+    ensures { ReadsAs IsMemoryMistake result (row_of (number, item.now)) }
 {
-    let parts = item_parts(item);
-    let dp = at_part(number, 2, DetectionPoint, parse_small_decimal(parts.first))?;
-    let key = at_part(number, 3, ServiceKey, parse_decimal(parts.second, u32::MAX))?;
-    let octets = at_part(number, 4, GsmScfAddress, parse_octets(alloc, parts.third))?;
-    let received = parse_decimal(parts.fourth, u32::MAX);
+    check_parts(&ROW, number, item)?;
+    let (dp, key, scf, handling, _) = item_parts(item);
+    let dp = at_part(number, 2, DetectionPoint, parse_small_decimal(dp))?;
+    let key = at_part(number, 3, ServiceKey, parse_decimal(key, u32::MAX))?;
+    let octets = at_part(number, 4, GsmScfAddress, parse_octets(alloc, scf))?;
+    let received = parse_decimal(handling, u32::MAX);
     let received = at_part(number, 5, Expected::Handling, received)?;
     let scf = at_part(number, 4, GsmScfAddress, make_isdn_address(&octets))?;
     let row = TdpRow::new(dp, key, scf, Handling::of_received(received));
@@ -217,74 +159,49 @@ fn parse_row(alloc: Global, number: usize, item: &[u8]) -> Result<TdpRow, Mistak
 }
 
 /// Reads an entry of the criteria of the O-CSI. The texts of all its parts are read before its data are checked.
-#[tactic(auto, unfolding(crate::specs::Item::o_entry_of_parts))]
+#[tactic(auto, unfolding(crate::specs::Item::o_entry_of))]
 fn parse_o_entry(alloc: Global, number: usize, item: &[u8]) -> Result<OCriteria, Mistake>
-    ensures { ReadsAt result (o_entry_of_parts (number, item.now)) }
+    ensures { ReadsAs IsMemoryMistake result (o_entry_of (number, item.now)) }
 {
-    let parts = item_parts(item);
-    let dp = at_part(number, 2, DetectionPoint, parse_small_decimal(parts.first))?;
-    let texts = parse_number_texts(alloc, parts.second);
+    check_parts(&O_ENTRY, number, item)?;
+    let (dp, number_text, basic, call_type, causes) = item_parts(item);
+    let dp = at_part(number, 2, DetectionPoint, parse_small_decimal(dp))?;
+    let texts = parse_number_texts(alloc, number_text);
     let texts = at_part(number, 3, NumberCriterion, texts)?;
-    let basic = parse_basic_services(alloc, parts.third);
+    let basic = parse_basic_services(alloc, basic);
     let basic = at_part(number, 4, BasicServices, basic)?;
-    let call_type = at_part(number, 5, ItemCallType, parse_call_type(parts.fourth))?;
-    let causes = at_part(number, 6, Causes, parse_small_decimals(alloc, parts.fifth))?;
+    let call_type = at_part(number, 5, ItemCallType, parse_call_type(call_type))?;
+    let causes = at_part(number, 6, Causes, parse_small_decimals(alloc, causes))?;
     let criterion = make_number_criterion(alloc, &texts);
     let criterion = at_part(number, 3, NumberCriterion, criterion)?;
-    make_o_entry(alloc, number, dp, criterion, &basic, call_type, &causes)
-}
-
-/// The entry of these data. They are refused for the basic services or for the causes.
-fn make_o_entry(
-    alloc: Global,
-    number: usize,
-    dp: u8,
-    criterion: Option<camel_criteria::NumberCriterion>,
-    basic: &[BasicService],
-    call_type: Option<CallType>,
-    causes: &[u8],
-) -> Result<OCriteria, Mistake>
-    ensures { ReadsAt result (at_part number (refused_part 4 6 basic.now) (refused_text basic.now)
-        (or_refused (o_criteria_of dp criterion basic.now call_type causes.now))) }
-{
-    let entry = OCriteria::new(alloc, dp, criterion, basic, call_type, causes);
-    let part = refused_part(4, 6, basic);
-    refused_at(number, part, refused_text(basic), entry)
+    let entry = OCriteria::new(alloc, dp, criterion, &basic, call_type, &causes);
+    let (part, expected) = refused_part(4, 6, &basic);
+    refused_at(number, part, expected, entry)
 }
 
 /// Reads an entry of the criteria of the VT-CSI. The texts of all its parts are read before its data are checked.
-#[tactic(auto, unfolding(crate::specs::Item::t_entry_of_parts))]
+#[tactic(auto, unfolding(crate::specs::Item::t_entry_of))]
 fn parse_t_entry(alloc: Global, number: usize, item: &[u8]) -> Result<TCriteria, Mistake>
-    ensures { ReadsAt result (t_entry_of_parts (number, item.now)) }
+    ensures { ReadsAs IsMemoryMistake result (t_entry_of (number, item.now)) }
 {
-    let parts = item_parts(item);
-    let dp = at_part(number, 2, DetectionPoint, parse_small_decimal(parts.first))?;
-    let basic = parse_basic_services(alloc, parts.second);
+    check_parts(&T_ENTRY, number, item)?;
+    let (dp, basic, causes, _, _) = item_parts(item);
+    let dp = at_part(number, 2, DetectionPoint, parse_small_decimal(dp))?;
+    let basic = parse_basic_services(alloc, basic);
     let basic = at_part(number, 3, BasicServices, basic)?;
-    let causes = at_part(number, 4, Causes, parse_small_decimals(alloc, parts.third))?;
+    let causes = at_part(number, 4, Causes, parse_small_decimals(alloc, causes))?;
     let entry = TCriteria::new(dp, &basic, &causes);
-    let part = refused_part(3, 4, &basic);
-    refused_at(number, part, refused_text(&basic), entry)
+    let (part, expected) = refused_part(3, 4, &basic);
+    refused_at(number, part, expected, entry)
 }
 
-/// What of an entry is refused: its basic services if there are too many, else its causes.
-fn refused_text(basic: &[BasicService]) -> Expected
-    ensures { result ≡ refused_text basic.now }
-{
-    if basic.len() > MAX_BASIC_SERVICES {
-        BasicServices
-    } else {
-        Causes
-    }
-}
-
-/// Which of these parts of an entry is refused.
-fn refused_part(basic_part: usize, causes_part: usize, basic: &[BasicService]) -> usize
+/// What of an entry is refused, and in which of these parts: its basic services if there are too many, else its causes.
+fn refused_part(basic_part: usize, causes_part: usize, basic: &[BasicService]) -> (usize, Expected)
     ensures { result ≡ refused_part basic_part causes_part basic.now }
 {
     if basic.len() > MAX_BASIC_SERVICES {
-        basic_part
+        (basic_part, BasicServices)
     } else {
-        causes_part
+        (causes_part, Causes)
     }
 }

@@ -20,5 +20,8 @@ pub use record::{Record, parse_fields, parse_record};
 pub use record_text::append_update;
 pub use script::Script;
 pub use script_fault::ScriptFault;
-pub use text::MAX_DECIMAL_DIGITS;
 pub use text::record_fault::RecordFault;
+pub use text::{
+    MAX_DECIMAL_DIGITS, is_octets, parse_basic_service, parse_decimal, parse_match_type,
+    parse_small_decimal,
+};

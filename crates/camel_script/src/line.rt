@@ -113,7 +113,7 @@ fn append_decided(out: &mut Vec<u8>, answer: &Answer) -> Result<(), AllocError>
             scf,
             handling,
         } => append_trigger(out, *dp, *key, scf, *handling),
-        Outcome::NoTrigger(reason) => append_reason(out, *reason),
+        Outcome::NoTrigger(reason) => append_text(out, reason_end(*reason)),
     }
 }
 
@@ -140,7 +140,7 @@ fn append_trigger(
 }
 
 /// Appends the octets of an address in lower-case hexadecimal.
-fn append_address(out: &mut Vec<u8>, address: &IsdnAddress) -> Result<(), AllocError>
+pub(crate) fn append_address(out: &mut Vec<u8>, address: &IsdnAddress) -> Result<(), AllocError>
     ensures appended { OnOk result (out.new.items ≡ out.old.items ++ encode_lower address.now) }
     ensures kept { take (length out.old.items) out.new.items ≡ out.old.items }
 {
@@ -151,14 +151,6 @@ fn append_address(out: &mut Vec<u8>, address: &IsdnAddress) -> Result<(), AllocE
         Ok(()) => out.extend_from_slice(text),
         Err(_) => unreachable!(),
     }
-}
-
-/// Appends what follows the front of a call that triggers no service.
-fn append_reason(out: &mut Vec<u8>, reason: Reason) -> Result<(), AllocError>
-    ensures appended { OnOk result (out.new.items ≡ out.old.items ++ codes " none " ++ reason_text reason ++ codes "\n") }
-    ensures kept { take (length out.old.items) out.new.items ≡ out.old.items }
-{
-    append_text(out, reason_end(reason))
 }
 
 /// The end of a line: what is done with the call if the dialogue with the gsmSCF fails.

@@ -87,8 +87,8 @@ pub struct Mistake {
 }
 
 impl Mistake {
-    /// What a script has in the place of a record with this mistake: the record of its refusal, with `DataMissing` (35) or
-    /// `UnexpectedDataValue` (36), if only its data are refused, and else the fault that ends the script.
+    /// What a script has in the place of a record with this mistake: the record of its refusal, with `DataMissing` (35)
+    /// or `UnexpectedDataValue` (36), if only its data are refused, and else the fault that ends the script.
     pub fn into_record(self) -> Result<Record, ScriptFault>
         ensures { result ≡ refused_or_fault self.fault }
     {
@@ -198,8 +198,8 @@ fn expected_behind(texts: &[Expected], count: usize) -> Expected
     texts.get(count).copied().unwrap_or(Expected::Nothing)
 }
 
-/// The mistake of a record of so many fields, which are too few or too many: the first that is missing, or the one behind
-/// the last that is expected.
+/// The mistake of a record of so many fields, which are too few or too many: the first that is missing, or the one
+/// behind the last that is expected.
 pub(crate) fn field_count(texts: &[Expected], count: usize) -> Mistake
     ensures { result ≡ field_count texts.now count }
 {

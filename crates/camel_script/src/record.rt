@@ -2,8 +2,10 @@
 
 ghost use Rattle.std.specs.Prelude.{◌≡◌, ◌⊎◌, Err, IfErr, Ok, OnOk};
 ghost use Rattle.csv.specs.Records.{fields_of};
-ghost use Rattle.camel_script.specs.Reading.{ReadsInto};
-ghost use Rattle.camel_script.specs.Record.{cancel_of, clear_of, imsi_alone_of, imsi_of, kind_of_word, publish_of, reading_of, record_of, register_of};
+ghost use Rattle.camel_reading.specs.Reading.{ReadsInto};
+ghost use Rattle.camel_script.specs.Reading.{IsMemoryMistake};
+ghost use Rattle.camel_script.specs.Record.{cancel_of, clear_of, imsi_alone_of, imsi_of, kind_of_word, publish_of};
+ghost use Rattle.camel_script.specs.Record.{reading_of, record_of, register_of};
 ghost use Rattle.camel_script.specs.ScriptFault.{IsRecordFault};
 
 pub(crate) mod call;
@@ -83,10 +85,11 @@ pub fn parse_record(
 }
 
 /// Reads the record as [`parse_record`] does, and fails also if its data are refused: with its first mistake, which
-/// [`Mistake::into_record`] makes what `parse_record` gives, or out of memory. No clause says what the place holds then.
+/// [`Mistake::into_record`] makes what `parse_record` gives, or out of memory. No clause says what the place holds
+/// then.
 #[tactic(auto, unfolding(crate::specs::Record::reading_of))]
 pub fn parse_fields(alloc: Global, fields: &ByteRecord, read: &mut Record) -> Result<(), Mistake>
-    ensures { ReadsInto result read.new (reading_of (fields_of fields.now)) }
+    ensures { ReadsInto IsMemoryMistake result read.new (reading_of (fields_of fields.now)) }
 {
     match at_field(1, Expected::Word, parse_kind(field(fields, 0)))? {
         RecordKind::Register => parse_register(alloc, fields, read),
@@ -134,7 +137,7 @@ fn parse_imsi_alone(fields: &ByteRecord) -> Result<Imsi, Mistake>
 
 #[inline(never)]
 fn parse_register(alloc: Global, fields: &ByteRecord, read: &mut Record) -> Result<(), Mistake>
-    ensures { ReadsInto result read.new (register_of (fields_of fields.now)) }
+    ensures { ReadsInto IsMemoryMistake result read.new (register_of (fields_of fields.now)) }
 {
     let imsi = parse_imsi_alone(fields)?;
     *read = Record::Update(Boxed::new(alloc, Update::Register { imsi })?);
@@ -143,7 +146,7 @@ fn parse_register(alloc: Global, fields: &ByteRecord, read: &mut Record) -> Resu
 
 #[inline(never)]
 fn parse_cancel(alloc: Global, fields: &ByteRecord, read: &mut Record) -> Result<(), Mistake>
-    ensures { ReadsInto result read.new (cancel_of (fields_of fields.now)) }
+    ensures { ReadsInto IsMemoryMistake result read.new (cancel_of (fields_of fields.now)) }
 {
     let imsi = parse_imsi_alone(fields)?;
     *read = Record::Update(Boxed::new(alloc, Update::Cancel { imsi })?);
@@ -153,7 +156,7 @@ fn parse_cancel(alloc: Global, fields: &ByteRecord, read: &mut Record) -> Result
 #[inline(never)]
 #[tactic(auto, unfolding(crate::specs::Record::word_alone_of))]
 fn parse_clear(alloc: Global, fields: &ByteRecord, read: &mut Record) -> Result<(), Mistake>
-    ensures { ReadsInto result read.new (clear_of (fields_of fields.now)) }
+    ensures { ReadsInto IsMemoryMistake result read.new (clear_of (fields_of fields.now)) }
 {
     check_fields(&WORD, fields)?;
     *read = Record::Update(Boxed::new(alloc, Update::ClearAll)?);
@@ -163,7 +166,7 @@ fn parse_clear(alloc: Global, fields: &ByteRecord, read: &mut Record) -> Result<
 #[inline(never)]
 #[tactic(auto, unfolding(crate::specs::Record::word_alone_of))]
 fn parse_publish(fields: &ByteRecord, read: &mut Record) -> Result<(), Mistake>
-    ensures { ReadsInto result read.new (publish_of (fields_of fields.now)) }
+    ensures { ReadsInto IsMemoryMistake result read.new (publish_of (fields_of fields.now)) }
 {
     check_fields(&WORD, fields)?;
     *read = Record::Publish;

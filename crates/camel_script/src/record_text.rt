@@ -4,16 +4,17 @@
 pub(crate) mod lists;
 
 use crate::append::{append_decimal, append_text};
-use crate::record_text::lists::{append_decimals, append_number, append_octets, append_services};
-use camel_criteria::{CallType, Handling, OCriteria, TCriteria};
-use camel_rows::{Csi, OCriteriaSet, TCriteriaSet, TdpRow, Update, Withdrawal};
+use crate::line::append_address;
+use crate::record_text::lists::{append_decimals, append_number, append_services};
+use camel_criteria::{CallType, CriteriaEntry, Handling, OCriteria, TCriteria};
+use camel_rows::{CriteriaSet, Csi, TdpRow, Update, Withdrawal};
 use camel_tbcd::Imsi;
 use std::alloc::AllocError;
 
 /// Appends the record of an update, without the end of its line.
 ///
-/// A list of which each item was ignored gives one item of detection point 255, which is ignored too. A delete that names
-/// nothing gives an insert of nothing, which changes as little. Out of memory, a part may be appended.
+/// A list of which each item was ignored gives one item of detection point 255, which is ignored too. A delete that
+/// names nothing gives an insert of nothing, which changes as little. Out of memory, a part may be appended.
 pub fn append_update(out: &mut Vec<u8>, update: &Update) -> Result<(), AllocError> {
     match update {
         Update::Insert {
@@ -25,9 +26,9 @@ pub fn append_update(out: &mut Vec<u8>, update: &Update) -> Result<(), AllocErro
         } => {
             append_imsi(out, "insert,", imsi)?;
             append_csi(out, ",o:", o.as_ref())?;
-            append_o_criteria(out, o_criteria.as_ref())?;
+            append_criteria(out, ",oc:255::::", o_criteria.as_ref(), append_o_entry)?;
             append_csi(out, ",t:", vt.as_ref())?;
-            append_t_criteria(out, t_criteria.as_ref())?;
+            append_criteria(out, ",tc:255::", t_criteria.as_ref(), append_t_entry)?;
         }
         Update::Delete { imsi, what } => append_delete(out, imsi, *what)?,
         Update::Cancel { imsi } => append_imsi(out, "cancel,", imsi)?,
@@ -64,10 +65,10 @@ fn append_delete(out: &mut Vec<u8>, imsi: &Imsi, what: Withdrawal) -> Result<(),
 }
 
 /// Appends the rows of a CSI, if it is there, each behind this name.
-fn append_csi<const MOST: usize>(
+fn append_csi<K: Copy, const MOST: usize>(
     out: &mut Vec<u8>,
     name: &str,
-    csi: Option<&Csi<MOST>>,
+    csi: Option<&Csi<K, MOST>>,
 ) -> Result<(), AllocError> {
     let Some(csi) = csi else {
         return Ok(());
@@ -76,11 +77,9 @@ fn append_csi<const MOST: usize>(
         append_text(out, name)?;
         append_text(out, "255:0:00:0")?;
     }
-    for at in 0..csi.len() {
-        if let Some(row) = csi.get(at) {
-            append_text(out, name)?;
-            append_row(out, row)?;
-        }
+    for row in csi.as_slice() {
+        append_text(out, name)?;
+        append_row(out, row)?;
     }
     Ok(())
 }
@@ -90,7 +89,7 @@ fn append_row(out: &mut Vec<u8>, row: &TdpRow) -> Result<(), AllocError> {
     append_text(out, ":")?;
     append_decimal(out, u64::from(row.key()))?;
     append_text(out, ":")?;
-    append_octets(out, row.scf().bytes())?;
+    append_address(out, &row.scf_address())?;
     let handling = match row.handling() {
         Handling::Continue => ":0",
         Handling::Release => ":1",
@@ -98,18 +97,23 @@ fn append_row(out: &mut Vec<u8>, row: &TdpRow) -> Result<(), AllocError> {
     append_text(out, handling)
 }
 
-/// Appends the criteria of the O-CSI, if they are there.
-fn append_o_criteria(out: &mut Vec<u8>, set: Option<&OCriteriaSet>) -> Result<(), AllocError> {
+/// Appends the entries of a set, if it is there. One of which each entry was ignored gives one that is ignored too.
+fn append_criteria<E: CriteriaEntry, F: Fn(&mut Vec<u8>, &E) -> Result<(), AllocError>>(
+    out: &mut Vec<u8>,
+    ignored: &str,
+    set: Option<&CriteriaSet<E>>,
+    append: F,
+) -> Result<(), AllocError>
+    requires { F.IsAlwaysCallable append }
+{
     let Some(set) = set else {
         return Ok(());
     };
     if set.is_empty() {
-        append_text(out, ",oc:255::::")?;
+        append_text(out, ignored)?;
     }
-    for at in 0..set.len() {
-        if let Some(entry) = set.get(at) {
-            append_o_entry(out, entry)?;
-        }
+    for entry in set.as_slice() {
+        append(out, entry)?;
     }
     Ok(())
 }
@@ -130,22 +134,6 @@ fn append_o_entry(out: &mut Vec<u8>, entry: &OCriteria) -> Result<(), AllocError
     };
     append_text(out, call_type)?;
     append_decimals(out, entry.causes())
-}
-
-/// Appends the criteria of the VT-CSI, if they are there.
-fn append_t_criteria(out: &mut Vec<u8>, set: Option<&TCriteriaSet>) -> Result<(), AllocError> {
-    let Some(set) = set else {
-        return Ok(());
-    };
-    if set.is_empty() {
-        append_text(out, ",tc:255::")?;
-    }
-    for at in 0..set.len() {
-        if let Some(entry) = set.get(at) {
-            append_t_entry(out, entry)?;
-        }
-    }
-    Ok(())
 }
 
 fn append_t_entry(out: &mut Vec<u8>, entry: &TCriteria) -> Result<(), AllocError> {

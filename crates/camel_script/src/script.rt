@@ -1,7 +1,9 @@
-ghost use Rattle.std.specs.Prelude.{◌≡◌, ◌≢◌, ◌+◌, Ok, Err, None, IfErr, IfOk, IfSome, IsOk, IsTrue, OnErr, false, option_map, true};
+ghost use Rattle.std.specs.Prelude.{◌≡◌, ◌≢◌, ◌+◌, Ok, Err, None, IfErr, IfOk, IfSome, IsOk, IsTrue, OnErr, false};
+ghost use Rattle.std.specs.Prelude.{option_map, true};
 ghost use Rattle.csv.specs.Reading.{error_kind, is_io};
 ghost use Rattle.camel_script.specs.Csv.{IsMemoryOrIo};
-ghost use Rattle.camel_script.specs.Script.{Ended, Failed, FaultsAs, Gives, IsMemoryOrReadFault, Unread, read_if, records_left, script, still_gives};
+ghost use Rattle.camel_script.specs.Script.{Ended, Failed, FaultsAs, Gives, IsMemoryOrReadFault, Unread, read_if};
+ghost use Rattle.camel_script.specs.Script.{records_left, script, still_gives};
 
 use crate::record::{Record, parse_record};
 use crate::script_fault::ScriptFault;
@@ -99,7 +101,8 @@ impl<R: Read> Script<R> {
     ///
     /// It is for a loop over records: `read_record` moves each, and a record is large. Its faults are the same.
     pub fn read_into(&mut self, read: &mut Record) -> Result<bool, ScriptFault>
-        ensures gives { IfOk result (λ found. Gives (still_gives self.old) (still_gives self.new) (read_if found read.new)) }
+        ensures gives { IfOk result
+            (λ found. Gives (still_gives self.old) (still_gives self.new) (read_if found read.new)) }
         ensures faults { IfErr result (λ fault. FaultsAs fault (still_gives self.old)) }
         ensures counts { result ≡ Ok true → records_left self.old ≡ records_left self.new + 1 }
 

@@ -3,8 +3,13 @@
 ghost use Rattle.std.specs.Prelude.{◌≡◌, ◌≤◌, ◌-◌, IfOk, IsTrue, length, map, take};
 ghost use Rattle.std.specs.Char.{is_ascii_digit};
 ghost use Rattle.std.specs.List.{list_all};
-ghost use Rattle.camel_script.specs.Reading.{ReadsAs};
-ghost use Rattle.camel_script.specs.Texts.{basic_service_of, call_address_of, call_type_of, cause_of_value, decimal_of, imsi_of_text, is_digits, isdn_address_of, match_type_of, number_of, octet_of, octets_of, is_forwarded_of};
+ghost use Rattle.std.specs.Result.{is_ok};
+ghost use Rattle.hex.specs.Hex.{is_hex_digit};
+ghost use Rattle.camel_reading.specs.Reading.{ReadsAs};
+ghost use Rattle.camel_script.specs.Reading.{IsMemory};
+ghost use Rattle.camel_script.specs.Texts.{basic_service_of, call_address_of, call_type_of, cause_of_value, decimal_of};
+ghost use Rattle.camel_script.specs.Texts.{imsi_of_text, is_digits, isdn_address_of, match_type_of, number_of};
+ghost use Rattle.camel_script.specs.Texts.{octet_of, octets_of, is_forwarded_of};
 
 pub(crate) mod lists;
 pub(crate) mod parts;
@@ -39,7 +44,7 @@ pub(crate) fn parse_imsi(text: &[u8]) -> Result<Imsi, RecordFault>
 
 /// Reads a decimal: 1 to 10 characters `0` to `9`, of a value not over the greatest.
 #[tactic(auto, unfolding(crate::specs::Texts::decimal_of))]
-pub(crate) fn parse_decimal(text: &[u8], greatest: u32) -> Result<u32, RecordFault>
+pub fn parse_decimal(text: &[u8], greatest: u32) -> Result<u32, RecordFault>
     ensures value { result ≡ decimal_of greatest text.now }
     ensures range { IfOk result (λ value. value ≤ greatest) }
 {
@@ -54,7 +59,7 @@ pub(crate) fn parse_decimal(text: &[u8], greatest: u32) -> Result<u32, RecordFau
 }
 
 /// Reads a decimal of value 0 to 255.
-pub(crate) fn parse_small_decimal(text: &[u8]) -> Result<u8, RecordFault>
+pub fn parse_small_decimal(text: &[u8]) -> Result<u8, RecordFault>
     ensures { result ≡ decimal_of 255 text.now }
 {
     let value = parse_decimal(text, 255)?;
@@ -107,7 +112,7 @@ fn first_of(octets: &[u8], count: usize) -> &[u8]
 /// Reads the octets of an address: an even number of hexadecimal digits of either case, possibly none.
 #[tactic(auto, unfolding(crate::specs::Texts::octets_of))]
 pub(crate) fn parse_octets(alloc: Global, text: &[u8]) -> Result<Octets, RecordFault>
-    ensures { ReadsAs result (octets_of text.now) }
+    ensures { ReadsAs IsMemory result (octets_of text.now) }
 {
     let count = text.len() / 2;
     if count > MAX_ADDRESS_LENGTH {
@@ -125,7 +130,7 @@ pub(crate) fn parse_octets(alloc: Global, text: &[u8]) -> Result<Octets, RecordF
 /// Reads more octets than an address may have, whose text still has to be hexadecimal.
 #[tactic(auto, unfolding(crate::specs::Texts::octets_of))]
 fn parse_many_octets(alloc: Global, text: &[u8]) -> Result<Octets, RecordFault>
-    ensures { ReadsAs result (octets_of text.now) }
+    ensures { ReadsAs IsMemory result (octets_of text.now) }
 {
     match hex::decode(alloc, text) {
         Ok(octets) => Ok(Octets {
@@ -136,9 +141,29 @@ fn parse_many_octets(alloc: Global, text: &[u8]) -> Result<Octets, RecordFault>
     }
 }
 
+/// Whether a text is read as octets: an even number of hexadecimal digits of either case, possibly none.
+#[tactic(auto, using(crate::proofs::Hexadecimal::octets_are))]
+pub fn is_octets(text: &[u8]) -> bool
+    ensures { result ≡ is_ok (octets_of text.now) }
+{
+    text.len() % 2 == 0 && are_hex_digits(text)
+}
+
+fn are_hex_digits(text: &[u8]) -> bool
+    ensures { result ≡ list_all is_hex_digit text.now }
+{
+    text.iter().all(|digit| is_hex_digit(*digit))
+}
+
+fn is_hex_digit(digit: u8) -> bool
+    ensures { result ≡ is_hex_digit digit }
+{
+    digit.is_ascii_hexdigit()
+}
+
 /// Reads a basic service: `t` or `b`, then two hexadecimal digits.
 #[tactic(auto, unfolding(crate::specs::Texts::basic_service_of))]
-pub(crate) fn parse_basic_service(text: &[u8]) -> Result<BasicService, RecordFault>
+pub fn parse_basic_service(text: &[u8]) -> Result<BasicService, RecordFault>
     ensures { result ≡ basic_service_of text.now }
 {
     let Some((letter, code)) = text.split_first() else {
@@ -192,7 +217,7 @@ pub(crate) fn parse_call_type(text: &[u8]) -> Result<Option<CallType>, RecordFau
 
 /// Reads the match type of a destination number criterion: `e` or `i`.
 #[tactic(auto, unfolding(crate::specs::Texts::match_type_of))]
-pub(crate) fn parse_match_type(text: &[u8]) -> Result<MatchType, RecordFault>
+pub fn parse_match_type(text: &[u8]) -> Result<MatchType, RecordFault>
     ensures { result ≡ match_type_of text.now }
 {
     match text {

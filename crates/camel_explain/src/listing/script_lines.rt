@@ -9,8 +9,8 @@ use std::io::{BufRead, BufReader, ErrorKind, Read};
 /// The byte order mark, which is skipped at the start of a script.
 const BYTE_ORDER_MARK: &[u8] = b"\xef\xbb\xbf";
 
-/// A reader that hands on the lines of a script without the comments between records, and keeps those of one record, and
-/// a comment on the line above it.
+/// A reader that hands on the lines of a script without the comments between records, and keeps those of one record,
+/// and a comment on the line above it.
 ///
 /// Each read hands on octets of one line, so that whoever reads a record has asked for the lines of the record, and for
 /// nothing behind them. An octet behind the end of a line is not waited for: a terminal would not send it. So the line
@@ -171,8 +171,8 @@ impl<R: Read> Read for ScriptLines<R> {
     }
 }
 
-/// The text of lines of which the first one has this number, without the end of the last one. If the script has ended, the
-/// last octet is no such end.
+/// The text of lines of which the first one has this number, without the end of the last one. If the script has ended,
+/// the last octet is no such end.
 fn text_of(lines: &[u8], line: u64, has_ended: bool) -> &[u8] {
     let text = match lines.strip_prefix(BYTE_ORDER_MARK) {
         Some(rest) if line == 1 => rest,

@@ -12,7 +12,7 @@ use csv::ByteRecord;
 use std::alloc::AllocError;
 
 /// The greatest listed length, in digits.
-const MAX_LENGTH: u64 = 15;
+const MAX_LENGTH: u32 = 15;
 
 /// Appends why the data of a text are refused.
 pub(crate) fn say_refused(
@@ -115,7 +115,7 @@ fn say_causes(
         return say_most(out, count_of(text), "causes", MAX_CAUSES);
     }
     for (at, cause) in text.split(|octet| *octet == b'+').enumerate() {
-        if decimal(cause).unwrap_or(0) > u64::from(MAX_CAUSE) {
+        if decimal(cause).unwrap_or(0) > u32::from(MAX_CAUSE) {
             write!(out, "cause {} is {}: ", at.saturating_add(1), Shown(cause))?;
             return say_cause(out, cause);
         }

@@ -1,8 +1,10 @@
 //! What is wrong with a text that can't be read.
 
-use crate::mistakes::{ADDRESS_FORM, decimal, is_like_digits};
+use crate::mistakes::{ADDRESS_FORM, is_like_digits};
 use crate::shown::Shown;
-use camel_script::{Expected, MAX_DECIMAL_DIGITS};
+use camel_script::{
+    Expected, MAX_DECIMAL_DIGITS, is_octets, parse_basic_service, parse_decimal, parse_match_type,
+};
 use camel_tbcd::{MAX_IMSI_DIGITS, MIN_IMSI_DIGITS};
 use std::alloc::AllocError;
 
@@ -159,28 +161,19 @@ impl Kind {
     /// Whether the reader takes a text of this kind.
     fn is_text(self, text: &[u8]) -> bool {
         match self {
-            Kind::Code => match text {
-                [b't' | b'b', first, second] => {
-                    first.is_ascii_hexdigit() && second.is_ascii_hexdigit()
-                }
-                _ => false,
-            },
-            Kind::ListedNumber => {
-                text.len() % 2 == 0 && text.iter().all(|octet| octet.is_ascii_hexdigit())
-            }
+            Kind::Code => parse_basic_service(text).is_ok(),
+            Kind::ListedNumber => is_octets(text),
             Kind::Cause | Kind::Length | Kind::Integer => {
-                text.len() <= MAX_DECIMAL_DIGITS
-                    && text.iter().all(|octet| octet.is_ascii_digit())
-                    && decimal(text).is_some_and(|value| value <= self.greatest())
+                parse_decimal(text, self.greatest()).is_ok()
             }
         }
     }
 
     /// The greatest value of a decimal of this kind.
-    fn greatest(self) -> u64 {
+    fn greatest(self) -> u32 {
         match self {
-            Kind::Integer => u64::from(u32::MAX),
-            _ => u64::from(u8::MAX),
+            Kind::Integer => u32::MAX,
+            _ => u32::from(u8::MAX),
         }
     }
 
@@ -196,7 +189,7 @@ impl Kind {
     }
 }
 
-fn say_no_decimal(out: &mut String, text: &[u8], greatest: u64) -> Result<(), AllocError> {
+fn say_no_decimal(out: &mut String, text: &[u8], greatest: u32) -> Result<(), AllocError> {
     if text.is_empty() {
         return write!(out, "a decimal number is expected");
     }
@@ -325,7 +318,7 @@ fn say_number(out: &mut String, text: &[u8]) -> Result<(), AllocError> {
             "{count} parts, not 3: match type/listed numbers/lengths"
         );
     };
-    if !matches!(match_type, b"e" | b"i") {
+    if parse_match_type(match_type).is_err() {
         return write!(
             out,
             "match type \"{}\" is neither e (enabling) nor i (inhibiting)",

@@ -1,56 +1,51 @@
 //! The arguments of the operations.
 
 ghost use Rattle.std.specs.Prelude.{◌≡◌, ◌++◌, [], ◌∷◌, IfOk, OnOk};
-ghost use Rattle.std.specs.Option.{option_copied, option_map};
+ghost use Rattle.std.specs.Option.{option_copied};
 ghost use Rattle.camel_map.specs.Encoding.{camel_parts, everything_parts, leaf, parent, specific_parts, tbcd_octets};
 ghost use Rattle.camel_map.specs.Identifier.{constructed, octet_string, primitive, sequence};
 ghost use Rattle.camel_map.specs.Written.{before, octets_of_update, operation_of_update};
 
-use crate::encoding::criteria::{OCriteriaField, TCriteriaField};
+use crate::encoding::csi::{put_csi, put_csi_criteria};
 use crate::encoding::element::{close, put_leaf};
 use crate::encoding::imsi::put_imsi;
-use crate::encoding::list::{Items, put_any};
-use crate::encoding::row::{OCsiField, VtCsiField};
 use crate::encoding::writer::{TooLong, Writer};
 use crate::identifier::{CONSTRUCTED, OCTET_STRING, PRIMITIVE, SEQUENCE};
 use crate::operation::Operation;
-use camel_criteria::{OCriteria, TCriteria};
 use camel_rows::{OCriteriaSet, OCsi, TCriteriaSet, Update, VtCsi, Withdrawal};
 use camel_tbcd::Imsi;
 
 /// The fields of VlrCamelSubscriptionInfo.
-#[tactic(auto, using(crate::proofs::WrittenLemmas::before_append, crate::proofs::WrittenLemmas::any_mapped))]
-fn put_camel_fields<O: Items<OCriteria>, T: Items<TCriteria>>(
+#[tactic(auto, using(crate::proofs::Written::Elements::before_append))]
+fn put_camel_fields(
     writer: &mut Writer,
     o: Option<&OCsi>,
-    o_criteria: Option<&O>,
+    o_criteria: Option<&OCriteriaSet>,
     vt: Option<&VtCsi>,
-    t_criteria: Option<&T>,
+    t_criteria: Option<&TCriteriaSet>,
 ) -> Result<(), TooLong>
-    ensures { OnOk result (writer.new ≡ before (camel_parts (option_copied o.entry)
-        (option_map O.items (option_copied o_criteria.entry)) (option_copied vt.entry)
-        (option_map T.items (option_copied t_criteria.entry))) writer.old) }
+    ensures { OnOk result (writer.new ≡ before (camel_parts (option_copied o.entry) (option_copied o_criteria.entry)
+        (option_copied vt.entry) (option_copied t_criteria.entry)) writer.old) }
 {
-    put_any::<TCriteriaField, T>(writer, t_criteria)?;
-    put_any::<VtCsiField, VtCsi>(writer, vt)?;
-    put_any::<OCriteriaField, O>(writer, o_criteria)?;
-    put_any::<OCsiField, OCsi>(writer, o)
+    put_csi_criteria(writer, CONSTRUCTED + 8, t_criteria)?;
+    put_csi(writer, CONSTRUCTED + 7, vt)?;
+    put_csi_criteria(writer, CONSTRUCTED + 4, o_criteria)?;
+    put_csi(writer, CONSTRUCTED, o)
 }
 
 /// InsertSubscriberDataArg.
-#[tactic(auto, using(crate::proofs::WrittenLemmas::behind_before))]
-pub(crate) fn put_insert<O: Items<OCriteria>, T: Items<TCriteria>>(
+#[tactic(auto, using(crate::proofs::Written::Elements::behind_before))]
+fn put_insert(
     writer: &mut Writer,
     imsi: &Imsi,
     o: Option<&OCsi>,
-    o_criteria: Option<&O>,
+    o_criteria: Option<&OCriteriaSet>,
     vt: Option<&VtCsi>,
-    t_criteria: Option<&T>,
+    t_criteria: Option<&TCriteriaSet>,
 ) -> Result<(), TooLong>
     ensures { OnOk result (writer.new ≡ before (parent sequence (leaf (primitive 0) (tbcd_octets imsi.now)
-        ∷ parent (constructed 13) (camel_parts (option_copied o.entry)
-        (option_map O.items (option_copied o_criteria.entry)) (option_copied vt.entry)
-        (option_map T.items (option_copied t_criteria.entry)))
+        ∷ parent (constructed 13) (camel_parts (option_copied o.entry) (option_copied o_criteria.entry)
+        (option_copied vt.entry) (option_copied t_criteria.entry))
         ∷ []) ∷ []) writer.old) }
 {
     let behind = writer.len();
@@ -83,7 +78,7 @@ fn put_everything(writer: &mut Writer, everything: bool) -> Result<(), TooLong>
 }
 
 /// DeleteSubscriberDataArg.
-#[tactic(auto, using(crate::proofs::WrittenLemmas::before_append, crate::proofs::WrittenLemmas::behind_before))]
+#[tactic(auto, using(crate::proofs::Written::Elements::before_append, crate::proofs::Written::Elements::behind_before))]
 fn put_delete(writer: &mut Writer, imsi: &Imsi, what: Withdrawal) -> Result<(), TooLong>
     ensures { OnOk result (writer.new ≡ before (parent sequence (leaf (primitive 0) (tbcd_octets imsi.now)
         ∷ everything_parts what.everything ++ specific_parts what.o what.vt) ∷ []) writer.old) }
@@ -121,7 +116,7 @@ pub(crate) fn put_argument(
             vt,
             t_criteria,
         } => {
-            put_insert::<OCriteriaSet, TCriteriaSet>(
+            put_insert(
                 writer,
                 imsi,
                 o.as_ref(),

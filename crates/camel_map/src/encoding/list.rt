@@ -1,6 +1,6 @@
 //! Lists of elements.
 
-ghost use Rattle.std.specs.Prelude.{◌≡◌, ◌++◌, List, length, map, slice_get, OnOk};
+ghost use Rattle.std.specs.Prelude.{◌≡◌, ◌++◌, map, OnOk};
 ghost use Rattle.std.specs.Option.{option_copied};
 ghost use Rattle.camel_ber.specs.Grammar.{ElementData};
 ghost use Rattle.camel_map.specs.Encoding.{encoding, if_any, if_some};
@@ -18,50 +18,32 @@ pub(crate) trait Part<T> {
         ensures { OnOk result (writer.new ≡ encoding (element_of item.now) ++ writer.old) };
 }
 
-/// Items in their order, wherever they are kept.
-pub(crate) trait Items<T> {
-    ghost items: { Self → List T };
-
-    /// How many items there are.
-    fn count(&self) -> usize
-        ensures { result ≡ length (items self.now) };
-
-    /// The item at a place, from 0.
-    fn item(&self, at: usize) -> Option<&T>
-        ensures { option_copied result ≡ slice_get (items self.now) at };
-}
-
-/// The elements of the items of a list, from the last one to the first.
-pub(crate) fn put_each<P: Part<T>, T, L: Items<T>>(
-    writer: &mut Writer,
-    list: &L,
-) -> Result<(), TooLong>
-    ensures { OnOk result (writer.new ≡ before (map P.element_of (L.items list.now)) writer.old) }
+/// The elements of items, from the last one to the first.
+pub(crate) fn put_each<P: Part<T>, T>(writer: &mut Writer, items: &[T]) -> Result<(), TooLong>
+    ensures { OnOk result (writer.new ≡ before (map P.element_of items.now) writer.old) }
 {
-    let mut at = list.count();
+    let mut at = items.len();
     while at > 0 {
         at -= 1;
-        if let Some(item) = list.item(at) {
-            P::put(writer, item)?;
-        }
+        P::put(writer, &items[at])?;
     }
     Ok(())
 }
 
 /// A list that is absent if it has no items.
-#[tactic(auto, using(crate::proofs::WrittenLemmas::behind_before))]
-pub(crate) fn put_some<P: Part<T>, T, L: Items<T>>(
+#[tactic(auto, using(crate::proofs::Written::Elements::behind_before))]
+pub(crate) fn put_some<P: Part<T>, T>(
     writer: &mut Writer,
     identifier: u8,
-    list: &L,
+    items: &[T],
 ) -> Result<(), TooLong>
-    ensures { OnOk result (writer.new ≡ before (if_some identifier P.element_of (L.items list.now)) writer.old) }
+    ensures { OnOk result (writer.new ≡ before (if_some identifier P.element_of items.now) writer.old) }
 {
-    if list.count() == 0 {
+    if items.is_empty() {
         return Ok(());
     }
     let behind = writer.len();
-    put_each::<P, T, L>(writer, list)?;
+    put_each::<P, T>(writer, items)?;
     close(writer, identifier, behind)
 }
 

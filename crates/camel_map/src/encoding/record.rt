@@ -2,7 +2,7 @@
 
 ghost use Rattle.std.specs.Prelude.{◌≡◌, ◌++◌, List, Ok, Option, ℕ, OnErr, OnOk};
 ghost use Rattle.std.specs.FinMap as map;
-ghost use Rattle.std.specs.Option.{option_and_then, option_copied};
+ghost use Rattle.std.specs.Option.{option_and_then};
 ghost use Rattle.camel_map.specs.Encoding.{IsInDialogue};
 ghost use Rattle.camel_map.specs.Kept.{IsKept};
 ghost use Rattle.camel_map.specs.Reading.{whole};
@@ -12,17 +12,16 @@ ghost use Rattle.camel_map.specs.Written.{octets_of_update};
 ghost use Rattle.camel_rows.specs.Records.{no_records};
 ghost use Rattle.camel_rows.specs.Update.{records_after};
 
-use crate::encoding::argument::put_insert;
-use crate::encoding::writer::{TooLong, Writer};
+use crate::encoding::append;
 use crate::operation::Operation;
 use camel_criteria::CriteriaEntry;
-use camel_rows::{CriteriaSet, OCriteriaSet, OCsi, Subscriber, TCriteriaSet, Update, VtCsi};
+use camel_rows::{CriteriaSet, Subscriber, Update};
 use camel_tbcd::Imsi;
 use std::alloc::AllocError;
 
 /// Criteria, if they have entries.
-fn some_criteria<E: CriteriaEntry>(criteria: &Option<CriteriaSet<E>>) -> Option<&CriteriaSet<E>>
-    ensures { option_copied result ≡ option_and_then some_entries criteria.now }
+fn some_criteria<E: CriteriaEntry>(criteria: Option<CriteriaSet<E>>) -> Option<CriteriaSet<E>>
+    ensures { result ≡ option_and_then some_entries criteria }
 {
     match criteria {
         Some(entries) if !entries.is_empty() => Some(entries),
@@ -30,31 +29,9 @@ fn some_criteria<E: CriteriaEntry>(criteria: &Option<CriteriaSet<E>>) -> Option<
     }
 }
 
-/// The argument of an Insert, without lists of criteria that have no entries.
-fn put_sent(
-    writer: &mut Writer,
-    imsi: &Imsi,
-    o: &Option<OCsi>,
-    o_criteria: &Option<OCriteriaSet>,
-    vt: &Option<VtCsi>,
-    t_criteria: &Option<TCriteriaSet>,
-) -> Result<(), TooLong>
-    ensures { OnOk result (writer.new ≡ octets_of_update (with_some_entries
-        (Update.Insert imsi.now o.now o_criteria.now vt.now t_criteria.now)) ++ writer.old) }
-{
-    put_insert::<OCriteriaSet, TCriteriaSet>(
-        writer,
-        imsi,
-        o.as_ref(),
-        some_criteria(o_criteria),
-        vt.as_ref(),
-        some_criteria(t_criteria),
-    )
-}
-
-/// The argument of an update, if it is an Insert, without lists of criteria that have no entries.
-fn put_sent_update(writer: &mut Writer, update: &Update) -> Result<(), TooLong>
-    ensures { OnOk result (writer.new ≡ octets_of_update (with_some_entries update.now) ++ writer.old) }
+/// An update without lists of criteria that have no entries.
+fn with_some_entries(update: Update) -> Update
+    ensures { result ≡ with_some_entries update }
 {
     match update {
         Update::Insert {
@@ -63,8 +40,14 @@ fn put_sent_update(writer: &mut Writer, update: &Update) -> Result<(), TooLong>
             o_criteria,
             vt,
             t_criteria,
-        } => put_sent(writer, imsi, o, o_criteria, vt, t_criteria),
-        _ => Err(TooLong),
+        } => Update::Insert {
+            imsi,
+            o,
+            o_criteria: some_criteria(o_criteria),
+            vt,
+            t_criteria: some_criteria(t_criteria),
+        },
+        other => other,
     }
 }
 
@@ -77,11 +60,8 @@ fn append_record(imsi: &Imsi, subscriber: &Subscriber, out: &mut Vec<u8>) -> Res
     let Ok(update) = subscriber.to_insert(*imsi) else {
         return Err(AllocError);
     };
-    let mut writer = Writer::new();
-    let Ok(()) = put_sent_update(&mut writer, &update) else {
-        return Err(AllocError);
-    };
-    out.extend_from_slice(writer.as_slice())
+    append(&with_some_entries(update), out)?;
+    Ok(())
 }
 
 /// Appends the octets of the InsertSubscriberData argument (TS 29.002) that makes a record, where its subscriber has

@@ -1,14 +1,15 @@
 //! What stands for the values of criteria and of rows.
 
 ghost use Rattle.std.specs.Prelude.{◌≡◌, ◌++◌, [], ◌∷◌, OnOk};
-ghost use Rattle.camel_map.specs.Encoding.{call_type_number, cause_element, encoding, handling_number, leaf, match_type_number, service_element};
+ghost use Rattle.camel_map.specs.Encoding.{call_type_number, cause_element, encoding, handling_number, leaf};
+ghost use Rattle.camel_map.specs.Encoding.{match_type_number, number_element, service_element};
 ghost use Rattle.camel_map.specs.Identifier.{integer, octet_string, primitive};
 
-use crate::encoding::element::put_leaf;
-use crate::encoding::list::Part;
+use crate::encoding::element::{close, put_leaf};
+use crate::encoding::list::{Part, put_some};
 use crate::encoding::writer::{TooLong, Writer};
-use crate::identifier::{INTEGER, OCTET_STRING, PRIMITIVE};
-use camel_criteria::{BasicService, CallType, Handling, MatchType};
+use crate::identifier::{CONSTRUCTED, INTEGER, OCTET_STRING, PRIMITIVE};
+use camel_criteria::{BasicService, CallType, Handling, MatchType, NumberCriterion};
 use camel_tbcd::IsdnAddress;
 
 /// DefaultCallHandling.
@@ -22,7 +23,7 @@ pub(crate) fn handling_number(handling: Handling) -> u8
 }
 
 /// MatchType.
-pub(crate) fn match_type_number(match_type: MatchType) -> u8
+fn match_type_number(match_type: MatchType) -> u8
     ensures { result ≡ match_type_number match_type }
 {
     match match_type {
@@ -96,5 +97,25 @@ impl Part<CallType> for CallTypeField {
 
     fn put(writer: &mut Writer, call_type: &CallType) -> Result<(), TooLong> {
         put_leaf(writer, PRIMITIVE + 2, &[call_type_number(*call_type)])
+    }
+}
+
+/// DestinationNumberCriteria of an entry.
+pub(crate) struct NumberField;
+
+#[tactic(auto, using(crate::proofs::Written::Elements::before_append, crate::proofs::Written::Elements::behind_before))]
+impl Part<NumberCriterion> for NumberField {
+    ghost element_of = { number_element };
+
+    fn put(writer: &mut Writer, criterion: &NumberCriterion) -> Result<(), TooLong> {
+        let behind = writer.len();
+        put_some::<Length, u8>(writer, CONSTRUCTED + 2, criterion.lengths())?;
+        put_some::<Number, IsdnAddress>(writer, CONSTRUCTED + 1, criterion.numbers())?;
+        put_leaf(
+            writer,
+            PRIMITIVE,
+            &[match_type_number(criterion.match_type())],
+        )?;
+        close(writer, CONSTRUCTED, behind)
     }
 }

@@ -1,34 +1,38 @@
 //! One list that comes in two operations.
 
-ghost use Rattle.std.specs.Prelude.{◌≡◌, ◌++◌, IfOk, OnOk};
-ghost use Rattle.camel_criteria.specs.DetectionPoint.{o_detection_points, vt_detection_points};
+ghost use Rattle.std.specs.Prelude.{◌≡◌, ◌≤◌, ◌++◌, length, IfOk, OnOk};
 ghost use Rattle.camel_rows.specs.Received.{kept_of};
 ghost use Rattle.camel_map.specs.Join.{JoinsLists, JoinsTwo, Keeps};
 
+use crate::item::MapItem;
 use crate::items::ReceivedList;
 use camel_criteria::{CriteriaEntry, Refusal};
-use camel_rows::{CriteriaSet, Csi, MAX_TDP_DATA, OCsi, TdpRow, VtCsi};
+use camel_rows::{CriteriaSet, Csi, CsiKind, MAX_TDP_DATA, TdpRow};
 use std::alloc::{AllocError, Global};
 
 /// A list of an Insert, which keeps the items of its detection points.
-pub(crate) trait KeptItems<T>: Drop + Sized {
+pub(crate) trait KeptItems<I>: Drop + Sized {
     ghost use Rattle.std.specs.Prelude.{List, ℕ};
 
     /// The items that it keeps.
-    ghost items: { Self → List T };
+    ghost items: { Self → List I };
 
     /// Its detection points.
     ghost points: { List ℕ };
 
     /// The detection point of an item.
-    ghost dp_of: { T → ℕ };
+    ghost dp_of: { I → ℕ };
 
-    /// Appends its items.
-    fn append_to(&self, received: &mut Vec<T>) -> Result<(), AllocError>
-        ensures { OnOk result (received.new.items ≡ received.old.items ++ items self.now) };
+    /// It has a place for an item of each.
+    ghost has_places: { Type 0 };
+
+    /// Its items.
+    fn as_items(&self) -> &[I]
+        ensures { result.now ≡ items self.now };
 
     /// What is kept of received items.
-    fn keep(received: Vec<T>) -> Result<Self, Refusal>
+    fn keep(received: Vec<I>) -> Result<Self, Refusal>
+        requires { has_places }
         ensures { Keeps items result (kept_of points dp_of received.items) };
 
     /// An equal list.
@@ -36,50 +40,27 @@ pub(crate) trait KeptItems<T>: Drop + Sized {
         ensures { IfOk result (λ copied. copied ≡ self.now) };
 }
 
-impl KeptItems<TdpRow> for OCsi {
-    ghost use Rattle.camel_criteria.specs.DetectionPoint.{o_detection_points};
-
+impl<K: CsiKind, const MOST: usize> KeptItems<TdpRow> for Csi<K, MOST> {
     ghost items = { λ csi. csi };
 
-    ghost points = { o_detection_points };
+    ghost points = { K.Entry.points };
 
     ghost dp_of = { λ row. row.dp };
 
-    fn append_to(&self, received: &mut Vec<TdpRow>) -> Result<(), AllocError> {
-        append_rows(self, received)
+    ghost has_places = { (MOST ≤ 3) × (length K.Entry.points ≡ MOST) };
+
+    fn as_items(&self) -> &[TdpRow] {
+        self.as_slice()
     }
 
-    fn keep(received: Vec<TdpRow>) -> Result<OCsi, Refusal>
-        ensures { Keeps (λ csi. csi) result (kept_of o_detection_points (λ row. row.dp) received.items) }
+    fn keep(received: Vec<TdpRow>) -> Result<Csi<K, MOST>, Refusal>
+        requires { (MOST ≤ 3) × (length K.Entry.points ≡ MOST) }
+        ensures { Keeps (λ csi. csi) result (kept_of K.Entry.points (λ row. row.dp) received.items) }
     {
-        OCsi::new(&received)
+        Csi::of_received(&received)
     }
 
-    fn copy(&self) -> Result<OCsi, AllocError> {
-        Ok(*self)
-    }
-}
-
-impl KeptItems<TdpRow> for VtCsi {
-    ghost use Rattle.camel_criteria.specs.DetectionPoint.{vt_detection_points};
-
-    ghost items = { λ csi. csi };
-
-    ghost points = { vt_detection_points };
-
-    ghost dp_of = { λ row. row.dp };
-
-    fn append_to(&self, received: &mut Vec<TdpRow>) -> Result<(), AllocError> {
-        append_rows(self, received)
-    }
-
-    fn keep(received: Vec<TdpRow>) -> Result<VtCsi, Refusal>
-        ensures { Keeps (λ csi. csi) result (kept_of vt_detection_points (λ row. row.dp) received.items) }
-    {
-        VtCsi::new(&received)
-    }
-
-    fn copy(&self) -> Result<VtCsi, AllocError> {
+    fn copy(&self) -> Result<Csi<K, MOST>, AllocError> {
         Ok(*self)
     }
 }
@@ -91,8 +72,10 @@ impl<E: CriteriaEntry> KeptItems<E> for CriteriaSet<E> {
 
     ghost dp_of = { E.dp_of };
 
-    fn append_to(&self, received: &mut Vec<E>) -> Result<(), AllocError> {
-        append_entries(self, received)
+    ghost has_places = { Unit {0} };
+
+    fn as_items(&self) -> &[E] {
+        self.as_slice()
     }
 
     fn keep(received: Vec<E>) -> Result<CriteriaSet<E>, Refusal>
@@ -106,50 +89,35 @@ impl<E: CriteriaEntry> KeptItems<E> for CriteriaSet<E> {
     }
 }
 
-/// Appends the rows of a CSI.
-fn append_rows<const MOST: usize>(
-    csi: &Csi<MOST>,
-    received: &mut Vec<TdpRow>,
-) -> Result<(), AllocError>
-    ensures { OnOk result (received.new.items ≡ received.old.items ++ csi.now) }
+/// Appends a copy of each item.
+fn append_copies<I: MapItem>(received: &mut Vec<I>, items: &[I]) -> Result<(), AllocError>
+    ensures { OnOk result (received.new.items ≡ received.old.items ++ items.now) }
 {
-    let count = csi.len();
-    let mut at = 0;
-    while at < count {
-        if let Some(row) = csi.get(at) {
-            received.push(*row)?;
-        }
-        at += 1;
+    for item in items {
+        received.push(item.copy()?)?;
     }
     Ok(())
 }
 
-/// Appends a copy of each entry of a set.
-fn append_entries<E: CriteriaEntry>(
-    set: &CriteriaSet<E>,
-    received: &mut Vec<E>,
-) -> Result<(), AllocError>
-    ensures { OnOk result (received.new.items ≡ received.old.items ++ set.now) }
+/// The items of two lists.
+fn items_of_both<I: MapItem>(alloc: Global, one: &[I], other: &[I]) -> Result<Vec<I>, AllocError>
+    ensures { IfOk result (λ all. all.items ≡ one.now ++ other.now) }
 {
-    let count = set.len();
-    let mut at = 0;
-    while at < count {
-        if let Some(entry) = set.get(at) {
-            received.push(entry.clone()?)?;
-        }
-        at += 1;
-    }
-    Ok(())
+    let mut all = Vec::new(alloc);
+    append_copies(&mut all, one)?;
+    append_copies(&mut all, other)?;
+    Ok(all)
 }
 
 /// A list that came, or did not, with the one behind it. `count` and `more` say how many items came in each.
-pub(crate) fn join_lists<T: Drop, L: KeptItems<T>>(
+pub(crate) fn join_lists<I: MapItem, L: KeptItems<I>>(
     alloc: Global,
     one: &Option<L>,
     count: usize,
     other: &Option<L>,
     more: usize,
 ) -> Result<Option<ReceivedList<L>>, Refusal>
+    requires { L.has_places }
     ensures { JoinsLists L.items (kept_of L.points L.dp_of) one.now count other.now more result }
 {
     match (one, other) {
@@ -167,22 +135,21 @@ pub(crate) fn join_lists<T: Drop, L: KeptItems<T>>(
 }
 
 /// A list with another one behind it.
-fn join_two<T: Drop, L: KeptItems<T>>(
+fn join_two<I: MapItem, L: KeptItems<I>>(
     alloc: Global,
     one: &L,
     count: usize,
     other: &L,
     more: usize,
 ) -> Result<ReceivedList<L>, Refusal>
+    requires { L.has_places }
     ensures { JoinsTwo L.items (kept_of L.points L.dp_of) one.now count other.now more result }
 {
     let count = count.saturating_add(more);
     if count > MAX_TDP_DATA {
         return Err(Refusal::UnexpectedDataValue);
     }
-    let mut received = Vec::new(alloc);
-    one.append_to(&mut received)?;
-    other.append_to(&mut received)?;
+    let received = items_of_both(alloc, one.as_items(), other.as_items())?;
     // Of two lists of which all items are ignored there is nothing to make one of.
     let kept = if received.is_empty() {
         one.copy()?

@@ -67,28 +67,35 @@ impl<E: CriteriaEntry> CriteriaSet<E> {
     pub fn is_empty(&self) -> bool
         ensures { IsTrue result ↔ (self.now ≡ []) }
     {
-        self.entries.as_slice().is_empty()
+        self.as_slice().is_empty()
+    }
+
+    /// Its entries.
+    pub fn as_slice(&self) -> &[E]
+        ensures { result.now ≡ self.now }
+    {
+        self.entries.as_slice()
     }
 
     /// How many entries it holds.
     pub fn len(&self) -> usize
         ensures { result ≡ length self.now }
     {
-        self.entries.as_slice().len()
+        self.as_slice().len()
     }
 
     /// The entry at a place, from 0; None from `len` on.
     pub fn get(&self, at: usize) -> Option<&E>
         ensures { option_copied result ≡ slice_get self.now at }
     {
-        self.entries.as_slice().get(at)
+        self.as_slice().get(at)
     }
 
     /// The entry of a detection point, if it has one.
     pub fn entry(&self, dp: u8) -> Option<&E>
         ensures { option_copied result ≡ item_among E.dp_of dp self.now }
     {
-        find_entry(self.entries.as_slice(), dp)
+        find_entry(self.as_slice(), dp)
     }
 }
 

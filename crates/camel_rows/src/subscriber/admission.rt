@@ -21,8 +21,8 @@ use std::marker::Model;
 /// CSIs that are stored in it.
 #[derive(Debug, Drop)]
 pub struct Admission {
-    // Which subscribers have a record, and which CSIs are stored in each: all that decides whether an update is refused,
-    // in far less memory than the records take.
+    // Which subscribers have a record, and which CSIs are stored in each: all that decides whether an update is
+    // refused, in far less memory than the records take.
     directory: Table<CsisPresent, Seed>,
     // The seed of the directory, so that one that is made anew has the same.
     seed: Seed,
@@ -81,16 +81,18 @@ impl Admission {
         ensures refused { IfErr result (λ why. admission_refusal self.now update.now ≡ Some why) }
         ensures taken { OnOk result (admission_refusal self.now update.now ≡ None) }
         ensures room { OnOk result (self.now.accepted < self.now.limit) }
-        ensures csis { IfOk result (λ csis. csis ≡ csis_after (value_of self.now.directory (update_imsi update.now)) update.now) }
+        ensures csis { IfOk result
+            (λ csis. csis ≡ csis_after (value_of self.now.directory (update_imsi update.now)) update.now) }
     {
         Ok(self.change(update)?.after)
     }
 
-    /// What an update changes of the CSIs in the record of its IMSI, if it may be accepted. Nothing changes yet, and the
-    /// table is asked once for both.
+    /// What an update changes of the CSIs in the record of its IMSI, if it may be accepted. Nothing changes yet, and
+    /// the table is asked once for both.
     ///
     /// Fails as [`Admission::check`] does.
-    // As a call of its own: put into a caller that moves the update afterwards, the update would be moved field by field.
+    // As a call of its own: put into a caller that moves the update afterwards, the update would be moved field by
+    // field.
     #[inline(never)]
     pub fn change(&self, update: &Update) -> Result<CsisChange, Refusal>
         ensures refused { IfErr result (λ why. admission_refusal self.now update.now ≡ Some why) }

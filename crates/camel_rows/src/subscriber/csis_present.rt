@@ -59,7 +59,8 @@ pub(crate) fn check_insert(
     vt: &Option<VtCsi>,
     t_criteria: &Option<TCriteriaSet>,
 ) -> Result<(), Refusal>
-    ensures refused { IfErr result (λ why. insert_refusal (Some csis) o.now o_criteria.now vt.now t_criteria.now ≡ Some why) }
+    ensures refused { IfErr result
+        (λ why. insert_refusal (Some csis) o.now o_criteria.now vt.now t_criteria.now ≡ Some why) }
     ensures accepted { OnOk result (insert_refusal (Some csis) o.now o_criteria.now vt.now t_criteria.now ≡ None) }
 {
     if lacks_csi(csis.o, o, o_criteria) || lacks_csi(csis.vt, vt, t_criteria) {
@@ -69,9 +70,9 @@ pub(crate) fn check_insert(
 }
 
 /// Whether criteria come without their CSI, and that CSI is not stored.
-fn lacks_csi<const MOST: usize, E: CriteriaEntry>(
+fn lacks_csi<K: Copy, const MOST: usize, E: CriteriaEntry>(
     is_stored: bool,
-    csi: &Option<Csi<MOST>>,
+    csi: &Option<Csi<K, MOST>>,
     criteria: &Option<CriteriaSet<E>>,
 ) -> bool
     ensures { result ≡ lacks_csi is_stored csi.now criteria.now }

@@ -20,12 +20,16 @@ pub fn updates_change_own_records()
 pub fn inserted_csi_stands()
     ensures o { (m : RecordsData) (imsi : List ℕ) (rows : List TdpRowData) (o_criteria : Option (List OCriteriaData))
         (vt : Option (List TdpRowData)) (t_criteria : Option (List TCriteriaData))
-        → refusal (records_after m (Update.Register imsi)) (Update.Insert imsi (Some rows) o_criteria vt t_criteria) ≡ None
-        → HasO (records_after (records_after m (Update.Register imsi)) (Update.Insert imsi (Some rows) o_criteria vt t_criteria))
+        → refusal (records_after m (Update.Register imsi)) (Update.Insert imsi (Some rows) o_criteria vt t_criteria)
+        ≡ None
+        → HasO (records_after (records_after m (Update.Register imsi))
+        (Update.Insert imsi (Some rows) o_criteria vt t_criteria))
         imsi (csi_with rows o_criteria) }
     ensures vt { (m : RecordsData) (imsi : List ℕ) (rows : List TdpRowData) (t_criteria : Option (List TCriteriaData))
         (o : Option (List TdpRowData)) (o_criteria : Option (List OCriteriaData))
-        → refusal (records_after m (Update.Register imsi)) (Update.Insert imsi o o_criteria (Some rows) t_criteria) ≡ None
-        → HasVt (records_after (records_after m (Update.Register imsi)) (Update.Insert imsi o o_criteria (Some rows) t_criteria))
+        → refusal (records_after m (Update.Register imsi)) (Update.Insert imsi o o_criteria (Some rows) t_criteria)
+        ≡ None
+        → HasVt (records_after (records_after m (Update.Register imsi))
+        (Update.Insert imsi o o_criteria (Some rows) t_criteria))
         imsi (csi_with rows t_criteria) }
 {}

@@ -1,11 +1,13 @@
-ghost use Rattle.std.specs.Prelude.{◌≡◌, ◌≢◌, ◌⊎◌, ◌↔◌, None, Some, Err, IfErr, IfNone, IfOk, IfSome, IsErr, IsOk, IsTrue, OnErr, OnOk};
+ghost use Rattle.std.specs.Prelude.{◌≡◌, ◌≢◌, ◌⊎◌, ◌↔◌, None, Some, Err, IfErr, IfNone, IfOk, IfSome, IsErr, IsOk};
+ghost use Rattle.std.specs.Prelude.{IsTrue, OnErr, OnOk};
 ghost use Rattle.std.specs.FinMap as map;
 ghost use Rattle.std.specs.Option.{option_copied, option_map};
 ghost use Rattle.camel_table.specs.ByImsi.{ListsEachOnce};
 ghost use Rattle.camel_rows.specs.ByImsi.{value_of, with_value};
 ghost use Rattle.camel_rows.specs.CsisPresent.{csis_after, csis_of, insert_refusal};
 ghost use Rattle.camel_rows.specs.Records.{no_records};
-ghost use Rattle.camel_rows.specs.Update.{is_insert, records_after, record_with_insert, record_without, refusal, update_imsi};
+ghost use Rattle.camel_rows.specs.Update.{is_insert, records_after, record_with_insert, record_without, refusal};
+ghost use Rattle.camel_rows.specs.Update.{update_imsi};
 
 use crate::csi::criteria_set::{OCriteriaSet, TCriteriaSet};
 use crate::csi::{OCsi, VtCsi};
@@ -110,15 +112,16 @@ impl Records {
 
     /// Whether an update makes a record, or stores other CSIs in the one that its IMSI has. It reads that record.
     pub fn changes_csis(&self, update: &Update) -> bool
-        ensures { IsTrue result ↔ (csis_after (option_map csis_of (value_of self.now (update_imsi update.now))) update.now
+        ensures { IsTrue result ↔
+            (csis_after (option_map csis_of (value_of self.now (update_imsi update.now))) update.now
             ≢ option_map csis_of (value_of self.now (update_imsi update.now))) }
     {
         let before = self.csis_before(update);
         csis_after(before, update) != before
     }
 
-    /// Makes room in the table for so many records more, as far as it is asked for at once: each record may still ask for
-    /// memory of its own. Fails with `AllocError` if memory is refused; either way the records stay.
+    /// Makes room in the table for so many records more, as far as it is asked for at once: each record may still ask
+    /// for memory of its own. Fails with `AllocError` if memory is refused; either way the records stay.
     pub fn reserve(&mut self, additional: usize) -> Result<(), AllocError>
         ensures { self.new ≡ self.old }
     {
@@ -153,8 +156,8 @@ impl Records {
         Ok(())
     }
 
-    /// Applies an update, as [`Records::apply`] does, and moves in what it brings. One that is refused is dropped, and the
-    /// records are as before. If memory is refused, it comes back, and the records are as before.
+    /// Applies an update, as [`Records::apply`] does, and moves in what it brings. One that is refused is dropped, and
+    /// the records are as before. If memory is refused, it comes back, and the records are as before.
     pub fn apply_owned(&mut self, update: Box<Update>) -> Result<(), Box<Update>>
         ensures applied { OnOk result (self.new ≡ records_after self.old update.value) }
         ensures back { IfErr result (λ back. back ≡ update) }
@@ -170,8 +173,8 @@ impl Records {
         }
     }
 
-    /// Makes the record of an IMSI equal to the one that other records have, or leaves no record of it if they have none.
-    /// The other subscribers keep theirs.
+    /// Makes the record of an IMSI equal to the one that other records have, or leaves no record of it if they have
+    /// none. The other subscribers keep theirs.
     ///
     /// Fails with `AllocError` if memory is refused; then the records are as before. It takes no memory, and does not
     /// fail, if the others have no record of the IMSI.
@@ -203,9 +206,12 @@ impl Records {
         vt: &Option<VtCsi>,
         t_criteria: &Option<TCriteriaSet>,
     ) -> Result<(), Refusal>
-        ensures refused { IfSome (insert_refusal (option_map csis_of (map.get self.old imsi.now)) o.now o_criteria.now vt.now t_criteria.now) (λ why. result ≡ Err why) }
+        ensures refused { IfSome (insert_refusal
+            (option_map csis_of (map.get self.old imsi.now)) o.now o_criteria.now vt.now t_criteria.now)
+            (λ why. result ≡ Err why) }
         ensures only { IfErr result (λ why. (why ≡ Refusal.OutOfMemory)
-            ⊎ (insert_refusal (option_map csis_of (map.get self.old imsi.now)) o.now o_criteria.now vt.now t_criteria.now ≡ Some why)) }
+            ⊎ (insert_refusal (option_map csis_of (map.get self.old imsi.now))
+            o.now o_criteria.now vt.now t_criteria.now ≡ Some why)) }
         ensures inserted { OnOk result (self.new ≡ with_value self.old imsi.now
             (option_map (record_with_insert o.now o_criteria.now vt.now t_criteria.now) (map.get self.old imsi.now))) }
         ensures unchanged { OnErr result (self.new ≡ self.old) }
@@ -232,11 +238,13 @@ impl Records {
         subscriber.insert_owned(alloc, update)
     }
 
-    /// Removes what a Delete names from the record of its IMSI. Fails with `UnidentifiedSubscriber` (5) if there is none.
+    /// Removes what a Delete names from the record of its IMSI. Fails with `UnidentifiedSubscriber` (5) if there is
+    /// none.
     fn withdraw(&mut self, imsi: &Imsi, what: Withdrawal) -> Result<(), Refusal>
         ensures refused { map.get self.old imsi.now ≡ None → result ≡ Err Refusal.UnidentifiedSubscriber }
         ensures there { IsErr result → map.get self.old imsi.now ≡ None }
-        ensures withdrawn { OnOk result (self.new ≡ with_value self.old imsi.now (option_map (record_without what) (map.get self.old imsi.now))) }
+        ensures withdrawn { OnOk result
+            (self.new ≡ with_value self.old imsi.now (option_map (record_without what) (map.get self.old imsi.now))) }
         ensures unchanged { OnErr result (self.new ≡ self.old) }
     {
         match self.table.get_mut(imsi) {

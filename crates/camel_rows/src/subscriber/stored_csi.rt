@@ -10,25 +10,25 @@ use crate::csi::entries::{Entries, find_entry};
 use camel_criteria::CriteriaEntry;
 use std::alloc::AllocError;
 
-/// What is stored of a CSI: nothing, or its rows with the entries of its criteria. One entry, as most CSIs have, lies in
-/// place, so that it is read with the rows, and a filler lies there for none; several lie apart.
+/// What is stored of a CSI: nothing, or its rows with the entries of its criteria. One entry, as most CSIs have, lies
+/// in place, so that it is read with the rows, and a filler lies there for none; several lie apart.
 #[derive(Drop)]
-pub(crate) enum StoredCsi<const MOST: usize, E> {
+pub(crate) enum StoredCsi<K, const MOST: usize, E> {
     NotStored,
     InPlace {
         has_entry: bool,
-        csi: Csi<MOST>,
+        csi: Csi<K, MOST>,
         entry: [E; 1],
     },
     Apart {
-        csi: Csi<MOST>,
+        csi: Csi<K, MOST>,
         entries: Vec<E>,
     },
 }
 
-impl<const MOST: usize, E: CriteriaEntry> StoredCsi<MOST, E> {
+impl<K: Copy + Drop, const MOST: usize, E: CriteriaEntry> StoredCsi<K, MOST, E> {
     /// Stores what an Insert brings of the CSI and its criteria, if it brings any. It takes no memory.
-    pub(crate) fn insert(&mut self, csi: &Option<Csi<MOST>>, criteria: Option<CriteriaSet<E>>)
+    pub(crate) fn insert(&mut self, csi: &Option<Csi<K, MOST>>, criteria: Option<CriteriaSet<E>>)
         ensures { stored_in self.new ≡ csi_after (stored_in self.old) csi.now criteria }
     {
         match (csi, criteria) {
@@ -48,8 +48,8 @@ impl<const MOST: usize, E: CriteriaEntry> StoredCsi<MOST, E> {
         }
     }
 
-    fn of(csi: Csi<MOST>, criteria: CriteriaSet<E>) -> StoredCsi<MOST, E>
-        ensures { stored_in result ≡ Some (record { rows = csi.entry; entries = criteria }) }
+    fn of(csi: Csi<K, MOST>, criteria: CriteriaSet<E>) -> StoredCsi<K, MOST, E>
+        ensures { stored_in result ≡ Some (record { rows = csi; entries = criteria }) }
     {
         match criteria.into_entries() {
             Entries::Empty => StoredCsi::without_entries(csi),
@@ -62,8 +62,8 @@ impl<const MOST: usize, E: CriteriaEntry> StoredCsi<MOST, E> {
         }
     }
 
-    fn without_entries(csi: Csi<MOST>) -> StoredCsi<MOST, E>
-        ensures { stored_in result ≡ Some (record { rows = csi.entry; entries = [] }) }
+    fn without_entries(csi: Csi<K, MOST>) -> StoredCsi<K, MOST, E>
+        ensures { stored_in result ≡ Some (record { rows = csi; entries = [] }) }
     {
         StoredCsi::InPlace {
             has_entry: false,
@@ -80,7 +80,7 @@ impl<const MOST: usize, E: CriteriaEntry> StoredCsi<MOST, E> {
     }
 
     /// The rows of the CSI, if it is stored.
-    pub(crate) fn csi(&self) -> Option<&Csi<MOST>>
+    pub(crate) fn csi(&self) -> Option<&Csi<K, MOST>>
         ensures { option_copied result ≡ option_map rows_of (stored_in self.now) }
     {
         match self {
@@ -148,13 +148,13 @@ impl<const MOST: usize, E: CriteriaEntry> StoredCsi<MOST, E> {
     }
 }
 
-impl<const MOST: usize, E: CriteriaEntry> Clone for StoredCsi<MOST, E> {
+impl<K: Copy + Drop, const MOST: usize, E: CriteriaEntry> Clone for StoredCsi<K, MOST, E> {
     ghost use Rattle.std.specs.Prelude.{◌≡◌};
     ghost use Rattle.camel_rows.specs.StoredCsi.{stored_in};
 
     ghost is_clone = { λ old new. stored_in new ≡ stored_in old };
 
-    fn clone(&self) -> Result<StoredCsi<MOST, E>, AllocError> {
+    fn clone(&self) -> Result<StoredCsi<K, MOST, E>, AllocError> {
         Ok(match self {
             StoredCsi::NotStored => StoredCsi::NotStored,
             StoredCsi::InPlace {

@@ -102,8 +102,8 @@ impl Subscriber {
 /// Decides an event of this detection point and this basic service by the CSI that it is tested against, to whose
 /// criteria it shows `shown`.
 #[inline(always)]
-fn decide_by<'r, const MOST: usize, E: CriteriaEntry, S: ShownTo<E>>(
-    stored: &'r StoredCsi<MOST, E>,
+fn decide_by<'r, K: Copy + Drop, const MOST: usize, E: CriteriaEntry, S: ShownTo<E>>(
+    stored: &'r StoredCsi<K, MOST, E>,
     dp: u8,
     basic: BasicService,
     shown: &S,
@@ -173,7 +173,8 @@ fn decide_by_entry<'r, E: CriteriaEntry, S: ShownTo<E>>(
     shown: S,
     profile: Profile,
 ) -> Decision<'r>
-    ensures { decision_data result ≡ by_entry E.dp_of (S.is_met profile shown) S.entry_as row.now (option_copied entry.entry) }
+    ensures { decision_data result
+        ≡ by_entry E.dp_of (S.is_met profile shown) S.entry_as row.now (option_copied entry.entry) }
 {
     match entry {
         None => Decision::Trigger {

@@ -1,5 +1,6 @@
 ghost use Rattle.std.specs.Prelude.{◌≡◌};
-ghost use Rattle.camel_rows.specs.Event.{event_basic, event_cause, event_data, event_dp, event_imsi, shown_data, shown_of};
+ghost use Rattle.camel_rows.specs.Event.{event_basic, event_cause, event_data, event_dp, event_imsi, shown_data};
+ghost use Rattle.camel_rows.specs.Event.{shown_of};
 
 use camel_criteria::{
     BUSY, BasicService, COLLECTED_INFO, Cause, NO_ANSWER, OEvent, ROUTE_SELECT_FAILURE,
@@ -149,8 +150,8 @@ impl<'a> TdpEvent<Address<'a>> {
 
 impl TdpEvent<CallAddress> {
     /// This event, with its destination borrowed.
-    // As a call of its own: put into its caller, the fields of one kind of event would be written in the pieces of another
-    // kind, and a processor waits when it reads a field that was written in pieces.
+    // As a call of its own: put into its caller, the fields of one kind of event would be written in the pieces of
+    // another kind, and a processor waits when it reads a field that was written in pieces.
     #[inline(never)]
     pub fn lend(&self) -> Event<'_>
         ensures { event_data result ≡ self.now }

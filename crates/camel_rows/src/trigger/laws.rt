@@ -11,7 +11,8 @@ ghost use Rattle.camel_rows.specs.declared.trigger.decision.Reason.{Reason};
 /// A law of the definitions: a service is invoked, and each reason is given why none is, exactly if the words of
 /// TS 23.078 say so. It does nothing when it is called.
 pub fn decisions_mean()
-    ensures triggers { (profile : Profile) (m : RecordsData) (event : EventData) (row : TdpRowData) (entry : Option EntryData)
+    ensures triggers { (profile : Profile) (m : RecordsData) (event : EventData) (row : TdpRowData)
+        (entry : Option EntryData)
         → (decision profile m event ≡ Triggers row entry) ↔ Invokes profile m event row entry }
     ensures unknown { (profile : Profile) (m : RecordsData) (event : EventData)
         → (decision profile m event ≡ TriggersNothing Reason.Unknown) ↔ IsUnknown m event }

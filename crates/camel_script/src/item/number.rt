@@ -1,7 +1,8 @@
 ghost use Rattle.std.specs.Prelude.{◌≡◌};
 ghost use Rattle.std.specs.Option.{option_copied};
+ghost use Rattle.camel_reading.specs.Reading.{ReadsAs};
 ghost use Rattle.camel_script.specs.Item.{number_criterion_from, number_texts_of, number_texts_of_parts};
-ghost use Rattle.camel_script.specs.Reading.{ReadsAs};
+ghost use Rattle.camel_script.specs.Reading.{IsMemory};
 
 use crate::text::lists::{make_isdn_addresses, parse_octets_list, parse_small_decimals};
 use crate::text::parts::{NUMBER_SEPARATOR, count_parts, cut_part};
@@ -33,7 +34,7 @@ pub(crate) fn parse_number_texts(
     alloc: Global,
     text: &[u8],
 ) -> Result<Option<NumberTexts>, RecordFault>
-    ensures { ReadsAs result (number_texts_of text.now) }
+    ensures { ReadsAs IsMemory result (number_texts_of text.now) }
 {
     if text.is_empty() {
         return Ok(None);
@@ -43,7 +44,7 @@ pub(crate) fn parse_number_texts(
 
 #[tactic(auto, unfolding(crate::specs::Item::number_texts_of_parts))]
 fn parse_number_parts(alloc: Global, text: &[u8]) -> Result<NumberTexts, RecordFault>
-    ensures { ReadsAs result (number_texts_of_parts text.now) }
+    ensures { ReadsAs IsMemory result (number_texts_of_parts text.now) }
 {
     if count_parts(text, NUMBER_SEPARATOR) != 3 {
         return Err(RecordFault::FieldCount);
@@ -64,7 +65,7 @@ pub(crate) fn make_number_criterion(
     alloc: Global,
     texts: &Option<NumberTexts>,
 ) -> Result<Option<NumberCriterion>, RecordFault>
-    ensures { ReadsAs result (number_criterion_from texts.now) }
+    ensures { ReadsAs IsMemory result (number_criterion_from texts.now) }
 {
     let Some(texts) = texts else {
         return Ok(None);

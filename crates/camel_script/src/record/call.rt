@@ -1,8 +1,11 @@
 ghost use Rattle.std.specs.Prelude.{◌≡◌};
 ghost use Rattle.csv.specs.Records.{fields_of};
-ghost use Rattle.camel_script.specs.Call.{busy_of, call_of, collected_info_of, collected_info_texts, no_answer_of, not_reached_texts, release_cause_of, route_select_failure_of, route_select_failure_texts, subscriber_of, terminating_attempt_of, terminating_attempt_texts};
+ghost use Rattle.camel_reading.specs.Reading.{ReadsInto};
+ghost use Rattle.camel_script.specs.Call.{call_of, collected_info_of, collected_info_texts, not_reached_of};
+ghost use Rattle.camel_script.specs.Call.{route_select_failure_of, route_select_failure_texts, subscriber_of};
+ghost use Rattle.camel_script.specs.Call.{terminating_attempt_of, terminating_attempt_texts};
 ghost use Rattle.camel_script.specs.Mistake.{with_fields};
-ghost use Rattle.camel_script.specs.Reading.{ReadsInto};
+ghost use Rattle.camel_script.specs.Reading.{IsMemoryMistake};
 
 use crate::mistake::{Expected, Mistake, at_field, check_fields, field_count, mistake_at};
 use crate::record::Record;
@@ -62,7 +65,7 @@ pub(crate) fn parse_call(
     fields: &ByteRecord,
     read: &mut Record,
 ) -> Result<(), Mistake>
-    ensures { ReadsInto result read.new (call_of (fields_of fields.now)) }
+    ensures { ReadsInto IsMemoryMistake result read.new (call_of (fields_of fields.now)) }
 {
     if fields.len() < 2 {
         return Err(field_count(&CALL, fields.len()));
@@ -71,8 +74,16 @@ pub(crate) fn parse_call(
         b"2" => parse_collected_info(alloc, fields, read),
         b"4" => parse_route_select_failure(alloc, fields, read),
         b"12" => parse_terminating_attempt(fields, read),
-        b"13" => parse_busy(fields, read),
-        b"14" => parse_no_answer(fields, read),
+        b"13" => {
+            let (imsi, basic, cause) = parse_not_reached(fields)?;
+            *read = Record::Call(CallEvent::Busy { imsi, basic, cause });
+            Ok(())
+        }
+        b"14" => {
+            let (imsi, basic, cause) = parse_not_reached(fields)?;
+            *read = Record::Call(CallEvent::NoAnswer { imsi, basic, cause });
+            Ok(())
+        }
         _ => Err(mistake_at(2, 0, Expected::CallDetectionPoint, RecordFault::Word)),
     }
 }
@@ -97,7 +108,7 @@ fn parse_collected_info(
     fields: &ByteRecord,
     read: &mut Record,
 ) -> Result<(), Mistake>
-    ensures { ReadsInto result read.new
+    ensures { ReadsInto IsMemoryMistake result read.new
         (with_fields collected_info_texts (fields_of fields.now) (collected_info_of (fields_of fields.now))) }
 {
     check_fields(&COLLECTED_INFO, fields)?;
@@ -124,8 +135,9 @@ fn parse_route_select_failure(
     fields: &ByteRecord,
     read: &mut Record,
 ) -> Result<(), Mistake>
-    ensures { ReadsInto result read.new
-        (with_fields route_select_failure_texts (fields_of fields.now) (route_select_failure_of (fields_of fields.now))) }
+    ensures { ReadsInto IsMemoryMistake result read.new
+        (with_fields route_select_failure_texts (fields_of fields.now)
+        (route_select_failure_of (fields_of fields.now))) }
 {
     check_fields(&ROUTE_SELECT_FAILURE, fields)?;
     let (imsi, basic) = parse_subscriber(fields)?;
@@ -150,7 +162,7 @@ fn parse_route_select_failure(
 
 #[tactic(auto, unfolding(crate::specs::Call::terminating_attempt_of))]
 fn parse_terminating_attempt(fields: &ByteRecord, read: &mut Record) -> Result<(), Mistake>
-    ensures { ReadsInto result read.new
+    ensures { ReadsInto IsMemoryMistake result read.new
         (with_fields terminating_attempt_texts (fields_of fields.now) (terminating_attempt_of (fields_of fields.now))) }
 {
     check_fields(&TERMINATING_ATTEMPT, fields)?;
@@ -159,35 +171,14 @@ fn parse_terminating_attempt(fields: &ByteRecord, read: &mut Record) -> Result<(
     Ok(())
 }
 
-/// Reads the cause of a call that was not reached.
-#[tactic(auto, unfolding(crate::specs::Call::release_cause_of))]
-fn parse_release_cause(fields: &ByteRecord) -> Result<Cause, Mistake>
-    ensures { result ≡ release_cause_of (fields_of fields.now) }
+/// Reads the IMSI, the basic service and the cause of a call that was not reached.
+#[tactic(auto, unfolding(crate::specs::Call::not_reached_of))]
+fn parse_not_reached(fields: &ByteRecord) -> Result<(Imsi, BasicService, Cause), Mistake>
+    ensures { result ≡ not_reached_of (fields_of fields.now) }
 {
+    check_fields(&NOT_REACHED, fields)?;
+    let (imsi, basic) = parse_subscriber(fields)?;
     let value = at_field(5, Expected::Cause, parse_small_decimal(field(fields, 4)))?;
-    at_field(5, Expected::Cause, make_cause(value))
-}
-
-#[tactic(auto, unfolding(crate::specs::Call::busy_of))]
-fn parse_busy(fields: &ByteRecord, read: &mut Record) -> Result<(), Mistake>
-    ensures { ReadsInto result read.new
-        (with_fields not_reached_texts (fields_of fields.now) (busy_of (fields_of fields.now))) }
-{
-    check_fields(&NOT_REACHED, fields)?;
-    let (imsi, basic) = parse_subscriber(fields)?;
-    let cause = parse_release_cause(fields)?;
-    *read = Record::Call(CallEvent::Busy { imsi, basic, cause });
-    Ok(())
-}
-
-#[tactic(auto, unfolding(crate::specs::Call::no_answer_of))]
-fn parse_no_answer(fields: &ByteRecord, read: &mut Record) -> Result<(), Mistake>
-    ensures { ReadsInto result read.new
-        (with_fields not_reached_texts (fields_of fields.now) (no_answer_of (fields_of fields.now))) }
-{
-    check_fields(&NOT_REACHED, fields)?;
-    let (imsi, basic) = parse_subscriber(fields)?;
-    let cause = parse_release_cause(fields)?;
-    *read = Record::Call(CallEvent::NoAnswer { imsi, basic, cause });
-    Ok(())
+    let cause = at_field(5, Expected::Cause, make_cause(value))?;
+    Ok((imsi, basic, cause))
 }

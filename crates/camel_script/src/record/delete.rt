@@ -1,6 +1,7 @@
 ghost use Rattle.std.specs.Prelude.{◌≡◌, drop};
 ghost use Rattle.csv.specs.Records.{fields_of};
-ghost use Rattle.camel_script.specs.Reading.{ReadsInto, in_turn, numbered};
+ghost use Rattle.camel_reading.specs.Reading.{ReadsInto};
+ghost use Rattle.camel_script.specs.Reading.{IsMemoryMistake, in_turn, numbered};
 ghost use Rattle.camel_script.specs.Record.{delete_of, no_withdrawal, withdrawal_with};
 
 use crate::mistake::{Expected, Mistake, field_count, mistake_at};
@@ -21,7 +22,7 @@ pub(crate) fn parse_delete(
     fields: &ByteRecord,
     read: &mut Record,
 ) -> Result<(), Mistake>
-    ensures { ReadsInto result read.new (delete_of (fields_of fields.now)) }
+    ensures { ReadsInto IsMemoryMistake result read.new (delete_of (fields_of fields.now)) }
 {
     if fields.len() < 3 {
         return Err(field_count(&DELETE, fields.len()));

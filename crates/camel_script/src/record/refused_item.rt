@@ -13,15 +13,16 @@ use camel_criteria::{Refusal, is_among};
 use camel_rows::MAX_TDP_DATA;
 use csv::ByteRecord;
 
-/// The mistake of an insert whose items of a name make a list that is refused: at the first that the list can't take. It
-/// is the eleventh, or the second of one of these detection points.
+/// The mistake of an insert whose items of a name make a list that is refused: at the first that the list can't take.
+/// It is the eleventh, or the second of one of these detection points.
 pub(crate) fn refused_item(
     fields: &ByteRecord,
     name: &[u8],
     points: &[u8],
     refusal: Refusal,
 ) -> Mistake
-    ensures { result ≡ refused_item (record_fault_of refusal) name.now points.now [] (numbered 3 (drop 2 (fields_of fields.now))) }
+    ensures { result ≡ refused_item (record_fault_of refusal) name.now points.now []
+        (numbered 3 (drop 2 (fields_of fields.now))) }
 {
     let mut dps = [0; MAX_TDP_DATA];
     let mut count = 0;

@@ -1,6 +1,7 @@
 //! The numbers, codes and octets of a record.
 
 use crate::append::{append_decimal, append_text};
+use crate::line::append_address;
 use camel_criteria::{BasicService, MatchType, NumberCriterion};
 use std::alloc::AllocError;
 
@@ -19,7 +20,7 @@ pub(crate) fn append_number(
     append_text(out, match_type)?;
     for (at, number) in criterion.numbers().iter().enumerate() {
         append_separator(out, at)?;
-        append_octets(out, number.lend().bytes())?;
+        append_address(out, number)?;
     }
     append_text(out, "/")?;
     append_decimals(out, criterion.lengths())
@@ -59,14 +60,7 @@ fn append_separator(out: &mut Vec<u8>, at: usize) -> Result<(), AllocError> {
     append_text(out, SEPARATOR)
 }
 
-/// Appends octets in lower-case hexadecimal digits, two each. Out of memory, a part may be appended.
-pub(crate) fn append_octets(out: &mut Vec<u8>, octets: &[u8]) -> Result<(), AllocError> {
-    for octet in octets {
-        append_octet(out, *octet)?;
-    }
-    Ok(())
-}
-
+/// Appends an octet in two lower-case hexadecimal digits.
 fn append_octet(out: &mut Vec<u8>, octet: u8) -> Result<(), AllocError> {
     let octets = [octet];
     let mut digits = [0; 2];

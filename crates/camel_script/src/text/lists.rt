@@ -1,6 +1,7 @@
 ghost use Rattle.std.specs.Prelude.{List, Result, ℕ};
 ghost use Rattle.std.specs.Fn.{FnReturnsAt};
-ghost use Rattle.camel_script.specs.Reading.{AnswersAs, ReadsList, each_of, elements_as};
+ghost use Rattle.camel_reading.specs.Reading.{AnswersAs, ReadsList, each_of};
+ghost use Rattle.camel_script.specs.Reading.{IsMemory, elements_as};
 ghost use Rattle.camel_script.specs.Texts.{basic_service_of, decimal_of, isdn_address_of, octets_of};
 
 use crate::text::parts::{ELEMENT_SEPARATOR, split_part};
@@ -9,19 +10,20 @@ use crate::text::{
     Octets, make_isdn_address, parse_basic_service, parse_octets, parse_small_decimal,
 };
 use camel_criteria::BasicService;
+use camel_reading::read_each;
 use camel_tbcd::IsdnAddress;
 use std::alloc::Global;
 
 /// Reads the octets of each listed number.
 pub(crate) fn parse_octets_list(alloc: Global, text: &[u8]) -> Result<Vec<Octets>, RecordFault>
-    ensures { ReadsList result (elements_as octets_of text.now) }
+    ensures { ReadsList IsMemory result (elements_as octets_of text.now) }
 {
     read_elements(alloc, text, |element| parse_octets(alloc, element))
 }
 
 /// Reads decimals of value 0 to 255.
 pub(crate) fn parse_small_decimals(alloc: Global, text: &[u8]) -> Result<Vec<u8>, RecordFault>
-    ensures { ReadsList result (elements_as (decimal_of 255) text.now) }
+    ensures { ReadsList IsMemory result (elements_as (decimal_of 255) text.now) }
 {
     read_elements(alloc, text, |element| parse_small_decimal(element))
 }
@@ -31,7 +33,7 @@ pub(crate) fn parse_basic_services(
     alloc: Global,
     text: &[u8],
 ) -> Result<Vec<BasicService>, RecordFault>
-    ensures { ReadsList result (elements_as basic_service_of text.now) }
+    ensures { ReadsList IsMemory result (elements_as basic_service_of text.now) }
 {
     read_elements(alloc, text, |element| parse_basic_service(element))
 }
@@ -41,7 +43,7 @@ pub(crate) fn make_isdn_addresses(
     alloc: Global,
     numbers: &[Octets],
 ) -> Result<Vec<IsdnAddress>, RecordFault>
-    ensures { ReadsList result (each_of isdn_address_of numbers.now) }
+    ensures { ReadsList IsMemory result (each_of isdn_address_of numbers.now) }
 {
     read_each(alloc, numbers, |octets| make_isdn_address(octets))
 }
@@ -54,7 +56,8 @@ fn read_elements<T: Drop, F: Fn(&[u8]) -> Result<T, RecordFault>>(
 ) -> Result<Vec<T>, RecordFault>
     requires { F.IsAlwaysCallable read }
     ensures { (value_of : List ℕ → Result T RecordFault)
-        → AnswersAs (FnReturnsAt F.Fn read) value_of → ReadsList result (elements_as value_of text.now) }
+        → AnswersAs IsMemory (FnReturnsAt F.Fn read) value_of
+        → ReadsList IsMemory result (elements_as value_of text.now) }
 {
     let mut values = Vec::new(alloc);
     let mut left = if text.is_empty() { None } else { Some(text) };
@@ -62,23 +65,6 @@ fn read_elements<T: Drop, F: Fn(&[u8]) -> Result<T, RecordFault>>(
         let (element, behind) = split_part(rest, ELEMENT_SEPARATOR);
         values.push(read(element)?)?;
         left = behind;
-    }
-    Ok(values)
-}
-
-/// What `read` returns for each source, in their order, or the first fault.
-fn read_each<S, T: Drop, F: Fn(&S) -> Result<T, RecordFault>>(
-    alloc: Global,
-    sources: &[S],
-    read: F,
-) -> Result<Vec<T>, RecordFault>
-    requires { F.IsAlwaysCallable read }
-    ensures { (value_of : S → Result T RecordFault)
-        → AnswersAs (FnReturnsAt F.Fn read) value_of → ReadsList result (each_of value_of sources.now) }
-{
-    let mut values = Vec::new(alloc);
-    for source in sources {
-        values.push(read(source)?)?;
     }
     Ok(values)
 }

@@ -2,6 +2,7 @@ ghost use Rattle.std.specs.Prelude.{◌≡◌};
 ghost use Rattle.camel_script.specs.RecordFault.{record_fault_code};
 
 use camel_criteria::Refusal;
+use camel_reading::Fault;
 use std::alloc::{AllocError, AllocFailed};
 
 /// Why a check of a record fails: out of memory, a fault of its text, or data that are refused.
@@ -35,6 +36,16 @@ impl RecordFault {
             RecordFault::Number => 205,
             RecordFault::Refused(refusal) => refusal.code(),
         }
+    }
+}
+
+impl Fault for RecordFault {
+    ghost use Rattle.camel_script.specs.Reading.{IsMemory};
+
+    ghost is_out_of_memory = { IsMemory };
+
+    fn out_of_memory() -> RecordFault {
+        RecordFault::OutOfMemory
     }
 }
 

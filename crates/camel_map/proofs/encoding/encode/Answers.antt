@@ -1,4 +1,4 @@
-use Rattle.camel_map.proofs.WrittenUpdates.{update_decodes}
+use Rattle.camel_map.proofs.Written.Updates.{update_decodes}
 use Rattle.camel_map.proofs.encoding.encode.Goals as goal
 
 pub returns-clause-decoded : goal.returns-clause-decoded

@@ -1,7 +1,7 @@
 use Rattle.std.proofs.Common.{◌∙◌, arith, refl, sym}
 use Rattle.std.proofs.lemmas.Result.{err_from_is_err_and}
-use Rattle.camel_map.proofs.EachLemmas.{drop-item}
-use Rattle.camel_map.proofs.FieldLemmas.{all_found, twice}
+use Rattle.camel_reading.proofs.EachLemmas.{drop-item}
+use Rattle.camel_map.proofs.Received.Fields.{all_found, twice}
 use Rattle.camel_map.proofs.field.find_field.Goals as goal
 
 pub returns-then-is_some : goal.returns-then-is_some

@@ -1,7 +1,7 @@
 use Rattle.std.proofs.Common.{◌≡◌, ◌++◌, drop, filter}
 use Rattle.camel_ber.specs.Reading.{views}
 use Rattle.camel_map.specs.Field.{is_tagged}
-use Rattle.camel_map.proofs.FieldLemmas.{found_so_far}
+use Rattle.camel_map.proofs.Received.Fields.{found_so_far}
 use Rattle.camel_map.proofs.field.find_field.Given as goal
 
 -- the field that was found, and behind it those that are left, are all fields of the tag

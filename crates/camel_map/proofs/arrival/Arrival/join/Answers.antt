@@ -1,11 +1,11 @@
 use Rattle.std.proofs.Common.{◌≡◌, ◌∙◌, ℕ, List, Bool, true, false, not, Ok, bytes_eq, ap, subst, sym, refl}
 use Rattle.std.proofs.lemmas.Result.{err_from_is_err_and}
 use Rattle.std.proofs.lemmas.Slice.Eq.{bytes_eq-Decides}
-use Rattle.camel_map.specs.Lists.{as_one, insert_of_lists}
-use Rattle.camel_map.specs.declared.arrival.Arrival.{Arrival}
+use Rattle.camel_rows.specs.Update.{is_insert}
+use Rattle.camel_map.specs.Lists.{as_one, insert_of_lists, latest}
 use Rattle.camel_map.specs.declared.arrival.CapabilityHandling.{CapabilityHandling}
-use Rattle.camel_map.proofs.InsertParts.{parts}
-use Rattle.camel_map.proofs.JoinedArrivals.{brings_insert, ends, made_as, received_lists}
+use Rattle.camel_map.proofs.Joined.Parts.{brings_insert, parts}
+use Rattle.camel_map.proofs.Joined.Arrivals.{ends, made_as, received_lists}
 use Rattle.camel_map.proofs.arrival.Arrival.join.Goals as goal
 
 not_other : (imsi other : List ℕ) → false ≡ not (bytes_eq imsi other) → imsi ≡ other
@@ -92,20 +92,21 @@ returns-clause-joined c =
     let o_criteria = made_as _ _ (c.in_ok-join_lists-2.ensures earlier.o_criteria later.o_criteria first.o_criteria_is second.o_criteria_is) in
     let vt = made_as _ _ (c.in_ok-join_lists-3.ensures earlier.vt later.vt first.vt_is second.vt_is) in
     let t_criteria = made_as _ _ (c.in_ok-join_lists-4.ensures earlier.t_criteria later.t_criteria first.t_criteria_is second.t_criteria_is) in
-    rw (o, o_criteria, vt, t_criteria, first.imsi_is, c.insert.ensures, c.latest.ensures) refl
+    rw (o, o_criteria, vt, t_criteria, first.imsi_is, c.insert.ensures, c.or.ensures, c.or-2.ensures) refl
 
 pub returns-clause-received : goal.returns-clause-received
 returns-clause-received c =
     λ received received_too.
-    let one = received_lists c.args.self.now _ _ _ _ _ c.in-Insert.is received in
-    let other = received_lists c.args.next.now _ _ _ _ _ c.in-Insert-update.is received_too in
+    let one = received_lists c.args.self.now (ap is_insert c.in-Insert.is) received in
+    let other = received_lists c.args.next.now (ap is_insert c.in-Insert-update.is) received_too in
     let first = parts one.imsi one.lists c.args.self.now _ _ _ _ _ one.whole c.in-Insert.is in
     let second = parts other.imsi other.lists c.args.next.now _ _ _ _ _ other.whole c.in-Insert-update.is in
     let same : one.imsi ≡ other.imsi =
     first.imsi_is ∙ not_other c.in-Insert.imsi c.in-Insert-update.next_imsi c.if-ne.ensures ∙ sym second.imsi_is in
     let other_whole = rw (← same) at other.whole in
     let whole = returns-clause-joined c one.imsi one.lists other.lists one.whole other_whole in
-    let capabilities = ap (λ (arrival : Arrival). arrival.capabilities) c.insert.ensures ∙ c.latest.ensures in record {
+    let capabilities : c.insert.result.capabilities ≡ latest c.args.self.now.capabilities c.args.next.now.capabilities =
+    rw (c.insert.ensures, c.or.ensures, c.or-2.ensures) refl in record {
       imsi = one.imsi;
       lists = as_one one.lists other.lists;
       whole =

@@ -1,6 +1,6 @@
 use Rattle.std.proofs.Common.{◌∙◌}
 use Rattle.camel_map.specs.Encoding.{encodings}
-use Rattle.camel_map.proofs.WrittenLemmas.{before_is}
+use Rattle.camel_map.proofs.Written.Elements.{before_is}
 use Rattle.camel_map.proofs.encoding.element.close.Goals as goal
 
 pub returns : goal.returns

@@ -9,7 +9,7 @@ pub loop-at-preserved : goal.loop-at-preserved
 loop-at-preserved c =
     goes_on item_into c.loop-at.items _ c.loop-at.invariant
     (numbered-field (fields_of c.args.fields.now) c.loop-at.at (omega arith))
-    (rw c.field.ensures at c.in_ok-push.ensures.taken)
+    (rw (c.field.ensures, c.in_ok-push.was) at c.push.ensures)
 
 pub returns-in_err-push : goal.returns-in_err-push
 returns-in_err-push c =
@@ -17,7 +17,7 @@ returns-in_err-push c =
     rw (returned.1, returned.2)
     (fails_at item_into c.loop-at.items _ c.loop-at.invariant
     (numbered-field (fields_of c.args.fields.now) c.loop-at.at (omega arith))
-    (rw c.field.ensures at c.in_err-push.ensures.fails))
+    (rw (c.field.ensures, c.in_err-push.was) at c.push.ensures))
 
 pub returns : goal.returns
 returns c =

@@ -1,15 +1,17 @@
 use Rattle.std.proofs.Common.{◌≡◌}
 use Rattle.std.specs.Fn.{FnReturnsAt}
+use Rattle.camel_reading.proofs.EachLemmas.{behind}
+use Rattle.camel_reading.specs.Reading.{AnswersAs, each_of}
 use Rattle.camel_script.proofs.Elements.{length_left, text_left}
 use Rattle.camel_script.specs.Parts.{element_separator, parts_behind}
-use Rattle.camel_script.specs.Reading.{AnswersAs, elements_as, in_turn, with_value}
+use Rattle.camel_script.specs.Reading.{IsMemory, elements_as}
 use Rattle.camel_script.proofs.text.lists.read_elements.Given as goal
 
--- the values so far, with the elements that are left, are those of all elements
+-- the values so far, with those of the elements that are left behind them, are those of all elements
 abbrev pub invariant-elements : goal.invariant-elements
 invariant-elements g l =
-    (value_of : _) → AnswersAs (FnReturnsAt g.F.Fn l.read) value_of
-    → in_turn (with_value value_of) l.values.items (parts_behind element_separator (text_left l.left))
+    (value_of : _) → AnswersAs IsMemory (FnReturnsAt g.F.Fn l.read) value_of
+    → behind l.values.items (each_of value_of (parts_behind element_separator (text_left l.left)))
     ≡ elements_as value_of l.text
 
 abbrev pub decreases-elements : goal.decreases-elements

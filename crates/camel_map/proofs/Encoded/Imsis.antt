@@ -1,0 +1,71 @@
+-- An encoded IMSI is read as its digits.
+use Rattle.std.proofs.Common.{◌≡◌, ◌∙◌, ℕ, ◌+◌, ◌*◌, ◌≤◌, true, false, ltb, List, [], ◌∷◌, length, position, All, IfSome}
+use Rattle.std.proofs.Common.{Option, Some, None, Ok, bytes_eq, inl, inr, refl, sym, ap, arith}
+use Rattle.std.proofs.lemmas.Bool.{le-leb, le-ltb}
+use Rattle.std.proofs.lemmas.List.{length-append}
+use Rattle.std.proofs.lemmas.List.Sums.{position_or_len_is}
+use Rattle.std.proofs.lemmas.Slice.Eq.{bytes_eq-Decides}
+use Rattle.std.specs.List.{position_or_len}
+use Rattle.camel_tbcd.proofs.DigitLemmas.{length-nibbles}
+use Rattle.camel_tbcd.specs.Digits.{nibbles}
+use Rattle.camel_tbcd.specs.Imsi.{IsImsi, imsi_of_nibbles, imsi_of_tbcd, without_filler}
+use Rattle.camel_map.specs.Encoding.{leaf, tbcd_octets}
+use Rattle.camel_map.specs.Imsi.{imsi_in, own_imsi}
+use Rattle.camel_map.proofs.Encoded.Series.{Decodes, at}
+use Rattle.camel_map.proofs.Encoded.Digits.{AreFilled, IsDigit, digits_left, filled}
+
+-- no digit is over 9
+none_over : (digits : List ℕ) → All IsDigit digits → position (λ value. ltb 9 value) digits ≡ None
+none_over digits decimal =
+    let all : position_or_len (λ value. ltb 9 value) digits ≡ length digits =
+    position_or_len_is (λ value. ltb 9 value) digits (length digits) 0 (omega arith)
+    (λ k within. le-ltb _ _ (decimal k 0 within)) (λ more. absurd (omega arith)) in
+    let end : ltb (length digits) (length digits) ≡ false = le-ltb _ _ (omega arith) in
+    rw (all, end) refl
+
+-- how many octets the digits take
+counted : (digits octets : List ℕ) → IsImsi digits → AreFilled digits (nibbles octets)
+    → (3 ≤ length octets) × (length octets ≤ 8)
+counted digits octets is (inl whole) =
+    let least = is.least in
+    let most = is.most in
+    let count : 2 * length octets ≡ length digits = sym (length-nibbles octets) ∙ ap length whole in
+    (omega arith, omega arith)
+counted digits octets is (inr filled) =
+    let least = is.least in
+    let most = is.most in
+    let count : 2 * length octets ≡ length digits + 1 =
+    sym (length-nibbles octets) ∙ ap length filled ∙ length-append digits (15 ∷ []) in
+    (omega arith, omega arith)
+
+-- the octets are eight at most
+pub octets_few : (digits : List ℕ) → IsImsi digits → length (tbcd_octets digits) ≤ 8
+octets_few digits is = (counted digits (tbcd_octets digits) is (filled digits is.decimal)).1
+
+tbcd_read : (digits : List ℕ) → IsImsi digits → imsi_of_tbcd (tbcd_octets digits) ≡ Ok digits
+tbcd_read digits is =
+    let octets = tbcd_octets digits in
+    let all = filled digits is.decimal in
+    let count = counted digits octets is all in
+    let left : without_filler (nibbles octets) ≡ digits =
+    digits_left digits (nibbles octets) is.decimal (omega (arith, is.least)) all in
+    let none : position (λ value. ltb 9 value) digits ≡ None = none_over digits is.decimal in
+    let own : imsi_of_nibbles digits ≡ Ok digits = rw (none, le-leb (length digits) 15 is.most) refl in
+    rw (le-leb 3 (length octets) count.0, le-leb (length octets) 8 count.1) (ap imsi_of_nibbles left ∙ own)
+
+-- an IMSI is read as its digits
+pub imsi_read : (octet : ℕ) (digits : List ℕ) → IsImsi digits → Decodes imsi_in (leaf octet (tbcd_octets digits)) digits
+unfolding imsi_in
+imsi_read octet digits is short place end = let read = tbcd_read digits is in rw (read, imsi_in) refl
+
+-- it is that of the dialogue, if the dialogue has one
+pub own_imsi_read : (dialogue : Option (List ℕ)) (octet : ℕ) (digits : List ℕ) → IsImsi digits
+    → IfSome dialogue (λ imsi. digits ≡ imsi)
+    → Decodes (own_imsi dialogue) (leaf octet (tbcd_octets digits)) digits
+unfolding own_imsi
+own_imsi_read None octet digits is same short place end = imsi_read octet digits is short place end
+own_imsi_read (Some imsi) octet digits is same short place end =
+    let read : imsi_in (at (leaf octet (tbcd_octets digits)) place end) ≡ Ok digits =
+    imsi_read octet digits is short place end in
+    let equal : bytes_eq digits imsi ≡ true = (bytes_eq-Decides digits imsi).1 same in
+    rw (read, equal) refl

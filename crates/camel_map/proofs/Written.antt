@@ -1,0 +1,4 @@
+pub mod Digits
+pub mod Elements
+pub mod Records
+pub mod Updates

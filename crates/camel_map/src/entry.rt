@@ -1,0 +1,126 @@
+//! The entries of criteria: O-BcsmCamelTDP-Criteria and T-BCSM-CAMEL-TDP-Criteria.
+
+ghost use Rattle.std.specs.Prelude.{◌≡◌, [], ◌∷◌, ◌++◌, IfOk, OnOk};
+ghost use Rattle.camel_map.specs.Encoding.{call_type_number, cause_element, encoding, if_any, if_some, leaf};
+ghost use Rattle.camel_map.specs.Encoding.{number_element, service_element};
+ghost use Rattle.camel_map.specs.Identifier.{constructed, primitive};
+ghost use Rattle.camel_map.specs.Written.{before};
+
+use crate::criteria::{read_listed, read_number_criterion};
+use crate::encoding::element::put_number_leaf;
+use crate::encoding::list::{put_any, put_some};
+use crate::encoding::value::{CallTypeField, Cause, NumberField, Service};
+use crate::encoding::writer::{TooLong, Writer};
+use crate::field::{find_field, mandatory, read_present};
+use crate::identifier::{CONSTRUCTED, ENUMERATED, PRIMITIVE};
+use crate::item::MapItem;
+use crate::map_fault::MapFault;
+use crate::reading::or_refused_at;
+use crate::value::{read_basic_service, read_call_type, read_cause, read_detection_point};
+use camel_ber::Element;
+use camel_criteria::{BasicService, CallType, NumberCriterion, OCriteria, TCriteria};
+use std::alloc::{AllocError, Global};
+
+/// The entry that is sent for none, with the detection point 255, which is in no CSI.
+const IGNORED_ENTRY: [u8; 6] = [0x30, 4, 0x0a, 2, 0, 255];
+
+impl MapItem for OCriteria {
+    ghost use Rattle.camel_map.specs.Criteria.{o_entry_of_fields};
+    ghost use Rattle.camel_map.specs.Encoding.{ignored_o_entry, o_entry_fields};
+
+    ghost of_fields = { o_entry_of_fields };
+
+    ghost fields_of = { o_entry_fields };
+
+    ghost ignored = { ignored_o_entry };
+
+    #[tactic(auto, unfolding(crate::specs::Criteria::o_entry_of_fields))]
+    fn read_fields(
+        alloc: Global,
+        item: &Element<'_>,
+        fields: &[Element<'_>],
+    ) -> Result<OCriteria, MapFault> {
+        let dp = read_detection_point(&mandatory(item, ENUMERATED, fields)?)?;
+        let number = read_present(
+            find_field(fields, CONSTRUCTED)?,
+            |field| read_number_criterion(alloc, field),
+        )?;
+        let basic = read_listed(
+            alloc,
+            find_field(fields, CONSTRUCTED + 1)?,
+            read_basic_service,
+        )?;
+        let call_type = read_present(find_field(fields, PRIMITIVE + 2)?, read_call_type)?;
+        let causes = read_listed(alloc, find_field(fields, CONSTRUCTED + 3)?, read_cause)?;
+        let made = OCriteria::new(alloc, dp, number, &basic, call_type, &causes);
+        or_refused_at(item.place, made)
+    }
+
+    fn copy(&self) -> Result<OCriteria, AllocError> {
+        self.clone()
+    }
+
+    #[tactic(auto, using(crate::proofs::Written::Elements::before_append))]
+    fn put_fields(&self, writer: &mut Writer) -> Result<(), TooLong> {
+        put_behind_number(writer, self)?;
+        put_any::<NumberField, NumberCriterion>(writer, self.number())?;
+        put_number_leaf(writer, ENUMERATED, u32::from(self.dp()))
+    }
+
+    #[tactic(auto, unfolding(crate::specs::Encoding::encodings))]
+    fn put_ignored(writer: &mut Writer) -> Result<(), TooLong> {
+        writer.put_all(&IGNORED_ENTRY)
+    }
+}
+
+/// The fields of an entry that stand behind its number criterion.
+#[tactic(auto, using(crate::proofs::Written::Elements::before_append))]
+fn put_behind_number(writer: &mut Writer, entry: &OCriteria) -> Result<(), TooLong>
+    ensures { OnOk result (writer.new ≡ before (if_some (constructed 1) service_element entry.now.basic
+        ++ if_any (λ call_type. leaf (primitive 2) (call_type_number call_type ∷ [])) entry.now.call_type
+        ++ if_some (constructed 3) cause_element entry.now.causes) writer.old) }
+{
+    put_some::<Cause, u8>(writer, CONSTRUCTED + 3, entry.causes())?;
+    let call_type = entry.call_type();
+    put_any::<CallTypeField, CallType>(writer, call_type.as_ref())?;
+    put_some::<Service, BasicService>(writer, CONSTRUCTED + 1, entry.basic())
+}
+
+impl MapItem for TCriteria {
+    ghost use Rattle.camel_map.specs.Criteria.{t_entry_of_fields};
+    ghost use Rattle.camel_map.specs.Encoding.{ignored_t_entry, t_entry_fields};
+
+    ghost of_fields = { t_entry_of_fields };
+
+    ghost fields_of = { t_entry_fields };
+
+    ghost ignored = { ignored_t_entry };
+
+    #[tactic(auto, unfolding(crate::specs::Criteria::t_entry_of_fields))]
+    fn read_fields(
+        alloc: Global,
+        item: &Element<'_>,
+        fields: &[Element<'_>],
+    ) -> Result<TCriteria, MapFault> {
+        let dp = read_detection_point(&mandatory(item, ENUMERATED, fields)?)?;
+        let basic = read_listed(alloc, find_field(fields, CONSTRUCTED)?, read_basic_service)?;
+        let causes = read_listed(alloc, find_field(fields, CONSTRUCTED + 1)?, read_cause)?;
+        or_refused_at(item.place, TCriteria::new(dp, &basic, &causes))
+    }
+
+    fn copy(&self) -> Result<TCriteria, AllocError> {
+        self.clone()
+    }
+
+    #[tactic(auto, using(crate::proofs::Written::Elements::before_append))]
+    fn put_fields(&self, writer: &mut Writer) -> Result<(), TooLong> {
+        put_some::<Cause, u8>(writer, CONSTRUCTED + 1, self.causes())?;
+        put_some::<Service, BasicService>(writer, CONSTRUCTED, self.basic())?;
+        put_number_leaf(writer, ENUMERATED, u32::from(self.dp()))
+    }
+
+    #[tactic(auto, unfolding(crate::specs::Encoding::encodings))]
+    fn put_ignored(writer: &mut Writer) -> Result<(), TooLong> {
+        writer.put_all(&IGNORED_ENTRY)
+    }
+}

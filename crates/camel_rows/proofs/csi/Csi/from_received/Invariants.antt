@@ -1,7 +1,0 @@
-use Rattle.std.proofs.Common.{◌≡◌, take}
-use Rattle.camel_rows.specs.Received.{items_at}
-use Rattle.camel_rows.proofs.csi.Csi.from_received.Given as goal
-
--- the rows that were kept so far are those of the detection points among the ones before
-abbrev pub invariant-loop-row : goal.invariant-loop-row
-invariant-loop-row g l = l.csi ≡ items_at (λ row. row.dp) l.fn.points (take l.row-index l.fn.received)
