@@ -7,6 +7,7 @@ HEAD = re.compile(r'( *)(?:pub(?:\([\w ]+\))? )?(?:(?:const|unsafe|extern "C") )
 METHODS = re.compile(r"impl(?:<.*?>)? (\w+)(?!.* for )")
 # A comment, and advice to the tactics: neither changes what is stated.
 UNSTATED = re.compile(r"\s*(?://|--|#\[tactic\()")
+IMPORT = re.compile(r"\s*ghost use ([\w.+-]+)\.\{(.*)\};$")
 
 
 class Function(NamedTuple):
@@ -45,7 +46,14 @@ def functions_in(path, text):
 
 
 def stated(text):
-    """What the text of a file states: its lines but for bodies, comments and advice to the tactics."""
+    """What the text of a file states: its lines but for bodies, comments and advice to the tactics, however they are
+    broken, and what it imports."""
     lines = text.split("\n")
     inside = {line for _, _, brace, last in bodies_in(lines) for line in range(brace + 1, last)}
-    return "\n".join(line for at, line in enumerate(lines) if at not in inside and not UNSTATED.match(line))
+    imports, words = set(), []
+    for at, line in enumerate(lines):
+        if imported := IMPORT.match(line):
+            imports.update(f"{imported[1]}.{name}" for name in imported[2].split(", "))
+        elif at not in inside and not UNSTATED.match(line):
+            words += line.split()
+    return "\n".join([*sorted(imports), " ".join(words)])
