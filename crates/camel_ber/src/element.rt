@@ -1,7 +1,8 @@
 ghost use Rattle.std.specs.Prelude.{◌≡◌, ◌≤◌, ◌<◌, ◌+◌, ℕ, suc, List, length, slice_index, Result, Ok, IfOk};
 ghost use Rattle.camel_ber.specs.declared.fault.Fault.{Fault};
 ghost use Rattle.camel_ber.specs.Grammar.{ElementData, IsSeries};
-ghost use Rattle.camel_ber.specs.Reading.{Answers, ElementReader, EndReader, Gives, content_of, end_by, element_at, elements, octets_data, place_of, series_of, view, views};
+ghost use Rattle.camel_ber.specs.Reading.{Answers, ElementReader, EndReader, Gives, content_of, end_by, element_at};
+ghost use Rattle.camel_ber.specs.Reading.{elements, octets_data, place_of, series_of, view, views};
 
 use crate::fault::{Fault, FaultKind, ReadError};
 use crate::identifier::read_identifier;

@@ -22,7 +22,8 @@ impl BasicService {
     pub fn is_emergency(&self) -> bool
         ensures { result ≡ is_emergency self.now }
     {
-        // Kind and octet are compared as one number: which kind a call is of cannot be foreseen, and so makes no branch.
+        // Kind and octet are compared as one number: which kind a call is of cannot be foreseen, and so makes no
+        // branch.
         let (BasicService::Tele(octet) | BasicService::Bearer(octet)) = *self;
         let is_bearer = matches!(self, BasicService::Bearer(_));
         u16::from(is_bearer) * 256 + u16::from(octet) == u16::from(EMERGENCY_CALLS)

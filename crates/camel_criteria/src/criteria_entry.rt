@@ -22,8 +22,8 @@ pub trait CriteriaEntry: AtDetectionPoint + Clone + Drop {
     fn detection_points() -> &'static [u8]
         ensures { result.now ≡ points };
 
-    /// What stands in a place for an entry that holds none. A comparison with it makes no other branch than one with most
-    /// entries does. It takes no memory.
+    /// What stands in a place for an entry that holds none. A comparison with it makes no other branch than one with
+    /// most entries does. It takes no memory.
     fn filler() -> Self;
 
     ghost clones_equal: { (old new : Self) → Self.is_clone old new → new ≡ old };

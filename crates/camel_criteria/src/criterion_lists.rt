@@ -12,9 +12,9 @@ use camel_tbcd::{Address, IsdnAddress, Profile};
 use std::alloc::{AllocError, Global};
 use std::marker::Model;
 
-// The lists of a destination number criterion, with its match type. Lists that are short are kept in place, so that they
-// are read with the criterion: one to three numbers and no length, as most criteria list, or up to two numbers with
-// lengths. Others are kept apart from it, in one block.
+// The lists of a destination number criterion, with its match type. Lists that are short are kept in place, so that
+// they are read with the criterion: one to three numbers and no length, as most criteria list, or up to two numbers
+// with lengths. Others are kept apart from it, in one block.
 #[derive(Drop)]
 pub(crate) enum CriterionLists {
     FewEnabling(FewNumbers),
@@ -57,8 +57,9 @@ impl<const MOST: usize> Lists<MOST> {
         }
     }
 
-    // Whether a destination meets the criterion of these lists, under a profile. Few criteria are kept so: this is a call
-    // of its own, and takes the destination by value, so that a decision by few numbers writes no destination to memory.
+    // Whether a destination meets the criterion of these lists, under a profile. Few criteria are kept so: this is a
+    // call of its own, and takes the destination by value, so that a decision by few numbers writes no destination to
+    // memory.
     #[inline(never)]
     fn is_met_by(&self, destination: Address, profile: Profile) -> bool
         ensures { result ≡ number_met profile self.now (octets destination.entry) }
@@ -102,7 +103,8 @@ impl CriterionLists {
     ) -> Result<CriterionLists, AllocError>
         requires numbers { length numbers.now ≤ MAX_NUMBERS }
         requires lengths { length lengths.now ≤ MAX_LENGTHS }
-        ensures { IfOk result (λ lists. criterion_of lists ≡ record { match_type = match_type; numbers = numbers.now; lengths = lengths.now }) }
+        ensures { IfOk result (λ lists. criterion_of lists
+            ≡ record { match_type = match_type; numbers = numbers.now; lengths = lengths.now }) }
     {
         Ok(match FewNumbers::from_slice(numbers) {
             Some(few) if lengths.is_empty() => CriterionLists::few(match_type, few),
@@ -166,8 +168,8 @@ impl CriterionLists {
     }
 
     // Whether a destination meets the criterion of these lists, under a profile. Each way of keeping them has its own
-    // comparison, so that the most frequent one has no test of the others. Few numbers are compared with what is asked of
-    // them, since neither that nor which of them agrees can be foreseen: one branch is left of both, for the answer.
+    // comparison, so that the most frequent one has no test of the others. Few numbers are compared with what is asked
+    // of them, since neither that nor which of them agrees can be foreseen: one branch is left of both, for the answer.
     #[inline(always)]
     pub(crate) fn is_met_by(&self, destination: &Address, profile: Profile) -> bool
         ensures { result ≡ number_met profile (criterion_of self.now) (octets destination.now) }

@@ -10,7 +10,8 @@ ghost use Rattle.camel_tbcd.specs.declared.profile.Profile.{Profile};
 /// definitions in the words of TS 23.078 say so. It does nothing when it is called.
 pub fn criteria_mean()
     ensures number { (profile : Profile) (criterion : NumberCriterionData) (destination : List ℕ)
-        → IsTrue (number_met profile criterion destination) ↔ NumberMetBy profile criterion.match_type criterion destination }
+        → IsTrue (number_met profile criterion destination)
+        ↔ NumberMetBy profile criterion.match_type criterion destination }
     ensures o_entry { (profile : Profile) (entry : OCriteriaData) (event : OEventData)
         → IsTrue (o_met profile entry event) ↔ OMet profile entry event }
     ensures t_entry { (entry : TCriteriaData) (event : TEvent) → IsTrue (t_met entry event) ↔ TMet entry event }

@@ -30,7 +30,8 @@ pub fn o_met(entry: &OCriteria, event: &OEvent, profile: Profile) -> bool
 // its own, and takes values, so that a decision by the number writes no event to memory.
 #[inline(never)]
 fn others_met(entry: &OCriteria, basic: BasicService, forwarded: bool, cause: Option<Cause>) -> bool
-    ensures { result ≡ (basic_met entry.now.basic basic && (type_met entry.now.call_type forwarded && cause_met entry.now.causes cause)) }
+    ensures { result ≡ (basic_met entry.now.basic basic
+        && (type_met entry.now.call_type forwarded && cause_met entry.now.causes cause)) }
 {
     basic_met(entry.basic(), basic)
         && type_met(entry.call_type(), forwarded)

@@ -24,8 +24,8 @@ pub const MAX_LENGTHS: usize = 3;
 /// A destination number criterion (DestinationNumberCriteria of TS 29.002): a match type, listed numbers and
 /// listed lengths.
 ///
-/// It takes 32 octets, and no memory apart from them if it lists one to three numbers and no length, or up to two numbers
-/// with lengths; else one block.
+/// It takes 32 octets, and no memory apart from them if it lists one to three numbers and no length, or up to two
+/// numbers with lengths; else one block.
 #[derive(Drop)]
 pub struct NumberCriterion {
     lists: CriterionLists,

@@ -119,7 +119,8 @@ fn replay_as<R: Threads + Wait, I: Read + Drop, W: Write>(
     ensures stopped { IfErr result (λ fault. IfSome (I.remaining reader) (λ bytes.
         (promise_of options.threads options.profile options.limit).stop (W.contents out.old) (W.contents out.new)
         (script bytes max_records) fault)) }
-    ensures codes { IfErr result (λ fault. (promise_of options.threads options.profile options.limit).codes fault.code ≡ true) }
+    ensures codes { IfErr result
+        (λ fault. (promise_of options.threads options.profile options.limit).codes fault.code ≡ true) }
 {
     match options.threads {
         None => replay(alloc, reader, out, options.limit, options.profile),

@@ -7,8 +7,8 @@
 //!   are those of `camel_audit`, which is also for switches that replay nothing.
 //!
 //! The replay on one thread is that of `camel_script_replay`, whose public items are here too. The output with threads
-//! is stated in `specs/ThreadsOutput.antt`, and the contracts of `replay_threads` and `run` state it over a reader and a
-//! writer whose bytes a contract knows, as slices and vectors. What a file, a pipe or a terminal gives and takes, no
+//! is stated in `specs/ThreadsOutput.antt`, and the contracts of `replay_threads` and `run` state it over a reader and
+//! a writer whose bytes a contract knows, as slices and vectors. What a file, a pipe or a terminal gives and takes, no
 //! contract can say.
 #![tactic(auto)]
 

@@ -7,7 +7,8 @@ ghost use Rattle.camel_script.specs.Script.{script};
 ghost use Rattle.camel_script_replay.specs.Limits.{max_limit, max_records};
 ghost use Rattle.camel_replay_lib.specs.Limits.{max_threads};
 ghost use Rattle.camel_replay_lib.specs.ThreadsFault.{is_threaded_replay_code};
-ghost use Rattle.camel_replay_lib.specs.Rounds.{AreNumbered, HasAnswered, HasNoEntries, IsNewWriter, WritesScript, entries_in, session_in};
+ghost use Rattle.camel_replay_lib.specs.Rounds.{AreNumbered, HasAnswered, HasNoEntries, IsNewWriter, WritesScript};
+ghost use Rattle.camel_replay_lib.specs.Rounds.{entries_in, session_in};
 ghost use Rattle.camel_replay_lib.specs.Round.{IsOfStore};
 ghost use Rattle.camel_replay_lib.specs.ThreadsOutput.{IsThreadsOutput, script_calls, sessions_text};
 ghost use Rattle.camel_replay_lib.specs.ThreadsWritten.{ThreadsStop, WritesThreadsOutput};
@@ -53,9 +54,9 @@ use std::thread::Threads;
 ///
 /// Ok: the script has no fault, and its whole output was written, with nothing else: the lines of the records that are
 /// no calls, the lines of the calls, session by session, and `audit ok`, since the audit has found that the published
-/// updates explain each answer. It is made in parts of the subscribers, by `threads` threads, which then make the lines,
-/// and beside them ([`camel_audit::passes_in_part`]); if a part doesn't pass, [`camel_audit::audit`] is its end. After a
-/// fault nothing was written, except after [`WRITE_FAULT`] (208):
+/// updates explain each answer. It is made in parts of the subscribers, by `threads` threads, which then make the
+/// lines, and beside them ([`camel_audit::passes_in_part`]); if a part doesn't pass, [`camel_audit::audit`] is its end.
+/// After a fault nothing was written, except after [`WRITE_FAULT`] (208):
 ///
 /// | Fault | Its number | What was written |
 /// |---|---|---|
@@ -86,9 +87,11 @@ pub fn replay_threads<I: Read + Drop, O: Write, G: Gate, R: Threads + Wait>(
     requires threads { (1 ≤ threads) × (threads ≤ max_threads) }
     requires limit { (1 ≤ limit) × (limit ≤ max_limit) }
     ensures whole { OnOk result (IfSome (I.remaining reader) (λ bytes.
-        WritesThreadsOutput (O.contents writer.old) (O.contents writer.new) threads profile limit (script bytes max_records))) }
+        WritesThreadsOutput (O.contents writer.old) (O.contents writer.new) threads profile limit
+        (script bytes max_records))) }
     ensures stopped { IfErr result (λ fault. IfSome (I.remaining reader) (λ bytes.
-        ThreadsStop (O.contents writer.old) (O.contents writer.new) threads profile limit (script bytes max_records) fault)) }
+        ThreadsStop (O.contents writer.old) (O.contents writer.new) threads profile limit
+        (script bytes max_records) fault)) }
     ensures codes { IfErr result (λ fault. is_threaded_replay_code fault.code ≡ true) }
 {
     let records = read_script(alloc, reader)?;
@@ -204,7 +207,8 @@ fn run_rounds<G: Gate, R: Threads + Wait, W: Wait + Drop>(
     requires empty { All HasNoEntries seats.items }
     requires same_store { All (IsOfStore writer.store.store) seats.items }
     requires new { IsNewWriter writer }
-    ensures writer { IfOk result (λ done. WritesScript writer.store.store.profile writer.store.store.limit records.items done.0) }
+    ensures writer { IfOk result
+        (λ done. WritesScript writer.store.store.profile writer.store.store.limit records.items done.0) }
     ensures numbered { IfOk result (λ done. AreNumbered 0 done.1.items) }
     ensures count { IfOk result (λ done. length done.1.items ≡ length seats.items) }
     ensures answered { IfOk result (λ done.

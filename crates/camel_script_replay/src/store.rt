@@ -47,7 +47,8 @@ impl Model for Store {
       updates = record { published = a.published.value; pending = a.pending.items };
     } };
 
-    ghost invariant = { λ a. IsSound a.admission a.records (record { published = a.published.value; pending = a.pending.items }) };
+    ghost invariant = { λ a. IsSound a.admission a.records
+        (record { published = a.published.value; pending = a.pending.items }) };
 }
 
 impl Store {
@@ -97,7 +98,8 @@ impl Store {
     /// Fails only with `OutOfMemory` (102). The store is then as it was, but that a publication may have published the
     /// first of its updates; the next one publishes the others.
     pub fn answer(&mut self, script_record: Record) -> Result<Line, Refusal>
-        ensures line { IfOk result (λ line. line ≡ line_of self.old.profile self.old.limit self.old.updates script_record) }
+        ensures line { IfOk result
+            (λ line. line ≡ line_of self.old.profile self.old.limit self.old.updates script_record) }
         ensures after { OnOk result (self.new ≡ store_after self.old script_record) }
         ensures refused { OnErr result (IsRefusedMemory self.old script_record self.new) }
         ensures only { IfErr result (λ why. why ≡ Refusal.OutOfMemory) }
@@ -113,7 +115,8 @@ impl Store {
     /// As `answer`, of a record in its place. A call stays there. Of any other record a [`Record::Publish`] is there
     /// afterwards, also after a failure, so an update that was refused memory is gone.
     pub fn answer_from(&mut self, script_record: &mut Record) -> Result<Line, Refusal>
-        ensures line { IfOk result (λ line. line ≡ line_of self.old.profile self.old.limit self.old.updates script_record.old) }
+        ensures line { IfOk result
+            (λ line. line ≡ line_of self.old.profile self.old.limit self.old.updates script_record.old) }
         ensures after { OnOk result (self.new ≡ store_after self.old script_record.old) }
         ensures refused { OnErr result (IsRefusedMemory self.old script_record.old self.new) }
         ensures place { script_record.new ≡ left_in_place script_record.old }
@@ -127,7 +130,8 @@ impl Store {
 
     /// Submits an update, and returns its line.
     fn line_of_update(&mut self, update: Update) -> Result<Line, Refusal>
-        ensures line { IfOk result (λ line. line ≡ line_of self.old.profile self.old.limit self.old.updates (Record.Update update)) }
+        ensures line { IfOk result
+            (λ line. line ≡ line_of self.old.profile self.old.limit self.old.updates (Record.Update update)) }
         ensures after { OnOk result (self.new ≡ store_after self.old (Record.Update update)) }
         ensures unchanged { OnErr result (self.new ≡ self.old) }
         ensures only { IfErr result (λ why. why ≡ Refusal.OutOfMemory) }

@@ -1,10 +1,12 @@
-ghost use Rattle.std.specs.Prelude.{◌≡◌, ◌≤◌, ◌^◌, ◌/◌, ◌%◌, ◌↔◌, length, position, take, ◌*◌, nat_eq, nat_lt, All, IsNone, IfOk, IfSome, IsOk};
+ghost use Rattle.std.specs.Prelude.{◌≡◌, ◌≤◌, ◌^◌, ◌/◌, ◌%◌, ◌↔◌, length, position, take, ◌*◌, nat_eq, nat_lt, All};
+ghost use Rattle.std.specs.Prelude.{IsNone, IfOk, IfSome, IsOk};
 ghost use Rattle.std.specs.Ordering.{nat_cmp, as_partial_cmp};
 ghost use Rattle.std.specs.Cmp.{partial_equiv_from_equiv, partial_order_from_agreeing_total};
 ghost use Rattle.std.specs.Cmp.Lexicographic.{slice_cmp, pointwise, nat_list_cmp_total, nat_list_eq_equiv, texts_ties};
 ghost use Rattle.std.proofs.Common.{refl};
 ghost use Rattle.camel_tbcd.specs.Digits.{nibbles};
-ghost use Rattle.camel_tbcd.specs.Imsi.{IsImsi, digit_values, imsi_of, imsi_of_ascii, imsi_of_nibbles, imsi_of_tbcd, without_filler};
+ghost use Rattle.camel_tbcd.specs.Imsi.{IsImsi, digit_values, imsi_of, imsi_of_ascii, imsi_of_nibbles, imsi_of_tbcd};
+ghost use Rattle.camel_tbcd.specs.Imsi.{without_filler};
 ghost use Rattle.camel_tbcd.specs.ImsiNumber.{IsNumberOfNone, digits_of_number, imsi_number};
 ghost use Rattle.camel_tbcd.specs.ImsiFault.{imsi_fault_code};
 
@@ -80,7 +82,8 @@ impl Model for Imsi {
 
     ghost view = { λ a. digits_of_number a.number };
 
-    ghost invariant = { λ a. IsImsi (digits_of_number a.number) × (a.number ≡ imsi_number (digits_of_number a.number)) };
+    ghost invariant = { λ a. IsImsi (digits_of_number a.number)
+        × (a.number ≡ imsi_number (digits_of_number a.number)) };
 
     ghost inverse = { λ digits. record { number = imsi_number digits } };
 

@@ -23,7 +23,8 @@ impl Model for ImsiSlot {
 
     ghost view = { λ a. imsi_of_number a.number };
 
-    ghost invariant = { λ a. IfSome (imsi_of_number a.number) (λ digits. IsImsi digits × (a.number ≡ imsi_number digits)) };
+    ghost invariant = { λ a. IfSome (imsi_of_number a.number)
+        (λ digits. IsImsi digits × (a.number ≡ imsi_number digits)) };
 }
 
 impl ImsiSlot {

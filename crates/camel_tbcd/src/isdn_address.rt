@@ -127,15 +127,17 @@ impl IsdnAddress {
         self.read()
     }
 
-    /// Whether a destination begins with this number: both agree in what the profile compares of octet 1, and the digits
-    /// of this number are the first ones of the destination's. It does not branch, since nothing of this can be foreseen.
+    /// Whether a destination begins with this number: both agree in what the profile compares of octet 1, and the
+    /// digits of this number are the first ones of the destination's. It does not branch, since nothing of this can be
+    /// foreseen.
     pub fn is_front_of(&self, destination: &Address, profile: Profile) -> bool
-        ensures { result ≡ (agrees profile self.now (octets destination.now) && starts_with nat_eq (digits (octets destination.now)) (digits self.now)) }
+        ensures { result ≡ (agrees profile self.now (octets destination.now)
+            && starts_with nat_eq (digits (octets destination.now)) (digits self.now)) }
     {
         let front = self.read();
         let digits = destination.digits();
-        // Half of the bits after the digits of this number: all of them can be too many for one shift. A destination with
-        // fewer digits differs by the filler behind them.
+        // Half of the bits after the digits of this number: all of them can be too many for one shift. A destination
+        // with fewer digits differs by the filler behind them.
         let half = 2 * self.fewer();
         let differing = (digits.number() ^ front.number()) << half << half;
         let differing_first = differing_bits(self.room[0], destination.bytes()[0], profile);

@@ -3,8 +3,8 @@ use std::alloc::Global;
 use std::rt::Clock;
 use std::time::Instant;
 
-/// The octets of an InsertSubscriberDataArg in hexadecimal, 140 of them: an IMSI, an MSISDN, a category, a status, and an
-/// O-CSI of two rows with an entry of each kind of criterion and one of causes.
+/// The octets of an InsertSubscriberDataArg in hexadecimal, 140 of them: an IMSI, an MSISDN, a category, a status, and
+/// an O-CSI of two rows with an entry of each kind of criterion and one of causes.
 const ARGUMENT: &[u8] =
     b"308189800862020100000000f18108919471160000002182010a830100ad6da029302730110a01020201\
     64800691947116000081010030120a01040202012c8006919471160000810101a44030310a0102a02180\

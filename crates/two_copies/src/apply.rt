@@ -35,8 +35,8 @@ pub trait Apply<O: Drop> {
             (λ _. state self.new ≡ restored (state self.old) operation.now (state other.now))
             (λ _. state self.new ≡ state self.old) };
 
-    /// Gets ready for operations that are applied next, in their order: it may ask for memory that they will need, and read
-    /// what they will change, so that these reads go to memory together. Either way the state is as before.
+    /// Gets ready for operations that are applied next, in their order: it may ask for memory that they will need, and
+    /// read what they will change, so that these reads go to memory together. Either way the state is as before.
     fn make_ready(&mut self, operations: &VecDeque<O, Global>) -> Result<(), AllocError>
         ensures { state self.new ≡ state self.old }
     {

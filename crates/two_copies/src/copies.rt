@@ -1,5 +1,6 @@
 //! The writer.
-ghost use Rattle.std.specs.Prelude.{◌≡◌, ◌≢◌, ◌<◌, ◌≤◌, ◌↔◌, [], ◌∷◌, ◌++◌, fold, length, true, All, IsTrue, MatchResult, OnErr, OnOk, IfErr, IfOk, Err, Some};
+ghost use Rattle.std.specs.Prelude.{◌≡◌, ◌≢◌, ◌<◌, ◌≤◌, ◌↔◌, [], ◌∷◌, ◌++◌, fold, length, true, All, IsTrue};
+ghost use Rattle.std.specs.Prelude.{MatchResult, OnErr, OnOk, IfErr, IfOk, Err, Some};
 ghost use Rattle.std.specs.Arc.{arc_value};
 ghost use Rattle.two_copies.specs.Log.{IsAlike, pending_in};
 ghost use Rattle.two_copies.specs.Places.{IsOneMore};
@@ -257,7 +258,8 @@ impl<T: Drop + Apply<O>, O: Drop, F: CopyRule<T>> Copies<T, O, F> {
         ensures published { OnOk result (T.state (shown_by self.new)
             ≡ fold T.applied (T.state (shown_by self.old)) (pending_of self.old)) }
         ensures none { OnOk result (pending_of self.new ≡ []) }
-        ensures unchanged { OnErr result ((shown_by self.new ≡ shown_by self.old) × (pending_of self.new ≡ pending_of self.old)) }
+        ensures unchanged { OnErr result
+            ((shown_by self.new ≡ shown_by self.old) × (pending_of self.new ≡ pending_of self.old)) }
         ensures free { IsFree self.old → result ≢ Err Held }
         ensures held { IfErr result (λ why. (why ≡ Held) ↔ (IsFree self.new → ⊥)) }
         ensures keeps { OnErr result (IsFree self.old → IsFree self.new) }
@@ -291,7 +293,8 @@ impl<T: Drop + Apply<O>, O: Drop, F: CopyRule<T>> Copies<T, O, F> {
         requires next { All (IsNextAt (arc_value self.old.spare)) self.old.places.items }
         requires holds { F.holds (arc_value self.old.spare) }
         requires follows { F.follows (shown_by self.old) (arc_value self.old.spare) }
-        ensures published { T.state (shown_by self.new) ≡ fold T.applied (T.state (shown_by self.old)) (pending_of self.old) }
+        ensures published { T.state (shown_by self.new)
+            ≡ fold T.applied (T.state (shown_by self.old)) (pending_of self.old) }
         ensures none { pending_of self.new ≡ [] }
         ensures places { places_of self.new ≡ places_of self.old }
     {
@@ -306,7 +309,8 @@ impl<T: Drop + Apply<O>, O: Drop, F: CopyRule<T>> Copies<T, O, F> {
     /// Each look that begins once it has returned finds that the copies have ended, whether it succeeded or not. Looks
     /// that are held go on. If there is one, it fails, and [`Ending::end`] is to be tried again.
     pub fn end(self) -> Result<T, Ending<T, F>>
-        ensures value { MatchResult result (λ value. value ≡ shown_by self) (λ ending. value_of ending ≡ shown_by self) }
+        ensures value { MatchResult result (λ value. value ≡ shown_by self)
+            (λ ending. value_of ending ≡ shown_by self) }
         ensures closed { IfErr result (λ ending. closed_count ending ≡ reader_count self) }
     {
         self.close().end()

@@ -39,7 +39,8 @@ impl<T: Drop, F: CopyRule<T>> Ending<T, F> {
     /// Ends the copies, if no look is held any more, and returns the value that was shown last. It does not wait,
     /// takes no memory, and touches no place.
     pub fn end(self) -> Result<T, Ending<T, F>>
-        ensures value { MatchResult result (λ value. value ≡ value_of self) (λ ending. value_of ending ≡ value_of self) }
+        ensures value { MatchResult result (λ value. value ≡ value_of self)
+            (λ ending. value_of ending ≡ value_of self) }
         ensures closed { IfErr result (λ ending. closed_count ending ≡ closed_count self) }
     {
         match self.into_value() {
@@ -54,8 +55,10 @@ impl<T: Drop, F: CopyRule<T>> Ending<T, F> {
     /// The value that was shown last, with the places, if no look is held any more. Each place is closed either way.
     fn into_value(self) -> Result<(T, Places<T, F>), Ending<T, F>>
         ensures value { MatchResult result (λ r. r.0 ≡ value_of self) (λ ending. value_of ending ≡ value_of self) }
-        ensures count { MatchResult result (λ r. length r.1.items ≡ closed_count self) (λ ending. closed_count ending ≡ closed_count self) }
-        ensures closed { MatchResult result (λ r. ∥ All IsClosedAt r.1.items ∥₁) (λ ending. ∥ All IsClosedAt ending.places.items ∥₁) }
+        ensures count { MatchResult result (λ r. length r.1.items ≡ closed_count self)
+            (λ ending. closed_count ending ≡ closed_count self) }
+        ensures closed { MatchResult result (λ r. ∥ All IsClosedAt r.1.items ∥₁)
+            (λ ending. ∥ All IsClosedAt ending.places.items ∥₁) }
     {
         // Each place is closed, so only a look that is held has a further share, and no new look gets one.
         if Arc::strong_count(&self.spare) != 1 {

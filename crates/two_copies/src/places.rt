@@ -35,7 +35,8 @@ pub(crate) fn put<T: Drop, F: CopyRule<T>>(
     mut end: WriterEnd<T, F>,
 ) -> Result<Option<Board<T, F>>, NoReader>
     requires { length places.old.items ≤ MAX_READERS }
-    ensures put { IfOk result (λ left. IsPut (option_map (λ board. board.shared.table_id) left) end places.old.items places.new.items) }
+    ensures put { IfOk result
+        (λ left. IsPut (option_map (λ board. board.shared.table_id) left) end places.old.items places.new.items) }
     ensures same { OnErr result (places.new.items ≡ places.old.items) }
     ensures no_place { result ≡ Err NoPlace → length places.old.items ≡ MAX_READERS }
     ensures room { length places.new.items ≤ MAX_READERS }

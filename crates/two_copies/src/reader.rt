@@ -62,7 +62,8 @@ impl<T: Drop, F: CopyRule<T>> Reader<T, F> {
         ensures follows { IfOk result (λ look. IsSomeAnd (seen_by self) (λ seen. F.follows seen (shown_in look))) }
         ensures ended { IfErr result (λ reader. seen_by reader ≡ None) }
         ensures for_good { seen_by self ≡ None → IsErr result }
-        ensures place { MatchResult result (λ look. place_in look ≡ place_of self) (λ reader. place_of reader ≡ place_of self) }
+        ensures place { MatchResult result (λ look. place_in look ≡ place_of self)
+            (λ reader. place_of reader ≡ place_of self) }
     {
         let Reader { board, mut seat } = self;
         match enter(&board, &mut seat) {

@@ -31,7 +31,8 @@ fn refused_memory_leaves_all_as_it_was(rt: HostRuntime) {
     assert!(rt; all_is_shown_after_two_refusals(rt.alloc()) == Some(true));
 }
 
-// Publications of 5, of 7 and of nothing, after 1 and 2 were pending, applied to one copy, and dropped: what each shows.
+// Publications of 5, of 7 and of nothing, after 1 and 2 were pending, applied to one copy, and dropped: what each
+// shows.
 fn drops_what_one_copy_has(copies: &mut Sums) -> Option<[u64; 3]> {
     copies.push(1).ok()?;
     copies.push(2).ok()?;

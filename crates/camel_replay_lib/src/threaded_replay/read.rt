@@ -16,8 +16,10 @@ pub(crate) fn read_script<I: Read + Drop>(
     alloc: Global,
     reader: I,
 ) -> Result<VecDeque<Record>, ReplayFault>
-    ensures whole { IfOk result (λ records. IfSome (I.remaining reader) (λ bytes. IsAllOf (script bytes max_records) records.items)) }
-    ensures stopped { IfErr result (λ fault. IfSome (I.remaining reader) (λ bytes. StopsReading (script bytes max_records) fault)) }
+    ensures whole { IfOk result
+        (λ records. IfSome (I.remaining reader) (λ bytes. IsAllOf (script bytes max_records) records.items)) }
+    ensures stopped { IfErr result
+        (λ fault. IfSome (I.remaining reader) (λ bytes. StopsReading (script bytes max_records) fault)) }
     ensures codes { IfErr result (λ fault. is_reading_code fault.code ≡ true) }
 {
     let mut script = match Script::new(alloc, reader, MAX_RECORDS) {

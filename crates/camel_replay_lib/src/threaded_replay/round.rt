@@ -4,7 +4,8 @@
 ghost use Rattle.std.specs.Prelude.{◌≡◌, ◌≤◌, true, None, Some, Err, length, All, IfErr, IfOk, IfSome, OnOk, []};
 ghost use Rattle.std.specs.List.{AllZip};
 ghost use Rattle.camel_replay_lib.specs.ThreadsFault.{fault_of_end};
-ghost use Rattle.camel_replay_lib.specs.Round.{AreWorkersOf, FrontIsAtMost, IsJoined, IsOfStore, IsPromiseOf, IsWorkerOf, ServesRound, WritesLines};
+ghost use Rattle.camel_replay_lib.specs.Round.{AreWorkersOf, FrontIsAtMost, IsJoined, IsOfStore, IsPromiseOf};
+ghost use Rattle.camel_replay_lib.specs.Round.{IsWorkerOf, ServesRound, WritesLines};
 ghost use Rattle.camel_replay_lib.specs.ThreadsOutput.{is_no_call};
 ghost use Rattle.camel_audit.specs.Serves.{Serves};
 
@@ -59,7 +60,8 @@ pub(crate) fn run_round<G: Gate, R: Threads + Wait, W: Wait + Drop>(
     requires no_calls { All (λ asked. is_no_call asked ≡ true) segment.others.items }
     ensures output { OnOk result.1 (WritesLines segment.others.items writer result.0) }
     ensures store { result.0.store.store ≡ writer.store.store }
-    ensures seats { IfOk result.1 (λ after. ServesRound writer.store.updates result.0.store.updates segment.calls.items seats.items after.items) }
+    ensures seats { IfOk result.1
+        (λ after. ServesRound writer.store.updates result.0.store.updates segment.calls.items seats.items after.items) }
 {
     thread::scope(
         thread::scope_env(),
@@ -69,7 +71,9 @@ pub(crate) fn run_round<G: Gate, R: Threads + Wait, W: Wait + Drop>(
                 × All (λ asked. is_no_call asked ≡ true) segment.others.items }
             ensures output { OnOk result.1 (WritesLines segment.others.items writer result.0) }
             ensures store { result.0.store.store ≡ writer.store.store }
-            ensures seats { IfOk result.1 (λ after. ServesRound writer.store.updates result.0.store.updates segment.calls.items seats.items after.items) }
+            ensures seats { IfOk result.1
+                (λ after. ServesRound writer.store.updates result.0.store.updates segment.calls.items seats.items
+                after.items) }
         {
             let mut writer = writer;
             let served = serve_beside(rt, scope, alloc, &mut writer, seats, segment, gate);
@@ -93,7 +97,9 @@ fn serve_beside<'s, E, G: Gate, R: Threads + Wait, W: Wait + Drop>(
     requires no_calls { All (λ asked. is_no_call asked ≡ true) segment.others.items }
     ensures output { OnOk result (WritesLines segment.others.items writer.old writer.new) }
     ensures store { writer.new.store.store ≡ writer.old.store.store }
-    ensures seats { IfOk result (λ after. ServesRound writer.old.store.updates writer.new.store.updates segment.calls.items seats.items after.items) }
+    ensures seats { IfOk result
+        (λ after. ServesRound writer.old.store.updates writer.new.store.updates segment.calls.items seats.items
+        after.items) }
 {
     let Segment { calls, others } = segment;
     let workers = start_all(scope, alloc, writer, seats, &calls, gate)?;
@@ -112,7 +118,8 @@ fn start_all<'s, E, G: Gate, W: Wait + Drop>(
 ) -> Result<VecDeque<Worker>, AllocError>
     requires some { 1 ≤ length seats.items }
     requires same_store { All (IsOfStore writer.now.store.store) seats.items }
-    ensures { IfOk result (λ workers. AreWorkersOf writer.now.store (length seats.items) calls.now seats.items workers.items) }
+    ensures { IfOk result (λ workers. AreWorkersOf writer.now.store
+        (length seats.items) calls.now seats.items workers.items) }
 {
     let threads = seats.len() as u64;
     let mut seats = seats;

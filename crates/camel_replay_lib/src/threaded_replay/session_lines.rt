@@ -59,8 +59,8 @@ struct Joined {
     texts: Result<VecDeque<Vec<u8>>, Refusal>,
 }
 
-/// Audits what the sessions answered, and appends their lines, which threads make. A fault of the audit comes before one
-/// of the lines. The lines are put together in the memory of the updates and the transcripts.
+/// Audits what the sessions answered, and appends their lines, which threads make. A fault of the audit comes before
+/// one of the lines. The lines are put together in the memory of the updates and the transcripts.
 pub(crate) fn audit_beside_lines<R: Threads + Wait>(
     rt: &R,
     alloc: Global,
@@ -94,7 +94,8 @@ fn audit_in_threads<R: Threads + Wait>(
         rt,
         |scope| -> Result<VecDeque<Vec<u8>>, ThreadsFault>
             ensures passes { OnOk result (Passes profile updates.entry.now transcripts.entry.now) }
-            ensures lines { IfOk result (λ texts. flat_map (λ text. text.items) texts.items ≡ sessions_text 0 transcripts.entry.now) }
+            ensures lines { IfOk result
+                (λ texts. flat_map (λ text. text.items) texts.items ≡ sessions_text 0 transcripts.entry.now) }
         { audit_in_scope(rt, scope, alloc, updates, transcripts, profile) },
     )
 }
@@ -162,7 +163,8 @@ fn start_all<'s, E>(
     profile: Profile,
 ) -> Result<VecDeque<SessionThread<'s>>, ThreadsFault>
     ensures lines { IfOk result (λ started. flat_map text_of started.items ≡ sessions_text 0 transcripts.now) }
-    ensures parts { IfOk result (λ started. All PassesOf started.items → (session : ℕ) → session < length transcripts.now
+    ensures parts { IfOk result
+        (λ started. All PassesOf started.items → (session : ℕ) → session < length transcripts.now
         → PassesInPart (is_in_part (length transcripts.now + 1) (session + 1)) profile updates.now transcripts.now) }
 {
     let mut started = VecDeque::new(alloc);
@@ -249,7 +251,8 @@ fn make_lines(alloc: Global, session: u64, transcript: &Transcript) -> Result<Ve
 /// Joins the threads, session by session.
 fn join_all<R: Threads>(rt: &R, alloc: Global, started: VecDeque<SessionThread>) -> Joined
     ensures passes { result.passes ≡ true → All PassesOf started.entry.items }
-    ensures lines { IfOk result.texts (λ texts. flat_map (λ text. text.items) texts.items ≡ flat_map text_of started.entry.items) }
+    ensures lines { IfOk result.texts
+        (λ texts. flat_map (λ text. text.items) texts.items ≡ flat_map text_of started.entry.items) }
 {
     let mut started = started;
     let mut joined = Joined {
@@ -282,7 +285,8 @@ fn with_text(
     texts: Result<VecDeque<Vec<u8>>, Refusal>,
     text: Result<Vec<u8>, Refusal>,
 ) -> Result<VecDeque<Vec<u8>>, Refusal>
-    ensures { IfOk result (λ all. IsOkAnd texts (λ before. IsOkAnd text (λ last. all.items ≡ before.items ++ last ∷ []))) }
+    ensures { IfOk result (λ all. IsOkAnd texts
+        (λ before. IsOkAnd text (λ last. all.items ≡ before.items ++ last ∷ []))) }
 {
     let mut texts = texts?;
     let Ok(()) = texts.push_back(text?) else {

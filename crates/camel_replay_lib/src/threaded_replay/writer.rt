@@ -52,7 +52,8 @@ impl<W: Wait + Drop> Writer<W> {
     ) -> Result<(), ThreadsFault>
         requires no_calls { All (λ asked. is_no_call asked ≡ true) records.items }
         ensures output { OnOk result (self.new.output ≡ self.old.output
-            ++ output_from self.old.store.store.profile self.old.store.store.limit self.old.store.updates records.items) }
+            ++ output_from self.old.store.store.profile self.old.store.store.limit
+            self.old.store.updates records.items) }
         ensures updates { OnOk result (self.new.store.updates
             ≡ updates_from self.old.store.store.limit self.old.store.updates records.items) }
         ensures store { self.new.store.store ≡ self.old.store.store }
@@ -83,7 +84,9 @@ impl<W: Wait + Drop> Writer<W> {
         gate: &G,
     ) -> Result<Line, ThreadsFault>
         requires no_call { is_no_call next ≡ true }
-        ensures line { IfOk result (λ line. line ≡ line_of self.old.store.store.profile self.old.store.store.limit self.old.store.updates next) }
+        ensures line { IfOk result
+            (λ line. line ≡ line_of self.old.store.store.profile self.old.store.store.limit
+            self.old.store.updates next) }
         ensures updates { OnOk result (self.new.store.updates
             ≡ updates_after self.old.store.store.limit self.old.store.updates next) }
         ensures store { self.new.store.store ≡ self.old.store.store }
@@ -150,8 +153,11 @@ impl<W: Wait + Drop> Writer<W> {
 /// Submits a copy of an update, and keeps the update behind the accepted ones if it is accepted.
 fn submit(store: &mut Vlr, accepted: &mut Vec<Update>, update: Update) -> Result<Line, ThreadsFault>
     requires accepted { accepted.old.items ≡ accepted_updates store.old.updates }
-    ensures line { IfOk result (λ line. line ≡ line_of store.old.store.profile store.old.store.limit store.old.updates (Record.Update update)) }
-    ensures updates { OnOk result (store.new.updates ≡ updates_after store.old.store.limit store.old.updates (Record.Update update)) }
+    ensures line { IfOk result
+        (λ line. line ≡ line_of store.old.store.profile store.old.store.limit store.old.updates
+        (Record.Update update)) }
+    ensures updates { OnOk result
+        (store.new.updates ≡ updates_after store.old.store.limit store.old.updates (Record.Update update)) }
     ensures store { store.new.store ≡ store.old.store }
     ensures accepted { accepted.new.items ≡ accepted_updates store.new.updates }
     ensures only { IfErr result (λ fault. fault ≡ ThreadsFault.OutOfMemory) }

@@ -1,7 +1,8 @@
 //! The steps at a place. Each is one change of its word, with the slot that it takes or gives back.
 ghost use Rattle.std.specs.Prelude.{◌≡◌, ◌==◌, ◌%◌, [], IfSome, None, Some, not, true, false};
 ghost use Rattle.atomic_table.specs.Table.{rest};
-ghost use Rattle.two_copies.specs.Place.{AreEmpty, HasClosed, index_of, is_same, is_second, IsSlotIndex, known_of, looking, RefusesLooks, writing};
+ghost use Rattle.two_copies.specs.Place.{AreEmpty, HasClosed, index_of, is_same, is_second, IsSlotIndex, known_of};
+ghost use Rattle.two_copies.specs.Place.{looking, RefusesLooks, writing};
 ghost use Rattle.two_copies.specs.Seated.{IsSeated};
 ghost use Rattle.two_copies.specs.Slot.{Follows, Holds};
 ghost use Rattle.two_copies.specs.declared.place.Part.TheVariants.{Idle, Leaving, Whole};
