@@ -47,8 +47,8 @@ endef
 .PHONY: help try try-explain try-map replay explain explain-check program check script capture crate pages try-make \
 	proofs edits must-not-compile examples scripts streams coprocess refusals fuzz map-check map-program library install \
 	library-test library-c library-cpp library-as-shipped library-installed library-deb library-rust tools deb \
-	deb-check deb-root osmo-check osmo-source soak fuzz-c bench bench-program bench-peers bench-loop bench-map count-vlr \
-	test
+	deb-check deb-root osmo-check osmo-source standard-check soak fuzz-c bench bench-program bench-peers bench-loop \
+	bench-map count-vlr test
 # In order, so that what is missing is said before anything is built.
 .NOTPARALLEL:
 .SECONDEXPANSION:
@@ -132,6 +132,7 @@ pages: begin-$$@
 	@scripts/edits --recorded
 	@scripts/numbers
 	@scripts/words
+	@scripts/standard lines
 	@scripts/ffi --check
 	@bench/plot --check
 
@@ -239,6 +240,12 @@ osmo-check: begin-$$@ osmo-source $(if $(LIBRARY),,library)
 
 osmo-source: begin-osmo-check
 	@scripts/osmo-check source
+
+# It needs the network, and fetches the source package once.
+## Looks up what docs/STANDARD.md quotes of TS 29.002: half a minute at first, with 60 MB fetched, then seconds.
+standard-check: begin-$$@
+	@scripts/fetch-source wireshark out/standard
+	@scripts/standard quotations
 
 # It makes so many DECISIONS, or goes on for so many SECONDS if they are given. Another SEED gives other calls and
 # updates.
