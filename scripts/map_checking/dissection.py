@@ -87,8 +87,8 @@ def insert_of(invoke, imsi):
 
 def delete_of(invoke, imsi):
     bits = invoke.first(".specificCSI_Withdraw")
-    named = {node.name.rpartition("Withdraw.")[2]: node.show for node in bits.inner} if bits else {}
-    text = "000".join(named.get(name, "0") for name in ("o.csi", "vt.csi"))
+    shown = {node.name.rpartition("Withdraw.")[2]: node.show for node in bits.inner} if bits else {}
+    text = updates.bits_of(what for what in updates.BITS if shown.get(f"{what}.csi") == "1")
     return updates.Delete(imsi, bool(invoke.first(".camelSubscriptionInfoWithdraw_element")), text)
 
 

@@ -39,9 +39,8 @@ def sent_update(update):
     if isinstance(update, updates.Cancel):
         return updates.Cancel(update.imsi)
     if isinstance(update, updates.Delete):
-        named = updates.withdrawn(update)
-        bits = f"{int('o' in named)}000{int('vt' in named)}000"
-        return updates.Delete(update.imsi, "all" in named, bits if "1" in bits else None)
+        named = [what for what in updates.withdrawn(update) if what in updates.BITS]
+        return updates.Delete(update.imsi, update.everything, updates.bits_of(named) if named else None)
     return updates.Insert(update.imsi, {name: sent_items(name, items) for name, items in update.lists.items()})
 
 

@@ -5,7 +5,7 @@ The rules are those of "MAP arguments" in `docs/RULES.md`, written down apart fr
 
 from functools import partial
 
-from map_arguments import updates
+from map_arguments import encoding, updates
 
 from .reading import (CONTEXT, DATA_MISSING, LENGTH, MISSING, NO_IMSI, OTHER_IMSI, TAG, TWICE, UNEXPECTED_DATA,
                       UNIVERSAL, Fault, inner, series)
@@ -176,11 +176,10 @@ CRITERIA = (number, CONSTRUCTED), (services, CONSTRUCTED), (choice, PRIMITIVE), 
 
 
 def entry(octets, parent, name):
-    """An entry of the VT-CSI has neither a number nor a call type, and so it has other tags."""
     expect(parent, SEQUENCE, CONSTRUCTED)
     fields = Fields(octets, parent)
     found = [signed(octets, fields.mandatory(ENUMERATED, PRIMITIVE))]
-    for (read, form), tag in zip(CRITERIA, (0, 1, 2, 3) if name == "oc" else (None, 0, None, 1)):
+    for (read, form), tag in zip(CRITERIA, encoding.ENTRY_TAGS[name]):
         found.append(None if tag is None else when_there(read, octets, fields.optional(context(tag), form)))
     made = updates.Entry(*found)
     unless(len(made.basics or ()) > MAX_SERVICES or len(made.causes or ()) > MAX_CAUSES, parent, "long-list")

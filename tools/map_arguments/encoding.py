@@ -5,6 +5,8 @@ from .updates import Cancel, Delete
 
 # The tags of the lists and CSIs in VlrCamelSubscriptionInfo.
 TAGS = {"o": 0, "oc": 4, "t": 7, "tc": 8}
+# The tags of an entry's criteria, in the order of Entry. None if the list has entries without such a criterion.
+ENTRY_TAGS = {"oc": (0, 1, 2, 3), "tc": (None, 0, None, 1)}
 FILLER = "f"
 LMSI = bytes(4)
 
@@ -50,19 +52,15 @@ def causes_element(tag, causes):
     return context(tag, [universal(OCTET_STRING, bytes([cause])) for cause in causes])
 
 
+def choice_element(tag, choice):
+    return context(tag, integer_octets(choice))
+
+
 def entry_element(entry, name):
-    """An entry of the VT-CSI has neither a number nor a call type, and so it has other tags."""
-    basics, causes = (1, 3) if name == "oc" else (0, 1)
-    elements = [universal(ENUMERATED, integer_octets(entry.point))]
-    if entry.number is not None:
-        elements.append(number_element(0, entry.number))
-    if entry.basics is not None:
-        elements.append(basics_element(basics, entry.basics))
-    if entry.call_type is not None:
-        elements.append(context(2, integer_octets(entry.call_type)))
-    if entry.causes is not None:
-        elements.append(causes_element(causes, entry.causes))
-    return sequence(elements, f"{name[0]}-entry")
+    point, *criteria = vars(entry).values()
+    made = zip((number_element, basics_element, choice_element, causes_element), ENTRY_TAGS[name], criteria)
+    elements = [element(tag, criterion) for element, tag, criterion in made if criterion is not None]
+    return sequence([universal(ENUMERATED, integer_octets(point)), *elements], f"{name[0]}-entry")
 
 
 def list_element(name, items, capability=None):

@@ -10,6 +10,9 @@ IGNORED = {"o": "o:255:0:00:0", "oc": "oc:255::::", "t": "t:255:0:00:0", "tc": "
 # The lists that are CSIs, and the greatest number that is told apart.
 CSIS, GREATEST = ("o", "t"), 2**32 - 1
 
+# The bits of specificCSI-Withdraw, from 0, by what a record calls their CSI.
+BITS = {"o": 0, "vt": 4}
+
 
 @dataclass
 class Row:
@@ -107,11 +110,16 @@ def list_texts(name, items):
     return [text(name, item) for item in items if item.point in points_of(name)] or [IGNORED[name]]
 
 
+def bits_of(named):
+    """The bits of specificCSI-Withdraw, of which those of the named CSIs are set."""
+    set_bits = [BITS[what] for what in named]
+    return "".join("01"[at in set_bits] for at in range(8))
+
+
 def withdrawn(delete):
-    """What a delete names: o, vt and all."""
+    """What a delete names: CSIs, and all."""
     bits = delete.bits or ""
-    named = {"o": bits[:1] == "1", "vt": bits[4:5] == "1", "all": delete.everything}
-    return [what for what, is_named in named.items() if is_named]
+    return [what for what, at in BITS.items() if bits[at : at + 1] == "1"] + ["all"] * delete.everything
 
 
 def record_of(update):
