@@ -2,7 +2,7 @@
 use crate::{Address, Error, Imsi, ffi};
 use std::fmt;
 
-/// The trigger detection points that are decided. Those of the O-CSI are 2 and 4, those of the VT-CSI 12, 13 and 14.
+/// The trigger detection points that are decided. [`Csis`](crate::Csis) says which CSI has rows and criteria of each.
 #[derive(Clone, Copy, Debug, PartialEq, Eq, Hash)]
 #[repr(u8)]
 pub enum DetectionPoint {

@@ -1,6 +1,6 @@
 //! CAMEL phase 3 triggering for a VMSC/VLR (3GPP TS 23.078): safe Rust over `libwenqolo.a`.
 //!
-//! A [`Store`] has the O-CSI and VT-CSI of each subscriber, with their criteria, as the HLR sends them. Its one writer
+//! A [`Store`] has the CSIs of each subscriber ([`Csis`]), with their criteria, as the HLR sends them. Its one writer
 //! submits an [`Update`] of each operation, or the octets of its argument, and publishes them; each call-control thread
 //! has a [`Session`], and asks at trigger detection points 2, 4, 12, 13 and 14 whether a service is invoked. No call
 //! takes a lock of its own, waits or yields. A [`PreparedUpdate`] is made before it is submitted: so lists that an HLR

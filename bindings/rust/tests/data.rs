@@ -4,6 +4,9 @@ use camel::{
     IsdnAddress, MatchType, NumberCriterion, OCriteria, Outcome, Profile, Reason, Row, Session,
     Store, TCriteria, Update,
 };
+use points::POINTS;
+
+mod points;
 
 #[test]
 fn an_imsi_is_its_digits() {
@@ -152,14 +155,6 @@ fn session_of(imsi: Imsi, csis: Csis) -> (Store, Session) {
     session.learn(&store.publish().unwrap()).unwrap();
     (store, session)
 }
-
-const POINTS: [DetectionPoint; 5] = [
-    DetectionPoint::CollectedInfo,
-    DetectionPoint::RouteSelectFailure,
-    DetectionPoint::TerminatingAttempt,
-    DetectionPoint::Busy,
-    DetectionPoint::NoAnswer,
-];
 
 #[test]
 fn a_store_gives_back_the_rows_that_came() {

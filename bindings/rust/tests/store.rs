@@ -4,6 +4,9 @@ use camel::{
     Event, Imsi, Imsis, IsdnAddress, MAX_UPDATES, OnFailure, Outcome, PreparedUpdate, Profile,
     Reason, Receipt, Row, Session, Store, Subscriber, Update, Withdrawal,
 };
+use points::POINTS;
+
+mod points;
 
 fn imsi() -> Imsi {
     Imsi::from_digits("262010000000001").unwrap()
@@ -342,14 +345,6 @@ fn each_reason_is_given() {
         assert_eq!(counts.iter().sum::<u64>(), count, "{reason:?}");
     }
 }
-
-const POINTS: [DetectionPoint; 5] = [
-    DetectionPoint::CollectedInfo,
-    DetectionPoint::RouteSelectFailure,
-    DetectionPoint::TerminatingAttempt,
-    DetectionPoint::Busy,
-    DetectionPoint::NoAnswer,
-];
 
 /// An event at detection point 13.
 fn busy() -> Event {

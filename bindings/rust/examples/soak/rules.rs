@@ -28,7 +28,7 @@ pub struct Numbers {
     pub lengths: Vec<u8>,
 }
 
-/// Criteria of a detection point. Those of the VT-CSI have no numbers and no call type.
+/// Criteria of a detection point. What its CSI has no criterion for is None.
 #[derive(Clone, Debug)]
 pub struct Entry {
     pub dp: u8,
