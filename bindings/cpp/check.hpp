@@ -6,6 +6,7 @@
 
 #include <cstdio>
 #include <cstdlib>
+#include <cstring>
 
 #define CHECK(what) check(what, #what, __FILE__, __LINE__)
 
@@ -72,6 +73,11 @@ inline camel::Csis csis_of(uint32_t key)
     csis.vt.emplace({ vt });
     csis.t_criteria.emplace({ t_criteria });
     return csis;
+}
+
+inline bool is_same(const camel_criteria &one, const camel_criteria &other)
+{
+    return std::memcmp(&one, &other, sizeof one) == 0;
 }
 
 /* A store of which two updates are published, and whose two sessions learnt it. */

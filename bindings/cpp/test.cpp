@@ -118,10 +118,8 @@ static void a_session_reads()
     CHECK(counted(decisions, CAMEL_REASON_CRITERIA) == 2 && counted(get(sessions[1].decisions()), 0) == 0);
     CHECK(get(session.row_at(imsi(), Dp::TBusy))->key == 7);
     CHECK(!get(session.row_at(imsi(), Dp::RouteSelectFailure)));
-    CHECK(get(session.criteria_at(imsi(), Dp::CollectedInfo))->has_call_type);
-    CHECK(get(session.criteria_at(imsi(), Dp::TBusy))->causes.count == 1);
-    CHECK(!get(session.criteria_at(imsi(), Dp::TBusy))->has_call_type);
-    CHECK(get(session.criteria_at(imsi(), Dp::CollectedInfo))->causes.count == 0);
+    CHECK(is_same(*get(session.criteria_at(imsi(), Dp::CollectedInfo)), csis_of(7).o_criteria->front()));
+    CHECK(is_same(*get(session.criteria_at(imsi(), Dp::TBusy)), csis_of(7).t_criteria->front()));
     CHECK(!get(session.criteria_at(imsi(), Dp::RouteSelectFailure)));
     CHECK(!get(session.keep(get(camel::imsi_of_digits("26201")))));
     CHECK(store.submit_insert(get(camel::imsi_of_digits("26201")), camel::Csis{}).status()
