@@ -169,7 +169,7 @@ static inline uint64_t front_of(camel_session *session)
     return answer.front;
 }
 
-/* How many items came in each list, side by side: the rows and the criteria of the O-CSI, and those of the VT-CSI. */
+/* How many items came in each list, side by side: the rows and the criteria of each CSI. */
 enum { LISTS = 4 };
 static inline uint8_t *counts_in(camel_update_parts *parts)
 {

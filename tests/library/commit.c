@@ -45,7 +45,7 @@ static camel_update update_of_kind(uint8_t kind, unsigned number)
     return update;
 }
 
-/* The Insert of a row of detection point 2 with a service key, and that of criteria of the VT-CSI without rows. */
+/* The Insert of a row of detection point 2 with a service key, and that of criteria without rows. */
 static camel_update insert_of_row(unsigned number, uint32_t key)
 {
     camel_row row = row_of(2, key);

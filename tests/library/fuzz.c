@@ -336,14 +336,6 @@ static bool is_whole_row(const camel_row *row)
     return row->handling <= 1 && row->key <= 0x7fffffff && row->scf.length >= 1 && row->scf.length <= 9;
 }
 
-/* Criteria of the VT-CSI have neither a number nor a call type. */
-static bool is_whole_entry(const camel_criteria *entry)
-{
-    bool is_of_o = entry->dp == 2 || entry->dp == 4;
-    return entry->number.number_count <= 10 && entry->number.length_count <= 3 && entry->basic.count <= 5
-        && entry->causes.count <= 5 && (is_of_o || (!entry->has_number && !entry->has_call_type));
-}
-
 /* What a subscriber has at a detection point is written whole, or nothing is. */
 #define READS_AT(name, type, any_item, is_whole_item)                                                               \
     static void f_##name(void)                                                                                      \

@@ -156,6 +156,14 @@ static inline camel_criteria any_criteria(unsigned dp, bool is_of_o)
     return entry;
 }
 
+/* Whether criteria that a session gave are within the limits, and of their CSI. */
+static inline bool is_whole_entry(const camel_criteria *entry)
+{
+    bool is_of_o = entry->dp == 2 || entry->dp == 4;
+    return entry->number.number_count <= 10 && entry->number.length_count <= 3 && entry->basic.count <= 5
+        && entry->causes.count <= 5 && (is_of_o || (!entry->has_number && !entry->has_call_type));
+}
+
 static inline size_t any_count(void)
 {
     return below(32) ? 1 + below(2) : below(13);

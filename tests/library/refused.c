@@ -23,7 +23,7 @@ static const char *const NAMES[KINDS] = {
     [CANCEL] = "`camel_submit_change`, a cancel",
     [CLEAR_ALL] = "`camel_submit_change`, a clear of all",
     [UPDATE_PLAIN] = "`camel_update_of`, a register, a delete, a cancel and a clear of all",
-    [UPDATE_LISTS] = "`camel_update_of`, an insert of criteria of ten numbers and all else, and a VT-CSI",
+    [UPDATE_LISTS] = "`camel_update_of`, an insert of three lists, with criteria of ten numbers and all else",
     [UPDATE_OCTETS] = "`camel_update_of_map`, an O-CSI in octets",
     [JOIN] = "`camel_update_join`, of these two",
     [SUBMIT] = "`camel_submit`, of what they are together",
@@ -167,7 +167,7 @@ static bool has_items(const camel_update *update, unsigned rows, unsigned criter
     return parts.kind == CAMEL_UPDATE_INSERT && parts.o_rows == rows && parts.o_criteria == criteria;
 }
 
-/* What comes of a subscriber in two operations: a row of the O-CSI, and behind it criteria and a VT-CSI. */
+/* What comes of a subscriber in two operations: a row of the O-CSI, and behind it the other lists. */
 static void make_parts(unsigned number, camel_update *update, camel_update *next, camel_update *joined)
 {
     struct argument argument = ARGUMENT[O_CSI];

@@ -220,7 +220,7 @@ static void submitted_arguments(void)
     camel_store store = CAMEL_EMPTY;
     camel_session session = CAMEL_EMPTY;
     camel_imsi imsi = imsi_of(1), malformed = { 1 };
-    static const struct argument of_vt_criteria = {
+    static const struct argument criteria_without_rows = {
         CAMEL_INSERT_SUBSCRIBER_DATA, 11, { 0x30, 0x09, 0xad, 0x07, 0xa8, 0x05, 0x30, 0x03, 0x0a, 0x01, 0x0d }
     };
     uint64_t place = 99;
@@ -229,7 +229,7 @@ static void submitted_arguments(void)
     RETURNS_AT(CAMEL_UNIDENTIFIED_SUBSCRIBER, CAMEL_NO_OCTET, &store, 1, ARGUMENT[O_CSI]);
     RETURNS(CAMEL_OK, submit_register(&store, &imsi));
     faulty_arguments(&store);
-    RETURNS_AT(CAMEL_DATA_MISSING, CAMEL_NO_OCTET, &store, 1, of_vt_criteria);
+    RETURNS_AT(CAMEL_DATA_MISSING, CAMEL_NO_OCTET, &store, 1, criteria_without_rows);
     RETURNS(CAMEL_MALFORMED, camel_submit_map(&store, CAMEL_CANCEL_LOCATION, &malformed, ARGUMENT[CANCELLED].octets,
                                               ARGUMENT[CANCELLED].count, &place));
     IS(place == CAMEL_NO_OCTET);
