@@ -1,6 +1,6 @@
 //! A record as one block of octets, and the decision over it.
 //!
-//! A block has the O-CSI and then the VT-CSI. A CSI is the count of its rows, or `ABSENT`, the count of its criteria
+//! A block has each CSI, the O-CSI first. A CSI is the count of its rows, or `ABSENT`, the count of its criteria
 //! entries, its rows and its entries. So all that an event at DP2 asks for lies at the beginning of the block.
 mod decide;
 mod entry;
