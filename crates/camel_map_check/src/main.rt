@@ -5,9 +5,9 @@
 //! An input line is `OPERATION,IMSI,HEX`: the operation by its name in TS 29.002, the IMSI of the dialogue or nothing,
 //! and the octets of the argument in hexadecimal. Behind them the arguments of further operations of the dialogue may
 //! stand, `,HEX` each, which are joined. Its output line is a record, or with `--encode` such a line without an IMSI,
-//! or with `--lists` the numbers of items of the O-CSI, its criteria, the VT-CSI and its criteria, and the
-//! camelCapabilityHandling of the two CSIs, `-` if it is not there. If an argument is not taken it is `fault NUMBER
-//! PLACE`, and `fault NUMBER` if two are not joined. An empty line is skipped, and not counted.
+//! or with `--lists` the numbers of items of each CSI and of its criteria, the O-CSI first, and the
+//! camelCapabilityHandling of each CSI, `-` if it is not there. If an argument is not taken it is `fault NUMBER PLACE`,
+//! and `fault NUMBER` if two are not joined. An empty line is skipped, and not counted.
 //!
 //! A line of a dump is `IMSI,HEX`: the digits of a subscriber's IMSI, and the octets of the argument of the Insert that
 //! makes the record over a Register, as `camel_map::encode_record` writes them. Both are printed, the Register first; a
