@@ -103,7 +103,7 @@ void test_two_entries(void)
 	ends();
 }
 
-void test_entry_of_stranger_is_first(void)
+void test_stranger_was_there_first(void)
 {
 	struct msub *stranger;
 

@@ -127,7 +127,7 @@ void released_by(const char *octets);
 void test_claim_that_dies(void);
 void test_claim_that_stays(void);
 void test_two_entries(void);
-void test_entry_of_stranger_is_first(void);
+void test_stranger_was_there_first(void);
 void test_service_request_of_stranger(void);
 void test_changed_imsi(void);
 void test_owners(void);

@@ -418,7 +418,7 @@ msc_vlr_test_func_t msc_vlr_tests[] = {
 	test_claim_that_dies,
 	test_claim_that_stays,
 	test_two_entries,
-	test_entry_of_stranger_is_first,
+	test_stranger_was_there_first,
 	test_service_request_of_stranger,
 	test_changed_imsi,
 	test_owners,
