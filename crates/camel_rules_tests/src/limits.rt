@@ -1,4 +1,4 @@
-use camel_criteria::{MatchType, NumberCriterion, OCriteria, Refusal, TCriteria};
+use camel_criteria::{MatchType, NumberCriterion, Refusal};
 use camel_fixtures::number_of;
 use std::alloc::Global;
 
@@ -18,13 +18,4 @@ fn takes_a_number_criterion_by_its_counts_and_lengths(rt: HostRuntime) {
     assert!(rt; made_of(rt.alloc(), 0, &[16]).err() == UNEXPECTED);
     assert!(rt; made_of(rt.alloc(), 10, &[]).is_ok());
     assert!(rt; made_of(rt.alloc(), 11, &[]).err() == UNEXPECTED);
-}
-
-/// At detection point 2 of an originating call and 12 of a terminating one no call is released yet.
-#[test]
-fn takes_a_cause_where_a_call_is_released(rt: HostRuntime) {
-    assert!(rt; OCriteria::new(rt.alloc(), 4, None, &[], None, &[17]).is_ok());
-    assert!(rt; OCriteria::new(rt.alloc(), 2, None, &[], None, &[17]).err() == UNEXPECTED);
-    assert!(rt; TCriteria::new(13, &[], &[17]).is_ok());
-    assert!(rt; TCriteria::new(12, &[], &[17]).err() == UNEXPECTED);
 }

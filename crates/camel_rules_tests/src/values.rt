@@ -25,12 +25,12 @@ fn takes_causes_to_127(rt: HostRuntime) {
     assert!(rt; Cause::new(128).is_none());
 }
 
-/// Whether a detection point is tested so against the O-CSI and against the VT-CSI.
+/// Whether a detection point is tested so against each CSI.
 fn is_tested(dp: u8, by_o: bool, by_vt: bool) -> bool {
     is_o_detection_point(dp) == by_o && is_vt_detection_point(dp) == by_vt
 }
 
-/// By TS 23.078 detection points 2 and 4 are tested against the O-CSI, and 12, 13 and 14 against the VT-CSI.
+/// The CSI of each detection point is that of TS 23.078.
 #[test]
 fn knows_the_csi_of_a_detection_point(rt: HostRuntime) {
     assert!(rt; is_tested(2, true, false));
