@@ -6,6 +6,7 @@
 mod colours;
 mod counts;
 mod criteria;
+mod csi;
 mod explainer;
 mod listing;
 mod mistakes;

@@ -4,7 +4,7 @@ mod data;
 mod texts;
 
 use crate::mistakes::data::say_refused;
-use crate::mistakes::texts::say_unreadable;
+use crate::mistakes::texts::{name_of, say_unreadable};
 use crate::shown::Shown;
 use camel_script::{Expected, Mistake, RecordFault, parse_decimal};
 use csv::ByteRecord;
@@ -97,28 +97,6 @@ fn say_data(out: &mut String, text: &[u8]) -> Result<(), AllocError> {
         write!(out, "\"\": ")
     } else {
         write!(out, "{}: ", Shown(text))
-    }
-}
-
-/// The name of a text in docs/SCRIPT.md.
-fn name_of(expected: Expected) -> &'static str {
-    match expected {
-        Expected::Word => "word",
-        Expected::Imsi => "IMSI",
-        Expected::Withdrawal => "WHAT",
-        Expected::CallDetectionPoint | Expected::DetectionPoint => "DP",
-        Expected::BasicService => "BASIC",
-        Expected::Destination => "DEST",
-        Expected::Forwarded | Expected::ItemCallType => "TYPE",
-        Expected::Cause => "CAUSE",
-        Expected::ItemName => "name",
-        Expected::ServiceKey => "KEY",
-        Expected::GsmScfAddress => "SCF",
-        Expected::Handling => "HANDLING",
-        Expected::NumberCriterion => "NUMBER",
-        Expected::BasicServices => "BASICS",
-        Expected::Causes => "CAUSES",
-        Expected::Nothing => "nothing",
     }
 }
 

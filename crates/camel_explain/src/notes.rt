@@ -2,11 +2,12 @@
 
 mod dropped;
 
+use crate::csi::CsiKind;
 use crate::mistakes::{ADDRESS_FORM, is_like_digits};
 use crate::notes::dropped::note_what_is_dropped;
 use crate::shown::Shown;
 use crate::stored::INDENT;
-use camel_criteria::{is_o_detection_point, is_vt_detection_point};
+use camel_criteria::is_o_detection_point;
 use camel_rows::{CallEvent, Update};
 use camel_script::parse_small_decimal;
 use camel_script_replay::Store;
@@ -69,17 +70,15 @@ fn note_item(out: &mut String, number: usize, item: &[u8]) -> Result<(), AllocEr
 /// Appends that an item is ignored, if its detection point is none of its CSI.
 fn note_ignored(out: &mut String, number: usize, name: &[u8], dp: &[u8]) -> Result<(), AllocError> {
     let point = parse_small_decimal(dp).unwrap_or(0);
-    let (csi, counts) = match name {
-        b"o" | b"oc" => ("O-CSI", is_o_detection_point(point)),
-        _ => ("VT-CSI", is_vt_detection_point(point)),
-    };
-    if counts {
+    let csi = CsiKind::of_item(name);
+    if csi.counts(point) {
         return Ok(());
     }
     let dp = Shown(dp);
     writeln!(
         out,
-        "{INDENT}{NOTE}item {number}: DP {dp} is none of the {csi}, ignored"
+        "{INDENT}{NOTE}item {number}: DP {dp} is none of the {}, ignored",
+        csi.name()
     )
 }
 

@@ -1,8 +1,8 @@
 //! Why a call triggers no service.
 
 use crate::criteria::say_unmet;
+use crate::csi::CsiKind;
 use crate::shown::ShownImsi;
-use camel_criteria::is_o_detection_point;
 use camel_rows::{CallEvent, Csi, CsisPresent, Reason, Subscriber};
 use camel_script_replay::Store;
 use camel_tbcd::Profile;
@@ -43,41 +43,26 @@ fn say_pending(out: &mut String, is_accepted: bool) -> Result<(), AllocError> {
     Ok(())
 }
 
-/// The name of the CSI of a detection point.
-fn csi_name(dp: u8) -> &'static str {
-    if is_o_detection_point(dp) {
-        "O-CSI"
-    } else {
-        "VT-CSI"
-    }
-}
-
 fn say_no_csi(
     out: &mut String,
     call: &CallEvent,
     accepted: Option<CsisPresent>,
 ) -> Result<(), AllocError> {
-    let dp = call.dp();
+    let csi = CsiKind::of_call(call.dp());
     let imsi = call.imsi();
     write!(
         out,
         "no {} of {} is published",
-        csi_name(dp),
+        csi.name(),
         ShownImsi(&imsi)
     )?;
-    let is_accepted = match accepted {
-        Some(csis) if is_o_detection_point(dp) => csis.o,
-        Some(csis) => csis.vt,
-        None => false,
-    };
-    say_pending(out, is_accepted)
+    say_pending(out, accepted.is_some_and(|csis| csi.is_in(csis)))
 }
 
 fn say_not_armed(out: &mut String, subscriber: &Subscriber, dp: u8) -> Result<(), AllocError> {
-    if is_o_detection_point(dp) {
-        say_rows(out, subscriber.o(), dp)
-    } else {
-        say_rows(out, subscriber.vt(), dp)
+    match CsiKind::of_call(dp) {
+        CsiKind::O => say_rows(out, subscriber.o(), dp),
+        CsiKind::Vt => say_rows(out, subscriber.vt(), dp),
     }
 }
 
@@ -87,7 +72,7 @@ fn say_rows<K: Copy, const MOST: usize>(
     csi: Option<&Csi<K, MOST>>,
     dp: u8,
 ) -> Result<(), AllocError> {
-    let name = csi_name(dp);
+    let name = CsiKind::of_call(dp).name();
     let rows = match csi {
         Some(csi) => csi.as_slice(),
         None => &[],

@@ -1,5 +1,6 @@
 //! Why the store refuses an update whose data can be read.
 
+use crate::csi::CSIS;
 use crate::shown::{Shown, ShownImsi};
 use camel_script_replay::Store;
 use camel_tbcd::Imsi;
@@ -37,26 +38,28 @@ fn say_lacking(out: &mut String, store: &Store, fields: &ByteRecord) -> Result<(
     let Ok(imsi) = Imsi::from_ascii(fields.get(1).unwrap_or(&[])) else {
         return Ok(());
     };
-    let lacks_o = store.csis(&imsi).is_some_and(|csis| !csis.o)
-        && has_item(fields, b"oc")
-        && !has_item(fields, b"o");
-    let (entry, csi, row) = if lacks_o {
-        ("oc", "O-CSI", "o")
-    } else {
-        ("tc", "VT-CSI", "t")
+    let Some(stored) = store.csis(&imsi) else {
+        return Ok(());
     };
-    write!(
-        out,
-        "criteria of the {csi} (items {entry}), but the record has no item {row}, and no {csi} of {} is stored",
-        ShownImsi(&imsi)
-    )
+    for csi in CSIS {
+        let (row, entry) = (csi.row_item(), csi.entry_item());
+        if !csi.is_in(stored) && has_item(fields, entry) && !has_item(fields, row) {
+            let csi = csi.name();
+            let imsi = ShownImsi(&imsi);
+            return write!(
+                out,
+                "criteria of the {csi} (items {entry}), but the record has no item {row}, and no {csi} of {imsi} is stored"
+            );
+        }
+    }
+    Ok(())
 }
 
 /// Whether an insert has an item of this name.
-fn has_item(fields: &ByteRecord, name: &[u8]) -> bool {
+fn has_item(fields: &ByteRecord, name: &str) -> bool {
     for at in 2..fields.len() {
         let item = fields.get(at).unwrap_or(&[]);
-        if item.split(|octet| *octet == b':').next() == Some(name) {
+        if item.split(|octet| *octet == b':').next() == Some(name.as_bytes()) {
             return true;
         }
     }

@@ -1,4 +1,4 @@
-//! What is wrong with a text that can't be read.
+//! What texts are called, and what is wrong with one that can't be read.
 
 use crate::mistakes::{ADDRESS_FORM, is_like_digits};
 use crate::shown::Shown;
@@ -10,6 +10,28 @@ use std::alloc::AllocError;
 
 /// The word that shows what is stored. No record begins with it.
 const SHOW: &str = "show";
+
+/// The name of a text in docs/SCRIPT.md.
+pub(crate) fn name_of(expected: Expected) -> &'static str {
+    match expected {
+        Expected::Word => "word",
+        Expected::Imsi => "IMSI",
+        Expected::Withdrawal => "WHAT",
+        Expected::CallDetectionPoint | Expected::DetectionPoint => "DP",
+        Expected::BasicService => "BASIC",
+        Expected::Destination => "DEST",
+        Expected::Forwarded | Expected::ItemCallType => "TYPE",
+        Expected::Cause => "CAUSE",
+        Expected::ItemName => "name",
+        Expected::ServiceKey => "KEY",
+        Expected::GsmScfAddress => "SCF",
+        Expected::Handling => "HANDLING",
+        Expected::NumberCriterion => "NUMBER",
+        Expected::BasicServices => "BASICS",
+        Expected::Causes => "CAUSES",
+        Expected::Nothing => "nothing",
+    }
+}
 
 /// Appends what is wrong with a text of a kind.
 pub(crate) fn say_unreadable(

@@ -1,5 +1,6 @@
 //! Notes on what an update removes besides what it names.
 
+use crate::csi::{CSIS, CsiKind};
 use crate::notes::NOTE;
 use crate::shown::ShownImsi;
 use crate::stored::INDENT;
@@ -23,11 +24,10 @@ pub(crate) fn note_what_is_dropped(
             let Some(csis) = store.csis(imsi) else {
                 return Ok(());
             };
-            if csis.o {
-                note_entries(out, store, imsi, update, Kind::O)?;
-            }
-            if csis.vt {
-                note_entries(out, store, imsi, update, Kind::Vt)?;
+            for csi in CSIS {
+                if csi.is_in(csis) {
+                    note_entries(out, store, imsi, update, csi)?;
+                }
             }
             Ok(())
         }
@@ -37,64 +37,27 @@ pub(crate) fn note_what_is_dropped(
 
 /// Appends that a register empties a record, if something is stored in it. Criteria are stored only with their CSI.
 fn note_emptied(out: &mut String, imsi: &Imsi, csis: CsisPresent) -> Result<(), AllocError> {
-    let stored = match (csis.o, csis.vt) {
-        (true, true) => "an O-CSI and a VT-CSI are",
-        (true, false) => "an O-CSI is",
-        (false, true) => "a VT-CSI is",
-        (false, false) => return Ok(()),
-    };
-    let imsi = ShownImsi(imsi);
-    writeln!(
-        out,
-        "{INDENT}{NOTE}it empties the record of {imsi}, in which {stored} stored"
-    )
-}
-
-/// A CSI that has criteria.
-#[derive(Clone, Copy)]
-enum Kind {
-    O,
-    Vt,
-}
-
-impl Kind {
-    /// The detection points of its criteria.
-    fn points(self) -> &'static [u8] {
-        match self {
-            Kind::O => &[2, 4],
-            Kind::Vt => &[12, 13, 14],
+    let mut before = "";
+    let mut verb = "is";
+    for csi in CSIS {
+        if csi.is_in(csis) {
+            if before.is_empty() {
+                let imsi = ShownImsi(imsi);
+                write!(
+                    out,
+                    "{INDENT}{NOTE}it empties the record of {imsi}, in which "
+                )?;
+            } else {
+                verb = "are";
+            }
+            write!(out, "{before}{} {}", csi.article(), csi.name())?;
+            before = " and ";
         }
     }
-
-    /// The name of an item that is an entry of its criteria.
-    fn item(self) -> &'static str {
-        match self {
-            Kind::O => "oc",
-            Kind::Vt => "tc",
-        }
+    if before.is_empty() {
+        return Ok(());
     }
-
-    /// Whether an update of its subscriber leaves an entry of a detection point; None if it leaves the entry as it is.
-    fn entry_after(self, update: &Update, dp: u8) -> Option<bool> {
-        let (comes, entry) = match (self, update) {
-            (Kind::O, Update::Insert { o, o_criteria, .. }) => (
-                o.is_some(),
-                o_criteria.as_ref().map(|set| set.entry(dp).is_some()),
-            ),
-            (Kind::Vt, Update::Insert { vt, t_criteria, .. }) => (
-                vt.is_some(),
-                t_criteria.as_ref().map(|set| set.entry(dp).is_some()),
-            ),
-            (Kind::O, Update::Delete { what, .. }) => (what.o || what.everything, None),
-            (Kind::Vt, Update::Delete { what, .. }) => (what.vt || what.everything, None),
-            _ => (true, None),
-        };
-        match entry {
-            Some(has) => Some(has),
-            None if comes => Some(false),
-            None => None,
-        }
-    }
+    writeln!(out, " {verb} stored")
 }
 
 /// How many pending updates are looked through. Of a script with more of them behind an update there is no note.
@@ -102,7 +65,7 @@ const LOOKED_BACK: usize = 1000;
 
 /// Whether an entry of a detection point is stored, by the last pending update that leaves one or none, or else by what
 /// is published.
-fn has_entry(store: &Store, imsi: &Imsi, kind: Kind, dp: u8) -> bool {
+fn has_entry(store: &Store, imsi: &Imsi, csi: CsiKind, dp: u8) -> bool {
     let mut left = LOOKED_BACK;
     for update in store.pending().iter().rev() {
         if left == 0 {
@@ -110,7 +73,7 @@ fn has_entry(store: &Store, imsi: &Imsi, kind: Kind, dp: u8) -> bool {
         }
         left = left.saturating_sub(1);
         if update.imsi().is_none_or(|of| of == *imsi) {
-            if let Some(has) = kind.entry_after(update, dp) {
+            if let Some(has) = csi.entry_after(update, dp) {
                 return has;
             }
         }
@@ -127,11 +90,11 @@ fn note_entries(
     store: &Store,
     imsi: &Imsi,
     update: &Update,
-    kind: Kind,
+    csi: CsiKind,
 ) -> Result<(), AllocError> {
-    for dp in kind.points() {
-        if kind.entry_after(update, *dp) == Some(false) && has_entry(store, imsi, kind, *dp) {
-            let item = kind.item();
+    for dp in csi.points() {
+        if csi.entry_after(update, *dp) == Some(false) && has_entry(store, imsi, csi, *dp) {
+            let item = csi.entry_item();
             writeln!(
                 out,
                 "{INDENT}{NOTE}no item {item} of DP {dp}: the stored entry of DP {dp} is dropped"
