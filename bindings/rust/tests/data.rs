@@ -1,11 +1,13 @@
 //! IMSIs, addresses, rows and criteria: what is made, what is refused, and what a store gives back.
 use camel::{
-    Address, BasicService, CallType, Cause, Criteria, Csis, DetectionPoint, Error, Event, Imsi,
-    IsdnAddress, MatchType, NumberCriterion, OCriteria, Outcome, Profile, Reason, Row, Session,
-    Store, TCriteria, Update,
+    Address, BasicService, Cause, Criteria, Csis, DetectionPoint, Error, Event, Imsi, IsdnAddress,
+    MatchType, NumberCriterion, OCriteria, Outcome, Profile, Reason, Row, Session, Store,
+    TCriteria, Update,
 };
+use entries::o_criteria_of;
 use points::POINTS;
 
+mod entries;
 mod points;
 
 #[test]
@@ -123,13 +125,8 @@ fn number(octets: &[u8]) -> IsdnAddress {
 
 fn all_lists() -> Csis {
     let scf = number(&[0x91, 0x94, 0x71]);
-    let listed = [number(&[0x91, 0x21]), number(&[0xa1, 0x43, 0xf5])];
-    let criterion = NumberCriterion::new(MatchType::Inhibiting, &listed, &[3, 15]).unwrap();
-    let o_criteria = OCriteria::new(4)
-        .with_number(criterion)
-        .with_call_type(CallType::Forwarded)
-        .with_basic(&[BasicService::Tele(0x10), BasicService::Bearer(0x18)])
-        .and_then(|criteria| criteria.with_causes(&[Cause::of_octet(17), Cause::of_octet(31)]))
+    let o_criteria = o_criteria_of(4)
+        .with_causes(&[Cause::of_octet(17), Cause::of_octet(31)])
         .unwrap();
     let t_criteria = TCriteria::new(13)
         .with_basic(&[BasicService::Tele(0x60)])
