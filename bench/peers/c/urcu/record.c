@@ -10,7 +10,7 @@ struct flat_number {
 };
 
 /* A criteria entry. Behind its listed numbers are its lengths and its basic services. */
-struct flat_criteria {
+struct criteria_entry {
     uint8_t size;
     uint8_t detection_point;
     uint8_t match_type;
@@ -28,7 +28,7 @@ static size_t rows_of(uint8_t count)
 
 static size_t size_of_entry(size_t numbers)
 {
-    return sizeof(struct flat_criteria) + numbers * sizeof(struct flat_number);
+    return sizeof(struct criteria_entry) + numbers * sizeof(struct flat_number);
 }
 
 size_t flat_size(const struct record *record)
@@ -78,8 +78,8 @@ void flatten(struct flat_record *flat, const struct record *record)
     }
     if (record->numbers == 0)
         return;
-    struct flat_criteria *entry = (struct flat_criteria *)rows;
-    *entry = (struct flat_criteria){
+    struct criteria_entry *entry = (struct criteria_entry *)rows;
+    *entry = (struct criteria_entry){
         .size = (uint8_t)size_of_entry(record->numbers),
         .detection_point = COLLECTED_INFO,
         .match_type = ENABLING,
@@ -92,7 +92,7 @@ void flatten(struct flat_record *flat, const struct record *record)
 /* ---- criteria ---- */
 
 /* Whether a listed number has the nature of the destination, and digits that the destination begins with. */
-static bool lists_prefix(const struct flat_criteria *entry, const struct isdn_address *destination)
+static bool lists_prefix(const struct criteria_entry *entry, const struct isdn_address *destination)
 {
     uint64_t digits = digits_of(destination);
     for (size_t place = 0; place < entry->numbers; place++) {
@@ -107,7 +107,7 @@ static bool lists_prefix(const struct flat_criteria *entry, const struct isdn_ad
     return false;
 }
 
-static bool lists_length(const struct flat_criteria *entry, const struct isdn_address *destination)
+static bool lists_length(const struct criteria_entry *entry, const struct isdn_address *destination)
 {
     const uint8_t *lengths = (const uint8_t *)(entry->number + entry->numbers);
     unsigned count = count_of(digits_of(destination));
@@ -137,7 +137,7 @@ static bool covers(struct basic_service listed, struct basic_service call)
     }
 }
 
-static bool lists_basic(const struct flat_criteria *entry, struct basic_service call)
+static bool lists_basic(const struct criteria_entry *entry, struct basic_service call)
 {
     const uint8_t *lengths = (const uint8_t *)(entry->number + entry->numbers);
     const struct basic_service *basics = (const struct basic_service *)(lengths + entry->lengths);
@@ -147,7 +147,7 @@ static bool lists_basic(const struct flat_criteria *entry, struct basic_service 
     return false;
 }
 
-static bool meets_numbers(const struct flat_criteria *entry, const struct isdn_address *destination)
+static bool meets_numbers(const struct criteria_entry *entry, const struct isdn_address *destination)
 {
     if (entry->match_type == NO_NUMBERS)
         return true;
@@ -156,7 +156,7 @@ static bool meets_numbers(const struct flat_criteria *entry, const struct isdn_a
 }
 
 /* Whether the event meets all criteria of the entry. */
-static bool is_met(const struct flat_criteria *entry, const struct event *event)
+static bool is_met(const struct criteria_entry *entry, const struct event *event)
 {
     return meets_numbers(entry, &event->destination)
         && (entry->basics == 0 || lists_basic(entry, event->basic));
@@ -172,11 +172,11 @@ static const struct tdp_row *row_at(const struct flat_record *record, uint8_t de
     return NULL;
 }
 
-static const struct flat_criteria *entry_at(const struct flat_record *record, uint8_t detection_point)
+static const struct criteria_entry *entry_at(const struct flat_record *record, uint8_t detection_point)
 {
     const uint8_t *octets = (const uint8_t *)(record->rows + record->csi[O].rows + rows_of(record->csi[VT].rows));
     for (size_t place = 0; place < record->csi[O].entries; place++) {
-        const struct flat_criteria *entry = (const struct flat_criteria *)octets;
+        const struct criteria_entry *entry = (const struct criteria_entry *)octets;
         if (entry->detection_point == detection_point)
             return entry;
         octets += entry->size;
@@ -195,7 +195,7 @@ struct outcome decide(const struct flat_record *record, const struct event *even
         return (struct outcome){ .kind = NOT_ARMED };
     if (event->basic.kind == TELE && event->basic.code == EMERGENCY_CALLS)
         return (struct outcome){ .kind = EMERGENCY };
-    const struct flat_criteria *entry = entry_at(record, COLLECTED_INFO);
+    const struct criteria_entry *entry = entry_at(record, COLLECTED_INFO);
     if (entry != NULL && !is_met(entry, event))
         return (struct outcome){ .kind = CRITERIA };
     return (struct outcome){ TRIGGER, *row };
