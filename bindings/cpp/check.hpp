@@ -75,11 +75,6 @@ inline camel::Csis csis_of(uint32_t key)
     return csis;
 }
 
-inline bool is_same(const camel_criteria &one, const camel_criteria &other)
-{
-    return std::memcmp(&one, &other, sizeof one) == 0;
-}
-
 /* A store of which two updates are published, and whose two sessions learnt it. */
 inline camel::Store::Opened open(uint64_t seed = 0x5eed)
 {
@@ -91,6 +86,15 @@ inline camel::Store::Opened open(uint64_t seed = 0x5eed)
     for (camel::Session &session : opened.sessions)
         CHECK(bool(session.learn(receipt)));
     return opened;
+}
+
+/* Whether a session of such a store gives the criteria of a detection point as they came. */
+inline bool gives_criteria(camel::Session &session, Dp dp)
+{
+    camel_criteria found = *get(session.criteria_at(imsi(), dp));
+    camel::Csis csis = csis_of(7);
+    const camel_criteria &came = (dp == Dp::CollectedInfo ? csis.o_criteria : csis.t_criteria)->front();
+    return std::memcmp(&found, &came, sizeof found) == 0;
 }
 
 #endif

@@ -118,8 +118,7 @@ static void a_session_reads()
     CHECK(counted(decisions, CAMEL_REASON_CRITERIA) == 2 && counted(get(sessions[1].decisions()), 0) == 0);
     CHECK(get(session.row_at(imsi(), Dp::TBusy))->key == 7);
     CHECK(!get(session.row_at(imsi(), Dp::RouteSelectFailure)));
-    CHECK(is_same(*get(session.criteria_at(imsi(), Dp::CollectedInfo)), csis_of(7).o_criteria->front()));
-    CHECK(is_same(*get(session.criteria_at(imsi(), Dp::TBusy)), csis_of(7).t_criteria->front()));
+    CHECK(gives_criteria(session, Dp::CollectedInfo) && gives_criteria(session, Dp::TBusy));
     CHECK(!get(session.criteria_at(imsi(), Dp::RouteSelectFailure)));
     CHECK(!get(session.keep(get(camel::imsi_of_digits("26201")))));
     CHECK(store.submit_insert(get(camel::imsi_of_digits("26201")), camel::Csis{}).status()
