@@ -133,7 +133,7 @@ impl Explainer {
         }
         self.note_record(listing)?;
         let line = self.store.answer_from(&mut self.record)?;
-        push_line(self.alloc, &mut self.line, &line)?;
+        push_line(&mut self.line, &line)?;
         self.counts.count(&line);
         self.say_why(listing, &line)?;
         if matches!(line, Line::Refused(_)) {

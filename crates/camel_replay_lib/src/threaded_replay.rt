@@ -149,15 +149,15 @@ fn answer_script<G: Gate, R: Threads + Wait>(
     let transcripts = transcripts_of(alloc, seats)?;
     let (published, output) = writer.end();
     let output = audit_beside_lines(rt, alloc, published, transcripts, profile, output)?;
-    finish_output(alloc, output)
+    finish_output(output)
 }
 
 /// The output with the line of an audit without a fault at its end.
-fn finish_output(alloc: Global, output: Vec<u8>) -> Result<Vec<u8>, ThreadsFault>
+fn finish_output(output: Vec<u8>) -> Result<Vec<u8>, ThreadsFault>
     ensures { IfOk result (λ text. text.items ≡ output.items ++ line_text Line.AuditOk) }
 {
     let mut output = output;
-    push_line(alloc, &mut output, &Line::AuditOk)?;
+    push_line(&mut output, &Line::AuditOk)?;
     Ok(output)
 }
 

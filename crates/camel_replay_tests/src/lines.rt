@@ -15,9 +15,9 @@ fn are_printed(alloc: Global) -> Option<bool> {
         answer: Answer { front: 7, outcome },
     };
     let mut out = Vec::new(alloc);
-    push_line(alloc, &mut out, &Line::Accepted(u64::MAX)).ok()?;
-    push_line(alloc, &mut out, &served).ok()?;
-    push_line(alloc, &mut out, &Line::AuditOk).ok()?;
+    push_line(&mut out, &Line::Accepted(u64::MAX)).ok()?;
+    push_line(&mut out, &served).ok()?;
+    push_line(&mut out, &Line::AuditOk).ok()?;
     Some(out.as_slice() == LINES.as_bytes())
 }
 

@@ -1,7 +1,7 @@
 //! The lines of output. Their texts are put together piece by piece: `format!` takes twice the time for a line.
 //! Each piece goes right behind the last one, so that a line takes no memory of its own.
 
-ghost use Rattle.std.specs.Prelude.{◌≡◌, ◌++◌, ◌∷◌, [], IfErr, OnErr, OnOk, codes, length, take};
+ghost use Rattle.std.specs.Prelude.{◌≡◌, ◌++◌, IfErr, OnErr, OnOk, codes, length, take};
 ghost use Rattle.std.specs.Fmt.{decimal};
 ghost use Rattle.hex.specs.Hex.{encode_lower};
 ghost use Rattle.camel_rows.specs.Outcome.{action_of};
@@ -11,7 +11,7 @@ use crate::append::{append_character, append_decimal, append_text};
 use camel_criteria::{Handling, Refusal};
 use camel_rows::{Answer, CallAction, Outcome, Reason, on_failure};
 use camel_tbcd::{IsdnAddress, MAX_ISDN_ADDRESS_LENGTH};
-use std::alloc::{AllocError, Global};
+use std::alloc::AllocError;
 
 /// A line of output, in the texts of docs/SCRIPT.md.
 #[derive(Clone, Copy, Debug)]
@@ -37,7 +37,7 @@ pub enum Line {
 /// Appends the text of a line, with its line feed.
 ///
 /// Fails only with `OutOfMemory` (102); the bytes are then as before.
-pub fn push_line(_alloc: Global, out: &mut Vec<u8>, line: &Line) -> Result<(), Refusal>
+pub fn push_line(out: &mut Vec<u8>, line: &Line) -> Result<(), Refusal>
     ensures appended { OnOk result (out.new.items ≡ out.old.items ++ line_text line.now) }
     ensures unchanged { OnErr result (out.new.items ≡ out.old.items) }
     ensures only { IfErr result (λ why. why ≡ Refusal.OutOfMemory) }

@@ -112,7 +112,7 @@ fn answer_all<R: Read + Drop, W: Write>(
             Ok(false) => break,
             Err(fault) => return Err(ReplayFault::in_record(number, fault.code())),
         }
-        match answer(alloc, store, writer, &mut text, &mut script_record) {
+        match answer(store, writer, &mut text, &mut script_record) {
             Ok(()) => number += 1,
             Err(code) => return Err(ReplayFault::in_record(number, code)),
         }
@@ -127,7 +127,6 @@ fn answer_all<R: Read + Drop, W: Write>(
 ///
 /// `text` is room for the line: what it holds is cleared. An update leaves its place, where another record is put.
 fn answer<W: Write>(
-    alloc: Global,
     store: &mut Store,
     writer: &mut W,
     text: &mut Vec<u8>,
@@ -145,7 +144,7 @@ fn answer<W: Write>(
         Err(refusal) => return Err(refusal.code()),
     };
     text.clear();
-    if let Err(refusal) = push_line(alloc, text, &line) {
+    if let Err(refusal) = push_line(text, &line) {
         return Err(refusal.code());
     }
     match write_all(writer, text.as_slice()) {

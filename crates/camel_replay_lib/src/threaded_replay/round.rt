@@ -103,7 +103,7 @@ fn serve_beside<'s, E, G: Gate, R: Threads + Wait, W: Wait + Drop>(
 {
     let Segment { calls, others } = segment;
     let workers = start_all(scope, alloc, writer, seats, &calls, gate)?;
-    writer.answer_all(rt, alloc, others, gate)?;
+    writer.answer_all(rt, others, gate)?;
     join_all(rt, alloc, workers, writer.front())
 }
 

@@ -243,7 +243,7 @@ fn make_lines(alloc: Global, session: u64, transcript: &Transcript) -> Result<Ve
             call: entry.call,
             answer: entry.answer,
         };
-        push_line(alloc, &mut text, &line)?;
+        push_line(&mut text, &line)?;
     }
     Ok(text)
 }

@@ -14,7 +14,6 @@ use camel_criteria::Refusal;
 use camel_rows::Update;
 use camel_script::{Line, Record, push_line};
 use camel_vlr::{Receipt, Vlr};
-use std::alloc::Global;
 use std::collections::VecDeque;
 use std::marker::Model;
 use std::sync::Wait;
@@ -46,7 +45,6 @@ impl<W: Wait + Drop> Writer<W> {
     pub(crate) fn answer_all<G: Gate, R: Wait>(
         &mut self,
         rt: &R,
-        alloc: Global,
         records: VecDeque<Record>,
         gate: &G,
     ) -> Result<(), ThreadsFault>
@@ -62,18 +60,18 @@ impl<W: Wait + Drop> Writer<W> {
         let mut records = records;
         'records: while let Some(next) = records.pop_front() {
             let line = self.answer(rt, next, gate)?;
-            self.push(alloc, &line)?;
+            self.push(&line)?;
         }
         Ok(())
     }
 
     /// Appends the text of a line.
-    fn push(&mut self, alloc: Global, line: &Line) -> Result<(), Refusal>
+    fn push(&mut self, line: &Line) -> Result<(), Refusal>
         ensures output { OnOk result (self.new.output ≡ self.old.output ++ line_text line.now) }
         ensures store { self.new.store ≡ self.old.store }
         ensures only { IfErr result (λ why. why ≡ Refusal.OutOfMemory) }
     {
-        push_line(alloc, &mut self.output, line)
+        push_line(&mut self.output, line)
     }
 
     /// The line of a record that is no call, after which the store holds what the record asks.
