@@ -1,5 +1,5 @@
 -- The detection point of what an item reads as.
-use Rattle.std.proofs.Common.{◌≡◌, ◌∙◌, ℕ, Bool, true, false, List, length, nat_le, Result, Ok, Err, refl, sym, ap}
+use Rattle.std.proofs.Common.{◌≡◌, ◌∙◌, ℕ, Bool, true, false, List, length, nat_le, Ok, Err, refl, sym, ap}
 use Rattle.std.specs.Prelude.{◌&&◌, if◌then◌else◌}
 use Rattle.camel_criteria.specs.Criteria.{OCriteriaData, TCriteriaData, are_causes_at, o_criteria_of, t_criteria_of}
 use Rattle.camel_criteria.specs.Handling.{handling_of}

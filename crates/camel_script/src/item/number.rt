@@ -1,5 +1,3 @@
-ghost use Rattle.std.specs.Prelude.{◌≡◌};
-ghost use Rattle.std.specs.Option.{option_copied};
 ghost use Rattle.camel_reading.specs.Reading.{ReadsAs};
 ghost use Rattle.camel_script.specs.Item.{number_criterion_from, number_texts_of, number_texts_of_parts};
 ghost use Rattle.camel_script.specs.Reading.{IsMemory};

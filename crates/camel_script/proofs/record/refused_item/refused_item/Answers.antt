@@ -1,4 +1,4 @@
-use Rattle.std.proofs.Common.{rules, arith, sym, ◌≡◌, ◌∙◌, take, true, false, length, nat_le}
+use Rattle.std.proofs.Common.{rules, arith, ◌≡◌, ◌∙◌, take, true, false, length}
 use Rattle.std.proofs.lemmas.Bool.Decides.{nat_tests}
 use Rattle.std.proofs.lemmas.List.{length-set, length-take-le, take_more_set}
 use Rattle.std.specs.Str.{bytes_eq}
