@@ -1,10 +1,17 @@
--- Sources in turn, as a loop takes them.
-use Rattle.std.proofs.Common.{◌≡◌, ◌⊎◌, ℕ, ◌+◌, ◌<◌, ◌≤◌, List, [], ◌∷◌, length, drop, Result, Ok, Err}
-use Rattle.std.proofs.Common.{inl, inr, refl, sym, add-one}
+-- Fields and other sources in turn, as a loop takes them.
+use Rattle.std.proofs.Common.{◌≡◌, ◌⊎◌, ℕ, zero, suc, ◌+◌, ◌<◌, ◌≤◌, List, [], ◌∷◌, length, drop, Result, Ok, Err}
+use Rattle.std.proofs.Common.{inl, inr, refl, sym, add-one, arith}
 use Rattle.std.proofs.lemmas.List.{drop_all}
-use Rattle.camel_script.proofs.FieldLemmas.{drop-field}
+use Rattle.csv.specs.Records.{field_at}
 use Rattle.camel_script.specs.Field.{field}
 use Rattle.camel_script.specs.Reading.{in_turn, numbered}
+
+-- the fields from a place on begin with the one there
+pub drop-field : (fields : List (List ℕ)) (at : ℕ) → at < length fields → drop at fields ≡ field fields at ∷ drop (suc at) fields
+unfolding field_at
+drop-field [] at h = absurd (omega arith)
+drop-field (first ∷ fields) zero h = refl
+drop-field (first ∷ fields) (suc at) h = drop-field fields at (omega arith)
 
 -- the numbered fields from a place on begin with the one there
 pub numbered-field : (fields : List (List ℕ)) (at : ℕ) → at < length fields

@@ -3,7 +3,7 @@ use Rattle.std.proofs.Common.{◌≡◌, ◌∙◌, ℕ, ◌+◌, ◌<◌, List,
 use Rattle.std.proofs.Common.{refl, sym, ap, arith, length-append}
 use Rattle.std.proofs.Math.Seq.{drop-append_seam, take-append-add, take-append_seam}
 use Rattle.camel_criteria.specs.declared.refusal.Refusal.TheVariants.{UnexpectedDataValue}
-use Rattle.camel_script.proofs.FieldLemmas.{drop-field}
+use Rattle.camel_script.proofs.InTurn.{drop-field}
 use Rattle.camel_script.proofs.RefusedListLemmas.{IsFirstRefused}
 use Rattle.camel_script.specs.Field.{field}
 use Rattle.camel_script.specs.Reading.{record_fault_of}

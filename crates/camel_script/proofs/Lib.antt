@@ -1,6 +1,5 @@
 pub mod CsvRecords
 pub mod Elements
-pub mod FieldLemmas
 pub mod FirstRefused
 pub mod Hexadecimal
 pub mod InTurn

@@ -1,8 +1,9 @@
-use Rattle.std.proofs.Common.{◌≡◌}
+use Rattle.std.proofs.Common.{◌≡◌, ℕ, Bor, List}
 use Rattle.std.specs.Fn.{FnReturnsAt}
+use Rattle.std.specs.Option.{option_map}
 use Rattle.camel_reading.proofs.EachLemmas.{behind}
 use Rattle.camel_reading.specs.Reading.{AnswersAs, each_of}
-use Rattle.camel_script.proofs.Elements.{length_left, text_left}
+use Rattle.camel_script.proofs.Elements.{length_left}
 use Rattle.camel_script.specs.Parts.{element_separator, parts_behind}
 use Rattle.camel_script.specs.Reading.{IsMemory, elements_as}
 use Rattle.camel_script.proofs.text.lists.read_elements.Given as goal
@@ -11,7 +12,7 @@ use Rattle.camel_script.proofs.text.lists.read_elements.Given as goal
 abbrev pub invariant-elements : goal.invariant-elements
 invariant-elements g l =
     (value_of : _) → AnswersAs IsMemory (FnReturnsAt g.F.Fn l.read) value_of
-    → behind l.values.items (each_of value_of (parts_behind element_separator (text_left l.left)))
+    → behind l.values.items (each_of value_of (parts_behind element_separator (option_map (λ (rest : Bor (List ℕ)). rest.now) l.left)))
     ≡ elements_as value_of l.text
 
 abbrev pub decreases-elements : goal.decreases-elements
