@@ -31,10 +31,10 @@ abbrev pub limit_in : {W S : Type 0} → Ghosts W S → Inside W S → ℕ
 limit_in g a = (g.shown a.writer).front.store.limit
 
 abbrev pub known_free : {W S : Type 0} → Inside W S → Bool
-known_free a = unwrap_or a.state.is_free.value false
+known_free a = unwrap_or a.state.is_free false
 
 abbrev pub known_held : {W S : Type 0} → Inside W S → Bool
-known_held a = not (unwrap_or a.state.is_free.value true)
+known_held a = not (unwrap_or a.state.is_free true)
 
 abbrev pub store_of : {W S : Type 0} → Ghosts W S → Inside W S → StoreData
 store_of g a =
@@ -62,4 +62,4 @@ pub record IsNew (history : PrefixData) (state : State) : Type 0 where
   pub admission : state.admission ≡ no_admissions history.store.limit
   pub profile : state.profile ≡ history.store.profile
   pub level : state.is_ahead ≡ false
-  pub unknown : state.is_free.value ≡ None
+  pub unknown : state.is_free ≡ None

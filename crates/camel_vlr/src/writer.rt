@@ -31,7 +31,6 @@ use camel_criteria::Refusal;
 use camel_rows::Update;
 use camel_tbcd::Profile;
 use std::marker::Model;
-use std::snapshot::Snapshot;
 
 /// The most updates that a store may take: more than any switch lives to see.
 pub const MAX_UPDATES: u64 = 0x7FFF_FFFF_FFFF_FFFF;
@@ -169,7 +168,7 @@ impl<W: Publisher> Vlr<W> {
             return Err(why);
         }
         self.state.is_ahead = false;
-        self.state.is_free = Snapshot::of(&None);
+        self.state.is_free = None;
         Ok(())
     }
 

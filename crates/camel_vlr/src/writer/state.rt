@@ -9,7 +9,6 @@ use camel_table::Seed;
 use camel_tbcd::Profile;
 use std::alloc::Global;
 use std::collections::VecDeque;
-use std::snapshot::Snapshot;
 
 /// What the writer of a store keeps beside its base.
 #[derive(Drop)]
@@ -25,8 +24,9 @@ pub(crate) struct State {
     pub(crate) alloc: Global,
     /// Whether the history has updates that are not published.
     pub(crate) is_ahead: bool,
-    /// Whether no look holds up the next publication, as far as it is known.
-    pub(crate) is_free: Snapshot<Option<bool>>,
+    /// Whether no look holds up the next publication, as far as it is known. Only clauses read it, but it is no
+    /// `Snapshot`: that a structure with one is `Send` is searched for at each call, and not found for a store.
+    pub(crate) is_free: Option<bool>,
 }
 
 impl State {
@@ -43,7 +43,7 @@ impl State {
             profile: terms.profile,
             alloc,
             is_ahead: false,
-            is_free: Snapshot::of(&None),
+            is_free: None,
         }
     }
 }

@@ -23,7 +23,6 @@ use camel_table::Seed;
 use camel_tbcd::Profile;
 use std::alloc::{AllocError, Global};
 use std::marker::Model;
-use std::snapshot::Snapshot;
 use two_copies::{Copies, Ending, Unpublished};
 
 /// A store whose writer does not wait: where that of a [`Vlr`] would wait for a look, a publication is refused. It
@@ -122,7 +121,7 @@ impl Vlr<TwoCopiesWriter> {
         ensures keeps { self.old.free ≡ true → result ≡ true }
     {
         let is_free = self.writer.is_free();
-        self.state.is_free = Snapshot::of(&Some(is_free));
+        self.state.is_free = Some(is_free);
         is_free
     }
 
@@ -134,7 +133,7 @@ impl Vlr<TwoCopiesWriter> {
         ensures keeps { self.old.free ≡ true → result ≡ 0 }
     {
         let holders = self.writer.holders();
-        self.state.is_free = Snapshot::of(&Some(holders == 0));
+        self.state.is_free = Some(holders == 0);
         holders
     }
 
