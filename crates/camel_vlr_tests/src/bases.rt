@@ -2,7 +2,6 @@
 
 ghost use Rattle.std.specs.Prelude.{◌≡◌, IfOk};
 
-use crate::stores::{WaitFree, Waiting};
 use camel_criteria::Refusal;
 use camel_fixtures::{
     EntrySummary, RowSummary, StoredSummary, entry_summary, row_summary, stored_summary,
@@ -202,85 +201,81 @@ impl AnySession for WaitFreeSession {
     }
 }
 
-impl<R: Wait> AnyStore<R> for Waiting {
+impl<R: Wait> AnyStore<R> for Vlr {
     type Session = Session;
 
-    fn opened(rt: &R, alloc: Global) -> Result<(Waiting, Session, Session), Refusal> {
-        let (store, first, second) = opened(rt, alloc)?;
-        Ok((Waiting { store }, first, second))
+    fn opened(rt: &R, alloc: Global) -> Result<(Vlr, Session, Session), Refusal> {
+        opened(rt, alloc)
     }
 
     fn accept(&mut self, update: Update) -> Result<u64, Refusal> {
-        self.store.submit(update)
+        self.submit(update)
     }
 
     fn accept_all(&mut self, updates: Vec<Update>) -> Result<u64, Rejected> {
-        self.store.submit_all(updates)
+        self.submit_all(updates)
     }
 
     fn accept_and_drop(&mut self, update: Update) -> Result<(), Refusal> {
-        self.store.submit(update)?;
-        self.store.drop_pending()
+        self.submit(update)?;
+        self.drop_pending()
     }
 
     fn published_front(&mut self, rt: &R) -> Option<u64> {
-        Some(self.store.publish(rt).ok()?.front())
+        Some(self.publish(rt).ok()?.front())
     }
 
     fn counts(&self) -> Counts {
         (
-            self.store.published(),
-            self.store.pending(),
-            self.store.subscribers(),
-            self.store.profile(),
+            self.published(),
+            self.pending(),
+            self.subscribers(),
+            self.profile(),
         )
     }
 
     fn ended(self, rt: &R) {
-        let Waiting { store } = self;
-        store.end(rt);
+        self.end(rt);
     }
 }
 
-impl<R> AnyStore<R> for WaitFree {
+impl<R> AnyStore<R> for WaitFreeVlr {
     type Session = WaitFreeSession;
 
     fn opened(
         _rt: &R,
         alloc: Global,
-    ) -> Result<(WaitFree, WaitFreeSession, WaitFreeSession), Refusal> {
-        let (store, first, second) = opened_wait_free(alloc)?;
-        Ok((WaitFree { store }, first, second))
+    ) -> Result<(WaitFreeVlr, WaitFreeSession, WaitFreeSession), Refusal> {
+        opened_wait_free(alloc)
     }
 
     fn accept(&mut self, update: Update) -> Result<u64, Refusal> {
-        self.store.submit(update)
+        self.submit(update)
     }
 
     fn accept_all(&mut self, updates: Vec<Update>) -> Result<u64, Rejected> {
-        self.store.submit_all(updates)
+        self.submit_all(updates)
     }
 
     fn accept_and_drop(&mut self, update: Update) -> Result<(), Refusal> {
-        self.store.submit(update)?;
-        self.store.drop_pending()
+        self.submit(update)?;
+        self.drop_pending()
     }
 
     fn published_front(&mut self, _rt: &R) -> Option<u64> {
-        Some(self.store.publish().ok()?.front())
+        Some(self.publish().ok()?.front())
     }
 
     fn counts(&self) -> Counts {
         (
-            self.store.published(),
-            self.store.pending(),
-            self.store.subscribers(),
-            self.store.profile(),
+            self.published(),
+            self.pending(),
+            self.subscribers(),
+            self.profile(),
         )
     }
 
     fn ended(self, _rt: &R) {
-        let WaitFree { store } = self;
-        store.abandon();
+        self.abandon();
     }
 }

@@ -15,7 +15,6 @@ mod limits;
 mod lives;
 #[cfg(test)]
 mod seeds;
-mod stores;
 #[cfg(test)]
 mod threads;
 #[cfg(test)]

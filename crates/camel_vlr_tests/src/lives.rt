@@ -1,11 +1,11 @@
 //! That the calls of a store and of its sessions succeed, over both bases. What they give then is their contracts.
 
 use crate::bases::{AnySession, AnyStore, Counts, Shown};
-use crate::stores::{WaitFree, Waiting};
 use camel_criteria::Refusal;
 use camel_fixtures::{ARMED, LISTED, call_of, criteria_update, imsi_of, triggered};
 use camel_rows::{Answer, CallEvent, Outcome, Reason, Update};
 use camel_tbcd::{Imsi, Profile};
+use camel_vlr::{Vlr, WaitFreeVlr};
 use std::alloc::Global;
 use std::test::Fail;
 
@@ -86,7 +86,7 @@ fn is_as_wanted<R, W: AnyStore<R>>(rt: &R, alloc: Global) -> Result<bool, Fail> 
 
 #[test]
 fn what_is_published_is_seen_over_both_bases(rt: HostRuntime) -> Result<(), Fail> {
-    assert!(rt; is_as_wanted::<HostRuntime, Waiting>(&rt, rt.alloc())?);
-    assert!(rt; is_as_wanted::<HostRuntime, WaitFree>(&rt, rt.alloc())?);
+    assert!(rt; is_as_wanted::<HostRuntime, Vlr>(&rt, rt.alloc())?);
+    assert!(rt; is_as_wanted::<HostRuntime, WaitFreeVlr>(&rt, rt.alloc())?);
     Ok(())
 }

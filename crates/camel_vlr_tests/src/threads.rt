@@ -1,11 +1,11 @@
 //! Publications beside sessions in threads of their own, over both bases.
 
 use crate::bases::{AnySession, AnyStore, LIMIT};
-use crate::stores::{WaitFree, Waiting};
 use camel_criteria::Refusal;
 use camel_fixtures::{call_of, imsi_of};
 use camel_rows::{CallEvent, Outcome, Reason, Update};
 use camel_tbcd::Imsi;
+use camel_vlr::{Vlr, WaitFreeVlr};
 use std::alloc::Global;
 use std::sync::atomic::{AtomicBool, AtomicU64, Ordering};
 use std::test::Fail;
@@ -106,8 +106,8 @@ fn two_are_seen_whole<R: Threads + Sync, W: AnyStore<R>>(
 
 #[test]
 fn a_publication_is_seen_whole(rt: HostRuntime) -> Result<(), Fail> {
-    assert!(rt; two_are_seen_whole::<HostRuntime, Waiting>(&rt, rt.alloc())?);
-    assert!(rt; two_are_seen_whole::<HostRuntime, WaitFree>(&rt, rt.alloc())?);
+    assert!(rt; two_are_seen_whole::<HostRuntime, Vlr>(&rt, rt.alloc())?);
+    assert!(rt; two_are_seen_whole::<HostRuntime, WaitFreeVlr>(&rt, rt.alloc())?);
     Ok(())
 }
 
@@ -219,7 +219,7 @@ fn each_is_seen<R: Threads + Sync, W: AnyStore<R>>(rt: &R, alloc: Global) -> Res
 
 #[test]
 fn sessions_see_each_publication_beside_their_writer(rt: HostRuntime) -> Result<(), Fail> {
-    assert!(rt; each_is_seen::<HostRuntime, Waiting>(&rt, rt.alloc())?);
-    assert!(rt; each_is_seen::<HostRuntime, WaitFree>(&rt, rt.alloc())?);
+    assert!(rt; each_is_seen::<HostRuntime, Vlr>(&rt, rt.alloc())?);
+    assert!(rt; each_is_seen::<HostRuntime, WaitFreeVlr>(&rt, rt.alloc())?);
     Ok(())
 }
