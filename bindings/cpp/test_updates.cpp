@@ -189,17 +189,16 @@ static void commits_are_refused()
     CHECK(get(sessions[1].decide(event_at(2))).key == 9 && get(sessions[1].decide(event_at(2))).front == 4);
 }
 
-/* Criteria of the O-CSI are refused in the place of those of the VT-CSI, and so is a number. */
+/* Criteria of the VT-CSI have neither a number nor a call type. */
 static void criteria_are_of_their_csi()
 {
     auto [store, sessions] = open();
     camel::Csis csis = csis_of(8);
-    camel_criteria &entry = csis.t_criteria->front(), own = entry;
-    entry = csis.o_criteria->front();
-    entry.dp = own.dp;
+    camel_criteria &entry = csis.t_criteria->front();
+    entry.has_call_type = true;
     CHECK(store.submit_insert(imsi(), csis).status() == CAMEL_UNEXPECTED_DATA_VALUE);
     CHECK(camel::Update::of_insert(imsi(), csis).status() == CAMEL_UNEXPECTED_DATA_VALUE);
-    entry = own;
+    entry.has_call_type = false;
     entry.has_number = true;
     CHECK(store.submit_insert(imsi(), csis).status() == CAMEL_UNEXPECTED_DATA_VALUE);
 }

@@ -1,12 +1,9 @@
 //! Records are listed and encoded, and make a store that decides as the first one.
 use camel::{
-    Address, Argument, BasicService, Cause, Csis, Error, Event, Imsi, IsdnAddress, MAX_ARGUMENT,
-    MAX_UPDATES, Operation, Outcome, PreparedUpdate, Profile, Row, Session, Store, TCriteria,
-    Update,
+    Address, Argument, BasicService, CallType, Cause, Csis, Error, Event, Imsi, IsdnAddress,
+    MAX_ARGUMENT, MAX_UPDATES, MatchType, NumberCriterion, OCriteria, Operation, Outcome,
+    PreparedUpdate, Profile, Row, Session, Store, TCriteria, Update,
 };
-use entries::o_criteria_of;
-
-mod entries;
 
 const SUBSCRIBERS: usize = 100;
 
@@ -16,11 +13,17 @@ fn imsi(subscriber: usize) -> Imsi {
 
 /// The lists of a subscriber: none of them, some, or all.
 fn csis(subscriber: usize) -> Csis {
+    let address = |octets: &[u8]| IsdnAddress::new(octets).unwrap();
+    let numbers = [address(&[0x91, 0x21]), address(&[0xa1, 0x43, 0xf5])];
+    let number = NumberCriterion::new(MatchType::Inhibiting, &numbers, &[3, 15]).unwrap();
+    let o_criteria = OCriteria::new(2)
+        .with_number(number)
+        .with_call_type(CallType::NotForwarded);
     let t_criteria = TCriteria::new(13)
         .with_causes(&[Cause::of_octet(17)])
         .unwrap();
     let key = subscriber as u32;
-    let scf = IsdnAddress::new(&[0x91, 0x94, 0x71]).unwrap();
+    let scf = address(&[0x91, 0x94, 0x71]);
     let has = |bit: usize| subscriber >> bit & 1 == 1;
     Csis {
         o: has(0).then(|| {
@@ -29,7 +32,7 @@ fn csis(subscriber: usize) -> Csis {
                 Row::new(4, key + 1, scf).with_handling(1),
             ]
         }),
-        o_criteria: (has(0) && has(1)).then(|| vec![o_criteria_of(2)]),
+        o_criteria: (has(0) && has(1)).then(|| vec![o_criteria]),
         vt: has(2).then(|| vec![Row::new(13, key, scf)]),
         t_criteria: (has(2) && has(3)).then(|| vec![t_criteria]),
     }
