@@ -11,8 +11,6 @@ use crate::join::list::join_lists;
 use camel_criteria::Refusal;
 use camel_rows::Update;
 use std::alloc::Global;
-use std::error::Error;
-use std::fmt;
 
 /// Why two arrivals are not joined.
 #[derive(Clone, Copy, Debug, PartialEq, Eq)]
@@ -38,18 +36,6 @@ impl JoinFault {
         }
     }
 }
-
-impl fmt::Display for JoinFault {
-    fn fmt<W: fmt::Write>(&self, f: &mut fmt::Formatter<W>) -> fmt::Result {
-        match self {
-            JoinFault::NoInsert => f.write_str("one of the two is no InsertSubscriberData"),
-            JoinFault::OtherSubscriber => f.write_str("the two are of different subscribers"),
-            JoinFault::Refused(refusal) => refusal.fmt(f),
-        }
-    }
-}
-
-impl Error for JoinFault {}
 
 impl From<Refusal> for JoinFault {
     ghost use Rattle.std.specs.Prelude.{◌≡◌};
@@ -92,10 +78,10 @@ impl Arrival {
         };
         let Update::Insert {
             imsi: next_imsi,
-            o: next_o,
-            o_criteria: next_o_criteria,
-            vt: next_vt,
-            t_criteria: next_t_criteria,
+            o: more_o,
+            o_criteria: o_more,
+            vt: more_vt,
+            t_criteria: t_more,
         } = &next.update
         else {
             return Err(JoinFault::NoInsert);
@@ -103,26 +89,14 @@ impl Arrival {
         if imsi != next_imsi {
             return Err(JoinFault::OtherSubscriber);
         }
-        let (counts, more) = (&self.counts, &next.counts);
+        let (had, more) = (&self.counts, &next.counts);
         let (earlier, later) = (&self.capabilities, &next.capabilities);
         Ok(Arrival::insert(
             *imsi,
-            join_lists(alloc, o, counts.o, next_o, more.o)?,
-            join_lists(
-                alloc,
-                o_criteria,
-                counts.o_criteria,
-                next_o_criteria,
-                more.o_criteria,
-            )?,
-            join_lists(alloc, vt, counts.vt, next_vt, more.vt)?,
-            join_lists(
-                alloc,
-                t_criteria,
-                counts.t_criteria,
-                next_t_criteria,
-                more.t_criteria,
-            )?,
+            join_lists(alloc, o, had.o, more_o, more.o)?,
+            join_lists(alloc, o_criteria, had.o_criteria, o_more, more.o_criteria)?,
+            join_lists(alloc, vt, had.vt, more_vt, more.vt)?,
+            join_lists(alloc, t_criteria, had.t_criteria, t_more, more.t_criteria)?,
             CapabilityHandling {
                 o: later.o.or(earlier.o),
                 vt: later.vt.or(earlier.vt),
