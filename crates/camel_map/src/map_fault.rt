@@ -4,7 +4,6 @@ ghost use Rattle.camel_map.specs.MapFault.{map_fault_code};
 use camel_ber::{FaultKind, ReadError};
 use camel_criteria::Refusal;
 use camel_reading::Fault;
-use std::alloc::{AllocError, AllocFailed};
 use std::error::Error;
 use std::fmt;
 
@@ -128,27 +127,5 @@ impl From<ReadError> for MapFault {
                 MapFaultKind::Malformed(fault.kind),
             ),
         }
-    }
-}
-
-impl From<AllocError> for MapFault {
-    ghost use Rattle.std.specs.Prelude.{◌≡◌};
-    ghost use Rattle.camel_map.specs.Reading.{out_of_memory};
-
-    ghost from_gives = { λ _ fault. fault ≡ out_of_memory };
-
-    fn from(_error: AllocError) -> MapFault {
-        MapFault::out_of_memory()
-    }
-}
-
-impl<T: Drop> From<AllocFailed<T>> for MapFault {
-    ghost use Rattle.std.specs.Prelude.{◌≡◌};
-    ghost use Rattle.camel_map.specs.Reading.{out_of_memory};
-
-    ghost from_gives = { λ _ fault. fault ≡ out_of_memory };
-
-    fn from(_error: AllocFailed<T>) -> MapFault {
-        MapFault::out_of_memory()
     }
 }
