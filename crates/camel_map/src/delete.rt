@@ -2,7 +2,7 @@
 
 ghost use Rattle.std.specs.Prelude.{◌≡◌, ◌≤◌};
 ghost use Rattle.std.specs.Option.{option_map};
-ghost use Rattle.camel_ber.specs.Reading.{view, views};
+ghost use Rattle.camel_ber.specs.Reading.{view};
 ghost use Rattle.camel_map.specs.Reading.{IsMemory};
 ghost use Rattle.camel_reading.specs.Reading.{ReadsAs};
 ghost use Rattle.camel_map.specs.Update.{delete_in};

@@ -1,8 +1,7 @@
 //! The entries of criteria: O-BcsmCamelTDP-Criteria and T-BCSM-CAMEL-TDP-Criteria.
 
-ghost use Rattle.std.specs.Prelude.{◌≡◌, [], ◌∷◌, ◌++◌, IfOk, OnOk};
-ghost use Rattle.camel_map.specs.Encoding.{call_type_number, cause_element, encoding, if_any, if_some, leaf};
-ghost use Rattle.camel_map.specs.Encoding.{number_element, service_element};
+ghost use Rattle.std.specs.Prelude.{◌≡◌, [], ◌∷◌, ◌++◌, OnOk};
+ghost use Rattle.camel_map.specs.Encoding.{call_type_number, cause_element, if_any, if_some, leaf, service_element};
 ghost use Rattle.camel_map.specs.Identifier.{constructed, primitive};
 ghost use Rattle.camel_map.specs.Written.{before};
 

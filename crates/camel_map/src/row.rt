@@ -1,10 +1,9 @@
 //! O-CSI and T-CSI, and their TDP rows.
 
-ghost use Rattle.std.specs.Prelude.{◌≡◌, ◌≤◌, length, IfOk, OnOk};
+ghost use Rattle.std.specs.Prelude.{◌≡◌, ◌≤◌, length};
 ghost use Rattle.camel_ber.specs.Reading.{view, views};
 ghost use Rattle.camel_map.specs.Reading.{IsMemory, LendsElement};
 ghost use Rattle.camel_reading.specs.Reading.{ReadsAs};
-ghost use Rattle.camel_map.specs.Encoding.{encoding};
 ghost use Rattle.camel_map.specs.Row.{csi_in, first_of};
 ghost use Rattle.camel_rows.specs.Received.{kept_of};
 
