@@ -1,6 +1,5 @@
 //! CancelLocationArg.
 
-ghost use Rattle.std.specs.Prelude.{◌≡◌};
 ghost use Rattle.camel_ber.specs.Reading.{view};
 ghost use Rattle.camel_map.specs.Reading.{IsMemory};
 ghost use Rattle.camel_reading.specs.Reading.{ReadsAs};

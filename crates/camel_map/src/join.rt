@@ -69,19 +69,19 @@ impl Arrival {
         let Update::Insert {
             imsi,
             o,
-            o_criteria,
+            o_criteria: o_set,
             vt,
-            t_criteria,
+            t_criteria: t_set,
         } = &self.update
         else {
             return Err(JoinFault::NoInsert);
         };
         let Update::Insert {
             imsi: next_imsi,
-            o: more_o,
-            o_criteria: o_more,
-            vt: more_vt,
-            t_criteria: t_more,
+            o: next_o,
+            o_criteria: next_o_set,
+            vt: next_vt,
+            t_criteria: next_t_set,
         } = &next.update
         else {
             return Err(JoinFault::NoInsert);
@@ -89,14 +89,14 @@ impl Arrival {
         if imsi != next_imsi {
             return Err(JoinFault::OtherSubscriber);
         }
-        let (had, more) = (&self.counts, &next.counts);
+        let (counts, more) = (&self.counts, &next.counts);
         let (earlier, later) = (&self.capabilities, &next.capabilities);
         Ok(Arrival::insert(
             *imsi,
-            join_lists(alloc, o, had.o, more_o, more.o)?,
-            join_lists(alloc, o_criteria, had.o_criteria, o_more, more.o_criteria)?,
-            join_lists(alloc, vt, had.vt, more_vt, more.vt)?,
-            join_lists(alloc, t_criteria, had.t_criteria, t_more, more.t_criteria)?,
+            join_lists(alloc, o, counts.o, next_o, more.o)?,
+            join_lists(alloc, o_set, counts.o_criteria, next_o_set, more.o_criteria)?,
+            join_lists(alloc, vt, counts.vt, next_vt, more.vt)?,
+            join_lists(alloc, t_set, counts.t_criteria, next_t_set, more.t_criteria)?,
             CapabilityHandling {
                 o: later.o.or(earlier.o),
                 vt: later.vt.or(earlier.vt),

@@ -1,8 +1,8 @@
 //! What stands for the values of criteria and of rows.
 
-ghost use Rattle.std.specs.Prelude.{◌≡◌, ◌++◌, [], ◌∷◌, OnOk};
-ghost use Rattle.camel_map.specs.Encoding.{call_type_number, cause_element, encoding, handling_number, leaf};
-ghost use Rattle.camel_map.specs.Encoding.{match_type_number, number_element, service_element};
+ghost use Rattle.std.specs.Prelude.{◌≡◌, [], ◌∷◌};
+ghost use Rattle.camel_map.specs.Encoding.{call_type_number, cause_element, handling_number, leaf, match_type_number};
+ghost use Rattle.camel_map.specs.Encoding.{number_element, service_element};
 ghost use Rattle.camel_map.specs.Identifier.{integer, octet_string, primitive};
 
 use crate::encoding::element::{close, put_leaf};
