@@ -1,5 +1,6 @@
 -- A field of an encoded element is found by its identifier octet.
 use Rattle.std.proofs.Common.{◌≡◌, ◌∙◌, ℕ, List, [], ◌∷◌, filter, IfSome, Option, Some, None, Result, Ok, refl, ap, subst}
+use Rattle.std.proofs.lemmas.Iterator.Adapters.{option_map_id}
 use Rattle.std.specs.Option.{option_map}
 use Rattle.camel_ber.specs.Grammar.{ElementData}
 use Rattle.camel_ber.specs.Reading.{◌>>=◌, PlacedData}
@@ -50,14 +51,10 @@ module _ {A : Type 0} (value_of : PlacedData → Result A MapFault) (octet : ℕ
       let value : value_of (at (element_of x) field.0 field.1) ≡ Ok (came x) = decodes field.3 field.0 field.1 in
       rw (there, value) refl
 
-  same_field : (o : Option A) → option_map (λ x. x) o ≡ o
-  same_field None = refl
-  same_field (Some x) = refl
-
   -- a field that may be absent is read as what it encodes
   pub optional_read : (element_of : A → ElementData) (o : Option A)
       → ((x : A) → (element_of x).identifier ≡ octet ∷ []) → AreRead ps es
       → of_tag octet es ≡ if_any element_of o → IfSome o (λ x. Decodes value_of (element_of x) x)
       → (field_of octet ps >>= if_present value_of) ≡ Ok o
   optional_read element_of o is read found decodes =
-      came_read element_of (λ x. x) o is read found decodes ∙ ap Ok (same_field o)
+      came_read element_of (λ x. x) o is read found decodes ∙ ap Ok (option_map_id o)

@@ -1,6 +1,6 @@
 -- The rows and the criteria of a CSI that is decoded are what is kept of the received items.
-use Rattle.std.proofs.Common.{◌≡◌, ◌∙◌, ℕ, List, Option, Some, None, Result, Ok, refl, ap}
-use Rattle.std.specs.Option.{option_map}
+use Rattle.std.proofs.Common.{◌≡◌, ◌∙◌, ℕ, List, Option, Some, Result, Ok, ap}
+use Rattle.std.proofs.lemmas.Iterator.Adapters.{option_map_id}
 use Rattle.camel_ber.specs.Reading.{◌>>=◌, PlacedData}
 use Rattle.camel_criteria.specs.declared.refusal.Refusal.{Refusal}
 use Rattle.camel_rows.specs.TdpRow.{TdpRowData}
@@ -31,10 +31,6 @@ of_csi kept_of csi read is =
     let items = of_received kept_of (item_in row_of_fields) list.0 rows.0 rows.1 in
     (items.0, items.1 ∙ ap (λ (list : ReceivedList (List TdpRowData)). Ok (Some list)) same)
 
-as_it_came : {Came : Type 0} (came : Option Came) → option_map (λ list. list) came ≡ came
-as_it_came None = refl
-as_it_came (Some list) = refl
-
 -- the rows and the criteria that came of a CSI
 pub of_lists : {Entry : Type 0} (csi : ℕ) (kept_of : List TdpRowData → Result (List TdpRowData) Refusal) (criteria : ℕ)
     (value_of : PlacedData → Result Entry MapFault) (set_of : List Entry → Result (List Entry) Refusal)
@@ -53,5 +49,5 @@ of_lists csi kept_of criteria value_of set_of fields came is =
     let entries = of_field set_of (received_as value_of set_of) (λ list. list) (of_received set_of value_of) criteria fields
     second.0 second.1 in (
       (rows.0, rows.1 ∙ ap (λ (came : Option (ReceivedCsi (List TdpRowData))). Ok (rows_in came)) one),
-      (entries.0, entries.1 ∙ ap Ok (as_it_came second.0 ∙ other)),
+      (entries.0, entries.1 ∙ ap Ok (option_map_id second.0 ∙ other)),
     )
