@@ -35,8 +35,7 @@ module _ {A : Type 0} (value_of : PlacedData → Result A MapFault) (octet : ℕ
   unfolding mandatory
   mandatory_read item e x is read found decodes =
       let field = field_there octet ps es e is read found in
-      let there = field.2 in
-      rw there (decodes field.3 field.0 field.1)
+      rw field.2 (decodes field.3 field.0 field.1)
 
   -- a field that may be absent is read as what comes of what it encodes
   pub came_read : {S : Type 0} (element_of : S → ElementData) (came : S → A) (o : Option S)
@@ -47,9 +46,8 @@ module _ {A : Type 0} (value_of : PlacedData → Result A MapFault) (octet : ℕ
       let none = field_absent octet ps es read found in rw none refl
   came_read element_of came (Some x) is read found decodes =
       let field = field_there octet ps es (element_of x) (is x) read found in
-      let there = field.2 in
       let value : value_of (at (element_of x) field.0 field.1) ≡ Ok (came x) = decodes field.3 field.0 field.1 in
-      rw (there, value) refl
+      rw (field.2, value) refl
 
   -- a field that may be absent is read as what it encodes
   pub optional_read : (element_of : A → ElementData) (o : Option A)

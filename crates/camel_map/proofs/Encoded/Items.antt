@@ -22,8 +22,7 @@ pub item_read : {A : Type 0} (of_fields : PlacedData → List PlacedData → Res
 unfolding item_in
 item_read of_fields fields_of x identified read short place end =
     let parts = parts_read sequence (fields_of x) place end identified short in
-    let fields = parts.1 in
-    rw fields (read (at (item_element fields_of x) place end) parts.0 parts.2)
+    rw parts.1 (read (at (item_element fields_of x) place end) parts.0 parts.2)
 
 module _ {A : Type 0} (value_of : PlacedData → Result A MapFault) (element_of : A → ElementData) where
   -- an element of each value is read as the value
@@ -79,5 +78,4 @@ module _ {A : Type 0} (value_of : PlacedData → Result A MapFault) (element_of 
       let none = field_absent octet ps es read found in rw none refl
   listed_read octet ps es (x ∷ xs) identified read found decoded =
       let field = field_there octet ps es (parent octet (map element_of (x ∷ xs))) refl read found in
-      let there = field.2 in
-      rw there (items_read octet x xs identified decoded field.3 field.0 field.1)
+      rw field.2 (items_read octet x xs identified decoded field.3 field.0 field.1)

@@ -41,10 +41,7 @@ said_unsigned : (octet : ℕ) (content : List ℕ) (n : ℕ) → Say content n �
     → Decodes unsigned_in (leaf octet content) n
 unfolding unsigned_in
 said_unsigned octet content n say most short place end =
-    let some = say.some in
-    let positive = say.positive in
-    let value = say.value in
-    rw (some, positive, value) (ap Ok (omega arith))
+    rw (say.some, say.positive, say.value) (ap Ok (omega arith))
 
 pub unsigned_number : (octet n : ℕ) → n ≤ 2147483647 → Decodes unsigned_in (leaf octet (number_octets n)) n
 unsigned_number octet n most = said_unsigned octet (number_octets n) n (number-said n most) most
@@ -58,7 +55,4 @@ pub detection_point : (octet n : ℕ) → n ≤ 255 → Decodes detection_point_
 unfolding detection_point_in
 detection_point octet n most short place end =
     let say = number-said n (omega arith) in
-    let some = say.some in
-    let positive = say.positive in
-    let value = say.value in
-    rw (some, positive, value) (ap Ok (omega arith))
+    rw (say.some, say.positive, say.value) (ap Ok (omega arith))

@@ -29,8 +29,7 @@ module _ (fields : List PlacedData) (es : List ElementData) (read : AreRead fiel
   everything_read false found = let absent = field_absent (primitive 9) fields es read found in rw absent refl
   everything_read true found =
       let field = field_there (primitive 9) fields es (leaf (primitive 9) []) refl read found in
-      let there = field.2 in
-      rw there refl
+      rw field.2 refl
 
   -- the CSIs that are named
   pub specific_read : (everything o vt : Bool) → of_tag (primitive 15) es ≡ specific_parts o vt
@@ -41,13 +40,10 @@ module _ (fields : List PlacedData) (es : List ElementData) (read : AreRead fiel
       let absent = field_absent (primitive 15) fields es read found in rw absent refl
   specific_read everything true false found =
       let field = field_there (primitive 15) fields es (leaf (primitive 15) (0 ∷ 0x80 ∷ [])) refl read found in
-      let there = field.2 in
-      rw there refl
+      rw field.2 refl
   specific_read everything false true found =
       let field = field_there (primitive 15) fields es (leaf (primitive 15) (0 ∷ 0x08 ∷ [])) refl read found in
-      let there = field.2 in
-      rw there refl
+      rw field.2 refl
   specific_read everything true true found =
       let field = field_there (primitive 15) fields es (leaf (primitive 15) (0 ∷ 0x88 ∷ [])) refl read found in
-      let there = field.2 in
-      rw there refl
+      rw field.2 refl

@@ -26,10 +26,9 @@ csi_read kept_of none octet rows kept short place end =
     let list = list_element row_fields ignored_row sequence rows in
     let csi = at (csi_element octet rows) place end in
     let parts = parts_read octet (list ∷ []) place end (a_sequence, tt) short in
-    let found = parts.1 in
     let first = first_read csi parts.0 list [] parts.2 in
     let there : first_of csi parts.0 ≡ Ok (at list first.0 first.1) = first.2 in
     let read = sent_read row_of_fields row_fields IsRow kept_of row_read ignored_row is_ignored_row none sequence rows kept first.3
     first.0 first.1 in
     let no_capability = field_absent (primitive 0) parts.0 (list ∷ []) parts.2 refl in
-    rw (found, there, read, no_capability) refl
+    rw (parts.1, there, read, no_capability) refl

@@ -43,7 +43,6 @@ module _ (criterion : NumberCriterionData) where
       let all = identified match_type_parts listed (one_octet (primitive 0) (refl, refl), tt) in
       let parts = parts_read (constructed 0) number_parts place end all short in
       let fields = parts.0 in
-      let there = parts.1 in
       let match_type = mandatory_read match_type_in (primitive 0) fields number_parts item _ criterion.match_type refl parts.2
       (found (primitive 0) match_type_parts listed) (match_type_read (primitive 0) criterion.match_type) in
       let numbers = listed_read number_in (leaf octet_string) (constructed 1) fields number_parts criterion.numbers
@@ -52,4 +51,4 @@ module _ (criterion : NumberCriterionData) where
       let lengths = listed_read length_in length_element (constructed 2) fields number_parts criterion.lengths
       (λ x. one_octet integer (refl, refl)) parts.2 (found (constructed 2) match_type_parts listed)
       (All-weaker (λ (count : ℕ). count ≤ 15) _ length_read criterion.lengths (few_listed criterion is).digits) in
-      rw (there, match_type, numbers, lengths) (ap (or_refused_at place) is.0)
+      rw (parts.1, match_type, numbers, lengths) (ap (or_refused_at place) is.0)

@@ -19,9 +19,8 @@ cancel_read dialogue imsi is same short place end =
     let e = leaf octet_string (tbcd_octets imsi) in
     let argument = at (parent (constructed 3) (e ∷ [])) place end in
     let parts = parts_read (constructed 3) (e ∷ []) place end (one_octet octet_string (refl, refl), tt) short in
-    let all = parts.1 in
     let first = first_read argument parts.0 e [] parts.2 in
     let there : first_of argument parts.0 ≡ Ok (at e first.0 first.1) = first.2 in
     let own : own_imsi dialogue (at e first.0 first.1) ≡ Ok imsi =
     own_imsi_read dialogue octet_string imsi is same first.3 first.0 first.1 in
-    rw (all, there, own) refl
+    rw (parts.1, there, own) refl

@@ -46,10 +46,9 @@ module _ (imsi : List ℕ) (what : Withdrawal) where
       let are = identified (imsi_part ∷ []) named (one_octet (primitive 0) (refl, refl), tt) in
       let parts = parts_read sequence argument_parts place end are short in
       let fields = parts.0 in
-      let all = parts.1 in
       let own = mandatory_read (own_imsi dialogue) (primitive 0) fields argument_parts argument imsi_part imsi refl parts.2
       (found (primitive 0) (imsi_part ∷ []) named) (own_imsi_read dialogue (primitive 0) imsi is same) in
       let everything = everything_read fields argument_parts parts.2 what.everything (found (primitive 9) (imsi_part ∷ []) named) in
       let csis = specific_read fields argument_parts parts.2 what.everything what.o what.vt
       (found (primitive 15) (imsi_part ∷ []) named) in
-      rw (all, own, everything, csis) refl
+      rw (parts.1, own, everything, csis) refl

@@ -26,14 +26,10 @@ module _ (imsi : List ℕ) (lists : Lists) where
   unfolding insert_in imsi_or_of_dialogue
   insert_read kept dialogue same short place end =
       let parts = parts_read sequence argument_parts place end argument_identified short in
-      let all = parts.1 in
       let own = leaf (primitive 0) (tbcd_octets imsi) in
       let own_field = field_there (primitive 0) parts.0 argument_parts own refl parts.2 refl in
-      let own_there = own_field.2 in
       let is_imsi = own_imsi_read dialogue (primitive 0) imsi kept.0 same own_field.3 own_field.0 own_field.1 in
       let camel = parent (constructed 13) (info lists) in
       let field = field_there (constructed 13) parts.0 argument_parts camel refl parts.2 refl in
-      let there = field.2 in
       let inner = parts_read (constructed 13) (info lists) field.0 field.1 (all_identified lists) field.3 in
-      let inner_there = inner.1 in
-      rw (all, own_there, is_imsi, there, inner_there) (fields_read imsi lists kept inner.0 inner.2)
+      rw (parts.1, own_field.2, is_imsi, field.2, inner.1) (fields_read imsi lists kept inner.0 inner.2)

@@ -25,18 +25,14 @@ fields_of_lists imsi fields arrival is =
     let came = vt.2 in
     let same : insert_of imsi o.0 vt.0 ≡ arrival = cc in
     let first = of_lists (constructed 0) o_csi_of (constructed 4) (item_in o_entry_of_fields) o_criteria_set_of fields o.0 o.1 in
-    let rows_is = first.0.1 in
-    let entries_is = first.1.1 in
     let second = of_lists (constructed 7) vt_csi_of (constructed 8) (item_in t_entry_of_fields) t_criteria_set_of fields vt.0 vt.1 in
-    let vt_rows_is = second.0.1 in
-    let vt_entries_is = second.1.1 in
     let lists : Lists =
     record { o = first.0.0; o_criteria = first.1.0; vt = second.0.0; t_criteria = second.1.0 } in record {
       imsi = imsi;
       lists = lists;
       whole =
           subst (λ (arrival : Arrival). insert_of_lists imsi lists arrival.capabilities ≡ Ok arrival) same
-          (rw (rows_is, entries_is, vt_rows_is, vt_entries_is) refl);
+          (rw (first.0.1, first.1.1, second.0.1, second.1.1) refl);
     }
 
 -- an Insert that is decoded is of lists
