@@ -1,0 +1,61 @@
+-- How long the encoding of the argument of an update is at most.
+use Rattle.std.proofs.Common.{ℕ, List, [], ◌∷◌, ◌++◌, IfSome}
+use Rattle.std.proofs.Common.{arith}
+use Rattle.std.proofs.lemmas.Option.{IfSome_then}
+use Rattle.camel_criteria.specs.DetectionPoint.{o_detection_points, vt_detection_points}
+use Rattle.camel_rows.specs.declared.subscriber.update.Update.{Update}
+use Rattle.camel_rows.specs.declared.subscriber.update.Update.TheVariants as update
+use Rattle.camel_tbcd.specs.Imsi.{IsImsi}
+use Rattle.camel_map.specs.Encoding.{argument_of, camel_parts, csi_element, everything_parts, ignored_o_entry, ignored_t_entry}
+use Rattle.camel_map.specs.Encoding.{leaf, list_element, o_entry_fields, parent, specific_parts, t_entry_fields, tbcd_octets}
+use Rattle.camel_map.specs.Identifier.{constructed, octet_string, primitive, sequence}
+use Rattle.camel_map.specs.Kept.{IsKept, IsOEntry, IsTEntry}
+use Rattle.camel_map.proofs.EncodedSizes.Bounds.{AreMost, IsMost, leaf_most, more_most, none_most, parent_most}
+use Rattle.camel_map.proofs.EncodedSizes.ListBounds.{any_most, append_most, within}
+use Rattle.camel_map.proofs.EncodedLists.OEntries.{is_ignored_o_entry}
+use Rattle.camel_map.proofs.EncodedLists.TEntries.{is_ignored_t_entry}
+use Rattle.camel_map.proofs.Encoded.Imsis.{octets_few as imsi_octets_few}
+use Rattle.camel_map.proofs.EncodedSizes.Entries.{o_entry_most, t_entry_most}
+use Rattle.camel_map.proofs.EncodedSizes.Lists.{csi_most, list_most}
+use Rattle.camel_map.proofs.EncodedSizes.Withdrawals.{everything_most, specific_most}
+
+imsi_most : (octet : ℕ) (imsi : List ℕ) → IsImsi imsi → IsMost 14 (leaf octet (tbcd_octets imsi))
+imsi_most octet imsi is = leaf_most octet (tbcd_octets imsi) 8 (imsi_octets_few imsi is)
+
+-- a kept update is said in at most so many octets
+pub argument_most : (update : Update) → IsKept update
+    → IfSome (argument_of update) (λ argument. IsMost 1198 argument.element)
+argument_most (update.Insert imsi o o_criteria vt t_criteria) kept =
+    let own = imsi_most (primitive 0) imsi kept.0 in
+    let the_o = any_most (csi_element (constructed 0)) 108 o
+    (IfSome_then o kept.1 (csi_most (constructed 0) o_detection_points (omega arith))) in
+    let the_o_criteria = any_most (list_element o_entry_fields ignored_o_entry (constructed 4)) 608 o_criteria
+    (IfSome_then o_criteria kept.2 (list_most o_entry_fields 301 IsOEntry o_entry_most ignored_o_entry is_ignored_o_entry
+    (λ entry. entry.dp) o_detection_points (omega arith) (constructed 4))) in
+    let the_vt = any_most (csi_element (constructed 7)) 156 vt
+    (IfSome_then vt kept.3 (csi_most (constructed 7) vt_detection_points (omega arith))) in
+    let the_t_criteria = any_most (list_element t_entry_fields ignored_t_entry (constructed 8)) 300 t_criteria
+    (IfSome_then t_criteria kept.4 (list_most t_entry_fields 98 IsTEntry t_entry_most ignored_t_entry is_ignored_t_entry
+    (λ entry. entry.dp) vt_detection_points (omega arith) (constructed 8))) in
+    let camel = camel_parts o o_criteria vt t_criteria in
+    let fields : AreMost 1172 camel =
+    append_most _ _ 872 300 (append_most _ _ 716 156 (append_most _ _ 108 608 the_o the_o_criteria) the_vt)
+    the_t_criteria in
+    let info = parent (constructed 13) camel in
+    let there = parent_most (constructed 13) camel 1172 fields in
+    let first = leaf (primitive 0) (tbcd_octets imsi) in
+    parent_most sequence (first ∷ info ∷ []) 1192
+    (more_most first (info ∷ []) 14 1178 own (more_most info [] 1178 0 there none_most))
+argument_most (update.Delete imsi what) kept =
+    let own = leaf (primitive 0) (tbcd_octets imsi) in
+    let rest = everything_parts what.everything ++ specific_parts what.o what.vt in
+    let fields : AreMost 28 (own ∷ rest) =
+    more_most own rest 14 14 (imsi_most (primitive 0) imsi kept)
+    (append_most _ _ 6 8 (everything_most what.everything) (specific_most what.o what.vt)) in
+    parent_most sequence (own ∷ rest) 1192 (within (own ∷ rest) 28 1192 fields (omega arith))
+argument_most (update.Cancel imsi) kept =
+    let own = leaf octet_string (tbcd_octets imsi) in
+    let fields : AreMost 14 (own ∷ []) = more_most own [] 14 0 (imsi_most octet_string imsi kept) none_most in
+    parent_most (constructed 3) (own ∷ []) 1192 (within (own ∷ []) 14 1192 fields (omega arith))
+argument_most (update.Register imsi) kept = tt
+argument_most update.ClearAll kept = tt
