@@ -1,3 +1,4 @@
+pub mod Csis
 pub mod Digits
 pub mod Elements
 pub mod Records

@@ -1,6 +1,5 @@
 -- How long the encoding of the argument of an update is at most.
-use Rattle.std.proofs.Common.{ℕ, List, [], ◌∷◌, ◌++◌, IfSome}
-use Rattle.std.proofs.Common.{arith}
+use Rattle.std.proofs.Common.{ℕ, List, [], ◌∷◌, ◌++◌, IfSome, arith}
 use Rattle.std.proofs.lemmas.Option.{IfSome_then}
 use Rattle.camel_criteria.specs.DetectionPoint.{o_detection_points, vt_detection_points}
 use Rattle.camel_rows.specs.declared.subscriber.update.Update.{Update}

@@ -1,6 +1,5 @@
 -- The encoding of each update that is kept is shorter than the greatest length.
-use Rattle.std.proofs.Common.{◌≡◌, ℕ, ◌≤◌, ◌<◌, length, IfSome, Option, Some, None, subst}
-use Rattle.std.proofs.Common.{arith}
+use Rattle.std.proofs.Common.{◌≡◌, ℕ, ◌≤◌, ◌<◌, length, IfSome, Option, Some, None, subst, arith}
 use Rattle.camel_rows.specs.declared.subscriber.update.Update.{Update}
 use Rattle.camel_map.specs.Encoding.{Argument, argument_of, encoding}
 use Rattle.camel_map.specs.Kept.{IsKept}

@@ -1,46 +1,18 @@
 -- The Insert of a record leaves that record.
-use Rattle.std.proofs.Common.{◌≡◌, ◌∙◌, ◌||◌, ℕ, Bool, true, false, cond, IsTrue, List, [], ◌∷◌, Option, Some, None, refl, sym, ap}
+use Rattle.std.proofs.Common.{◌≡◌, ◌∙◌, ◌||◌, ℕ, Bool, true, false, cond, IsTrue, List, Some, None, refl, sym, ap}
 use Rattle.std.specs.FinMap as map
-use Rattle.std.specs.Option.{option_and_then, option_map}
 use Rattle.camel_rows.proofs.ByImsiLemmas.{get-with_value_there, insert_twice}
 use Rattle.camel_rows.proofs.UpdateLemmas.{with_record_after}
 use Rattle.camel_rows.specs.CsisPresent.{csis_of, csis_refusal, lacks_csi}
 use Rattle.camel_rows.specs.Records.{no_records}
-use Rattle.camel_rows.specs.Subscriber.{StoredCsiData, SubscriberData, empty_record, rows_of}
-use Rattle.camel_rows.specs.TdpRow.{TdpRowData}
-use Rattle.camel_rows.specs.Update.{csi_after, is_insert, record_after, record_with_insert, records_after, update_imsi}
+use Rattle.camel_rows.specs.Subscriber.{SubscriberData, empty_record}
+use Rattle.camel_rows.specs.Update.{is_insert, record_after, record_with_insert, records_after, update_imsi}
 use Rattle.camel_criteria.specs.declared.refusal.Refusal.{Refusal}
 use Rattle.camel_criteria.specs.declared.refusal.Refusal.TheVariants.{DataMissing}
 use Rattle.camel_rows.specs.declared.subscriber.update.Update.{Update}
 use Rattle.camel_rows.specs.declared.subscriber.update.Update.TheVariants as update
-use Rattle.camel_map.specs.Record.{insert_of_record, sent_criteria, some_entries, with_some_entries}
-
-module _ {Entry : Type 0} where
-  -- a CSI that is sent with its criteria is stored as it is
-  csi_stands : (csi : Option (StoredCsiData Entry))
-      → csi_after None (option_map rows_of csi) (sent_criteria csi) ≡ csi
-  csi_stands None = refl
-  csi_stands (Some csi) = either csi.entries
-    where
-      either : (entries : List Entry)
-          → csi_after None (Some csi.rows) (some_entries entries) ≡ Some (record { rows = csi.rows; entries = entries })
-      either [] = refl
-      either (first ∷ more) = refl
-
-  -- criteria are sent with their CSI
-  none_lacks : (csi : Option (StoredCsiData Entry))
-      → lacks_csi false (option_map rows_of csi) (sent_criteria csi) ≡ false
-  none_lacks None = refl
-  none_lacks (Some csi) = refl
-
-  -- a CSI that criteria leave stored was sent with its own
-  pub csi_sent : (rows : Option (List TdpRowData)) (entries : Option (List Entry)) (csi : Option (StoredCsiData Entry))
-      → csi_after None rows entries ≡ csi → lacks_csi false rows entries ≡ false
-      → (rows ≡ option_map rows_of csi) × (option_and_then some_entries entries ≡ sent_criteria csi)
-  csi_sent None None csi is whole = (ap (option_map rows_of) is, ap sent_criteria is)
-  csi_sent None (Some entries) csi is whole = absurd cc
-  csi_sent (Some rows) None csi is whole = (ap (option_map rows_of) is, ap sent_criteria is)
-  csi_sent (Some rows) (Some entries) csi is whole = (ap (option_map rows_of) is, ap sent_criteria is)
+use Rattle.camel_map.specs.Record.{insert_of_record, with_some_entries}
+use Rattle.camel_map.proofs.Written.Csis.{csi_sent, csi_stands, none_lacks}
 
 none_refused : (first second : Bool) (why : Refusal) → cond (first || second) (Some why) None ≡ None
     → (first ≡ false) × (second ≡ false)
