@@ -17,6 +17,5 @@ pub mod PartsLemmas
 pub mod PublicationLemmas
 pub mod ReadingLemmas
 pub mod ReceivedLemmas
-pub mod SendLemmas
 pub mod StepLemmas
 pub mod Values
