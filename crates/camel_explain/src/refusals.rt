@@ -1,6 +1,6 @@
 //! Why the store refuses an update whose data can be read.
 
-use crate::csi::CSIS;
+use crate::csi::{CSIS, CsiKind};
 use crate::shown::{Shown, ShownImsi};
 use camel_script_replay::Store;
 use camel_tbcd::Imsi;
@@ -42,17 +42,22 @@ fn say_lacking(out: &mut String, store: &Store, fields: &ByteRecord) -> Result<(
         return Ok(());
     };
     for csi in CSIS {
-        let (row, entry) = (csi.row_item(), csi.entry_item());
-        if !csi.is_in(stored) && has_item(fields, entry) && !has_item(fields, row) {
-            let csi = csi.name();
-            let imsi = ShownImsi(&imsi);
-            return write!(
-                out,
-                "criteria of the {csi} (items {entry}), but the record has no item {row}, and no {csi} of {imsi} is stored"
-            );
+        let lacks = !csi.is_in(stored) && !has_item(fields, csi.row_item());
+        if lacks && has_item(fields, csi.entry_item()) {
+            return say_lacking_rows(out, csi, &imsi);
         }
     }
     Ok(())
+}
+
+/// Appends that criteria of this CSI come without it.
+fn say_lacking_rows(out: &mut String, csi: CsiKind, imsi: &Imsi) -> Result<(), AllocError> {
+    let (name, row, entry) = (csi.name(), csi.row_item(), csi.entry_item());
+    let imsi = ShownImsi(imsi);
+    write!(
+        out,
+        "criteria of the {name} (items {entry}), but the record has no item {row}, and no {name} of {imsi} is stored"
+    )
 }
 
 /// Whether an insert has an item of this name.
