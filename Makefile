@@ -242,7 +242,7 @@ osmo-source: begin-osmo-check
 	@scripts/osmo-check source
 
 # It needs the network, and fetches the source package once.
-## Looks up what docs/STANDARD.md quotes of TS 29.002: half a minute at first, with 60 MB fetched, then seconds.
+## Looks up what docs/STANDARD.md quotes of TS 29.002 and 29.078: half a minute at first, with 60 MB fetched, then seconds.
 standard-check: begin-$$@
 	@scripts/fetch-source wireshark out/standard
 	@scripts/standard quotations
