@@ -16,7 +16,7 @@ CALLS ?= 100000
 SUBSCRIBERS ?= 10000
 PREFIX ?= /usr/local
 
-PROGRAM := crates/camel_replay/out/camel_replay
+REPLAY := crates/camel_replay/out/camel_replay
 BENCH := crates/camel_vlr_bench/out/camel_vlr_bench
 REFUSALS := crates/camel_refusals/out/camel_refusals
 COPROCESS := crates/camel_replay/out/coprocess
@@ -83,7 +83,7 @@ crate:
 
 # Proves and builds a program if a source below it is newer, and runs it once. What `rt ci` has built is newer than
 # its sources.
-$(PROGRAM) $(BENCH) $(REFUSALS) $(MAP_CHECK) $(EXPLAIN): $$(call sources,$$(@F))
+$(REPLAY) $(BENCH) $(REFUSALS) $(MAP_CHECK) $(EXPLAIN): $$(call sources,$$(@F))
 	@scripts/parts need build
 	@echo "$(@F): proved and built with all that it stands on, $(BUILD_TIME); log: $(@D)/build.log" >&2
 	@scripts/build $(@F)
@@ -99,8 +99,8 @@ try: script begin-$$@
 
 # Only the output of the script comes on standard output.
 ## Runs SCRIPT by the proved program: at once, once it is built, which takes BUILD_TIME.
-replay: script $(PROGRAM)
-	@$(READ_SCRIPT) scripts/replay $(PROGRAM) $(OPTIONS)
+replay: script $(REPLAY)
+	@$(READ_SCRIPT) scripts/replay $(REPLAY) $(OPTIONS)
 
 ## Explains SCRIPT, record by record, with nothing proved: at once, once it is compiled, which takes two minutes.
 try-explain: script begin-$$@
@@ -118,7 +118,7 @@ explain: script $(EXPLAIN)
 	@$(EXPLAIN) --limit "$$LIMIT" $(if $(PROFILE),--profile "$$PROFILE") "$$SCRIPT"
 
 ## Proves and builds the program: BUILD_TIME.
-program: $(PROGRAM)
+program: $(REPLAY)
 	@echo "$< is built, and no source is newer" >&2
 
 ## Proves the crate CRATE with what it stands on: 1 to 15 minutes the first time.
@@ -153,32 +153,32 @@ must-not-compile: begin-$$@
 	@scripts/must-not-compile
 
 ## Compares what the scripts and the converter of examples/ leave: seconds, once the program is built.
-examples: begin-$$@ $(PROGRAM)
+examples: begin-$$@ $(REPLAY)
 	@scripts/compare examples
 	@scripts/addresses
 
 ## Compares what each script of tests/scripts/ leaves: seconds, once the program is built.
-scripts: begin-$$@ $(PROGRAM)
+scripts: begin-$$@ $(REPLAY)
 	@scripts/compare tests/scripts
 
 ## Compares what camel_explain says of each script of tests/explain/, and its answers: seconds, once it is built.
-explain-check: begin-$$@ $(PROGRAM) $(EXPLAIN)
+explain-check: begin-$$@ $(REPLAY) $(EXPLAIN)
 	@scripts/compare tests/explain camel_explain
 	@scripts/explain
 
 ## Runs the program over streams, at a terminal and with signals: seconds, once it is built.
-streams: begin-$$@ $(PROGRAM)
+streams: begin-$$@ $(REPLAY)
 	@scripts/streams
 
 # The round trip is that of so many CALLS.
 ## Runs the program as the child of a switch in C, and of the first call through pipes: seconds, once it is built.
-coprocess: begin-$$@ $(PROGRAM)
+coprocess: begin-$$@ $(REPLAY)
 	@$(CC) -std=c11 -O2 -Wall -Wextra -o $(COPROCESS) examples/coprocess.c
-	@$(COPROCESS) $(PROGRAM) $(CALLS)
+	@$(COPROCESS) $(REPLAY) $(CALLS)
 	@scripts/install out/installed && PATH="$(CURDIR)/out/installed/bin:$$PATH" scripts/first-calls docs/PIPES.md
 
 ## Refuses each request for memory in turn: some minutes, once the two programs are built.
-refusals: begin-$$@ $(REFUSALS) $(PROGRAM)
+refusals: begin-$$@ $(REFUSALS) $(REPLAY)
 	@scripts/refusals
 
 ## Proves and builds the library for C, C++ and Rust, into out/library: LONG_TIME.
@@ -192,7 +192,7 @@ install: begin-$$@
 	@scripts/install "$$PREFIX"
 
 ## Proves and builds the programs of the package wenqolo-tools, into out/tools: LONG_TIME.
-tools: begin-$$@ $(PROGRAM) $(EXPLAIN) $(MAP_CHECK)
+tools: begin-$$@ $(REPLAY) $(EXPLAIN) $(MAP_CHECK)
 	@scripts/tools
 
 ## Makes Debian packages of what is built of library and tools, in out/deb: seconds.
@@ -260,7 +260,7 @@ fuzz-c: begin-$$@ library
 	@scripts/fuzz-c $(COUNT) $(SEED)
 
 ## Measures the program beside a plain one in Rust: some minutes, once it is built.
-bench: begin-$$@ $(PROGRAM) $(EXPLAIN)
+bench: begin-$$@ $(REPLAY) $(EXPLAIN)
 	@bench/run
 
 ## Proves and builds the program that measures the store: BUILD_TIME.
@@ -288,13 +288,13 @@ count-vlr: begin-$$@ $(BENCH)
 # COUNT scripts of bad octets that SEED makes, scripts that are far too long, and each beginning of each script.
 fuzz: COUNT ?= 100000
 ## Replays COUNT scripts of bad octets: 2 to 5 minutes for 100,000, once the program is built.
-fuzz: begin-$$@ $(PROGRAM)
+fuzz: begin-$$@ $(REPLAY)
 	@scripts/fuzz $(SEED) $(COUNT)
 
 # COUNT arguments that SEED makes, in five styles, COUNT of them with edits, and COUNT that the encoder makes of them.
 map-check: COUNT ?= 100000
 ## Compares what is read and made of COUNT MAP arguments with tshark: 6 minutes for 100,000, with the programs built.
-map-check: begin-$$@ $(PROGRAM) $(MAP_CHECK)
+map-check: begin-$$@ $(REPLAY) $(MAP_CHECK)
 	@scripts/map-check $(SEED) $(COUNT)
 
 ## Proves and builds the program that reads MAP arguments for `tools/map2script`: BUILD_TIME.
