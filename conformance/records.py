@@ -1,0 +1,143 @@
+"""Steps as records of scripts (docs/SCRIPT.md), and what octets hold as the items of a record, both ways."""
+
+from map_checking import model as decoder
+from map_checking.reading import Fault
+from map_arguments import updates
+from map_arguments.lines import Line
+
+from vectors import OPERATIONS
+
+# The refusals of a decoder that a script has too, so that its record shows what was received.
+OF_DATA = ("octets-of-address", "great-service-key", "no-number", "long-list", "range-of-length", "point-twice",
+           "cause-at-first-point")
+GREATEST_POINT, GREATEST_LENGTH, GREATEST = 255, 255, 2**32 - 1
+
+
+class Untold(Exception):
+    """What is received has no record: a script has no words for it."""
+
+
+def basics_of(text):
+    return [({"b": 2, "t": 3}[code[0]], bytes.fromhex(code[1:])) for code in text.split("+")] if text else None
+
+
+def number_of(text):
+    if not text:
+        return None
+    kind, numbers, lengths = text.split("/")
+    return updates.NumberCriterion("ie".index(kind), [bytes.fromhex(number) for number in numbers.split("+")]
+                                   if numbers else None, [*map(int, lengths.split("+"))] if lengths else None)
+
+
+def item_of(text):
+    """The name of an item, and its row or entry."""
+    name, point, *parts = text.split(":")
+    if name in updates.CSIS:
+        key, address, handling = parts
+        return name, updates.Row(int(point), int(key), bytes.fromhex(address), int(handling))
+    number, basics, call_type, causes = parts if name == "oc" else ("", parts[0], "", parts[1])
+    return name, updates.Entry(int(point), number_of(number), basics_of(basics), "fn".index(call_type) if call_type
+                               else None, [*map(int, causes.split("+"))] if causes else None)
+
+
+def lists_of(texts):
+    """The lists of the items, by their names."""
+    lists = {}
+    for name, item in map(item_of, texts):
+        lists.setdefault(name, []).append(item)
+    return lists
+
+
+def update_of(word, imsi, holds):
+    """The update that is said to be held. A word `imsi:DIGITS` says that an Insert has its IMSI in itself."""
+    texts = holds.split()
+    if word == "delete":
+        bits = "".join("1" if what in texts else "0" for what in ("o", "-", "-", "-", "vt")) if {"o", "vt"} & {*texts} \
+            else None
+        return updates.Delete(imsi, "all" in texts, bits)
+    if word == "cancel":
+        return updates.Cancel(imsi)
+    shown = [text[5:] for text in texts if text.startswith("imsi:")]
+    return updates.Insert(shown[0] if shown else imsi, lists_of(texts[len(shown):]), bool(shown))
+
+
+def row_text(name, row):
+    point = row.point if 0 <= row.point <= GREATEST_POINT else GREATEST_POINT
+    return f"{name}:{point}:{row.key}:{row.address.hex()}:{min(row.handling, GREATEST)}"
+
+
+def entry_text(name, entry):
+    point = entry.point if 0 <= entry.point <= GREATEST_POINT else GREATEST_POINT
+    number = entry.number
+    if number:
+        if number.numbers == [b""]:
+            raise Untold("one number of no octets")
+        lengths = number.lengths and [min(length, GREATEST_LENGTH) for length in number.lengths]
+        number = updates.NumberCriterion(number.match_type, number.numbers, lengths)
+    return updates.entry_text(name, updates.Entry(point, number, entry.basics, entry.call_type, entry.causes))
+
+
+def item_texts(update):
+    """The items of an insert as they came, ignored ones among them."""
+    return [row_text(name, item) if name in updates.CSIS else entry_text(name, item)
+            for name in updates.IGNORED for item in update.lists.get(name, ())]
+
+
+def received(step):
+    """The update of a step's octets, with what a script's record may say and a rule refuses, or Untold."""
+    right = decoder.unless
+
+    def unless(refused, field, rule, *fault):
+        right(refused and rule not in OF_DATA, field, rule, *fault)
+
+    decoder.unless = unless
+    try:
+        return decoder.update_of(Line(OPERATIONS[step.word], step.imsi(), step.octets()))
+    except Fault as fault:
+        raise Untold(fault.rule) from fault
+    finally:
+        decoder.unless = right
+
+
+def held(step):
+    """The IMSI of a step's octets or of its dialogue, and what they hold, as vectors say it; or Untold."""
+    update = received(step)
+    if isinstance(update, updates.Delete):
+        return update.imsi, updates.withdrawn(update)
+    return update.imsi, item_texts(update) if isinstance(update, updates.Insert) else []
+
+
+def call_of(fields):
+    """The record of a call, which has fewer fields than a step: a destination of no octets is an empty one."""
+    point, imsi, basic, destination, forwarded, cause = fields
+    number = [destination.strip("-"), forwarded] if int(point) in updates.O_POINTS else []
+    return ",".join(["call", point, imsi, basic, *number, *([] if cause == "-" else [cause])])
+
+
+class Records:
+    """The records of the steps of a vector, one after the other. A further operation is joined to those before it."""
+
+    def __init__(self):
+        self.insert = None
+
+    def of(self, step):
+        """The record of a step, or Untold."""
+        if step.word == "register":
+            return f"register,{step.imsi()}"
+        if step.word == "clear":
+            return "clear"
+        if step.word == "call":
+            return call_of(step.fields)
+        update = received(step)
+        if step.word == "insert":
+            self.insert = update
+        elif step.word == "further":
+            if update.imsi != self.insert.imsi:
+                raise Untold("other-subscriber")
+            update = updates.joined(self.insert, update)
+        if isinstance(update, updates.Insert):
+            record = ",".join(["insert", update.imsi, *item_texts(update)])
+            if step.word == "further" and step.answer == "accepted":
+                self.insert = update
+            return record
+        return updates.record_of(update)
