@@ -24,7 +24,8 @@ MAP_CHECK := crates/camel_map_check/out/camel_map_check
 EXPLAIN := crates/camel_explain/out/camel_explain
 
 # The shell reads these, and not make, so that a name may have spaces.
-export SCRIPT LIMIT THREADS PROFILE CAPTURE CRATE PREFIX DESTDIR LIBDIR PARTS SANITIZE JOBS LIBRARY SUITE MIRROR
+export SCRIPT LIMIT THREADS PROFILE PROGRAM CAPTURE CRATE PREFIX DESTDIR LIBDIR PARTS SANITIZE JOBS LIBRARY SUITE \
+	MIRROR
 OPTIONS = --limit "$$LIMIT" $(if $(THREADS),--threads "$$THREADS") $(if $(PROFILE),--profile "$$PROFILE")
 # As in the options of programs, `-` is standard input.
 READ_SCRIPT := [ "$$SCRIPT" = - ] || exec < "$$SCRIPT";
@@ -45,10 +46,10 @@ define targets
 endef
 
 .PHONY: help try try-explain try-map replay explain explain-check program check script capture crate pages try-make \
-	proofs edits must-not-compile examples scripts streams coprocess refusals fuzz map-check map-program library install \
-	library-test library-c library-cpp library-as-shipped library-installed library-deb library-rust tools deb \
-	deb-check deb-root osmo-check osmo-source standard-check soak fuzz-c bench bench-program bench-peers bench-loop \
-	bench-map count-vlr test
+	proofs edits must-not-compile examples scripts streams coprocess conformance refusals fuzz map-check map-program \
+	library install library-test library-c library-cpp library-as-shipped library-installed library-deb library-rust \
+	tools deb deb-check deb-root osmo-check osmo-source standard-check soak fuzz-c bench bench-program bench-peers \
+	bench-loop bench-map count-vlr test
 # In order, so that what is missing is said before anything is built.
 .NOTPARALLEL:
 .SECONDEXPANSION:
@@ -176,6 +177,11 @@ coprocess: begin-$$@ $(REPLAY)
 	@$(CC) -std=c11 -O2 -Wall -Wextra -o $(COPROCESS) examples/coprocess.c
 	@$(COPROCESS) $(REPLAY) $(CALLS)
 	@scripts/install out/installed && PATH="$(CURDIR)/out/installed/bin:$$PATH" scripts/first-calls docs/PIPES.md
+
+# It needs no Rattle if library and program are there, and with PROGRAM=.. neither of them. PROFILE=1 is only profile 1.
+## Runs the vectors of conformance/ over library and program, or over any PROGRAM between two pipes: half a minute.
+conformance: begin-$$@
+	@scripts/conformance
 
 ## Refuses each request for memory in turn: some minutes, once the two programs are built.
 refusals: begin-$$@ $(REFUSALS) $(REPLAY)
