@@ -5,7 +5,7 @@ from contextlib import contextmanager
 from map_arguments import updates
 from map_checking import reading
 
-from model import EMERGENCY, Csi, Model, decoder
+from model import EMERGENCY, Csi, Model, Refused, decoder
 
 
 @contextmanager
@@ -323,6 +323,137 @@ class LaterReplaces(Model):
     def join(self, earlier, later):
         super().join(earlier, later)
         return updates.Insert(earlier.imsi, earlier.lists | later.lists)
+
+
+class TenOctets(DecodesOtherwise):
+    """addresses: an address may have no octets, or ten"""
+
+    functions = tolerates("octets-of-address")
+
+
+class ImsisAreNumbers(Model):
+    """imsi: IMSIs are compared as numbers, without leading zeros"""
+
+    def decode(self, operation, imsi, octets):
+        update = super().decode(operation, imsi, octets)
+        update.imsi = next((known for known in self.records if int(known) == int(update.imsi)), update.imsi)
+        return update
+
+
+class SixteenDigits(DecodesOtherwise):
+    """imsi-octets: digits over 9 and a sixteenth digit are taken"""
+
+    functions = tolerates("digits-of-imsi")
+
+
+class NeitherNumbersNorLengths(DecodesOtherwise):
+    """numbers-or-lengths: a number criterion may have neither list"""
+
+    functions = tolerates("no-number", "empty-list")
+
+
+class LongLists(DecodesOtherwise):
+    """most-codes: lists may have any number of items"""
+
+    functions = tolerates("long-list")
+
+
+class EmptyLists(DecodesOtherwise):
+    """list-empty: a list of no items is taken"""
+
+    functions = tolerates("empty-list")
+
+
+class AnyMatchType(DecodesOtherwise):
+    """match-type: a match type over 1 is taken"""
+
+    functions = tolerates("range-of-value")
+
+
+class DialogueDecides(DecodesOtherwise):
+    """values: another IMSI than that of the dialogue is taken"""
+
+    functions = tolerates("other-imsi")
+
+
+class AnyForm(DecodesOtherwise):
+    """row-fields: bit 6 of an identifier is not looked at"""
+
+    functions = tolerates("other-form")
+
+
+class LastOctetOfCode(Model):
+    """basic-services: the last octet of a code counts"""
+
+    def covers(self, listed, called):
+        return super().covers((listed[0], listed[1][-1:]), called)
+
+
+class VersionThreeOnly(Model):
+    """cancel-argument: an identity that is the argument itself is refused"""
+
+    def decode(self, operation, imsi, octets):
+        if operation == "cancelLocation" and octets[:1] != b"\xa3":
+            raise Refused(404)
+        return super().decode(operation, imsi, octets)
+
+
+class NoLmsi(DecodesOtherwise):
+    """identity: an IMSI with an LMSI is refused"""
+
+    @staticmethod
+    def first(octets, parent, right=decoder.first):
+        found = right(octets, parent)
+        if parent.tag == decoder.context(3) and found.tag == decoder.SEQUENCE:
+            raise reading.Fault(reading.TAG, found.start, "lmsi")
+        return found
+
+    functions = {"first": first}
+
+
+class FirstCodeOnly(Model):
+    """basic-criterion: only the first code is looked at"""
+
+    def basic_met(self, basics, event):
+        return super().basic_met(basics[:1], event)
+
+
+class FirstCauseOnly(Model):
+    """cause-criterion: only the first cause is looked at"""
+
+    def cause_met(self, causes, event):
+        return super().cause_met(causes[:1], event)
+
+
+class CancelOfNone(Model):
+    """cancel: it is refused if there is no record"""
+
+    def cancel(self, update):
+        self.record(update.imsi)
+        super().cancel(update)
+
+
+class ClearLeavesRecords(Model):
+    """clear-all: it empties each record"""
+
+    def clear(self):
+        for record in self.records.values():
+            record.clear()
+
+
+class AllHandlingsContinue(Model):
+    """trigger: the default call handling of a row is not kept"""
+
+    def is_release(self, handling):
+        return False
+
+
+class UnknownHasNoCsi(Model):
+    """unknown: a subscriber without a record has no CSI"""
+
+    def reason(self, event, csi, row, entry):
+        right = super().reason(event, csi, row, entry)
+        return "no-csi" if right == "unknown" else right
 
 
 def models(kind=Model):
