@@ -48,8 +48,8 @@ endef
 .PHONY: help try try-explain try-map replay explain explain-check program check script capture crate pages try-make \
 	proofs edits must-not-compile examples scripts streams coprocess conformance refusals fuzz map-check map-program \
 	library install library-test library-c library-cpp library-as-shipped library-installed library-deb library-rust \
-	tools deb deb-check deb-root osmo-check osmo-source standard-check soak fuzz-c bench bench-program bench-peers \
-	bench-loop bench-map count-vlr test
+	library-conformance tools deb deb-check deb-root osmo-check osmo-source standard-check soak fuzz-c bench \
+	bench-program bench-peers bench-loop bench-map count-vlr test
 # In order, so that what is missing is said before anything is built.
 .NOTPARALLEL:
 .SECONDEXPANSION:
@@ -216,7 +216,8 @@ deb-root: begin-deb-check
 
 # Each part of it may be left out of `make test`. The soak makes DECISIONS, and COUNT calls have random fields.
 ## Compiles and runs the tests, the examples and the bindings of the library: a minute, once it is built.
-library-test: begin-$$@ library-c library-cpp library-as-shipped library-installed library-deb library-rust
+library-test: begin-$$@ library-c library-cpp library-as-shipped library-installed library-deb library-rust \
+	library-conformance
 
 library-c: COUNT ?= 100000
 library-c: begin-$$@ library
@@ -237,6 +238,9 @@ library-deb: begin-$$@ library tools
 library-rust: DECISIONS ?= 1000000
 library-rust: begin-$$@ library
 	@scripts/library-test rust $(DECISIONS)
+
+library-conformance: begin-$$@ library $(REPLAY)
+	@scripts/conformance
 
 # It needs the packages that osmo-msc is built with, says which are missing, and fetches the source once. LIBRARY=/usr
 # takes the library that is installed there. SANITIZE=1 builds osmo-msc with its sanitizers, by so many JOBS.
