@@ -179,7 +179,7 @@ coprocess: begin-$$@ $(REPLAY)
 	@scripts/install out/installed && PATH="$(CURDIR)/out/installed/bin:$$PATH" scripts/first-calls docs/PIPES.md
 
 # It needs no Rattle if library and program are there, and with PROGRAM=.. neither of them. PROFILE=1 is only profile 1.
-## Runs the vectors of conformance/ over library and program, or over any PROGRAM between two pipes: half a minute.
+## Runs the vectors of conformance/ over library and program, or over any PROGRAM between two pipes: seconds.
 conformance: begin-$$@
 	@scripts/conformance
 
