@@ -111,8 +111,8 @@ class Model:
     def basic_met(self, basics, event):
         return any(self.covers(listed, event.basic) for listed in basics)
 
-    def call_type_met(self, call_type, event):
-        return event.is_forwarded == (call_type == 0)
+    def forwarding_met(self, choice, event):
+        return event.is_forwarded == (choice == 0)
 
     def cause_of(self, octet):
         return octet & 127
@@ -127,7 +127,7 @@ class Model:
         if entry.basics:
             yield self.basic_met(entry.basics, event)
         if entry.call_type is not None:
-            yield self.call_type_met(entry.call_type, event)
+            yield self.forwarding_met(entry.call_type, event)
         if entry.causes:
             yield self.cause_met(entry.causes, event)
 

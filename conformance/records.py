@@ -1,5 +1,7 @@
 """Steps as records of scripts (docs/SCRIPT.md), and what octets hold as the items of a record, both ways."""
 
+from dataclasses import replace
+
 from map_checking import model as decoder
 from map_checking.reading import Fault
 from map_arguments import updates
@@ -35,8 +37,8 @@ def item_of(text):
     if name in updates.CSIS:
         key, address, handling = parts
         return name, updates.Row(int(point), int(key), bytes.fromhex(address), int(handling))
-    number, basics, call_type, causes = parts if name == "oc" else ("", parts[0], "", parts[1])
-    return name, updates.Entry(int(point), number_of(number), basics_of(basics), "fn".index(call_type) if call_type
+    number, basics, forwarding, causes = parts if name == "oc" else ("", parts[0], "", parts[1])
+    return name, updates.Entry(int(point), number_of(number), basics_of(basics), "fn".index(forwarding) if forwarding
                                else None, [*map(int, causes.split("+"))] if causes else None)
 
 
@@ -74,7 +76,7 @@ def entry_text(name, entry):
             raise Untold("one number of no octets")
         lengths = number.lengths and [min(length, GREATEST_LENGTH) for length in number.lengths]
         number = updates.NumberCriterion(number.match_type, number.numbers, lengths)
-    return updates.entry_text(name, updates.Entry(point, number, entry.basics, entry.call_type, entry.causes))
+    return updates.entry_text(name, replace(entry, point=point, number=number))
 
 
 def item_texts(update):

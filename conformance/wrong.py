@@ -155,11 +155,11 @@ class OneCriterionSuffices(Model):
         return any(met) or not met
 
 
-class CallTypesSwapped(Model):
+class ForwardingSwapped(Model):
     """call-type: 0 is not forwarded, and 1 is forwarded"""
 
-    def call_type_met(self, call_type, event):
-        return event.is_forwarded == (call_type == 1)
+    def forwarding_met(self, choice, event):
+        return event.is_forwarded == (choice == 1)
 
 
 class OtherHandlingsRelease(Model):
