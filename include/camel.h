@@ -7,24 +7,30 @@
  *
  * Handles. A handle is some words of the caller's memory, empty if its fields are 0 (CAMEL_EMPTY). The library fills
  * it, and camel_free or camel_close empties it. Never write its fields, and never copy a full one: camel_move moves it.
- * All else is plain data, which may be copied.
+ * Each full one is freed by itself, a session's also after the end of its store. All else is plain data, which may be
+ * copied.
  *
- * Statuses. A call that fails has done nothing, but what is said of it. It looks at data first, field by field and item
- * by item in their order, and the first fault is told, as CAMEL_MALFORMED and what it says of them; then at the handle
- * that it is made of (CAMEL_WRONG_HANDLE), then at the one that it is to fill (CAMEL_FULL_HANDLE), then at whether a
- * look has begun (CAMEL_HELD), and at all else behind these. But camel_open compares versions before all else, and
- * memory may be refused while the lists of an Insert or the octets of an argument are read.
+ * Statuses. A call that fails has done nothing, but what is said of it. It tells the first fault, in this order:
+ *   1. the version, of camel_open only (CAMEL_OTHER_VERSION);
+ *   2. data, field by field and item by item in their order (CAMEL_MALFORMED, and what else it says of them);
+ *   3. the handle that it is made of (CAMEL_WRONG_HANDLE);
+ *   4. the handle that it is to fill (CAMEL_FULL_HANDLE);
+ *   5. whether a look has begun (CAMEL_HELD);
+ *   6. all else.
+ * CAMEL_OUT_OF_MEMORY may come before 3 and 4 of a call that reads the lists of an Insert or the octets of an argument,
+ * and before the store's handle of camel_submit and camel_submit_all, which copy updates.
  *
  * Threads. The store's handle is the writer's, and each session's handle that of one thread. A handle moves to another
  * thread by a lock, by a thread's start or join, or by an atomic that one stores with release and the other loads with
  * acquire. It is in one call at a time, but a handle that a call takes as const may be in several such calls; different
- * handles may be in calls at the same time. No call takes a lock of its own, waits or yields; malloc may take one.
+ * handles may be in calls at the same time. No call takes a lock of its own, waits or yields, but malloc may take one,
+ * and camel_random_seed may wait early in boot.
  *
- * Memory. The library calls malloc, realloc and free. A call that is refused memory returns CAMEL_OUT_OF_MEMORY, has
- * changed nothing, but that a session which looks may have seen a later front, and may be made again. Only camel_open,
- * camel_update_of, camel_update_of_map and camel_update_join, camel_submit and camel_submit_*, camel_publish,
- * camel_publish_to, camel_commit, camel_drop_pending, camel_keep, camel_set_up, camel_imsis_of and camel_encode_record
- * ask for any, and a publication that returns CAMEL_HELD for none.
+ * Memory. The library calls malloc, realloc and free. A call that is refused memory returns CAMEL_OUT_OF_MEMORY, and
+ * may be made again. It has changed nothing, except camel_commit (see there), but that a session which looks may have
+ * seen a later front. Only camel_open, camel_update_of, camel_update_of_map and camel_update_join, camel_submit and
+ * camel_submit_*, camel_publish, camel_publish_to, camel_commit, camel_drop_pending, camel_keep, camel_set_up,
+ * camel_imsis_of and camel_encode_record ask for any, and a publication that returns CAMEL_HELD for none.
  *
  * Octets and lists. A pointer that is passed with a count may be NULL with a count of 0. With another count nothing is
  * read of it: it is no octets, and of handles CAMEL_WRONG_HANDLE, or CAMEL_MALFORMED of camel_open.
@@ -60,7 +66,8 @@ extern "C" {
 /* What is written as the place of a fault where no octet of the argument is at fault. */
 #define CAMEL_NO_OCTET UINT64_MAX
 
-/* What a call returns is to be looked at. No pointer that is passed to CAMEL_CALL is null. */
+/* What a call returns is to be looked at. Pass no NULL to a call marked CAMEL_CALL: a compiler takes its pointers as
+ * not null, also behind the call. Of one marked CAMEL_RESULT a pointer with a count may be NULL, and no other. */
 #if defined(__GNUC__)
 #define CAMEL_RESULT __attribute__((warn_unused_result))
 #define CAMEL_CALL __attribute__((warn_unused_result, nonnull))
@@ -85,7 +92,7 @@ enum {
     CAMEL_UNEXPECTED_DATA_VALUE = 36,  /* TS 29.002 */
     CAMEL_HISTORY_FULL = 101,          /* the store has accepted as many updates as its limit */
     CAMEL_OUT_OF_MEMORY = 102,
-    CAMEL_NO_PLACE = 103,              /* a session got no place: no run meets it */
+    CAMEL_NO_PLACE = 103,              /* a session got no place: not expected, but no proof excludes it */
     CAMEL_NO_LOOK = 104,               /* the store has ended */
     CAMEL_MALFORMED_OCTETS = 401,      /* from here to 407 of an argument: the octets are no elements (ITU-T X.690) */
     CAMEL_MISSING_FIELD = 402,         /* a field that must be there is missing */
@@ -97,7 +104,7 @@ enum {
     CAMEL_NO_INSERT = 408,             /* an update that is to be joined is no Insert */
     CAMEL_OTHER_SUBSCRIBER = 409,      /* the updates that are to be joined are of different subscribers */
     CAMEL_HELD = 501,                  /* a look is held: try again once it is left */
-    CAMEL_MALFORMED = 502,             /* no IMSI, address, event or operation, too long a list, or out of range */
+    CAMEL_MALFORMED = 502,             /* no valid IMSI, address, event or operation, too long a list, out of range */
     CAMEL_WRONG_HANDLE = 503,          /* the handle is empty, or of another kind, or the store has ended */
     CAMEL_FULL_HANDLE = 504,           /* the handle that is to be filled is not empty */
     CAMEL_OTHER_STORE = 505,           /* the receipt is of another store, or of more updates than are published */
@@ -112,12 +119,12 @@ typedef struct camel_update { void *at; bool is_full; } camel_update;
 typedef struct camel_imsis { void *at; bool is_full; } camel_imsis;
 #define CAMEL_EMPTY { NULL, false }
 
-/* Which updates a store has published: its number, which is its seed, and how many they are. So a receipt is neither
- * sent nor logged. */
+/* Which updates a store has published: its number, and how many they are. The number is the store's secret seed: never
+ * send or log a receipt. */
 typedef struct camel_receipt { uint64_t store; uint64_t front; } camel_receipt;
 
 /* An IMSI as one number: how many digits it has, 5 to 15, in the highest octet, and below it their decimal value, as in
- * 15ULL << 56 | 262010000000001. Two are equal if their numbers are. The number 0 is no IMSI. */
+ * 15ULL << 56 | 262010000000001. Two are equal if their numbers are. The number 0 is none. */
 typedef struct camel_imsi { uint64_t number; } camel_imsi;
 
 /* An AddressString of TS 29.002, as the destination of a call: the first `length` octets, 1 to 20. */
@@ -168,9 +175,9 @@ typedef struct camel_criteria {
     camel_causes causes;
 } camel_criteria;
 
-/* What an Insert sends of each CSI. A list is sent if its pointer is not NULL, and has 1 to 10 items then:
- * CAMEL_DATA_MISSING of none, and of a count whose pointer is NULL; CAMEL_UNEXPECTED_DATA_VALUE of more, whatever they
- * are, and of two of a detection point of the CSI. */
+/* What an Insert sends of each CSI. A list is sent if its pointer is not NULL, and has 1 to 10 items then.
+ * CAMEL_DATA_MISSING: its count is 0, or its pointer is NULL and its count is not. CAMEL_UNEXPECTED_DATA_VALUE: its
+ * count is over 10, whatever the items are, or two are of one detection point of the CSI. */
 typedef struct camel_sent_csi {
     const camel_row *rows;
     size_t row_count;
@@ -254,7 +261,7 @@ typedef struct camel_counts {
     uint64_t subscribers; /* who have a record in what is published */
     uint64_t published;   /* updates */
     uint64_t pending;     /* updates */
-    uint64_t held;        /* publications that a look held up, but that of a session to be told, modulo 2^64 */
+    uint64_t held;        /* publications refused because of a held look, modulo 2^64, but not a told session's */
 } camel_counts;
 
 /* How many events a session has decided, by camel_decide, camel_set_up and camel_decide_kept, at each detection point
@@ -377,7 +384,7 @@ CAMEL_INLINE const camel_update *camel_updates_at(const camel_update *updates, s
     return &none;
 }
 
-/* Data, made once per call. CAMEL_MALFORMED: they are none, and what was to be written is as before. */
+/* Data, made once per call. CAMEL_MALFORMED: the octets or digits are not valid ones, and nothing is written. */
 CAMEL_RESULT
 CAMEL_INLINE camel_status camel_imsi_of_tbcd(const uint8_t *octets, size_t octet_count, camel_imsi *imsi)
 {
@@ -407,7 +414,7 @@ CAMEL_INLINE camel_status camel_isdn_address_of(const uint8_t *octets, size_t oc
 }
 
 /* The digits of an IMSI: as characters 0 to 9 with 0 octets behind them, and as the first `count` of TBCD octets.
- * CAMEL_MALFORMED: it is none, and nothing is written. */
+ * CAMEL_MALFORMED: not a valid IMSI, and nothing is written. */
 typedef struct camel_imsi_digits { uint8_t count; char characters[16]; } camel_imsi_digits;
 typedef struct camel_imsi_tbcd { uint8_t count; uint8_t octets[8]; } camel_imsi_tbcd; /* 0xff behind these */
 
@@ -446,7 +453,8 @@ CAMEL_INLINE camel_status camel_tbcd_of_imsi(const camel_imsi *imsi, camel_imsi_
     return CAMEL_OK;
 }
 
-/* Writes a seed for camel_open, of the system's random source. Returns false if there is none, and writes nothing. */
+/* Writes a seed for camel_open, of the system's random source, for which it may wait early in boot. Returns false if
+ * there is none, or a signal ends the wait, and writes nothing. */
 CAMEL_CALL
 CAMEL_INLINE bool camel_random_seed(uint64_t *seed)
 {
@@ -459,7 +467,8 @@ CAMEL_INLINE bool camel_random_seed(uint64_t *seed)
 }
 
 /* Opens a store that takes at most `limit` updates in its life (1 to 2^63 - 1; a great limit takes no memory), with 1
- * to 64 sessions, which decide under profile 1 or 2. The seed is secret and random. All handles are filled, or none is:
+ * to 64 sessions, which decide under profile 1 or 2: one for each thread that is to decide, since none is added later,
+ * also not for one that is freed. The seed is secret and random. All handles are filled, or none is:
  * CAMEL_OTHER_VERSION, CAMEL_MALFORMED, CAMEL_FULL_HANDLE, CAMEL_OUT_OF_MEMORY, CAMEL_NO_PLACE. */
 CAMEL_RESULT
 CAMEL_INLINE camel_status camel_open(camel_store *store, camel_session *sessions, size_t session_count, uint64_t limit,
@@ -557,11 +566,13 @@ CAMEL_INLINE camel_status camel_submit(camel_store *store, const camel_update *u
 
 /* Publishes all that is pending, also if nothing is, and has these sessions of the store learn it, as camel_learn does:
  * from then on each shows it. The sessions are in no other call meanwhile: those of other threads learn a receipt.
- * CAMEL_MALFORMED: there are more than CAMEL_MAX_SESSIONS. CAMEL_WRONG_HANDLE, CAMEL_HELD or CAMEL_OTHER_STORE: the
- * first session that cannot learn is none, has begun a look, or is of another store. CAMEL_HELD: a look that began
- * before the last publication is held. CAMEL_OUT_OF_MEMORY. After each of these all is pending as before. No run meets
- * CAMEL_NO_LOOK, or CAMEL_OTHER_STORE of a session of the store: only then all is published, and that session does not
- * show it. */
+ *   CAMEL_MALFORMED: there are more than CAMEL_MAX_SESSIONS.
+ *   CAMEL_WRONG_HANDLE: the store's handle holds none, or the first session that cannot learn is none.
+ *   CAMEL_HELD: that session has begun a look, or a look that began before the last publication is held.
+ *   CAMEL_OTHER_STORE: that session is of another store.
+ *   CAMEL_OUT_OF_MEMORY.
+ * After each of these all is pending as before. CAMEL_NO_LOOK, and CAMEL_OTHER_STORE though each session is of the
+ * store, are not expected, but no proof excludes them: then all is published, and a session does not show it. */
 CAMEL_RESULT
 CAMEL_INLINE camel_status camel_publish_to(camel_store *store, camel_session *sessions, size_t session_count)
 {
@@ -580,14 +591,16 @@ CAMEL_INLINE camel_status camel_publish(camel_store *store)
 }
 
 /* What a switch with one event loop does with the updates of an operation: submits copies of them, as camel_submit_all
- * does, publishes them, and has these sessions learn it, as camel_publish_to does. After any status but CAMEL_OK none
- * of it is shown, so the HLR may be answered with an error. What was pending before the call is dropped: a switch that
- * commits submits nothing else.
- *
- * It returns the statuses of both calls, with the index of the update that the store rejects, or update_count. After
- * one of the updates, or CAMEL_HELD of the publication, which is counted, nothing is pending. After one of the
- * sessions, or CAMEL_MALFORMED or CAMEL_WRONG_HANDLE, all is as before. After CAMEL_OUT_OF_MEMORY some may be pending,
- * which the next camel_commit drops. */
+ * does, publishes them, and has these sessions learn it, as camel_publish_to does. After any status below none of it is
+ * shown, so the HLR may be answered with an error. What was pending before the call is dropped: a switch that commits
+ * submits nothing else. `rejected` is that of camel_submit_all.
+ *   CAMEL_MALFORMED, CAMEL_WRONG_HANDLE, CAMEL_OTHER_STORE: as of both calls. All is as before.
+ *   CAMEL_HELD: if `held` of camel_counts has grown, a look held the publication up, and nothing is pending. Else the
+ *     first session that cannot learn has begun a look, and all is as before.
+ *   CAMEL_UNIDENTIFIED_SUBSCRIBER, CAMEL_DATA_MISSING, CAMEL_UNEXPECTED_DATA_VALUE, CAMEL_HISTORY_FULL: of an update,
+ *     which `rejected` names. Nothing is pending.
+ *   CAMEL_OUT_OF_MEMORY: some may be pending, which the next camel_commit drops.
+ * What is not expected of camel_publish_to is not expected here, and leaves the same. */
 CAMEL_RESULT
 CAMEL_INLINE camel_status camel_commit(camel_store *store, const camel_update *updates, size_t update_count,
                                        camel_session *sessions, size_t session_count, size_t *rejected)
@@ -615,6 +628,7 @@ camel_status camel_drop_pending(camel_store *store);
 CAMEL_CALL
 camel_status camel_holders(camel_store *store, uint64_t *sessions);
 
+/* Writes the counts. While the writer is in another call no thread may read them: it hands copies over. */
 CAMEL_CALL
 camel_status camel_counts_of(const camel_store *store, camel_counts *counts);
 
@@ -627,8 +641,9 @@ camel_status camel_receipt_of(const camel_store *store, camel_receipt *receipt);
 CAMEL_CALL
 camel_status camel_learn(camel_session *session, const camel_receipt *receipt);
 
-/* Decides an event, over the look that has begun, or else by a look of its own. CAMEL_MALFORMED: the event is none.
- * CAMEL_NO_LOOK: the store has ended; so it is with the other calls that look. */
+/* Decides an event, over the look that has begun, or else by a look of its own. CAMEL_MALFORMED: not a valid event, as
+ * at a detection point that is none of the five. CAMEL_NO_LOOK: the store has ended; so it is with the other calls that
+ * look. */
 CAMEL_CALL
 camel_status camel_decide(camel_session *session, const camel_event *event, camel_answer *answer);
 
@@ -638,7 +653,7 @@ camel_status camel_decisions_of(const camel_session *session, camel_decisions *d
 
 /* Begins a look, so that all calls until camel_leave are over one front. It lets the next publication go through, and
  * holds up the one after it. CAMEL_HELD: a look has begun already, and goes on. camel_leave of a session without a look
- * returns CAMEL_OK. */
+ * returns CAMEL_OK. One that leaves the last look of a store that was freed frees its data, in its own thread. */
 CAMEL_CALL
 camel_status camel_look(camel_session *session);
 camel_status camel_leave(camel_session *session);
@@ -662,8 +677,8 @@ camel_status camel_criteria_at(camel_session *session, const camel_imsi *imsi, u
 CAMEL_CALL
 camel_status camel_keep(camel_session *session, const camel_imsi *imsi, camel_subscriber *subscriber, bool *is_there);
 
-/* Decides by the copy, and has a session count it, which is that of the calling thread, of whichever store, also of one
- * that has ended. */
+/* Decides by the copy, under the profile of the store that it is from. `session` is the calling thread's, and counts
+ * the decision; it may be of another store, or of one that has ended. */
 CAMEL_CALL
 camel_status camel_decide_kept(camel_session *session, const camel_subscriber *subscriber, const camel_event *event,
                                camel_answer *answer);
@@ -702,7 +717,7 @@ camel_status camel_encode_record(camel_session *session, const camel_imsi *imsi,
 /* Ends the store and empties its handle; what is pending is dropped. Each look that is held goes on until it is left,
  * and no session begins another: CAMEL_NO_LOOK. CAMEL_HELD: a look is held. Then the store has ended all the same, but
  * its handle stays full: it is to be closed again, or freed, and the writer's other calls return CAMEL_WRONG_HANDLE.
- * Behind one more camel_publish, camel_holders names each session whose look would hold the end up. */
+ * To learn who would hold the end up, call camel_publish and then camel_holders before camel_close. */
 CAMEL_CALL
 camel_status camel_close(camel_store *store);
 
@@ -710,9 +725,11 @@ camel_status camel_close(camel_store *store);
 void camel_empty(void *handle);
 
 /* What an HLR is answered about an update of this status (TS 29.002, ITU-T Q.773): 0, that it is done, or 5, 35 or 36,
- * a user error of MAP, or else CAMEL_MAP_REJECT with the problem of an invoke. The second of these is of the switch:
- * try the update again, and answer so once that takes too long. It comes of each status that says nothing of what the
- * HLR has sent. A status by which the switch itself is wrong, as of an operation that is none, is not told apart. */
+ * a user error of MAP, or else CAMEL_MAP_REJECT with the problem of an invoke. CAMEL_MAP_RESOURCE_LIMITATION, of each
+ * status that says nothing of what the HLR has sent, is the switch's own trouble: after CAMEL_OUT_OF_MEMORY or
+ * CAMEL_HELD try the update again, and answer so once that takes too long. After any other, as CAMEL_WRONG_HANDLE, the
+ * same call fails again. A status by which the switch itself is wrong, as of an operation that is none, is not told
+ * apart. */
 enum {
     CAMEL_MAP_REJECT = 0x100,
     CAMEL_MAP_MISTYPED_PARAMETER = CAMEL_MAP_REJECT | 2,
