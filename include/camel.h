@@ -67,7 +67,7 @@ extern "C" {
 #define CAMEL_NO_OCTET UINT64_MAX
 
 /* What a call returns is to be looked at. Pass no NULL to a call marked CAMEL_CALL: a compiler takes its pointers as
- * not null, also behind the call. Of one marked CAMEL_RESULT a pointer with a count may be NULL, and no other. */
+ * not null, also after the call. Of one marked CAMEL_RESULT a pointer with a count may be NULL, and no other. */
 #if defined(__GNUC__)
 #define CAMEL_RESULT __attribute__((warn_unused_result))
 #define CAMEL_CALL __attribute__((warn_unused_result, nonnull))
