@@ -628,7 +628,7 @@ camel_status camel_drop_pending(camel_store *store);
 CAMEL_CALL
 camel_status camel_holders(camel_store *store, uint64_t *sessions);
 
-/* Writes the counts. While the writer is in another call no thread may read them: it hands copies over. */
+/* Writes the counts. While the writer is in another call no other thread may ask: the writer hands copies over. */
 CAMEL_CALL
 camel_status camel_counts_of(const camel_store *store, camel_counts *counts);
 
@@ -653,7 +653,7 @@ camel_status camel_decisions_of(const camel_session *session, camel_decisions *d
 
 /* Begins a look, so that all calls until camel_leave are over one front. It lets the next publication go through, and
  * holds up the one after it. CAMEL_HELD: a look has begun already, and goes on. camel_leave of a session without a look
- * returns CAMEL_OK. One that leaves the last look of a store that was freed frees its data, in its own thread. */
+ * returns CAMEL_OK. The call that leaves the last look of a store that was freed also frees its data, in its thread. */
 CAMEL_CALL
 camel_status camel_look(camel_session *session);
 camel_status camel_leave(camel_session *session);
