@@ -39,6 +39,26 @@ def tolerates(*rules):
     return {"unless": unless}
 
 
+# Models whose decoder refuses nothing by some of its rules, which stand behind the text.
+TOLERANT = [
+    type(name, (DecodesOtherwise,), {"__doc__": text, "functions": tolerates(*rules)}) for name, text, *rules in (
+        ("LastRowWins", "list-full: two rows of one detection point are taken", "point-twice"),
+        ("CausesAtDp2", "no-cause: an entry of detection point 2 or 12 may have causes", "cause-at-first-point"),
+        ("FourLengths", "most-numbers: lengths may be 0, and over 15", "range-of-length"),
+        ("GreatKeys", "row: a service key may be over 2147483647", "great-service-key"),
+        ("TenOctets", "addresses: an address may have no octets, or ten", "octets-of-address"),
+        ("SixteenDigits", "imsi-octets: digits over 9 and a sixteenth digit are taken", "digits-of-imsi"),
+        ("NeitherNumbersNorLengths", "numbers-or-lengths: a number criterion may have neither list",
+         "no-number", "empty-list"),
+        ("LongLists", "most-codes: lists may have any number of items", "long-list"),
+        ("EmptyLists", "list-empty: a list of no items is taken", "empty-list"),
+        ("AnyMatchType", "match-type: a match type over 1 is taken", "range-of-value"),
+        ("DialogueDecides", "values: another IMSI than that of the dialogue is taken", "other-imsi"),
+        ("AnyForm", "row-fields: bit 6 of an identifier is not looked at", "other-form"),
+    )
+]
+
+
 class PlansCompared(Model):
     """listed-number: numbering plans are compared under profile 1 too"""
 
@@ -242,30 +262,6 @@ class TenAfterIgnoring(DecodesOtherwise):
     functions = {"refusal": refusal}
 
 
-class LastRowWins(DecodesOtherwise):
-    """list-full: two rows of one detection point are taken"""
-
-    functions = tolerates("point-twice")
-
-
-class CausesAtDp2(DecodesOtherwise):
-    """no-cause: an entry of detection point 2 or 12 may have causes"""
-
-    functions = tolerates("cause-at-first-point")
-
-
-class FourLengths(DecodesOtherwise):
-    """most-numbers: lengths may be 0, and over 15"""
-
-    functions = tolerates("range-of-length")
-
-
-class GreatKeys(DecodesOtherwise):
-    """row: a service key may be over 2147483647"""
-
-    functions = tolerates("great-service-key")
-
-
 class FirstTagDecides(DecodesOtherwise):
     """fields: of two fields with one tag the first is taken"""
 
@@ -325,12 +321,6 @@ class LaterReplaces(Model):
         return updates.Insert(earlier.imsi, earlier.lists | later.lists)
 
 
-class TenOctets(DecodesOtherwise):
-    """addresses: an address may have no octets, or ten"""
-
-    functions = tolerates("octets-of-address")
-
-
 class ImsisAreNumbers(Model):
     """imsi: IMSIs are compared as numbers, without leading zeros"""
 
@@ -338,48 +328,6 @@ class ImsisAreNumbers(Model):
         update = super().decode(operation, imsi, octets)
         update.imsi = next((known for known in self.records if int(known) == int(update.imsi)), update.imsi)
         return update
-
-
-class SixteenDigits(DecodesOtherwise):
-    """imsi-octets: digits over 9 and a sixteenth digit are taken"""
-
-    functions = tolerates("digits-of-imsi")
-
-
-class NeitherNumbersNorLengths(DecodesOtherwise):
-    """numbers-or-lengths: a number criterion may have neither list"""
-
-    functions = tolerates("no-number", "empty-list")
-
-
-class LongLists(DecodesOtherwise):
-    """most-codes: lists may have any number of items"""
-
-    functions = tolerates("long-list")
-
-
-class EmptyLists(DecodesOtherwise):
-    """list-empty: a list of no items is taken"""
-
-    functions = tolerates("empty-list")
-
-
-class AnyMatchType(DecodesOtherwise):
-    """match-type: a match type over 1 is taken"""
-
-    functions = tolerates("range-of-value")
-
-
-class DialogueDecides(DecodesOtherwise):
-    """values: another IMSI than that of the dialogue is taken"""
-
-    functions = tolerates("other-imsi")
-
-
-class AnyForm(DecodesOtherwise):
-    """row-fields: bit 6 of an identifier is not looked at"""
-
-    functions = tolerates("other-form")
 
 
 class LastOctetOfCode(Model):
