@@ -7,7 +7,7 @@ HEAD = re.compile(r'( *)(?:pub(?:\([\w ]+\))? )?(?:(?:const|unsafe|extern "C") )
 METHODS = re.compile(r"impl(?:<.*?>)? (\w+)(?!.* for )")
 # A comment, and advice to the tactics: neither changes what is stated.
 UNSTATED = re.compile(r"\s*(?://|--|#\[tactic\()")
-IMPORT = re.compile(r"\s*ghost use ([\w.+-]+)\.\{(.*)\};$")
+IMPORT = re.compile(r"(?m)^ *(?:pub(?:\(crate\))? )?(?:unfoldable )?(?:ghost )?use (\w+(?:::|\.))(?:(\w+\.(?:specs|proofs)\.)\w+\.)?([^{;\n]*(?:\{[^}]*\})?);?$")
 
 
 class Function(NamedTuple):
@@ -45,15 +45,23 @@ def functions_in(path, text):
             yield Function(path, method[1] if head[1] else "", head[2], first, at, brace, last)
 
 
+def imported(text):
+    """The names that a file imports, each with the crate that it is of. In which of its files it stands says nothing."""
+    for root, specs, path in IMPORT.findall(text):
+        where, braces, names = path.rstrip("}").rpartition("{")
+        within = where if specs or root == "Rattle." else ""
+        yield from (f"{root}{specs}{within}{name.strip()}" for name in names.rsplit("::")[-1].split(",") if name.strip())
+
+
 def stated(text):
-    """What the text of a file states: its lines but for bodies, comments and advice to the tactics, however they are
-    broken, and what it imports."""
+    """What the text of a file states: its words but for bodies, comments and advice to the tactics, paragraph by
+    paragraph, and what it imports."""
+    paragraphs = re.split(r"\n\s*\n", IMPORT.sub("", without_bodies(text)))
+    return {*imported(text)}, [words for words in map(" ".join, map(str.split, paragraphs)) if words]
+
+
+def without_bodies(text):
+    """A file but for bodies, comments and advice to the tactics."""
     lines = text.split("\n")
     inside = {line for _, _, brace, last in bodies_in(lines) for line in range(brace + 1, last)}
-    imports, words = set(), []
-    for at, line in enumerate(lines):
-        if imported := IMPORT.match(line):
-            imports.update(f"{imported[1]}.{name}" for name in imported[2].split(", "))
-        elif at not in inside and not UNSTATED.match(line):
-            words += line.split()
-    return "\n".join([*sorted(imports), " ".join(words)])
+    return "\n".join(line for at, line in enumerate(lines) if at not in inside and not UNSTATED.match(line))

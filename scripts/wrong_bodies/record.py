@@ -7,7 +7,7 @@ from pathlib import Path
 from wrong_bodies.edit import edits_of
 from wrong_bodies.layout import stated
 
-DEFINITIONS = re.compile(r"\bRattle\.(\w+)\.specs\.(\w+(?:\.\w+)*)")
+DEFINITIONS = re.compile(r"\bRattle\.(\w+)\.specs\.")
 REASON = 100
 
 
@@ -15,27 +15,36 @@ def file_of(crate):
     return Path("crates", crate, "wrong-bodies/refused.txt")
 
 
-def definitions_in(text):
-    """The files of the definitions that a text names, of whichever crate."""
-    for crate, name in DEFINITIONS.findall(text):
-        words = name.split(".")
-        for count in range(1, len(words) + 1):
-            file = Path("crates", crate, "specs", *words[:count]).with_suffix(".antt")
-            if file.is_file():
-                yield file
+def definitions_of(crate):
+    """What the definitions of a crate state, whichever file each one is in, and the crates that they name."""
+    texts = [file.read_text() for file in Path("crates", crate, "specs").glob("**/*.antt")]
+    imports, words = zip(*map(stated, texts)) if texts else ((), ())
+    below = {name for name in set().union(*imports) if not name.startswith(f"Rattle.{crate}.specs.")}
+    modules = re.compile(r"(?:pub )?mod ")
+    said = sorted(it for paragraphs in words for it in paragraphs if not modules.match(it))
+    return "\n".join([*sorted(below), *said]), crates_in("\n".join(below))
+
+
+def crates_in(text):
+    """The crates of the repository whose definitions a text names."""
+    return {crate for crate in DEFINITIONS.findall(text) if Path("crates", crate, "specs").is_dir()}
 
 
 def statements_sum(crate):
     """A checksum of what a refusal rests on beside the edit: the contracts and signatures of the crate, its
-    definitions, and those of other crates that these name."""
-    folder = Path("crates", crate)
-    left, texts = [*folder.glob("src/**/*.rt"), *folder.glob("specs/**/*.antt")], {}
-    while left:
-        file = left.pop()
-        if file not in texts:
-            texts[file] = stated(file.read_text())
-            left += definitions_in(texts[file])
-    return sum_of(*(f"{file}\n{texts[file]}" for file in sorted(texts)))
+    definitions, and those of the crates whose definitions these name."""
+    texts, left, seen = [], {crate}, set()
+    for file in sorted(Path("crates", crate).glob("src/**/*.rt")):
+        imports, words = stated(file.read_text())
+        texts.append("\n".join([str(file), *sorted(imports), *words]))
+        left |= crates_in("\n".join(imports))
+    while left - seen:
+        name = min(left - seen)
+        seen.add(name)
+        definitions, below = definitions_of(name)
+        left |= below
+        texts.append(f"{name}\n{definitions}")
+    return sum_of(*sorted(texts))
 
 
 def sum_of(*texts):
