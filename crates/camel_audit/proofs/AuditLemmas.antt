@@ -6,8 +6,7 @@ use Rattle.camel_audit.specs.Audit.{AreExplained, IsExplained, last_front}
 use Rattle.camel_audit.specs.declared.transcript.Entry.{Entry}
 use Rattle.camel_tbcd.specs.declared.profile.Profile.{Profile}
 use Rattle.camel_rows.proofs.UpdateLemmas.{records_from-append}
-use Rattle.camel_rows.specs.Update.{records_from, records_of}
-use Rattle.camel_rows.specs.Records.{no_records}
+use Rattle.camel_rows.specs.Update.{records_from, records_of, no_records}
 use Rattle.camel_rows.specs.declared.subscriber.update.Update.{Update}
 
 pub last_front-push : (earlier : ℕ) (entries : List Entry) (entry : Entry) → last_front earlier (entries ++ entry ∷ []) ≡ entry.answer.front

@@ -4,13 +4,11 @@ use Rattle.std.proofs.Math.ListN.{replicate}
 use Rattle.std.proofs.lemmas.Grind.{take_at_read}
 use Rattle.std.proofs.lemmas.List.{take-append-le, take_all}
 use Rattle.std.proofs.lemmas.List.Elements.{All-cons, All-nil}
-use Rattle.camel_audit.specs.Audit.{last_front}
-use Rattle.camel_audit.specs.OnePass.{AreExplainedTo, IsDecidedOver, IsExplainedTo}
-use Rattle.camel_audit.specs.Part.{AreExplainedInPart, IsExplainedInPart, updates_of_part}
+use Rattle.camel_audit.specs.Audit.{last_front, AreExplainedTo, IsDecidedOver, IsExplainedTo, AreExplainedInPart}
+use Rattle.camel_audit.specs.Audit.{IsExplainedInPart, updates_of_part}
 use Rattle.camel_audit.specs.declared.transcript.Entry.{Entry}
 use Rattle.camel_tbcd.specs.declared.profile.Profile.{Profile}
-use Rattle.camel_rows.specs.Decision.{decision}
-use Rattle.camel_rows.specs.Outcome.{outcome_of}
+use Rattle.camel_rows.specs.Decision.{decision, outcome_of}
 use Rattle.camel_rows.specs.Update.{records_of}
 use Rattle.camel_rows.specs.declared.subscriber.update.Update.{Update}
 use Rattle.camel_rows.specs.declared.trigger.outcome.Outcome.{Outcome}

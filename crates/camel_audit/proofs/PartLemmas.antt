@@ -1,16 +1,12 @@
 -- What passes in each part passes: each IMSI is in one.
 use Rattle.std.proofs.Common.{arith, ◌≡◌, ◌∙◌, ℕ, ◌<◌, ◌≤◌, ◌%◌, true, List, [], ◌∷◌, Option, Some, None, take, refl, sym, ap, eq-eqb}
 use Rattle.camel_audit.proofs.PartRecordsLemmas.{AcceptedIn, accepted_in, after_all}
-use Rattle.camel_audit.specs.Audit.{AreExplained, Passes}
-use Rattle.camel_audit.specs.Part.{AreExplainedInPart, PassesInParts, concerns_part, is_in_part}
+use Rattle.camel_audit.specs.Audit.{AreExplained, Passes, AreExplainedInPart, PassesInParts, concerns_part, is_in_part}
 use Rattle.camel_audit.specs.declared.transcript.Entry.{Entry}
-use Rattle.camel_tbcd.specs.ImsiNumber.{imsi_number}
+use Rattle.camel_tbcd.specs.Imsi.{imsi_number}
 use Rattle.camel_tbcd.specs.declared.profile.Profile.{Profile}
-use Rattle.camel_rows.specs.Decision.{by_record}
-use Rattle.camel_rows.specs.Event.{event_imsi}
-use Rattle.camel_rows.specs.Outcome.{outcome_of}
-use Rattle.camel_rows.specs.Records.{RecordsData, no_records}
-use Rattle.camel_rows.specs.Update.{AcceptedFrom, records_after, update_imsi}
+use Rattle.camel_rows.specs.Decision.{by_record, event_imsi, outcome_of}
+use Rattle.camel_rows.specs.Update.{RecordsData, no_records, AcceptedFrom, records_after, update_imsi}
 use Rattle.camel_rows.specs.declared.subscriber.update.Update.{Update}
 
 module _ (parts : ℕ) (some : 1 ≤ parts) where

@@ -4,13 +4,11 @@ use Rattle.std.proofs.lemmas.Slice.Eq.{bytes_eq-Decides}
 use Rattle.std.specs.FinMap as map
 use Rattle.std.specs.Option.{option_map}
 use Rattle.std.specs.Str.{bytes_eq}
-use Rattle.camel_audit.specs.Part.{concerns_part, updates_of_part}
+use Rattle.camel_audit.specs.Audit.{concerns_part, updates_of_part}
 use Rattle.camel_criteria.specs.declared.refusal.Refusal.{Refusal}
 use Rattle.camel_rows.proofs.UpdateLemmas.{other_record, own_record}
-use Rattle.camel_rows.specs.ByImsi.{concerns, value_of}
-use Rattle.camel_rows.specs.CsisPresent.{csis_of, csis_refusal}
-use Rattle.camel_rows.specs.Records.{RecordsData}
-use Rattle.camel_rows.specs.Update.{AcceptedFrom, is_of, records_after, record_after, records_from, refusal, update_imsi}
+use Rattle.camel_rows.specs.Update.{concerns, value_of, csis_of, csis_refusal, RecordsData, AcceptedFrom, is_of}
+use Rattle.camel_rows.specs.Update.{records_after, record_after, records_from, refusal, update_imsi}
 use Rattle.camel_rows.specs.declared.subscriber.update.Update.{Update}
 
 module _ (is_in : List ℕ → Bool) where

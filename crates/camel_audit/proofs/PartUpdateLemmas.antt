@@ -1,10 +1,10 @@
 -- One more update, of a part or not.
 use Rattle.std.proofs.Common.{◌≡◌, ◌∙◌, ℕ, Bool, List, [], ◌∷◌, ◌++◌, sym, ap, subst}
 use Rattle.std.proofs.lemmas.List.Elements.{filter-append}
-use Rattle.camel_audit.specs.Part.{concerns_part, updates_of_part}
+use Rattle.camel_audit.specs.Audit.{concerns_part, updates_of_part}
 use Rattle.camel_rows.proofs.UpdateLemmas.{records_from-append}
-use Rattle.camel_rows.specs.Records.{RecordsData, no_records}
-use Rattle.camel_rows.specs.Update.{Accepted, AcceptedFrom, records_after, records_from, records_of, update_imsi}
+use Rattle.camel_rows.specs.Update.{RecordsData, no_records, Accepted, AcceptedFrom, records_after, records_from}
+use Rattle.camel_rows.specs.Update.{records_of, update_imsi}
 use Rattle.camel_rows.specs.declared.subscriber.update.Update.{Update}
 
 -- updates that are accepted after accepted ones are accepted with them

@@ -2,11 +2,10 @@
 use Rattle.std.specs.Prelude.{◌≡◌, ◌≢◌, ◌↔◌, false, List, [], ◌∷◌, ◌++◌, length, map, take}
 use Rattle.camel_audit.specs.declared.transcript.Entry.{Entry}
 use Rattle.camel_audit.specs.declared.transcript.Job.{Job}
-use Rattle.camel_rows.specs.Event.{EventData}
+use Rattle.camel_rows.specs.Decision.{EventData}
 use Rattle.camel_rows.specs.declared.trigger.outcome.Answer.{Answer}
-use Rattle.camel_vlr.specs.Prefix.{PrefixData}
-use Rattle.camel_vlr.specs.Run.{Answers}
-use Rattle.camel_vlr.specs.Session.{SessionData}
+use Rattle.camel_vlr.specs.History.{PrefixData}
+use Rattle.camel_vlr.specs.Store.{Answers, SessionData}
 use Rattle.camel_audit.specs.declared.worker.Ended.TheVariants.{All, OutOfMemory}
 use Rattle.camel_audit.specs.declared.worker.Served.{Served}
 

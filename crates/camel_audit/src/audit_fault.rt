@@ -1,5 +1,5 @@
 ghost use Rattle.std.specs.Prelude.{◌≡◌};
-ghost use Rattle.camel_audit.specs.AuditFault.{audit_fault_code};
+ghost use Rattle.camel_audit.specs.Audit.{audit_fault_code};
 
 use thiserror::Error;
 

@@ -1,6 +1,5 @@
 ghost use Rattle.std.specs.Prelude.{ℕ, ◌≤◌, List};
-ghost use Rattle.camel_audit.specs.Audit.{Passes};
-ghost use Rattle.camel_audit.specs.Part.{PassesInParts};
+ghost use Rattle.camel_audit.specs.Audit.{Passes, PassesInParts};
 ghost use Rattle.camel_audit.specs.declared.transcript.Entry.{Entry};
 ghost use Rattle.camel_tbcd.specs.declared.profile.Profile.{Profile};
 ghost use Rattle.camel_rows.specs.declared.subscriber.update.Update.{Update};

@@ -1,8 +1,8 @@
 //! An audit of a part of the subscribers in one pass over the updates, of all transcripts at once.
 
 ghost use Rattle.std.specs.Prelude.{◌≡◌, Ok, true, [], ◌∷◌, IfErr, length, map};
-ghost use Rattle.camel_audit.specs.OnePass.{AreExplainedTo, IsDecidedOver, IsExplainedTo};
-ghost use Rattle.camel_audit.specs.Part.{PassesInPart, is_member, updates_of_part};
+ghost use Rattle.camel_audit.specs.Audit.{AreExplainedTo, IsDecidedOver, IsExplainedTo, PassesInPart, is_member};
+ghost use Rattle.camel_audit.specs.Audit.{updates_of_part};
 ghost use Rattle.camel_rows.specs.Update.{AcceptedFrom, records_from, records_of};
 
 use crate::audit_fault::AuditFault;

@@ -18,7 +18,7 @@ pub struct Part {
 }
 
 impl Part {
-    ghost use Rattle.camel_audit.specs.Part.{concerns_part, is_member};
+    ghost use Rattle.camel_audit.specs.Audit.{concerns_part, is_member};
     ghost use Rattle.camel_rows.specs.Update.{update_imsi};
 
     /// The only part, which has all subscribers.

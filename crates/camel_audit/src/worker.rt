@@ -1,5 +1,5 @@
 ghost use Rattle.std.specs.Prelude.{◌≡◌, ◌≢◌, ◌≤◌, ◌↔◌, false, [], length, map, take, vec_capacity};
-ghost use Rattle.camel_vlr.specs.Run.{Answers};
+ghost use Rattle.camel_vlr.specs.Store.{Answers};
 ghost use Rattle.camel_audit.specs.Serves.{Serves, answer_in, event_in, job_of};
 
 use crate::gate::Gate;

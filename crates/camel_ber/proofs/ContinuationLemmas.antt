@@ -1,9 +1,9 @@
 -- The identifier octets behind the first, as a loop looks for their end.
-use Rattle.std.proofs.Common.{[], ◌++◌, ◌+◌, ◌<◌, ◌∙◌, ◌∷◌, ◌≡◌, ◌≤◌, ap, append_assoc, drop, Err, false, get_or, length}
-use Rattle.std.proofs.Common.{List, ltb, Ok, refl, Result, sym, take, true, ℕ}
+use Rattle.std.proofs.Common.{[], ◌++◌, ◌+◌, ◌<◌, ◌∙◌, ◌∷◌, ◌≡◌, ◌≤◌, ap, append_assoc, drop, Err, false, get_or}
+use Rattle.std.proofs.Common.{length, List, ltb, Ok, refl, Result, sym, take, true, ℕ}
 use Rattle.std.proofs.lemmas.List.{drop_all, drop_more, take_more}
 use Rattle.camel_ber.specs.declared.fault.Fault.{Fault}
-use Rattle.camel_ber.specs.Reading.{◌>>=◌, continuation_at}
+use Rattle.camel_ber.specs.Elements.{◌>>=◌, continuation_at}
 
 -- octets that were passed, and then what is read behind them
 abbrev pub behind_octets : List ℕ → Result (List ℕ × List ℕ) Fault → Result (List ℕ × List ℕ) Fault

@@ -1,9 +1,9 @@
 -- An element by its identifier, its length and the way its contents end.
-use Rattle.std.proofs.Common.{◌+◌, ◌-◌, ◌<◌, ◌∙◌, ◌≡◌, ap, arith, Err, false, length, List, None, Ok, Option, refl, Result, suc, take}
-use Rattle.std.proofs.Common.{true, zero, ℕ}
+use Rattle.std.proofs.Common.{◌+◌, ◌-◌, ◌<◌, ◌∙◌, ◌≡◌, ap, arith, Err, false, length, List, None, Ok, Option, refl}
+use Rattle.std.proofs.Common.{Result, suc, take, true, zero, ℕ}
 use Rattle.camel_ber.specs.declared.fault.Fault.{Fault}
 use Rattle.camel_ber.specs.declared.fault.FaultKind.TheVariants.{IndefinitePrimitive, TooDeep}
-use Rattle.camel_ber.specs.Reading.{content_of, element_at, element_by, end_by, fault_at, identifier_at, is_constructed, length_at, place_of}
+use Rattle.camel_ber.specs.Elements.{content_of, element_at, element_by, end_by, fault_at, identifier_at, is_constructed, length_at, place_of}
 
 -- the octets behind an end of contents, of indefinite forms at most so deep
 unfoldable pub ends_at : ℕ → ℕ → List ℕ → Result (List ℕ) Fault

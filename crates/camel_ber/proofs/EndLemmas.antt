@@ -4,7 +4,7 @@ use Rattle.std.proofs.Common.{subst, suc, sym, zero, ℕ}
 use Rattle.std.specs.Prelude.{IfOk}
 use Rattle.camel_ber.specs.declared.fault.Fault.{Fault}
 use Rattle.camel_ber.specs.declared.fault.FaultKind.TheVariants.{PastEnd}
-use Rattle.camel_ber.specs.Reading.{◌>>=◌, Answers, ElementReader, end_by, fault_at, PlacedData, view}
+use Rattle.camel_ber.specs.Elements.{◌>>=◌, Answers, ElementReader, end_by, fault_at, PlacedData, view}
 
 -- the end that is looked for from here is that from the beginning
 pub record Ends (end : ℕ) (one : ElementReader) (rest : List ℕ) (total : Result (List ℕ) Fault) : Type 0 where

@@ -1,9 +1,9 @@
 -- Elements one behind the other, as a loop reads them.
-use Rattle.std.proofs.Common.{[], ◌++◌, ◌<◌, ◌∙◌, ◌∷◌, ◌≡◌, ◌≤◌, ap, append_assoc, arith, Err, length, List, Ok, refl, Result}
-use Rattle.std.proofs.Common.{suc, sym, zero, ℕ}
+use Rattle.std.proofs.Common.{[], ◌++◌, ◌<◌, ◌∙◌, ◌∷◌, ◌≡◌, ◌≤◌, ap, append_assoc, arith, Err, length, List, Ok, refl}
+use Rattle.std.proofs.Common.{Result, suc, sym, zero, ℕ}
 use Rattle.std.proofs.lemmas.List.{append-nil}
 use Rattle.camel_ber.specs.declared.fault.Fault.{Fault}
-use Rattle.camel_ber.specs.Reading.{◌>>=◌, element_at, elements_of, PlacedData}
+use Rattle.camel_ber.specs.Elements.{◌>>=◌, element_at, elements_of, PlacedData}
 
 -- elements that were read, and then those that are read behind them
 abbrev pub behind_elements : List PlacedData → Result (List PlacedData) Fault → Result (List PlacedData) Fault

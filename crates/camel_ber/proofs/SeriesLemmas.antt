@@ -5,8 +5,7 @@ use Rattle.std.specs.Prelude.{IfOk}
 use Rattle.camel_ber.specs.declared.element.Element.{Element}
 use Rattle.camel_ber.specs.declared.fault.ReadError.TheVariants as errors
 use Rattle.camel_ber.specs.declared.fault.ReadError.{ReadError}
-use Rattle.camel_ber.specs.Grammar.{ElementData, IsSeries}
-use Rattle.camel_ber.specs.Reading.{elements, Gives, OctetsData, PlacedData, series_of, views}
+use Rattle.camel_ber.specs.Elements.{ElementData, IsSeries, elements, Gives, OctetsData, PlacedData, series_of, views}
 use Rattle.camel_ber.proofs.SpelledList.{list-found, list-read}
 use Rattle.camel_ber.proofs.StepLemmas.{same_value}
 

@@ -4,8 +4,8 @@ use Rattle.std.proofs.Common.{inr, length, List, ltb, None, Ok, Option, refl, So
 use Rattle.std.proofs.lemmas.Bool.{eqb-true, ltb-false}
 use Rattle.std.proofs.lemmas.List.{length-append, length-take, take-append-drop, take_at}
 use Rattle.camel_ber.specs.declared.fault.FaultKind.TheVariants.{IndefinitePrimitive, PastEnd}
-use Rattle.camel_ber.specs.Grammar.{ElementData, IsConstructed, IsDefinite, IsIdentifier, IsLength}
-use Rattle.camel_ber.specs.Reading.{◌>>=◌, content_of, EndReader, fault_at, is_constructed, PlacedData}
+use Rattle.camel_ber.specs.Elements.{ElementData, IsConstructed, IsDefinite, IsIdentifier, IsLength, ◌>>=◌, content_of}
+use Rattle.camel_ber.specs.Elements.{EndReader, fault_at, is_constructed, PlacedData}
 use Rattle.camel_ber.proofs.SpelledEnd.{BeginsWith}
 use Rattle.camel_ber.proofs.SpelledIdentifier.{identifier-some}
 use Rattle.camel_ber.proofs.SpelledLength.{IsLengthOrNone}

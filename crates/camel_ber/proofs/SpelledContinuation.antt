@@ -2,8 +2,7 @@
 use Rattle.std.proofs.Common.{[], ◌++◌, ◌∙◌, ◌∷◌, ◌≡◌, ◌≤◌, ap, inl, inr, List, ltb, Ok, refl, subst, true, ℕ}
 use Rattle.std.proofs.lemmas.Bool.{eqb-false, le-leb, le-ltb, leb-true, lt-ltb, ltb-false, ltb-true, ne_eqb, not-true, not_from_false}
 use Rattle.camel_ber.specs.declared.fault.Fault.{Fault}
-use Rattle.camel_ber.specs.Grammar.{IsContinuation, IsTagNumber}
-use Rattle.camel_ber.specs.Reading.{◌>>=◌, continuation_at, is_tag_number}
+use Rattle.camel_ber.specs.Elements.{IsContinuation, IsTagNumber, ◌>>=◌, continuation_at, is_tag_number}
 use Rattle.camel_ber.proofs.ContinuationLemmas.{continuation-is_last, continuation-not_last}
 use Rattle.camel_ber.proofs.StepLemmas.{chosen, done, first_done, same_value}
 

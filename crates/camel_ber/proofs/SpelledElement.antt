@@ -1,10 +1,10 @@
 -- An element of either form is read exactly where octets spell it, where the end of indefinite contents is.
-use Rattle.std.proofs.Common.{[], ◌++◌, ◌+◌, ◌-◌, ◌∙◌, ◌∷◌, ◌≡◌, ◌≢◌, ◌≤◌, ap, append_assoc, arith, false, get_or}
-use Rattle.std.proofs.Common.{inl, inr, length, List, ltb, Ok, refl, take, true, ℕ}
+use Rattle.std.proofs.Common.{[], ◌++◌, ◌+◌, ◌-◌, ◌∙◌, ◌∷◌, ◌≡◌, ◌≢◌, ◌≤◌, ap, append_assoc, arith, false, get_or, inl}
+use Rattle.std.proofs.Common.{inr, length, List, ltb, Ok, refl, take, true, ℕ}
 use Rattle.std.proofs.lemmas.Bool.{le-ltb}
 use Rattle.std.proofs.lemmas.List.{drop_at, length-append, take_at}
-use Rattle.camel_ber.specs.Grammar.{ElementData}
-use Rattle.camel_ber.specs.Reading.{◌>>=◌, content_of, element_by, EndReader, identifier_at, is_constructed, length_at, place_of, PlacedData}
+use Rattle.camel_ber.specs.Elements.{ElementData, ◌>>=◌, content_of, element_by, EndReader, identifier_at}
+use Rattle.camel_ber.specs.Elements.{is_constructed, length_at, place_of, PlacedData}
 use Rattle.camel_ber.proofs.SpelledContents.{before_end, constructed-holds, contents-found, ExactEnd, IsEither}
 use Rattle.camel_ber.proofs.SpelledEnd.{BeginsWith, IsRead}
 use Rattle.camel_ber.proofs.SpelledIdentifier.{identifier-begins, identifier-found, identifier-read}

@@ -3,8 +3,7 @@ use Rattle.std.proofs.Common.{[], ◌++◌, ◌+◌, ◌∙◌, ◌∷◌, ◌�
 use Rattle.std.proofs.Common.{refl, Result, subst, suc, sym, zero, ℕ}
 use Rattle.std.proofs.lemmas.List.{length-append}
 use Rattle.camel_ber.specs.declared.fault.Fault.{Fault}
-use Rattle.camel_ber.specs.Grammar.{ElementData, IsSeriesOf}
-use Rattle.camel_ber.specs.Reading.{◌>>=◌, ElementReader, end_by, PlacedData}
+use Rattle.camel_ber.specs.Elements.{ElementData, IsSeriesOf, ◌>>=◌, ElementReader, end_by, PlacedData}
 use Rattle.camel_ber.proofs.EndLemmas.{end-passes}
 use Rattle.camel_ber.proofs.StepLemmas.{first_done, same_value}
 

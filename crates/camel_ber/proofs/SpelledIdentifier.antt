@@ -4,8 +4,7 @@ use Rattle.std.proofs.Common.{inl, inr, length, List, Ok, refl, subst, sym, true
 use Rattle.std.proofs.lemmas.Bool.{eqb-false, eqb-true, ne_eqb}
 use Rattle.std.proofs.lemmas.List.{length-append}
 use Rattle.camel_ber.specs.declared.fault.FaultKind.TheVariants.{LoneEndOfContents, PastEnd, TagNumber}
-use Rattle.camel_ber.specs.Grammar.{IsIdentifier}
-use Rattle.camel_ber.specs.Reading.{continuation_at, fault_at, identifier_at, is_tag_number}
+use Rattle.camel_ber.specs.Elements.{IsIdentifier, continuation_at, fault_at, identifier_at, is_tag_number}
 use Rattle.camel_ber.proofs.SpelledContinuation.{continuation-found, continuation-read, IsFront, tag_number-holds, tag_number-is}
 use Rattle.camel_ber.proofs.StepLemmas.{chosen, done, first_done, held, passed, same_value}
 

@@ -1,11 +1,10 @@
 -- A length is read exactly where octets spell it.
-use Rattle.std.proofs.Common.{[], ◌++◌, ◌-◌, ◌∷◌, ◌≡◌, ◌≢◌, ◌≤◌, ap, arith, drop, eqb, false, inl, inr, length, List, ltb, None}
-use Rattle.std.proofs.Common.{Ok, Option, refl, Some, subst, sym, take, true, ℕ}
+use Rattle.std.proofs.Common.{[], ◌++◌, ◌-◌, ◌∷◌, ◌≡◌, ◌≢◌, ◌≤◌, ap, arith, drop, eqb, false, inl, inr, length, List}
+use Rattle.std.proofs.Common.{ltb, None, Ok, Option, refl, Some, subst, sym, take, true, ℕ}
 use Rattle.std.proofs.lemmas.Bool.{eqb-false, eqb-true, le-ltb, lt-ltb, ltb-false, ltb-true, ne_eqb}
 use Rattle.std.proofs.lemmas.List.{drop_at, length-append, length-take, take-append-drop, take_at}
 use Rattle.camel_ber.specs.declared.fault.FaultKind.TheVariants.{LongLength, PastEnd}
-use Rattle.camel_ber.specs.Grammar.{IsLength, value_of}
-use Rattle.camel_ber.specs.Reading.{fault_at, length_at}
+use Rattle.camel_ber.specs.Elements.{IsLength, value_of, fault_at, length_at}
 use Rattle.camel_ber.proofs.StepLemmas.{chosen, done, passed, same_value}
 
 -- length octets of a number, or the one of the indefinite form

@@ -2,8 +2,7 @@
 use Rattle.std.proofs.Common.{[], ◌+◌, ◌∙◌, ◌∷◌, ◌≡◌, ◌≤◌, ap, arith, length, List, Ok, refl, Result, subst, suc, sym, zero, ℕ}
 use Rattle.std.proofs.lemmas.List.{length-append}
 use Rattle.camel_ber.specs.declared.fault.Fault.{Fault}
-use Rattle.camel_ber.specs.Grammar.{ElementData, IsSeries}
-use Rattle.camel_ber.specs.Reading.{◌>>=◌, element_at, elements, elements_of, PlacedData}
+use Rattle.camel_ber.specs.Elements.{ElementData, IsSeries, ◌>>=◌, element_at, elements, elements_of, PlacedData}
 use Rattle.camel_ber.proofs.ListLemmas.{list-first, list-none}
 use Rattle.camel_ber.proofs.SpelledNested.{exact-element}
 use Rattle.camel_ber.proofs.StepLemmas.{first_done, same_value}

@@ -1,7 +1,6 @@
 -- Elements with indefinite forms within one another are read exactly where octets spell them.
 use Rattle.std.proofs.Common.{◌++◌, ◌∙◌, ◌∷◌, arith, inl, inr, length, List, subst, suc, sym, zero, ℕ}
-use Rattle.camel_ber.specs.Grammar.{ElementData, IsElement, IsSeriesOf}
-use Rattle.camel_ber.specs.Reading.{element_at}
+use Rattle.camel_ber.specs.Elements.{ElementData, IsElement, IsSeriesOf, element_at}
 use Rattle.camel_ber.proofs.ElementLemmas.{element_at-by, ends_at}
 use Rattle.camel_ber.proofs.SpelledContents.{ExactEnd, IsEither}
 use Rattle.camel_ber.proofs.SpelledElement.{element-begins, element-found, element-read}

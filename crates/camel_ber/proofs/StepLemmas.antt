@@ -1,7 +1,7 @@
 -- Steps and tests that came to a value.
 use Rattle.std.proofs.Common.{◌≡◌, ◌⊎◌, Bool, cond, Err, false, inl, inr, Ok, refl, Result, true}
 use Rattle.camel_ber.specs.declared.fault.Fault.{Fault}
-use Rattle.camel_ber.specs.Reading.{◌>>=◌}
+use Rattle.camel_ber.specs.Elements.{◌>>=◌}
 
 -- a result with no fault
 abbrev pub done : {A : Type 0} → A → Result A Fault

@@ -1,8 +1,7 @@
 ghost use Rattle.std.specs.Prelude.{◌≡◌, ◌≤◌, ◌<◌, ◌+◌, ℕ, suc, List, length, slice_index, Result, Ok, IfOk};
 ghost use Rattle.camel_ber.specs.declared.fault.Fault.{Fault};
-ghost use Rattle.camel_ber.specs.Grammar.{ElementData, IsSeries};
-ghost use Rattle.camel_ber.specs.Reading.{Answers, ElementReader, EndReader, Gives, content_of, end_by, element_at};
-ghost use Rattle.camel_ber.specs.Reading.{elements, octets_data, place_of, series_of, view, views};
+ghost use Rattle.camel_ber.specs.Elements.{ElementData, IsSeries, Answers, ElementReader, EndReader, Gives, content_of};
+ghost use Rattle.camel_ber.specs.Elements.{end_by, element_at, elements, octets_data, place_of, series_of, view, views};
 
 use crate::fault::{Fault, FaultKind, ReadError};
 use crate::identifier::read_identifier;
@@ -162,7 +161,7 @@ fn after_end(bytes: &[u8], end: usize, depth: u32) -> Result<&[u8], Fault>
 }
 
 // The octets behind an end of contents, of which the first octet was seen.
-#[tactic(auto, unfolding(crate::specs::Reading::end_by))]
+#[tactic(auto, unfolding(crate::specs::Elements::end_by))]
 fn after_zero(bytes: &[u8], end: usize) -> Result<&[u8], Fault>
     requires within { length bytes.now ≤ end }
     requires some { 0 < length bytes.now }

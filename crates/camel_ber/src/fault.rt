@@ -30,7 +30,7 @@ pub struct Fault {
 
 impl Fault {
     ghost use Rattle.std.specs.Prelude.{◌≡◌, ◌≤◌, length};
-    ghost use Rattle.camel_ber.specs.Reading.{fault_at};
+    ghost use Rattle.camel_ber.specs.Elements.{fault_at};
 
     // The fault of octets that end at a place, where these begin.
     pub(crate) fn of(kind: FaultKind, bytes: &[u8], end: usize) -> Fault

@@ -1,10 +1,10 @@
 ghost use Rattle.std.specs.Prelude.{◌≡◌, ◌≤◌, ◌<◌, ◌++◌, length, IfOk};
-ghost use Rattle.camel_ber.specs.Reading.{Answers, continuation_at, identifier_at, is_tag_number};
+ghost use Rattle.camel_ber.specs.Elements.{Answers, continuation_at, identifier_at, is_tag_number};
 
 use crate::fault::{Fault, FaultKind};
 
 // The identifier octets at the front of octets that end at a place, and the octets behind them.
-#[tactic(auto, unfolding(crate::specs::Reading::identifier_at))]
+#[tactic(auto, unfolding(crate::specs::Elements::identifier_at))]
 pub(crate) fn read_identifier(bytes: &[u8], end: usize) -> Result<(&[u8], &[u8]), Fault>
     requires { length bytes.now ≤ end }
     ensures answer { Answers (λ read. (read.0.now, read.1.now)) result (identifier_at end bytes.now) }

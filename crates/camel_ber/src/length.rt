@@ -1,11 +1,10 @@
 ghost use Rattle.std.specs.Prelude.{◌≡◌, ◌≤◌, ◌<◌, length, IfOk};
-ghost use Rattle.camel_ber.specs.Grammar.{value_of};
-ghost use Rattle.camel_ber.specs.Reading.{Answers, length_at};
+ghost use Rattle.camel_ber.specs.Elements.{value_of, Answers, length_at};
 
 use crate::fault::{Fault, FaultKind};
 
 // The length at the front of octets that end at a place, and the octets behind it. None is the indefinite form.
-#[tactic(auto, unfolding(crate::specs::Reading::length_at))]
+#[tactic(auto, unfolding(crate::specs::Elements::length_at))]
 pub(crate) fn read_length(bytes: &[u8], end: usize) -> Result<(Option<usize>, &[u8]), Fault>
     requires { length bytes.now ≤ end }
     ensures answer { Answers (λ read. (read.0, read.1.now)) result (length_at end bytes.now) }

@@ -11,7 +11,7 @@ pub struct Octets<'a> {
 }
 
 impl<'a> Octets<'a> {
-    ghost use Rattle.camel_ber.specs.Reading.{octets_data, place_of};
+    ghost use Rattle.camel_ber.specs.Elements.{octets_data, place_of};
 
     /// A whole argument, which begins at place 0. It is borrowed.
     pub fn new(bytes: &'a [u8]) -> Octets<'a>

@@ -2,11 +2,9 @@
 use Rattle.std.proofs.Common.{◌≡◌, ◌≢◌, ◌∙◌, ◌⊎◌, ℕ, Bool, true, false, not, List, length, inl, inr, ⊎_elim, refl, sym, ap, subst, true≢false}
 use Rattle.camel_rows.specs.declared.subscriber.update.Update.{Update}
 use Rattle.camel_vlr.specs.Store.{StoreData, with_none_pending}
-use Rattle.camel_c.specs.Change.{with_published}
-use Rattle.camel_c.specs.Commit.{Commits, ShowsNoMore, with_cleared}
-use Rattle.camel_c.specs.Receipts.{receipt_of}
-use Rattle.camel_c.specs.GroupSubmission.{AcceptsTogether, RejectsTogether, TakesAll, with_all_pending}
-use Rattle.camel_c.specs.Publication.{AllLearn, AllMayLook}
+use Rattle.camel_c.specs.Session.{with_published, receipt_of}
+use Rattle.camel_c.specs.Publication.{Commits, ShowsNoMore, with_cleared, AllLearn, AllMayLook}
+use Rattle.camel_c.specs.Submission.{AcceptsTogether, RejectsTogether, TakesAll, with_all_pending}
 use Rattle.camel_c.specs.declared.handle.CamelHandle.{CamelHandle}
 use Rattle.camel_c.specs.declared.object.LiveStore.{LiveStore}
 

@@ -2,11 +2,10 @@
 use Rattle.std.proofs.Common.{◌≡◌, ◌≤◌, ℕ, Bool, true, false, List, length, refl, sym, ap, subst, true≢false, arith}
 use Rattle.std.proofs.lemmas.Bool.{leb-true}
 use Rattle.std.specs.Prelude.{◌&&◌, nat_le, Option, Some, None, is_some, Result, Ok, Err, if◌then◌else◌}
-use Rattle.camel_ber.specs.Reading.{◌>>=◌}
+use Rattle.camel_ber.specs.Elements.{◌>>=◌}
 use Rattle.camel_criteria.specs.declared.refusal.Refusal.{Refusal}
-use Rattle.camel_rows.specs.Received.{kept_of, kept_unless, list_refusal}
-use Rattle.camel_map.specs.Arrival.{count_of}
-use Rattle.camel_map.specs.Lists.{list_of}
+use Rattle.camel_rows.specs.TdpRow.{kept_of, kept_unless, list_refusal}
+use Rattle.camel_map.specs.Arrival.{count_of, list_of}
 use Rattle.camel_c.proofs.ReadingLemmas.{no_fault, same_value}
 
 pub step_is : {A B E : Type 0} (step : Result A E) (next : A → Result B E) (whole : B)

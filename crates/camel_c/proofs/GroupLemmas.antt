@@ -3,9 +3,8 @@ use Rattle.std.proofs.Common.{◌≡◌, ◌≢◌, ◌∙◌, List, [], ◌∷�
 use Rattle.std.proofs.lemmas.List.{append-nil, append_assoc}
 use Rattle.std.specs.Prelude.{fold}
 use Rattle.camel_rows.specs.declared.subscriber.update.Update.{Update}
-use Rattle.camel_vlr.specs.Group.{AcceptsAll}
-use Rattle.camel_vlr.specs.Store.{StoreData, submission_refusal, with_accepted}
-use Rattle.camel_c.specs.GroupSubmission.{AcceptsTogether}
+use Rattle.camel_vlr.specs.Store.{AcceptsAll, StoreData, submission_refusal, with_accepted}
+use Rattle.camel_c.specs.Submission.{AcceptsTogether}
 
 -- the store with these updates pending
 with_list : StoreData → List Update → StoreData

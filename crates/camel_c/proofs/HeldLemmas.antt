@@ -5,7 +5,7 @@ use Rattle.std.specs.Prelude.{Option, Some, None, is_some, Result, Ok, Err, IfEr
 use Rattle.std.specs.Result.{IsErrAnd}
 use Rattle.camel_rows.specs.declared.subscriber.update.Update.{Update}
 use Rattle.camel_rows.specs.declared.subscriber.update.Update.TheVariants as update
-use Rattle.camel_c.specs.HeldUpdates.{HoldUpdates, update_held}
+use Rattle.camel_c.specs.Updates.{HoldUpdates, update_held}
 use Rattle.camel_c.specs.declared.handle.CamelHandle.{CamelHandle}
 
 -- there is an update for each handle

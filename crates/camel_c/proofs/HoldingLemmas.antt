@@ -1,11 +1,11 @@
 -- Handles of which the first ones hold updates.
-use Rattle.std.proofs.Common.{◌≡◌, ◌∙◌, ◌<◌, ◌≤◌, ◌+◌, ℕ, true, false, List, [], ◌∷◌}
-use Rattle.std.proofs.Common.{◌++◌, length, map, get_or, take, refl, sym, ap, ap₂, subst, true≢false, add-one}
+use Rattle.std.proofs.Common.{◌≡◌, ◌∙◌, ◌<◌, ◌≤◌, ◌+◌, ℕ, true, false, List, [], ◌∷◌, ◌++◌, length, map, get_or, take}
+use Rattle.std.proofs.Common.{refl, sym, ap, ap₂, subst, true≢false, add-one}
 use Rattle.std.proofs.Math.Seq.{take-suc}
 use Rattle.std.proofs.lemmas.List.{map-append, take_all}
 use Rattle.std.specs.Prelude.{Option, Some, None, is_some}
 use Rattle.camel_rows.specs.declared.subscriber.update.Update.{Update}
-use Rattle.camel_c.specs.HeldUpdates.{HoldUpdates, update_held}
+use Rattle.camel_c.specs.Updates.{HoldUpdates, update_held}
 use Rattle.camel_c.specs.declared.handle.CamelHandle.{CamelHandle}
 
 pub whole_of : {A : Type 0} (held : Option A) → is_some held ≡ true → (value : A) × (held ≡ Some value)

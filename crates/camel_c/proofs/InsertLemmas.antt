@@ -4,14 +4,10 @@ use Rattle.std.specs.Prelude.{Option, Result, Ok, Err}
 use Rattle.camel_criteria.specs.DetectionPoint.{o_detection_points, vt_detection_points}
 use Rattle.camel_rows.specs.declared.subscriber.update.Update.{Update}
 use Rattle.camel_rows.specs.declared.subscriber.update.Update.TheVariants as update
-use Rattle.camel_map.specs.Lists.{IsOfLists}
-use Rattle.camel_c_data.specs.Criteria.{o_entry_in, t_entry_in}
-use Rattle.camel_c_data.specs.Imsi.{imsi_in}
-use Rattle.camel_c_data.specs.Flag.{is_set}
+use Rattle.camel_map.specs.Arrival.{IsOfLists}
+use Rattle.camel_c_data.specs.Update.{o_entry_in, t_entry_in, entries_in, rows_in, insert_in}
+use Rattle.camel_c_data.specs.Fields.{imsi_in, is_set, IsMemory}
 use Rattle.camel_reading.specs.Reading.{ReadsAs}
-use Rattle.camel_c_data.specs.Reading.{IsMemory}
-use Rattle.camel_c_data.specs.SentCsi.{entries_in, rows_in}
-use Rattle.camel_c_data.specs.Update.{insert_in}
 use Rattle.camel_c_data.specs.declared.data_fault.DataFault.{DataFault}
 use Rattle.camel_c_data.specs.declared.imsi.CamelImsi.{CamelImsi}
 use Rattle.camel_c_data.specs.declared.update.CamelInsert.{CamelInsert}

@@ -2,7 +2,7 @@
 use Rattle.std.proofs.Common.{◌≡◌, ◌∙◌, sym, ap}
 use Rattle.std.proofs.lemmas.Option.{same_Some}
 use Rattle.std.specs.Prelude.{◌≢◌, Option, Some, None, MatchOption}
-use Rattle.camel_c.specs.Holding.{with_object}
+use Rattle.camel_c.specs.Object.{with_object}
 use Rattle.camel_c.specs.declared.handle.CamelHandle.{CamelHandle}
 use Rattle.camel_c.specs.declared.object.Object.{Object}
 

@@ -2,10 +2,9 @@
 use Rattle.std.proofs.Common.{ℕ, List, refl}
 use Rattle.std.specs.Prelude.{Option}
 use Rattle.camel_criteria.specs.Criteria.{OCriteriaData, TCriteriaData}
-use Rattle.camel_rows.specs.Received.{o_criteria_set_of, o_csi_of, t_criteria_set_of, vt_csi_of}
-use Rattle.camel_rows.specs.TdpRow.{TdpRowData}
+use Rattle.camel_rows.specs.TdpRow.{o_criteria_set_of, o_csi_of, t_criteria_set_of, vt_csi_of, TdpRowData}
 use Rattle.camel_rows.specs.declared.subscriber.update.Update.TheVariants as update
-use Rattle.camel_map.specs.Lists.{IsOfLists, insert_of_lists}
+use Rattle.camel_map.specs.Arrival.{IsOfLists, insert_of_lists}
 use Rattle.camel_map.specs.declared.arrival.ItemCounts.{ItemCounts}
 use Rattle.camel_c.proofs.ReceivedLemmas.{Came}
 use Rattle.camel_c.specs.Updates.{with_counts}

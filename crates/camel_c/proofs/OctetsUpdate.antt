@@ -1,15 +1,15 @@
 -- The update that octets are is that of what they bring.
 use Rattle.std.proofs.Common.{◌≡◌, ℕ, List, refl, sym, ap, subst, inl, inr}
 use Rattle.std.specs.Prelude.{Result, Ok, Err}
-use Rattle.camel_ber.specs.Reading.{◌>>=◌}
+use Rattle.camel_ber.specs.Elements.{◌>>=◌}
 use Rattle.camel_rows.specs.declared.subscriber.update.Update.{Update}
 use Rattle.camel_map.specs.Reading.{whole}
 use Rattle.camel_map.specs.Update.{arrival_of}
 use Rattle.camel_map.specs.declared.arrival.Arrival.{Arrival}
 use Rattle.camel_map.specs.declared.map_fault.MapFault.{MapFault}
 use Rattle.camel_c_data.specs.declared.imsi.CamelImsi.{CamelImsi}
-use Rattle.camel_c.specs.Octets.{ReadsOctets, arrival_in, dialogue_in, in_argument, operation_in}
-use Rattle.camel_c.specs.OctetsSubmission.{octets_in, update_read}
+use Rattle.camel_c.specs.Octets.{ReadsOctets, arrival_in, dialogue_in, in_argument, operation_in, octets_in}
+use Rattle.camel_c.specs.Octets.{update_read}
 use Rattle.camel_c.specs.declared.reading_map.OctetsFault.{OctetsFault}
 
 of_argument : (reading : Result Arrival MapFault)

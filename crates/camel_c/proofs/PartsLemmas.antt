@@ -1,12 +1,12 @@
 -- What is told of the counts of an Insert.
 use Rattle.std.proofs.Common.{◌≡◌, ◌≤◌, ℕ, subst, min, arith}
 use Rattle.camel_criteria.specs.DetectionPoint.{o_detection_points, vt_detection_points}
-use Rattle.camel_rows.specs.Received.{o_criteria_set_of, o_csi_of, t_criteria_set_of, vt_csi_of}
-use Rattle.camel_map.specs.Lists.{IsOfLists, insert_of_lists, list_of}
+use Rattle.camel_rows.specs.TdpRow.{o_criteria_set_of, o_csi_of, t_criteria_set_of, vt_csi_of}
+use Rattle.camel_map.specs.Arrival.{IsOfLists, insert_of_lists, list_of}
 use Rattle.camel_map.specs.declared.arrival.Arrival.{Arrival}
 use Rattle.camel_c.proofs.CountLemmas.{came_few, step_is}
 use Rattle.camel_c.proofs.ReadingLemmas.{same_value}
-use Rattle.camel_c.specs.HeldUpdates.{TellsCounts, parts_of}
+use Rattle.camel_c.specs.Updates.{TellsCounts, parts_of}
 
 shown_whole : (count : ℕ) → count ≤ 10 → min count 255 ≡ count
 shown_whole count few = omega (arith, few)

@@ -3,9 +3,8 @@ use Rattle.std.proofs.Common.{◌≡◌, ◌∙◌, ℕ, true≢false, refl, sym
 use Rattle.std.specs.Prelude.{Option, Result, Ok, Err, is_ok}
 use Rattle.camel_rows.specs.declared.subscriber.update.Update.{Update}
 use Rattle.camel_map.specs.declared.arrival.ItemCounts.{ItemCounts}
-use Rattle.camel_c_data.specs.DataFault.{data_fault_code}
+use Rattle.camel_c_data.specs.Fields.{data_fault_code, IsMemory}
 use Rattle.camel_reading.specs.Reading.{ReadsAs}
-use Rattle.camel_c_data.specs.Reading.{IsMemory}
 use Rattle.camel_c_data.specs.declared.data_fault.DataFault.{DataFault}
 use Rattle.camel_c.specs.Submission.{ReadsAndSubmits, Submits}
 use Rattle.camel_c.specs.Updates.{Makes, ReadsAndMakes, counted}

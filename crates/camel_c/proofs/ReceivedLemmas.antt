@@ -2,11 +2,10 @@
 use Rattle.std.proofs.Common.{◌≡◌, ℕ, Bool, true, false, List, length, refl}
 use Rattle.std.specs.Prelude.{Option, Some, None, Result, Ok, if◌then◌else◌}
 use Rattle.camel_criteria.specs.declared.refusal.Refusal.{Refusal}
-use Rattle.camel_map.specs.Arrival.{count_of, kept_in}
-use Rattle.camel_map.specs.Lists.{list_of}
+use Rattle.camel_map.specs.Arrival.{count_of, kept_in, list_of}
 use Rattle.camel_reading.specs.Reading.{each_of}
-use Rattle.camel_c_data.specs.Reading.{or_refused}
-use Rattle.camel_c_data.specs.SentList.{few_of, sent_list}
+use Rattle.camel_c_data.specs.Fields.{or_refused}
+use Rattle.camel_c_data.specs.Update.{few_of, sent_list}
 use Rattle.camel_c_data.specs.declared.data_fault.DataFault.{DataFault}
 use Rattle.camel_c.proofs.ReadingLemmas.{same_value}
 use Rattle.camel_c.proofs.StepLemmas.{each_of-length, few_ok, refused_ok}

@@ -4,7 +4,7 @@ use Rattle.std.specs.Prelude.{Result, Ok, Err, if◌then◌else◌}
 use Rattle.camel_criteria.specs.declared.refusal.Refusal.{Refusal}
 use Rattle.camel_reading.proofs.StepLemmas.{step_ok}
 use Rattle.camel_reading.specs.Reading.{each_of}
-use Rattle.camel_c_data.specs.Reading.{or_refused}
+use Rattle.camel_c_data.specs.Fields.{or_refused}
 use Rattle.camel_c_data.specs.declared.data_fault.DataFault.{DataFault}
 use Rattle.camel_c.proofs.ReadingLemmas.{no_fault, same_value}
 

@@ -1,18 +1,20 @@
--- The octets of an argument of MAP as they are read, and as a call takes them.
+-- Arguments of MAP as C has them: what is read of their octets, and their submission.
 use Rattle.std.specs.Prelude.{◌≡◌, ◌≢◌, ◌⊎◌, ◌==◌, ℕ, List, Option, Some, None, Result, Ok, Err, IsOk, if◌then◌else◌}
-use Rattle.camel_ber.specs.Reading.{◌>>=◌}
-use Rattle.camel_map.specs.MapFault.{map_fault_code}
-use Rattle.camel_map.specs.Operation.{operation_of}
+use Rattle.camel_ber.specs.Elements.{◌>>=◌}
+use Rattle.camel_map.specs.Update.{map_fault_code, operation_of, arrival_of, update_of}
 use Rattle.camel_map.specs.Reading.{whole}
-use Rattle.camel_map.specs.Update.{arrival_of}
 use Rattle.camel_map.specs.declared.arrival.Arrival.{Arrival}
 use Rattle.camel_map.specs.declared.map_fault.MapFault.{MapFault}
 use Rattle.camel_map.specs.declared.operation.Operation.{Operation}
-use Rattle.camel_c_data.specs.Imsi.{imsi_in}
+use Rattle.camel_c_data.specs.Fields.{imsi_in}
 use Rattle.camel_c_data.specs.declared.imsi.CamelImsi.{CamelImsi}
 use Rattle.camel_c.specs.declared.object.Object.{Object}
 use Rattle.camel_c.specs.declared.reading_map.OctetsFault.{OctetsFault}
 use Rattle.camel_c.specs.declared.reading_map.OctetsFault.TheVariants.{Argument, Malformed, OutOfMemory}
+use Rattle.camel_rows.specs.declared.subscriber.update.Update.{Update}
+use Rattle.camel_c.specs.Submission.{ReadsAndSubmits}
+
+-- The octets of an argument of MAP as they are read, and as a call takes them.
 
 -- the number of a fault
 abbrev pub octets_fault_code : OctetsFault → ℕ
@@ -69,3 +71,22 @@ pub record TakesOctets {A : Type 0} (Takes : A → Type 0) (reading : Result A O
   -- the octets have one
   pub faulty : (fault : OctetsFault) → reading ≡ Err fault
       → ((status ≡ octets_fault_code fault) × (place ≡ octets_fault_place fault)) ⊎ ((status ≡ 102) × (place ≡ no_octet))
+
+-- Submissions of the octets of an argument of MAP: the update that they are, and what the store makes of it.
+
+-- the update that octets are, as the argument of the operation of a code in the dialogue of an IMSI
+unfoldable pub octets_in : ℕ → CamelImsi → List ℕ → Result Update OctetsFault
+octets_in code imsi argument = do
+  operation ← operation_in code
+  dialogue ← dialogue_in imsi
+  in_argument (update_of operation dialogue (whole argument))
+
+-- the update that came
+abbrev pub update_read : Result Arrival OctetsFault → Result Update OctetsFault
+update_read reading = reading >>= λ arrival. Ok arrival.update
+
+-- Octets that read so are submitted to what a handle held before, as an update of fields is; this is the status, and this
+-- the place that is told.
+abbrev pub SubmitsOctets : Result Update OctetsFault → ℕ → ℕ → Option Object → Option Object → Type 0
+SubmitsOctets reading status place before after =
+    TakesOctets (λ update. ReadsAndSubmits (Ok update) status before after) reading status place before after

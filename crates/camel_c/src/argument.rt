@@ -1,9 +1,8 @@
 //! The argument that makes a record, as C has it.
 
 ghost use Rattle.std.specs.Prelude.{◌≡◌, true, IfOk, IfSome};
-ghost use Rattle.camel_c.specs.Argument.{HasOctets, MakesRecord};
-ghost use Rattle.camel_c.specs.Shown.{record_shown};
-ghost use Rattle.camel_c.specs.Shows.{Finds};
+ghost use Rattle.camel_c.specs.Object.{HasOctets, MakesRecord};
+ghost use Rattle.camel_c.specs.Session.{record_shown, Finds};
 
 use camel_map::{MAX_ARGUMENT_OCTETS, encode_record};
 use camel_rows::Subscriber;

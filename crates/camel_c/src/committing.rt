@@ -1,10 +1,8 @@
 //! Publishing updates at once, and telling sessions of them, or none of it.
 
 ghost use Rattle.std.specs.Prelude.{◌≡◌, ◌⊎◌, true};
-ghost use Rattle.camel_c.specs.Change.{with_published};
-ghost use Rattle.camel_c.specs.Commit.{Commits, CommitsTo, ShowsNoMore};
-ghost use Rattle.camel_c.specs.Publication.{AllLearn, AllMayLook, AllReady};
-ghost use Rattle.camel_c.specs.Receipts.{receipt_of};
+ghost use Rattle.camel_c.specs.Session.{with_published, receipt_of};
+ghost use Rattle.camel_c.specs.Publication.{Commits, CommitsTo, ShowsNoMore, AllLearn, AllMayLook, AllReady};
 
 use crate::copies::{copies_of, hold_updates};
 use crate::failure::Failure;

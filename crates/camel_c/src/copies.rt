@@ -1,7 +1,7 @@
 //! Copies of the updates that C keeps in handles.
 
 ghost use Rattle.std.specs.Prelude.{◌≡◌, ◌⊎◌, List, true, Some, IfErr, IfOk, is_some};
-ghost use Rattle.camel_c.specs.HeldUpdates.{HoldUpdates, IsNoCopy, update_held};
+ghost use Rattle.camel_c.specs.Updates.{HoldUpdates, IsNoCopy, update_held};
 ghost use Rattle.camel_c.specs.declared.failure.Failure.TheVariants as failure;
 
 use crate::failure::Failure;

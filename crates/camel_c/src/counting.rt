@@ -1,8 +1,7 @@
 //! What stores and sessions have counted.
 
 ghost use Rattle.std.specs.Prelude.{◌≡◌, ◌≢◌, ◌⊎◌, Some};
-ghost use Rattle.camel_c.specs.Counts.{Counts};
-ghost use Rattle.camel_c.specs.Object.{HoldsAnySession, HoldsLiveStore};
+ghost use Rattle.camel_c.specs.Object.{Counts, HoldsAnySession, HoldsLiveStore};
 ghost use Rattle.camel_c.specs.declared.object.Object.TheVariants as object;
 ghost use Rattle.camel_c.specs.declared.thread_session.ThreadSession.{ThreadSession};
 

@@ -2,12 +2,10 @@
 
 ghost use Rattle.std.specs.Prelude.{◌≡◌, ◌≢◌, ◌⊎◌, Ok, Some, IsErr, true};
 ghost use Rattle.camel_rows.specs.declared.trigger.outcome.Answer.{Answer};
-ghost use Rattle.camel_rows.specs.Event.{EventData, event_data};
-ghost use Rattle.camel_vlr.specs.Session.{SessionData};
-ghost use Rattle.camel_c_data.specs.Answer.{ShowsAnswer};
-ghost use Rattle.camel_c_data.specs.Event.{event_in};
-ghost use Rattle.camel_c.specs.Decides.{Decides};
-ghost use Rattle.camel_c.specs.Shows.{Looks};
+ghost use Rattle.camel_rows.specs.Decision.{EventData, event_data};
+ghost use Rattle.camel_vlr.specs.Store.{SessionData};
+ghost use Rattle.camel_c_data.specs.Event.{ShowsAnswer, event_in};
+ghost use Rattle.camel_c.specs.Session.{Decides, Looks};
 
 use crate::failure::Failure;
 use crate::handle::CamelHandle;

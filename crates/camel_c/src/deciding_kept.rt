@@ -1,11 +1,9 @@
 //! Deciding call events by a record that is kept.
 
 ghost use Rattle.std.specs.Prelude.{◌≡◌, ◌≢◌, ◌⊎◌, Ok, Some, IsErr};
-ghost use Rattle.camel_rows.specs.Event.{EventData, event_data};
-ghost use Rattle.camel_c_data.specs.Answer.{ShowsAnswer};
-ghost use Rattle.camel_c_data.specs.Event.{event_in};
-ghost use Rattle.camel_c.specs.Decides.{CountsDecision};
-ghost use Rattle.camel_c.specs.Kept.{HoldsKept, answer_by};
+ghost use Rattle.camel_rows.specs.Decision.{EventData, event_data};
+ghost use Rattle.camel_c_data.specs.Event.{ShowsAnswer, event_in};
+ghost use Rattle.camel_c.specs.Session.{CountsDecision, HoldsKept, answer_by};
 ghost use Rattle.camel_c.specs.Object.{HoldsAnySession};
 ghost use Rattle.camel_c.specs.declared.kept_subscriber.KeptSubscriber.{KeptSubscriber};
 ghost use Rattle.camel_c.specs.declared.object.Object.TheVariants as object;

@@ -1,7 +1,7 @@
 //! Dropping what is pending.
 
 ghost use Rattle.std.specs.Prelude.{◌≡◌, ◌≢◌, ◌⊎◌, Some};
-ghost use Rattle.camel_c.specs.Change.{ChangesStore, with_dropped};
+ghost use Rattle.camel_c.specs.Session.{ChangesStore, with_dropped};
 ghost use Rattle.camel_c.specs.Object.{HoldsDroppable, HoldsLevelStore, HoldsLiveStore};
 
 use crate::failure::Failure;

@@ -1,12 +1,10 @@
 //! Encoding the record of a subscriber.
 
 ghost use Rattle.std.specs.Prelude.{◌≡◌, ◌≢◌, ◌⊎◌, Ok, IsErr, List, ℕ, true};
-ghost use Rattle.camel_vlr.specs.Session.{SessionData};
-ghost use Rattle.camel_c_data.specs.Imsi.{imsi_in};
-ghost use Rattle.camel_c.specs.Argument.{MakesRecord};
-ghost use Rattle.camel_c.specs.Fetches.{Fetches};
-ghost use Rattle.camel_c.specs.Shown.{record_shown};
-ghost use Rattle.camel_c.specs.Shows.{Shows, ShowsWritten};
+ghost use Rattle.camel_vlr.specs.Store.{SessionData};
+ghost use Rattle.camel_c_data.specs.Fields.{imsi_in};
+ghost use Rattle.camel_c.specs.Object.{MakesRecord};
+ghost use Rattle.camel_c.specs.Session.{Fetches, record_shown, Shows, ShowsWritten};
 
 use crate::argument::CamelArgument;
 use crate::failure::Failure;

@@ -1,7 +1,7 @@
 //! Ending a store.
 
 ghost use Rattle.std.specs.Prelude.{◌≡◌, ◌⊎◌, false, None, Some, true};
-ghost use Rattle.camel_c.specs.Change.{IsHeldUp};
+ghost use Rattle.camel_c.specs.Session.{IsHeldUp};
 ghost use Rattle.camel_c.specs.Object.{HoldsStore, at_stage};
 ghost use Rattle.camel_c.specs.declared.object.Stage.TheVariants as stage;
 

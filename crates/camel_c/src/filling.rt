@@ -1,7 +1,7 @@
 //! Filling a handle and emptying it: the calls that allocate and free.
 
 ghost use Rattle.std.specs.Prelude.{◌≡◌, ◌⊎◌, Err, Some, None, IfErr, OnErr, OnOk};
-ghost use Rattle.camel_c.specs.Filling.{Fills};
+ghost use Rattle.camel_c.specs.Object.{Fills};
 ghost use Rattle.camel_c.specs.declared.failure.Failure.TheVariants as failure;
 
 use crate::failure::Failure;

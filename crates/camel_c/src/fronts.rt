@@ -1,7 +1,7 @@
 //! What sessions have seen was published.
 
 ghost use Rattle.std.specs.Prelude.{◌≡◌, ◌≤◌, false, List, length};
-ghost use Rattle.camel_rows.specs.Front.{Extends};
+ghost use Rattle.camel_rows.specs.Update.{Extends};
 ghost use Rattle.camel_rows.specs.Store.{accepted_updates};
 ghost use Rattle.camel_rows.specs.declared.subscriber.update.Update.{Update};
 

@@ -32,7 +32,7 @@ impl Model for CamelHandle {
 impl CamelHandle {
     ghost use Rattle.std.specs.Borrow.{Lends, LendsIf, sem};
     ghost use Rattle.std.specs.Option.{option_copied_mut};
-    ghost use Rattle.camel_c.specs.Holding.{with_object};
+    ghost use Rattle.camel_c.specs.Object.{with_object};
     ghost use Rattle.camel_c.specs.contracts.handle.CamelHandle.{the_row as handle_row};
 
     /// An empty handle.

@@ -1,7 +1,7 @@
 //! Joining the Inserts of a dialogue.
 
 ghost use Rattle.std.specs.Prelude.{◌≡◌, ◌≢◌, ◌⊎◌, None, Some};
-ghost use Rattle.camel_c.specs.HeldUpdates.{HoldsUpdate, JoinsInto};
+ghost use Rattle.camel_c.specs.Updates.{HoldsUpdate, JoinsInto};
 ghost use Rattle.camel_c.specs.declared.object.Object.TheVariants as object;
 
 use crate::failure::Failure;

@@ -2,12 +2,9 @@
 
 ghost use Rattle.std.specs.Prelude.{◌≡◌, ◌≢◌, ◌⊎◌, Ok, None, Some, IfErr, IsErr, OnErr, OnOk, List, ℕ, true};
 ghost use Rattle.camel_criteria.specs.declared.refusal.Refusal.TheVariants as refusal;
-ghost use Rattle.camel_vlr.specs.Session.{SessionData};
-ghost use Rattle.camel_c_data.specs.Imsi.{imsi_in};
-ghost use Rattle.camel_c.specs.Fetches.{Fetches};
-ghost use Rattle.camel_c.specs.Kept.{FillsKept};
-ghost use Rattle.camel_c.specs.Shown.{record_shown};
-ghost use Rattle.camel_c.specs.Shows.{Shows};
+ghost use Rattle.camel_vlr.specs.Store.{SessionData};
+ghost use Rattle.camel_c_data.specs.Fields.{imsi_in};
+ghost use Rattle.camel_c.specs.Session.{Fetches, FillsKept, record_shown, Shows};
 
 use crate::failure::Failure;
 use crate::filling::fill;

@@ -2,8 +2,7 @@
 
 ghost use Rattle.std.specs.Prelude.{◌≡◌, true, IfErr, IfOk};
 ghost use Rattle.camel_criteria.specs.declared.refusal.Refusal.TheVariants as refusal;
-ghost use Rattle.camel_c.specs.Kept.{KeepsShown};
-ghost use Rattle.camel_c.specs.Shown.{record_shown};
+ghost use Rattle.camel_c.specs.Session.{KeepsShown, record_shown};
 
 use camel_criteria::Refusal;
 use camel_rows::Subscriber;

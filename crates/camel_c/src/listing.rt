@@ -1,10 +1,9 @@
 //! Listing the IMSIs that have a record.
 
 ghost use Rattle.std.specs.Prelude.{◌≡◌, ◌≢◌, ◌⊎◌, None, Option, Some, List, ℕ, true};
-ghost use Rattle.camel_vlr.specs.Session.{SessionData};
-ghost use Rattle.camel_c.specs.Fetches.{Fetches};
-ghost use Rattle.camel_c.specs.Imsis.{FillsImsis, HoldsImsis, TellsNext};
-ghost use Rattle.camel_c.specs.Shows.{Shows};
+ghost use Rattle.camel_vlr.specs.Store.{SessionData};
+ghost use Rattle.camel_c.specs.Session.{Fetches, Shows};
+ghost use Rattle.camel_c.specs.Object.{FillsImsis, HoldsImsis, TellsNext};
 ghost use Rattle.camel_c.specs.declared.object.Object.TheVariants as object;
 
 use crate::failure::Failure;

@@ -1,7 +1,7 @@
 //! Beginning and leaving a look.
 
 ghost use Rattle.std.specs.Prelude.{◌≡◌, ◌≢◌, ◌⊎◌, Some};
-ghost use Rattle.camel_c.specs.Change.{BeginsLook, IsWithoutLook};
+ghost use Rattle.camel_c.specs.Session.{BeginsLook, IsWithoutLook};
 ghost use Rattle.camel_c.specs.Object.{HoldsAnySession, HoldsLook, HoldsSession};
 
 use crate::failure::Failure;

@@ -1,10 +1,8 @@
 //! IMSIs and addresses, which a caller makes once per call.
 
 ghost use Rattle.std.specs.Prelude.{◌≡◌, ◌≢◌, ◌≤◌, ◌⊎◌, Ok, IsErr, IsOk, length};
-ghost use Rattle.camel_c_data.specs.Address.{call_address_in, isdn_address_in};
-ghost use Rattle.camel_c_data.specs.Imsi.{imsi_in};
-ghost use Rattle.camel_c_data.specs.Reading.{ok_or_malformed};
-ghost use Rattle.camel_tbcd.specs.AddressLength.{max_address_length, max_isdn_address_length};
+ghost use Rattle.camel_c_data.specs.Fields.{call_address_in, isdn_address_in, imsi_in, ok_or_malformed};
+ghost use Rattle.camel_tbcd.specs.AddressString.{max_address_length, max_isdn_address_length};
 ghost use Rattle.camel_tbcd.specs.Imsi.{imsi_of_ascii, imsi_of_tbcd};
 
 use crate::failure::Failure;

@@ -1,11 +1,10 @@
 //! Opening a store with its sessions.
 
 ghost use Rattle.std.specs.Prelude.{◌≡◌, ◌≢◌, ◌≤◌, ◌⊎◌, Some, None, All, IfErr, OnErr, OnOk, length, true, vec_len};
-ghost use Rattle.camel_vlr.specs.Session.{SessionData};
-ghost use Rattle.camel_c_data.specs.Decisions.{no_decisions};
-ghost use Rattle.camel_c.specs.Object.{live_store};
-ghost use Rattle.camel_c.specs.Opening.{AllEmpty, AllHold, CanOpen, HoldAsBefore, IsNew, Opens, new_session};
-ghost use Rattle.camel_c.specs.Opening.{profile_of};
+ghost use Rattle.camel_vlr.specs.Store.{SessionData};
+ghost use Rattle.camel_c_data.specs.Event.{no_decisions};
+ghost use Rattle.camel_c.specs.Object.{live_store, AllEmpty, AllHold, CanOpen, HoldAsBefore, IsNew, Opens, new_session};
+ghost use Rattle.camel_c.specs.Object.{profile_of};
 ghost use Rattle.camel_c.specs.declared.failure.Failure.TheVariants as failure;
 ghost use Rattle.camel_c.specs.declared.object.LiveStore.{LiveStore};
 ghost use Rattle.camel_c.specs.declared.object.Object.TheVariants as object;

@@ -1,7 +1,7 @@
 //! Publishing what is pending.
 
 ghost use Rattle.std.specs.Prelude.{◌≡◌, ◌≢◌, ◌⊎◌, ◌==◌, Some, true};
-ghost use Rattle.camel_c.specs.Change.{ChangesStore, IsRefused, with_free, with_held, with_published};
+ghost use Rattle.camel_c.specs.Session.{ChangesStore, IsRefused, with_free, with_held, with_published};
 ghost use Rattle.camel_c.specs.Object.{HoldsFreeStore, HoldsLiveStore};
 
 use crate::failure::Failure;

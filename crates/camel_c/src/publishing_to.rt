@@ -1,10 +1,9 @@
 //! Publishing what is pending, and telling sessions of it.
 
 ghost use Rattle.std.specs.Prelude.{◌≡◌, ◌≢◌, ◌⊎◌, Some, true};
-ghost use Rattle.camel_c.specs.Change.{IsRefused, with_held, with_published};
+ghost use Rattle.camel_c.specs.Session.{IsRefused, with_held, with_published, receipt_of};
 ghost use Rattle.camel_c.specs.Publication.{AllLearn, AllMayLook, AllReady, FirstUnready, IsReady, IsUnready};
 ghost use Rattle.camel_c.specs.Publication.{PublishesTo};
-ghost use Rattle.camel_c.specs.Receipts.{receipt_of};
 
 use crate::failure::Failure;
 use crate::handle::CamelHandle;

@@ -1,7 +1,7 @@
 //! Reading the octets of arguments of MAP.
 
 ghost use Rattle.std.specs.Prelude.{◌≡◌, IfOk};
-ghost use Rattle.camel_map.specs.Lists.{IsReceived};
+ghost use Rattle.camel_map.specs.Arrival.{IsReceived};
 ghost use Rattle.camel_map.specs.Reading.{whole};
 ghost use Rattle.camel_map.specs.Update.{arrival_of};
 ghost use Rattle.camel_c.specs.Octets.{ReadsOctets, dialogue_in, in_argument, octets_fault_code, octets_fault_place};

@@ -1,10 +1,10 @@
 //! Receipts: what a writer gives, and what a session learns.
 
 ghost use Rattle.std.specs.Prelude.{◌≡◌, ◌≢◌, ◌⊎◌, length, Some, None, IfSome};
-ghost use Rattle.camel_vlr.specs.Session.{SessionData};
+ghost use Rattle.camel_vlr.specs.Store.{SessionData};
 ghost use Rattle.camel_c.specs.Object.{HoldsAnySession, HoldsLiveStore, HoldsLook, HoldsSession};
-ghost use Rattle.camel_c.specs.Receipts.{GivesReceipt, IsForeign, LearnsReceipt, MayLook, RejectsReceipt, receipt_of};
-ghost use Rattle.camel_c.specs.Shows.{Shows};
+ghost use Rattle.camel_c.specs.Session.{GivesReceipt, IsForeign, LearnsReceipt, MayLook, RejectsReceipt, receipt_of};
+ghost use Rattle.camel_c.specs.Session.{Shows};
 ghost use Rattle.camel_c.specs.declared.object.Object.TheVariants as object;
 ghost use Rattle.camel_c.specs.declared.thread_session.ThreadSession.{ThreadSession};
 

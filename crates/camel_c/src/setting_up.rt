@@ -1,12 +1,10 @@
 //! The set-up of a call: its decision, and the record that decides its later detection points, over one front.
 
 ghost use Rattle.std.specs.Prelude.{◌≡◌, ◌≢◌, ◌⊎◌, Ok, None, Some, IsErr, true};
-ghost use Rattle.camel_rows.specs.Event.{EventData, event_data};
-ghost use Rattle.camel_vlr.specs.Session.{SessionData};
+ghost use Rattle.camel_rows.specs.Decision.{EventData, event_data};
+ghost use Rattle.camel_vlr.specs.Store.{SessionData};
 ghost use Rattle.camel_c_data.specs.Event.{event_in};
-ghost use Rattle.camel_c.specs.Fetches.{Fetches};
-ghost use Rattle.camel_c.specs.SetUp.{SetsUp};
-ghost use Rattle.camel_c.specs.Shows.{Shows};
+ghost use Rattle.camel_c.specs.Session.{Fetches, SetsUp, Shows};
 
 use crate::failure::Failure;
 use crate::handle::CamelHandle;

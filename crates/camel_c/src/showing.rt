@@ -2,12 +2,11 @@
 
 ghost use Rattle.std.specs.Prelude.{◌≡◌, ◌≢◌, ◌⊎◌, Ok, Option, Some, IsErr, List, ℕ, true};
 ghost use Rattle.camel_rows.specs.Subscriber.{row_at};
-ghost use Rattle.camel_vlr.specs.Session.{SessionData};
-ghost use Rattle.camel_c_data.specs.Imsi.{imsi_in};
-ghost use Rattle.camel_c_data.specs.Row.{ShowsRow};
-ghost use Rattle.camel_c.specs.Kept.{HoldsKept};
-ghost use Rattle.camel_c.specs.Shown.{ShowsEntry, entry_shown, row_shown};
-ghost use Rattle.camel_c.specs.Shows.{Finds, Looks, Shows, ShowsWritten, Writes};
+ghost use Rattle.camel_vlr.specs.Store.{SessionData};
+ghost use Rattle.camel_c_data.specs.Fields.{imsi_in};
+ghost use Rattle.camel_c_data.specs.Update.{ShowsRow};
+ghost use Rattle.camel_c.specs.Session.{HoldsKept, ShowsEntry, entry_shown, row_shown, Finds, Looks, Shows};
+ghost use Rattle.camel_c.specs.Session.{ShowsWritten, Writes};
 ghost use Rattle.camel_c.specs.declared.kept_subscriber.KeptSubscriber.{KeptSubscriber};
 ghost use Rattle.camel_c.specs.declared.object.Object.TheVariants as object;
 

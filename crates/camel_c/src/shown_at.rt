@@ -8,7 +8,7 @@ use camel_vlr::WaitFreeSession;
 /// Fields of C for what a subscriber has at a detection point.
 pub(crate) trait ShownAt: Copy {
     ghost use Rattle.std.specs.Prelude.{ℕ, List, Option};
-    ghost use Rattle.camel_vlr.specs.Session.{SessionData};
+    ghost use Rattle.camel_vlr.specs.Store.{SessionData};
 
     /// What is found at the detection point, over the front of a look.
     ghost is_found: { SessionData → List ℕ → ℕ → Option Self → Type 0 };
@@ -20,9 +20,8 @@ pub(crate) trait ShownAt: Copy {
 }
 
 impl ShownAt for CamelRow {
-    ghost use Rattle.camel_c_data.specs.Row.{ShowsRow};
-    ghost use Rattle.camel_c.specs.Shown.{row_shown};
-    ghost use Rattle.camel_c.specs.Shows.{Finds};
+    ghost use Rattle.camel_c_data.specs.Update.{ShowsRow};
+    ghost use Rattle.camel_c.specs.Session.{row_shown, Finds};
 
     ghost is_found = { λ shown imsi dp found. Finds ShowsRow (row_shown shown imsi dp) found };
 
@@ -32,8 +31,7 @@ impl ShownAt for CamelRow {
 }
 
 impl ShownAt for CamelCriteria {
-    ghost use Rattle.camel_c.specs.Shown.{ShowsEntry, entry_shown};
-    ghost use Rattle.camel_c.specs.Shows.{Finds};
+    ghost use Rattle.camel_c.specs.Session.{ShowsEntry, entry_shown, Finds};
 
     ghost is_found = { λ shown imsi dp found. Finds ShowsEntry (entry_shown shown imsi dp) found };
 

@@ -2,8 +2,8 @@
 
 ghost use Rattle.std.specs.Prelude.{◌≡◌, ◌≢◌, ◌⊎◌, List, [], ◌∷◌, length, IfErr, IfOk};
 ghost use Rattle.camel_rows.specs.declared.subscriber.update.Update.{Update};
-ghost use Rattle.camel_c.specs.GroupSubmission.{ReadsAndSubmitsAll, SubmitsAll, TakesAll};
-ghost use Rattle.camel_c.specs.HeldUpdates.{HoldUpdates};
+ghost use Rattle.camel_c.specs.Submission.{ReadsAndSubmitsAll, SubmitsAll, TakesAll};
+ghost use Rattle.camel_c.specs.Updates.{HoldUpdates};
 
 use crate::copies::{copies_of, hold_updates};
 use crate::failure::Failure;

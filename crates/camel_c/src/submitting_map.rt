@@ -1,6 +1,6 @@
 //! Submitting updates as the octets of arguments of MAP.
 
-ghost use Rattle.camel_c.specs.OctetsSubmission.{SubmitsOctets, octets_in, update_read};
+ghost use Rattle.camel_c.specs.Octets.{SubmitsOctets, octets_in, update_read};
 
 use crate::handle::CamelHandle;
 use crate::reading_map::{NO_OCTET, OctetsFault, read_octets};

@@ -1,8 +1,8 @@
 //! A session as a call-control thread in C has it.
 
 ghost use Rattle.std.specs.Prelude.{◌≡◌, true, false, Some, None, IfSome};
-ghost use Rattle.camel_vlr.specs.Session.{Sees};
-ghost use Rattle.camel_c.specs.Change.{with_session};
+ghost use Rattle.camel_vlr.specs.Store.{Sees};
+ghost use Rattle.camel_c.specs.Session.{with_session};
 
 use camel_c_data::CamelDecisions;
 use camel_vlr::WaitFreeSession;

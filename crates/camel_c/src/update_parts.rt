@@ -1,9 +1,9 @@
 //! What came with an update that C keeps.
 
 ghost use Rattle.std.specs.Prelude.{◌≡◌, ◌≢◌, ◌⊎◌, Some};
-ghost use Rattle.camel_map.specs.Lists.{IsOfLists};
-ghost use Rattle.camel_c.specs.HeldUpdates.{HoldsUpdate, TellsCounts, concerned_number, count_shown, kind_number};
-ghost use Rattle.camel_c.specs.HeldUpdates.{parts_of, withdrawal_shown};
+ghost use Rattle.camel_map.specs.Arrival.{IsOfLists};
+ghost use Rattle.camel_c.specs.Updates.{HoldsUpdate, TellsCounts, concerned_number, count_shown, kind_number, parts_of};
+ghost use Rattle.camel_c.specs.Updates.{withdrawal_shown};
 ghost use Rattle.camel_c.specs.declared.object.Object.TheVariants as object;
 
 use crate::failure::Failure;

@@ -1,7 +1,7 @@
 //! Making updates of the octets of arguments of MAP.
 
 ghost use Rattle.std.specs.Prelude.{◌≡◌, IfOk};
-ghost use Rattle.camel_map.specs.Lists.{IsReceived};
+ghost use Rattle.camel_map.specs.Arrival.{IsReceived};
 ghost use Rattle.camel_c.specs.Octets.{arrival_in};
 ghost use Rattle.camel_c.specs.Updates.{HoldsReceived, MakesOfOctets};
 

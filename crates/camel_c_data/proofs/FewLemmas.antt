@@ -2,10 +2,10 @@
 use Rattle.std.proofs.Common.{◌≡◌, ◌<◌, ◌≤◌, List, length, Result, Err, inl, inr, ap, arith, cond}
 use Rattle.std.proofs.lemmas.Bool.Decides.{leb_tells}
 use Rattle.camel_criteria.specs.declared.refusal.Refusal.TheVariants.{UnexpectedDataValue}
-use Rattle.camel_rows.specs.Received.{max_tdp_data}
+use Rattle.camel_rows.specs.TdpRow.{max_tdp_data}
 use Rattle.camel_reading.specs.Reading.{FailsAs, each_of}
-use Rattle.camel_c_data.specs.Reading.{IsMemory}
-use Rattle.camel_c_data.specs.SentList.{few_of}
+use Rattle.camel_c_data.specs.Fields.{IsMemory}
+use Rattle.camel_c_data.specs.Update.{few_of}
 use Rattle.camel_c_data.specs.declared.data_fault.DataFault.{DataFault}
 use Rattle.camel_c_data.specs.declared.data_fault.DataFault.TheVariants.{Refused}
 

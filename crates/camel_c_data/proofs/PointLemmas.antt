@@ -1,6 +1,6 @@
 -- The detection points of events.
 use Rattle.std.proofs.Common.{◌≡◌, ◌≤◌, refl, arith}
-use Rattle.camel_rows.specs.Event.{event_data, event_dp}
+use Rattle.camel_rows.specs.Decision.{event_data, event_dp}
 use Rattle.camel_rows.specs.declared.trigger.event.TdpEvent.{TdpEvent}
 use Rattle.camel_rows.specs.declared.trigger.event.TdpEvent.TheVariants.{CollectedInfo, RouteSelectFailure, TerminatingAttempt, Busy, NoAnswer}
 use Rattle.camel_tbcd.specs.declared.address.Address.{Address}

@@ -1,6 +1,6 @@
 ghost use Rattle.std.specs.Prelude.{◌≡◌, Ok, Err, IfErr, IfOk};
 ghost use Rattle.camel_tbcd.specs.Address.{octets};
-ghost use Rattle.camel_c_data.specs.Address.{call_address_in, isdn_address_in};
+ghost use Rattle.camel_c_data.specs.Fields.{call_address_in, isdn_address_in};
 
 use crate::data_fault::DataFault;
 use crate::first_items::room_with;
@@ -20,7 +20,7 @@ const _: () = prove!(size_of::<CamelAddress>() == 21);
 
 impl CamelAddress {
     /// The fields of an address. They read as that address.
-    #[tactic(auto, unfolding(crate::specs::Address::call_address_in))]
+    #[tactic(auto, unfolding(crate::specs::Fields::call_address_in))]
     pub fn of(address: &CallAddress) -> CamelAddress
         ensures { call_address_in result ≡ Ok address.now }
     {
@@ -34,7 +34,7 @@ impl CamelAddress {
     /// The address that the fields are, borrowed where they lie.
     ///
     /// Fails with `Malformed` (502) for no octets and for more than 20.
-    #[tactic(auto, unfolding(crate::specs::Address::call_address_in))]
+    #[tactic(auto, unfolding(crate::specs::Fields::call_address_in))]
     pub fn lend(&self) -> Result<Address<'_>, DataFault>
         ensures lent { IfOk result (λ address. call_address_in self.now ≡ Ok (octets address)) }
         ensures malformed { IfErr result (λ fault. call_address_in self.now ≡ Err fault) }
@@ -57,7 +57,7 @@ const _: () = prove!(size_of::<CamelIsdnAddress>() == 10);
 impl CamelIsdnAddress {
     /// The fields of an address, with octets 0xFF behind it. They read as that address.
     #[inline]
-    #[tactic(auto, unfolding(crate::specs::Address::isdn_address_in))]
+    #[tactic(auto, unfolding(crate::specs::Fields::isdn_address_in))]
     pub fn of(address: &IsdnAddress) -> CamelIsdnAddress
         ensures { isdn_address_in result ≡ Ok address.now }
     {
@@ -80,7 +80,7 @@ impl CamelIsdnAddress {
     /// The address that the fields are.
     ///
     /// Fails with `Malformed` (502) for no octets and for more than 9.
-    #[tactic(auto, unfolding(crate::specs::Address::isdn_address_in))]
+    #[tactic(auto, unfolding(crate::specs::Fields::isdn_address_in))]
     pub fn read(&self) -> Result<IsdnAddress, DataFault>
         ensures { result ≡ isdn_address_in self.now }
     {

@@ -1,7 +1,6 @@
 ghost use Rattle.std.specs.Prelude.{◌≡◌, ◌≤◌};
-ghost use Rattle.camel_rows.specs.Decision.{decision_data};
-ghost use Rattle.camel_rows.specs.Outcome.{outcome_of};
-ghost use Rattle.camel_c_data.specs.Answer.{ShowsAnswer, reason_number};
+ghost use Rattle.camel_rows.specs.Decision.{decision_data, outcome_of};
+ghost use Rattle.camel_c_data.specs.Event.{ShowsAnswer, reason_number};
 
 use crate::address::CamelIsdnAddress;
 use camel_criteria::Handling;

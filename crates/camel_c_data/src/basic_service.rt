@@ -1,5 +1,5 @@
 ghost use Rattle.std.specs.Prelude.{◌≡◌, ◌≤◌};
-ghost use Rattle.camel_c_data.specs.BasicService.{basic_service_in};
+ghost use Rattle.camel_c_data.specs.Fields.{basic_service_in};
 
 use camel_criteria::BasicService;
 use std::mem::size_of;

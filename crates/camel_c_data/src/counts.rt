@@ -1,8 +1,8 @@
 //! Counts that a switch may ask for.
 
 ghost use Rattle.std.specs.Prelude.{◌≡◌, ◌≤◌};
-ghost use Rattle.camel_rows.specs.Event.{event_data, event_dp};
-ghost use Rattle.camel_c_data.specs.Decisions.{no_decisions, with_decision};
+ghost use Rattle.camel_rows.specs.Decision.{event_data, event_dp};
+ghost use Rattle.camel_c_data.specs.Event.{no_decisions, with_decision};
 
 use camel_rows::Event;
 use std::mem::size_of;

@@ -1,9 +1,9 @@
 //! The entries of the criteria of both CSIs.
 
 ghost use Rattle.std.specs.Prelude.{◌≡◌, Result};
-ghost use Rattle.camel_c_data.specs.Criteria.{ShowsO, ShowsT, call_type_in, number_in};
+ghost use Rattle.camel_c_data.specs.Update.{ShowsO, ShowsT, call_type_in, number_in};
 ghost use Rattle.camel_reading.specs.Reading.{ReadsAs};
-ghost use Rattle.camel_c_data.specs.Reading.{IsMemory};
+ghost use Rattle.camel_c_data.specs.Fields.{IsMemory};
 ghost use Rattle.camel_c_data.specs.declared.data_fault.DataFault.{DataFault};
 ghost use Rattle.camel_c_data.specs.declared.criteria.CamelCriteria.{CamelCriteria};
 
@@ -73,7 +73,7 @@ impl CamelCriteria {
         }
     }
 
-    #[tactic(auto, unfolding(crate::specs::Criteria::number_in))]
+    #[tactic(auto, unfolding(crate::specs::Update::number_in))]
     fn read_number(&self, alloc: Global) -> Result<Option<NumberCriterion>, DataFault>
         ensures { ReadsAs IsMemory result (number_in self.now) }
     {
@@ -107,13 +107,13 @@ pub trait SentEntry: CriteriaEntry {
 }
 
 impl SentEntry for OCriteria {
-    ghost use Rattle.camel_c_data.specs.Criteria.{o_entry_in};
+    ghost use Rattle.camel_c_data.specs.Update.{o_entry_in};
 
     ghost entry_in = { o_entry_in };
 
     /// Fails as the destination number criterion, then the basic services and then the causes fail to read, then as
     /// [`OCriteria::new`], and with `OutOfMemory` (102) if memory is refused. Nothing was made then.
-    #[tactic(auto, unfolding(crate::specs::Criteria::o_entry_in))]
+    #[tactic(auto, unfolding(crate::specs::Update::o_entry_in))]
     fn read(sent: &CamelCriteria, alloc: Global) -> Result<OCriteria, DataFault> {
         let number = sent.read_number(alloc)?;
         let basic = sent.basic.read(alloc)?;
@@ -123,14 +123,14 @@ impl SentEntry for OCriteria {
 }
 
 impl SentEntry for TCriteria {
-    ghost use Rattle.camel_c_data.specs.Criteria.{t_entry_in};
+    ghost use Rattle.camel_c_data.specs.Update.{t_entry_in};
 
     ghost entry_in = { t_entry_in };
 
     /// Fails with `UnexpectedDataValue` (36) if there is a criterion of numbers or of the call type, then as the basic
     /// services and then the causes fail to read, then as [`TCriteria::new`], and with `OutOfMemory` (102) if memory is
     /// refused. Nothing was made then.
-    #[tactic(auto, unfolding(crate::specs::Criteria::t_entry_in))]
+    #[tactic(auto, unfolding(crate::specs::Update::t_entry_in))]
     fn read(sent: &CamelCriteria, alloc: Global) -> Result<TCriteria, DataFault> {
         if sent.has_number != 0 || sent.has_call_type != 0 {
             return Err(DataFault::Refused(Refusal::UnexpectedDataValue));

@@ -1,5 +1,5 @@
 ghost use Rattle.std.specs.Prelude.{◌≡◌};
-ghost use Rattle.camel_c_data.specs.DataFault.{data_fault_code};
+ghost use Rattle.camel_c_data.specs.Fields.{data_fault_code};
 
 use camel_criteria::Refusal;
 use camel_reading::Fault;
@@ -29,7 +29,7 @@ impl DataFault {
 }
 
 impl Fault for DataFault {
-    ghost use Rattle.camel_c_data.specs.Reading.{IsMemory};
+    ghost use Rattle.camel_c_data.specs.Fields.{IsMemory};
 
     ghost is_out_of_memory = { IsMemory };
 
@@ -51,7 +51,7 @@ impl From<Refusal> for DataFault {
 
 impl From<AllocError> for DataFault {
     ghost use Rattle.std.specs.Prelude.{◌≡◌};
-    ghost use Rattle.camel_c_data.specs.DataFault.{out_of_memory};
+    ghost use Rattle.camel_c_data.specs.Fields.{out_of_memory};
 
     ghost from_gives = { λ _ fault. fault ≡ out_of_memory };
 
@@ -62,7 +62,7 @@ impl From<AllocError> for DataFault {
 
 impl<T: Drop> From<AllocFailed<T>> for DataFault {
     ghost use Rattle.std.specs.Prelude.{◌≡◌};
-    ghost use Rattle.camel_c_data.specs.DataFault.{out_of_memory};
+    ghost use Rattle.camel_c_data.specs.Fields.{out_of_memory};
 
     ghost from_gives = { λ _ fault. fault ≡ out_of_memory };
 

@@ -1,10 +1,9 @@
 //! The lists that entries of criteria of both CSIs have.
 
 ghost use Rattle.std.specs.Prelude.{◌≡◌, ◌≤◌, All, Ok, IfErr, IfOk, length, map, take};
-ghost use Rattle.camel_c_data.specs.BasicService.{basic_service_in};
-ghost use Rattle.camel_c_data.specs.EntryLists.{AreFlags, basic_services_in, causes_in};
+ghost use Rattle.camel_c_data.specs.Fields.{basic_service_in, IsMemory};
+ghost use Rattle.camel_c_data.specs.Update.{AreFlags, basic_services_in, causes_in};
 ghost use Rattle.camel_reading.specs.Reading.{ReadsList};
-ghost use Rattle.camel_c_data.specs.Reading.{IsMemory};
 
 use crate::basic_service::CamelBasicService;
 use crate::data_fault::DataFault;
@@ -26,7 +25,7 @@ const _: () = prove!(size_of::<CamelBasicServices>() == 11);
 
 impl CamelBasicServices {
     /// The fields of up to 5 basic services.
-    #[tactic(auto, unfolding(crate::specs::EntryLists::basic_services_in))]
+    #[tactic(auto, unfolding(crate::specs::Update::basic_services_in))]
     pub(crate) fn of(services: &[BasicService]) -> CamelBasicServices
         requires { length services.now ≤ MAX_BASIC_SERVICES }
         ensures same { basic_services_in result ≡ Ok services.now }
@@ -41,7 +40,7 @@ impl CamelBasicServices {
     /// The basic services that the fields are.
     ///
     /// Fails with `Malformed` (502) for more than 5, and with `OutOfMemory` (102) if memory is refused.
-    #[tactic(auto, unfolding(crate::specs::EntryLists::basic_services_in))]
+    #[tactic(auto, unfolding(crate::specs::Update::basic_services_in))]
     pub fn read(&self, alloc: Global) -> Result<Vec<BasicService>, DataFault>
         ensures { ReadsList IsMemory result (basic_services_in self.now) }
     {
@@ -83,7 +82,7 @@ const _: () = prove!(size_of::<CamelCauses>() == 6);
 
 impl CamelCauses {
     /// The fields of up to 5 causes.
-    #[tactic(auto, unfolding(crate::specs::EntryLists::causes_in))]
+    #[tactic(auto, unfolding(crate::specs::Update::causes_in))]
     pub(crate) fn of(causes: &[u8]) -> CamelCauses
         requires { length causes.now ≤ MAX_CAUSES }
         ensures { causes_in result ≡ Ok causes.now }
@@ -97,7 +96,7 @@ impl CamelCauses {
     /// The causes that the fields are, each any octet.
     ///
     /// Fails with `Malformed` (502) for more than 5.
-    #[tactic(auto, unfolding(crate::specs::EntryLists::causes_in))]
+    #[tactic(auto, unfolding(crate::specs::Update::causes_in))]
     pub fn read(&self) -> Result<&[u8], DataFault>
         ensures listed { IfOk result (λ causes. causes_in self.now ≡ Ok causes.now) }
         ensures malformed { IfErr result (λ fault. causes_in self.now ≡ Err fault) }

@@ -1,5 +1,5 @@
 ghost use Rattle.std.specs.Prelude.{◌≡◌, ◌≤◌, Ok, Err, IfErr, IfOk, length, take};
-ghost use Rattle.camel_c_data.specs.FirstItems.{first_items};
+ghost use Rattle.camel_c_data.specs.Fields.{first_items};
 
 use crate::data_fault::DataFault;
 

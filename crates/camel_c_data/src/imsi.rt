@@ -1,6 +1,6 @@
 ghost use Rattle.std.specs.Prelude.{◌≡◌, Ok, IfErr, IfOk};
-ghost use Rattle.camel_tbcd.specs.ImsiNumber.{IsNumberOfNone, imsi_number};
-ghost use Rattle.camel_c_data.specs.Imsi.{imsi_in};
+ghost use Rattle.camel_tbcd.specs.Imsi.{IsNumberOfNone, imsi_number};
+ghost use Rattle.camel_c_data.specs.Fields.{imsi_in};
 ghost use Rattle.camel_c_data.specs.declared.data_fault.DataFault.TheVariants.{Malformed};
 
 use crate::data_fault::DataFault;
@@ -31,7 +31,7 @@ impl CamelImsi {
     /// The IMSI of which this is the number.
     ///
     /// Fails with `Malformed` (502) if it is the number of no IMSI.
-    #[tactic(auto, unfolding(crate::specs::Imsi::imsi_in))]
+    #[tactic(auto, unfolding(crate::specs::Fields::imsi_in))]
     pub fn read(&self) -> Result<Imsi, DataFault>
         ensures imsi { result ≡ imsi_in self.now }
         ensures number { IfOk result (λ imsi. imsi_number imsi ≡ self.now.number) }

@@ -1,8 +1,7 @@
 ghost use Rattle.std.specs.Prelude.{◌≡◌, ◌≤◌, Ok, length, take};
-ghost use Rattle.camel_c_data.specs.NumberCriterion.{ShowsNumber, match_type_in, number_criterion_in};
-ghost use Rattle.camel_c_data.specs.Address.{isdn_address_in};
+ghost use Rattle.camel_c_data.specs.Update.{ShowsNumber, match_type_in, number_criterion_in};
+ghost use Rattle.camel_c_data.specs.Fields.{isdn_address_in, IsMemory};
 ghost use Rattle.camel_reading.specs.Reading.{ReadsAs, each_of};
-ghost use Rattle.camel_c_data.specs.Reading.{IsMemory};
 
 use crate::address::CamelIsdnAddress;
 use crate::data_fault::DataFault;
@@ -58,7 +57,7 @@ impl CamelNumberCriterion {
     /// Fails with `Malformed` (502) for more than 10 numbers, for a number that is no address and for more than 3
     /// lengths, then as [`NumberCriterion::new`], and with `OutOfMemory` (102) if memory is refused. Nothing was made
     /// then.
-    #[tactic(auto, unfolding(crate::specs::NumberCriterion::number_criterion_in))]
+    #[tactic(auto, unfolding(crate::specs::Update::number_criterion_in))]
     pub fn read(&self, alloc: Global) -> Result<NumberCriterion, DataFault>
         ensures { ReadsAs IsMemory result (number_criterion_in self.now) }
     {

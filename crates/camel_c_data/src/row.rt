@@ -1,5 +1,5 @@
 ghost use Rattle.std.specs.Prelude.{◌≡◌};
-ghost use Rattle.camel_c_data.specs.Row.{ShowsRow, row_in};
+ghost use Rattle.camel_c_data.specs.Update.{ShowsRow, row_in};
 
 use crate::address::CamelIsdnAddress;
 use crate::data_fault::DataFault;
@@ -26,7 +26,7 @@ const _: () = prove!(size_of::<CamelRow>() == 24);
 
 impl CamelRow {
     /// The fields of a row. They read as that row; the default call handling is 0 or 1.
-    #[tactic(auto, unfolding(crate::specs::Row::row_in))]
+    #[tactic(auto, unfolding(crate::specs::Update::row_in))]
     pub fn of(row: &TdpRow) -> CamelRow
         ensures { ShowsRow row.now result }
     {
@@ -45,7 +45,7 @@ impl CamelRow {
     ///
     /// Fails with `Malformed` (502) if the gsmSCF address is none, and then with `UnexpectedDataValue` (36) for a
     /// service key over 2147483647.
-    #[tactic(auto, unfolding(crate::specs::Row::row_in))]
+    #[tactic(auto, unfolding(crate::specs::Update::row_in))]
     pub fn read(&self) -> Result<TdpRow, DataFault>
         ensures { result ≡ row_in self.now }
     {

@@ -2,13 +2,11 @@
 
 ghost use Rattle.std.specs.Prelude.{◌≡◌, ◌<◌, ◌≤◌, length, take, IfErr, OnOk};
 ghost use Rattle.camel_reading.specs.Reading.{ReadsAs, ReadsInto, ReadsList};
-ghost use Rattle.camel_c_data.specs.Reading.{IsMemory};
-ghost use Rattle.camel_c_data.specs.Row.{row_in};
-ghost use Rattle.camel_c_data.specs.SentCsi.{entries_in, rows_in};
-ghost use Rattle.camel_c_data.specs.SentList.{few_of};
+ghost use Rattle.camel_c_data.specs.Fields.{IsMemory};
+ghost use Rattle.camel_c_data.specs.Update.{row_in, entries_in, rows_in, few_of};
 ghost use Rattle.camel_c_data.specs.declared.data_fault.DataFault.TheVariants.{Refused};
 ghost use Rattle.camel_criteria.specs.declared.refusal.Refusal.TheVariants.{UnexpectedDataValue};
-ghost use Rattle.camel_rows.specs.Received.{max_tdp_data};
+ghost use Rattle.camel_rows.specs.TdpRow.{max_tdp_data};
 
 use crate::criteria::{CamelCriteria, SentEntry};
 use crate::data_fault::DataFault;
@@ -38,7 +36,7 @@ impl CamelSentCsi<'_> {
     ///
     /// Fails with `UnexpectedDataValue` (36) for more than 10 rows, then as the first row that fails to read, and then
     /// as [`Csi::of_received`].
-    #[tactic(auto, unfolding(crate::specs::SentCsi::rows_in))]
+    #[tactic(auto, unfolding(crate::specs::Update::rows_in))]
     pub(crate) fn read_rows<K: CsiKind, const MOST: usize>(
         &self,
     ) -> Result<Option<Csi<K, MOST>>, DataFault>
@@ -58,7 +56,7 @@ impl CamelSentCsi<'_> {
     ///
     /// Fails with `UnexpectedDataValue` (36) for more than 10 entries, then as the first entry that fails to read, then
     /// as [`CriteriaSet::new`], and with `OutOfMemory` (102) if memory is refused. Nothing was made then.
-    #[tactic(auto, unfolding(crate::specs::SentCsi::entries_in))]
+    #[tactic(auto, unfolding(crate::specs::Update::entries_in))]
     pub(crate) fn read_criteria<E: SentEntry>(
         &self,
         alloc: Global,

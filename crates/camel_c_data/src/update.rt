@@ -2,7 +2,7 @@
 
 ghost use Rattle.std.specs.Prelude.{◌≡◌};
 ghost use Rattle.camel_reading.specs.Reading.{ReadsAs};
-ghost use Rattle.camel_c_data.specs.Reading.{IsMemory};
+ghost use Rattle.camel_c_data.specs.Fields.{IsMemory};
 ghost use Rattle.camel_c_data.specs.Update.{delete_in, insert_in, withdrawal_in};
 
 use crate::data_fault::DataFault;

@@ -1,6 +1,6 @@
 -- What the tests of criteria mean.
-use Rattle.std.proofs.Common.{◌≡◌, ◌↔◌, ◌⊎◌, ℕ, Bool, ◌==◌, IsTrue, List, [], ◌∷◌, Option, Some, None, Any, Contains, length, slice_index_or, refl, subst, inl}
-use Rattle.std.proofs.Common.{inr, ⊎_elim}
+use Rattle.std.proofs.Common.{◌≡◌, ◌↔◌, ◌⊎◌, ℕ, Bool, ◌==◌, IsTrue, List, [], ◌∷◌, Option, Some, None, Any, Contains}
+use Rattle.std.proofs.Common.{length, slice_index_or, refl, subst, inl, inr, ⊎_elim}
 use Rattle.std.proofs.lemmas.Bool.{eq-eqb, eqb-true}
 use Rattle.std.proofs.lemmas.Bool.Decides.{Decides-and, Decides-not, Decides-or}
 use Rattle.std.proofs.lemmas.List.Folds.{Any-from_list_any, list_any-from_Any}
@@ -8,13 +8,13 @@ use Rattle.std.specs.Bool.{Decides}
 use Rattle.std.specs.List.{list_any}
 use Rattle.camel_tbcd.proofs.DigitLemmas.{starts_with-IsPrefix}
 use Rattle.camel_tbcd.proofs.ProfileLemmas.{agrees_decides}
-use Rattle.camel_tbcd.specs.Digits.{digits}
+use Rattle.camel_tbcd.specs.AddressString.{digits}
 use Rattle.camel_tbcd.specs.declared.profile.Profile.{Profile}
 use Rattle.camel_criteria.specs.BasicService.{covers}
 use Rattle.camel_criteria.specs.Criteria.{NumberCriterionData, OCriteriaData, TCriteriaData}
-use Rattle.camel_criteria.specs.Event.{OEventData}
-use Rattle.camel_criteria.specs.Means.{BasicMet, CauseMet, HeldNumberMet, NumberMatches, NumberMetBy, OMet, TMet, TypeMet}
-use Rattle.camel_criteria.specs.Met.{basic_met, cause_met, held_number_met, is_listed, met_by, number_matches, number_met, o_met, t_met, type_met}
+use Rattle.camel_criteria.specs.Met.{OEventData, BasicMet, CauseMet, HeldNumberMet, NumberMatches, NumberMetBy, OMet}
+use Rattle.camel_criteria.specs.Met.{TMet, TypeMet, basic_met, cause_met, held_number_met, is_listed, met_by}
+use Rattle.camel_criteria.specs.Met.{number_matches, number_met, o_met, t_met, type_met}
 use Rattle.camel_criteria.specs.declared.basic_service.BasicService.{BasicService}
 use Rattle.camel_criteria.specs.declared.criteria.CallType.{CallType}
 use Rattle.camel_criteria.specs.declared.criteria.CallType.TheVariants.{Forwarded, NotForwarded}

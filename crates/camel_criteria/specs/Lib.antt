@@ -3,11 +3,8 @@ pub mod Cause
 pub mod Criteria
 pub mod CriterionLists
 pub mod DetectionPoint
-pub mod Event
 pub mod FewNumbers
-pub mod Handling
 pub mod HeldCriteria
-pub mod Means
 pub mod Met
 pub mod Refusal
 pub mod Unmet

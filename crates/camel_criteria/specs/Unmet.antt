@@ -3,8 +3,7 @@
 use Rattle.std.specs.Prelude.{Bool, true, not, [], ◌∷◌, Option, find}
 use Rattle.camel_tbcd.specs.declared.profile.Profile.{Profile}
 use Rattle.camel_criteria.specs.Criteria.{OCriteriaData, TCriteriaData}
-use Rattle.camel_criteria.specs.Event.{OEventData}
-use Rattle.camel_criteria.specs.Met.{basic_met, cause_met, held_number_met, type_met}
+use Rattle.camel_criteria.specs.Met.{OEventData, basic_met, cause_met, held_number_met, type_met}
 use Rattle.camel_criteria.specs.declared.event.TEvent.{TEvent}
 use Rattle.camel_criteria.specs.declared.unmet.Criterion.{Criterion}
 use Rattle.camel_criteria.specs.declared.unmet.Criterion.TheVariants.{DestinationNumber, BasicService, CallType, Cause}

@@ -1,5 +1,5 @@
 ghost use Rattle.std.specs.Prelude.{◌≡◌, ◌<◌, ◌↔◌, ◌⊎◌};
-ghost use Rattle.camel_criteria.specs.Handling.{handling_of};
+ghost use Rattle.camel_criteria.specs.DetectionPoint.{handling_of};
 
 /// What is done with a call if the dialogue between gsmSSF and gsmSCF fails: DefaultCallHandling of TS 29.002.
 #[derive(Clone, Copy, Debug, PartialEq, Eq)]

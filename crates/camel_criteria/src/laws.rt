@@ -1,8 +1,6 @@
 ghost use Rattle.std.specs.Prelude.{◌↔◌, ℕ, IsTrue, List};
 ghost use Rattle.camel_criteria.specs.Criteria.{NumberCriterionData, OCriteriaData, TCriteriaData};
-ghost use Rattle.camel_criteria.specs.Event.{OEventData};
-ghost use Rattle.camel_criteria.specs.Means.{NumberMetBy, OMet, TMet};
-ghost use Rattle.camel_criteria.specs.Met.{number_met, o_met, t_met};
+ghost use Rattle.camel_criteria.specs.Met.{OEventData, NumberMetBy, OMet, TMet, number_met, o_met, t_met};
 ghost use Rattle.camel_criteria.specs.declared.event.TEvent.{TEvent};
 ghost use Rattle.camel_tbcd.specs.declared.profile.Profile.{Profile};
 

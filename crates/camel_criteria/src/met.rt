@@ -3,8 +3,7 @@ ghost use Rattle.std.specs.List.{list_any};
 ghost use Rattle.std.specs.Option.{option_copied};
 ghost use Rattle.camel_tbcd.specs.Address.{octets};
 ghost use Rattle.camel_criteria.specs.BasicService.{covers};
-ghost use Rattle.camel_criteria.specs.Event.{o_event_data};
-ghost use Rattle.camel_criteria.specs.Met.{basic_met, cause_met, held_number_met, o_met, t_met, type_met};
+ghost use Rattle.camel_criteria.specs.Met.{o_event_data, basic_met, cause_met, held_number_met, o_met, t_met, type_met};
 
 use crate::basic_service::{BasicService, covers};
 use crate::cause::Cause;

@@ -1,6 +1,5 @@
 ghost use Rattle.std.specs.Prelude.{◌≡◌, ◌↔◌, None, IsTrue};
-ghost use Rattle.camel_criteria.specs.Event.{o_event_data};
-ghost use Rattle.camel_criteria.specs.Met.{o_met, t_met};
+ghost use Rattle.camel_criteria.specs.Met.{o_event_data, o_met, t_met};
 ghost use Rattle.camel_criteria.specs.Unmet.{first_unmet, o_criterion_met, t_criterion_met};
 
 use crate::event::{OEvent, TEvent};

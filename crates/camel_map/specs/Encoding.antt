@@ -1,9 +1,10 @@
--- An encoding of each update that an operation can say: fields in the order of TS 29.002, definite lengths, and numbers
--- and lengths in as few octets as hold them (ITU-T X.690).
-use Rattle.std.specs.Prelude.{◌≡◌, ℕ, Bool, true, false, ◌/◌, ◌%◌, ◌+◌, ◌*◌, nat_lt, List, [], ◌∷◌, ◌++◌, length, map, Option}
-use Rattle.std.specs.Prelude.{Some, None, IfSome, if◌then◌else◌}
-use Rattle.camel_ber.specs.Grammar.{ElementData}
-use Rattle.camel_criteria.specs.Criteria.{NumberCriterionData, OCriteriaData, TCriteriaData}
+-- The encoding of updates and records as arguments of MAP.
+use Rattle.std.specs.Prelude.{◌≡◌, ℕ, Bool, true, false, ◌/◌, ◌%◌, ◌+◌, ◌*◌, nat_lt, List, [], ◌∷◌, ◌++◌, length, map}
+use Rattle.std.specs.Prelude.{Option, Some, None, IfSome, if◌then◌else◌, ◌≤◌, ◌⊎◌, All, Result, Ok}
+use Rattle.std.specs.Option.{option_map, option_and_then}
+use Rattle.camel_ber.specs.Elements.{ElementData}
+use Rattle.camel_criteria.specs.Criteria.{NumberCriterionData, OCriteriaData, TCriteriaData, number_criterion_of}
+use Rattle.camel_criteria.specs.Criteria.{o_criteria_of, t_criteria_of}
 use Rattle.camel_criteria.specs.declared.basic_service.BasicService.{BasicService}
 use Rattle.camel_criteria.specs.declared.basic_service.BasicService.TheVariants.{Bearer, Tele}
 use Rattle.camel_criteria.specs.declared.criteria.CallType.{CallType}
@@ -12,13 +13,21 @@ use Rattle.camel_criteria.specs.declared.criteria.MatchType.{MatchType}
 use Rattle.camel_criteria.specs.declared.criteria.MatchType.TheVariants.{Enabling, Inhibiting}
 use Rattle.camel_criteria.specs.declared.handling.Handling.{Handling}
 use Rattle.camel_criteria.specs.declared.handling.Handling.TheVariants.{Continue, Release}
-use Rattle.camel_rows.specs.TdpRow.{TdpRowData}
+use Rattle.camel_rows.specs.TdpRow.{TdpRowData, o_criteria_set_of, o_csi_of, t_criteria_set_of, vt_csi_of}
+use Rattle.camel_rows.specs.TdpRow.{max_service_key}
 use Rattle.camel_rows.specs.Update.{update_imsi}
 use Rattle.camel_rows.specs.declared.subscriber.update.Update.{Update}
-use Rattle.camel_rows.specs.declared.subscriber.update.Update.TheVariants as update
-use Rattle.camel_map.specs.Identifier.{constructed, enumerated, integer, octet_string, primitive, sequence}
+use Rattle.camel_map.specs.Reading.{constructed, enumerated, integer, octet_string, primitive, sequence}
 use Rattle.camel_map.specs.declared.operation.Operation.{Operation}
+use Rattle.camel_criteria.specs.declared.refusal.Refusal.{Refusal}
+use Rattle.camel_tbcd.specs.AddressString.{IsAddress, max_isdn_address_length}
+use Rattle.camel_tbcd.specs.Imsi.{IsImsi}
+use Rattle.camel_rows.specs.Subscriber.{StoredCsiData, SubscriberData, rows_of}
+use Rattle.camel_rows.specs.declared.subscriber.update.Update.TheVariants as update
 use Rattle.camel_map.specs.declared.operation.Operation.TheVariants as operation
+
+-- An encoding of each update that an operation can say: fields in the order of TS 29.002, definite lengths, and numbers
+-- and lengths in as few octets as hold them (ITU-T X.690).
 
 -- a number in octets, the greatest place first, in as few as hold it below 2^32
 abbrev pub octets_of : ℕ → List ℕ
@@ -214,3 +223,92 @@ pub record Encodes (which : Operation) (update : Update) (octets : List ℕ) : T
 -- an update concerns the subscriber of a dialogue, if the dialogue has one
 abbrev pub IsInDialogue : Option (List ℕ) → Update → Type 0
 IsInDialogue dialogue update = IfSome dialogue (λ imsi. update_imsi update ≡ Some imsi)
+
+-- Octets as they are written: from the last one to the first, since the length of an element stands in front of its
+-- contents.
+
+-- elements in front of octets
+abbrev pub before : List ElementData → List ℕ → List ℕ
+before [] rest = rest
+before (first ∷ more) rest = encoding first ++ before more rest
+
+-- the octets of an argument; none where there is none
+abbrev pub argument_octets : Option Argument → List ℕ
+argument_octets None = []
+argument_octets (Some argument) = encoding argument.element
+
+-- the operation that says an update, and the octets of its argument
+abbrev pub operation_of_update : Update → Option Operation
+operation_of_update update = option_map (λ argument. argument.operation) (argument_of update)
+
+abbrev pub octets_of_update : Update → List ℕ
+octets_of_update update = argument_octets (argument_of update)
+
+-- The updates whose data are those that the constructors keep.
+
+-- an octet
+abbrev pub IsOctet : ℕ → Type 0
+IsOctet value = value ≤ 255
+
+-- a row of an octet, a service key and a gsmSCF address
+pub record IsRow (row : TdpRowData) : Type 0 where
+  pub dp : IsOctet row.dp
+  pub key : row.key ≤ max_service_key
+  pub scf : IsAddress max_isdn_address_length row.scf
+
+-- a number criterion that its constructor keeps, of addresses
+abbrev pub IsNumberCriterion : NumberCriterionData → Type 0
+IsNumberCriterion criterion =
+    (number_criterion_of criterion.match_type criterion.numbers criterion.lengths ≡ Ok criterion)
+    × All (IsAddress max_isdn_address_length) criterion.numbers
+
+-- an entry of the O-CSI of an octet, of a number criterion, and of what its constructor keeps
+pub record IsOEntry (entry : OCriteriaData) : Type 0 where
+  pub dp : IsOctet entry.dp
+  pub number : IfSome entry.number IsNumberCriterion
+  pub whole : o_criteria_of entry.dp entry.number entry.basic entry.call_type entry.causes ≡ Ok entry
+
+-- an entry of the VT-CSI of an octet, and of what its constructor keeps
+pub record IsTEntry (entry : TCriteriaData) : Type 0 where
+  pub dp : IsOctet entry.dp
+  pub whole : t_criteria_of entry.dp entry.basic entry.causes ≡ Ok entry
+
+-- a list whose items are such, which a constructor keeps whole; it keeps none of a list of which all are ignored
+abbrev pub IsKeptList : {A : Type 0} → (A → Type 0) → (List A → Result (List A) Refusal) → List A → Type 0
+IsKeptList Is kept_of items = All Is items × ((items ≡ []) ⊎ (kept_of items ≡ Ok items))
+
+-- an update of an IMSI, and of lists that are kept
+abbrev pub IsKept : Update → Type 0
+IsKept (update.Register imsi) = IsImsi imsi
+IsKept (update.Insert imsi o o_criteria vt t_criteria) =
+    IsImsi imsi
+    × IfSome o (IsKeptList IsRow o_csi_of)
+    × IfSome o_criteria (IsKeptList IsOEntry o_criteria_set_of)
+    × IfSome vt (IsKeptList IsRow vt_csi_of)
+    × IfSome t_criteria (IsKeptList IsTEntry t_criteria_set_of)
+IsKept (update.Delete imsi what) = IsImsi imsi
+IsKept (update.Cancel imsi) = IsImsi imsi
+IsKept update.ClearAll = Unit {0}
+
+-- The Insert that makes a record, where a subscriber has just registered.
+
+-- entries, if there are any
+abbrev pub some_entries : {Entry : Type 0} → List Entry → Option (List Entry)
+some_entries [] = None
+some_entries (first ∷ more) = Some (first ∷ more)
+
+-- an Insert without lists of criteria that have no entries
+abbrev pub with_some_entries : Update → Update
+with_some_entries (update.Insert imsi o o_criteria vt t_criteria) =
+    update.Insert imsi o (option_and_then some_entries o_criteria) vt (option_and_then some_entries t_criteria)
+with_some_entries other = other
+
+-- the criteria that are sent with a CSI: none if it has no entries
+abbrev pub sent_criteria : {Entry : Type 0} → Option (StoredCsiData Entry) → Option (List Entry)
+sent_criteria csi = option_and_then (λ csi. some_entries csi.entries) csi
+
+-- each CSI that is stored, with its criteria
+abbrev pub insert_of_record : List ℕ → SubscriberData → Update
+insert_of_record imsi subscriber =
+    update.Insert imsi (option_map rows_of subscriber.o) (sent_criteria subscriber.o) (option_map rows_of subscriber.vt)
+    (sent_criteria subscriber.vt)

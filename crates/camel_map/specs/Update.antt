@@ -1,21 +1,104 @@
--- What an argument brings: InsertSubscriberDataArg, DeleteSubscriberDataArg and CancelLocationArg of TS 29.002.
-use Rattle.std.specs.Prelude.{ℕ, List, [], ◌∷◌, Option, Some, None, Result, Ok, if◌then◌else◌}
-use Rattle.camel_ber.specs.Reading.{◌>>=◌, OctetsData, PlacedData}
-use Rattle.camel_rows.specs.declared.subscriber.update.Update.{Update}
-use Rattle.camel_rows.specs.declared.subscriber.update.Update.TheVariants as update
-use Rattle.camel_map.specs.Arrival.{bare, insert_of}
-use Rattle.camel_map.specs.Criteria.{o_lists_in, vt_lists_in}
-use Rattle.camel_map.specs.Field.{field_of, identified, is_identified, mandatory}
-use Rattle.camel_map.specs.Identifier.{constructed, octet_string, primitive, sequence}
-use Rattle.camel_map.specs.Imsi.{imsi_or_of_dialogue, own_imsi}
-use Rattle.camel_map.specs.Reading.{contents, elements_in, fails_at}
-use Rattle.camel_map.specs.Row.{first_of}
-use Rattle.camel_map.specs.Withdrawal.{is_named, withdrawal_with}
-use Rattle.camel_map.specs.declared.arrival.Arrival.{Arrival}
-use Rattle.camel_map.specs.declared.map_fault.MapFault.{MapFault}
-use Rattle.camel_map.specs.declared.map_fault.MapFaultKind.TheVariants.{MissingField, WrongLength}
+-- The operations, their arguments, and the updates that these say (TS 29.002).
+use Rattle.std.specs.Prelude.{ℕ, ◌==◌, Option, Some, None, if◌then◌else◌, Bool, true, false, ◌&&◌, ◌||◌, ◌/◌, ◌%◌, ◌+◌}
+use Rattle.std.specs.Prelude.{◌*◌, ◌-◌, nat_le, nat_lt, List, length, slice_index, Result, Ok, [], ◌∷◌}
+use Rattle.camel_criteria.specs.Refusal.{refusal_code}
+use Rattle.camel_map.specs.declared.join.JoinFault.{JoinFault}
+use Rattle.camel_map.specs.declared.join.JoinFault.TheVariants.{NoInsert, OtherSubscriber}
+use Rattle.camel_map.specs.declared.map_fault.MapFaultKind.{MapFaultKind}
+use Rattle.camel_map.specs.declared.map_fault.MapFaultKind.TheVariants.{Malformed, MissingField, FieldTwice, WrongTag}
+use Rattle.camel_map.specs.declared.map_fault.MapFaultKind.TheVariants.{WrongLength, NoImsi, OtherImsi, Refused}
 use Rattle.camel_map.specs.declared.operation.Operation.{Operation}
+use Rattle.camel_map.specs.declared.operation.Operation.TheVariants.{CancelLocation, DeleteSubscriberData}
+use Rattle.camel_map.specs.declared.operation.Operation.TheVariants.{InsertSubscriberData}
+use Rattle.camel_ber.specs.Elements.{PlacedData, ◌>>=◌, OctetsData}
+use Rattle.camel_rows.specs.declared.subscriber.update.Withdrawal.{Withdrawal}
+use Rattle.camel_map.specs.Reading.{fails_at, field_of, identified, is_identified, mandatory, constructed, octet_string}
+use Rattle.camel_map.specs.Reading.{primitive, sequence, imsi_or_of_dialogue, own_imsi, contents, elements_in}
+use Rattle.camel_map.specs.declared.map_fault.MapFault.{MapFault}
+use Rattle.camel_rows.specs.declared.subscriber.update.Update.{Update}
+use Rattle.camel_map.specs.Arrival.{bare, insert_of}
+use Rattle.camel_map.specs.Csi.{o_lists_in, vt_lists_in, first_of}
+use Rattle.camel_map.specs.declared.arrival.Arrival.{Arrival}
+use Rattle.camel_map.specs.declared.join.JoinFault.TheVariants as join
+use Rattle.camel_rows.specs.declared.subscriber.update.Update.TheVariants as update
 use Rattle.camel_map.specs.declared.operation.Operation.TheVariants as operation
+
+-- The numbers of the faults of arguments: from 401 on the product's own, and those of the refusals of data.
+
+-- why two arrivals are not joined
+abbrev pub join_fault_code : JoinFault → ℕ
+join_fault_code NoInsert = 408
+join_fault_code OtherSubscriber = 409
+join_fault_code (join.Refused refusal) = refusal_code refusal
+
+abbrev pub map_fault_code : MapFaultKind → ℕ
+map_fault_code (Malformed kind) = 401
+map_fault_code MissingField = 402
+map_fault_code FieldTwice = 403
+map_fault_code WrongTag = 404
+map_fault_code WrongLength = 405
+map_fault_code NoImsi = 406
+map_fault_code OtherImsi = 407
+map_fault_code (Refused refusal) = refusal_code refusal
+
+-- The local codes of the operations (TS 29.002).
+
+abbrev pub operation_code : Operation → ℕ
+operation_code CancelLocation = 3
+operation_code InsertSubscriberData = 7
+operation_code DeleteSubscriberData = 8
+
+-- the operation of a code
+abbrev pub operation_of : ℕ → Option Operation
+operation_of code =
+    if code == 3 then Some CancelLocation
+    else if code == 7 then Some InsertSubscriberData
+    else if code == 8 then Some DeleteSubscriberData
+    else None
+
+-- What DeleteSubscriberData names (TS 29.002): all CSIs by camelSubscriptionInfoWithdraw, one by specificCSI-Withdraw.
+
+-- NULL has no contents
+abbrev pub null_in : PlacedData → Result Bool MapFault
+null_in placed = if length placed.element.content == 0 then Ok true else fails_at placed.place WrongLength
+
+-- whether a NULL is there
+abbrev pub is_named : Option PlacedData → Result Bool MapFault
+is_named None = Ok false
+is_named (Some field) = null_in field
+
+-- how many bits of a BIT STRING are not used, which its first contents octet says
+abbrev pub unused_bits : List ℕ → ℕ
+unused_bits content = slice_index content 0
+
+-- a BIT STRING has a first octet of 0 to 7, and of 0 if there are no bits
+abbrev pub is_bit_string : List ℕ → Bool
+is_bit_string content =
+    nat_le 1 (length content)
+    && (nat_le (unused_bits content) 7 && (nat_le 2 (length content) || unused_bits content == 0))
+
+-- one of the first eight bits, from 0 on, is set: it is there, and 1
+abbrev pub is_bit_set : ℕ → ℕ → List ℕ → Bool
+is_bit_set bit weight content =
+    nat_lt (bit + unused_bits content) (8 * (length content - 1)) && slice_index content 1 / weight % 2 == 1
+
+-- specificCSI-Withdraw: bit 0 is the O-CSI and bit 4 the VT-CSI; the others are of no CSI that is stored
+unfoldable pub withdrawal_in : Bool → PlacedData → Result Withdrawal MapFault
+withdrawal_in everything placed =
+    if is_bit_string placed.element.content
+    then Ok (record {
+      o = is_bit_set 0 128 placed.element.content;
+      vt = is_bit_set 4 8 placed.element.content;
+      everything = everything;
+    })
+    else fails_at placed.place WrongLength
+
+-- what DeleteSubscriberData names, by specificCSI-Withdraw if it is there
+abbrev pub withdrawal_with : Bool → Option PlacedData → Result Withdrawal MapFault
+withdrawal_with everything None = Ok (record { o = false; vt = false; everything = everything })
+withdrawal_with everything (Some field) = withdrawal_in everything field
+
+-- What an argument brings: InsertSubscriberDataArg, DeleteSubscriberDataArg and CancelLocationArg of TS 29.002.
 
 -- the fields of VlrCamelSubscriptionInfo; without it, none
 abbrev pub camel_fields : Option PlacedData → Result (List PlacedData) MapFault

@@ -1,10 +1,9 @@
 //! What the octets of an argument bring.
 
 ghost use Rattle.std.specs.Prelude.{IfOk, Ok};
-ghost use Rattle.camel_ber.specs.Reading.{views};
-ghost use Rattle.camel_map.specs.Encoding.{Encodes, IsInDialogue};
-ghost use Rattle.camel_map.specs.Kept.{IsKept};
-ghost use Rattle.camel_map.specs.Lists.{IsReceived};
+ghost use Rattle.camel_ber.specs.Elements.{views};
+ghost use Rattle.camel_map.specs.Encoding.{Encodes, IsInDialogue, IsKept};
+ghost use Rattle.camel_map.specs.Arrival.{IsReceived};
 ghost use Rattle.camel_map.specs.Reading.{IsMemory, LendsElement, whole};
 ghost use Rattle.camel_reading.specs.Reading.{ReadsAs, ReadsBy};
 ghost use Rattle.camel_map.specs.Update.{arrival_of, one_of, update_of};

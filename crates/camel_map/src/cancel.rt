@@ -1,6 +1,6 @@
 //! CancelLocationArg.
 
-ghost use Rattle.camel_ber.specs.Reading.{view};
+ghost use Rattle.camel_ber.specs.Elements.{view};
 ghost use Rattle.camel_map.specs.Reading.{IsMemory};
 ghost use Rattle.camel_reading.specs.Reading.{ReadsAs};
 ghost use Rattle.camel_map.specs.Update.{cancel_in, cancelled_in, first_identity_in, identity_in, imsi_of_pair};

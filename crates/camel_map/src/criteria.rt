@@ -3,14 +3,12 @@
 ghost use Rattle.std.specs.Prelude.{Result};
 ghost use Rattle.std.specs.Fn.{FnReturnsAt};
 ghost use Rattle.std.specs.Option.{option_map};
-ghost use Rattle.camel_ber.specs.Reading.{PlacedData, view};
-ghost use Rattle.camel_map.specs.Criteria.{number_criterion_in};
-ghost use Rattle.camel_map.specs.Field.{if_listed};
-ghost use Rattle.camel_map.specs.Items.{item_in, items_as, received_as};
-ghost use Rattle.camel_map.specs.Reading.{IsMemory};
+ghost use Rattle.camel_ber.specs.Elements.{PlacedData, view};
+ghost use Rattle.camel_map.specs.Csi.{number_criterion_in};
+ghost use Rattle.camel_map.specs.Reading.{if_listed, item_in, items_as, received_as, IsMemory};
 ghost use Rattle.camel_reading.specs.Reading.{AnswersAs, ReadsAs, ReadsList};
 ghost use Rattle.camel_map.specs.declared.map_fault.MapFault.{MapFault};
-ghost use Rattle.camel_rows.specs.Received.{kept_of};
+ghost use Rattle.camel_rows.specs.TdpRow.{kept_of};
 
 use crate::field::{find_field, mandatory};
 use crate::identifier::{CONSTRUCTED, PRIMITIVE};
@@ -42,7 +40,7 @@ pub(crate) fn read_listed<T: Drop, F: Fn(&Element<'_>) -> Result<T, MapFault>>(
 }
 
 /// DestinationNumberCriteria.
-#[tactic(auto, unfolding(crate::specs::Criteria::number_criterion_in))]
+#[tactic(auto, unfolding(crate::specs::Csi::number_criterion_in))]
 pub(crate) fn read_number_criterion(
     alloc: Global,
     criterion: &Element<'_>,
@@ -58,7 +56,7 @@ pub(crate) fn read_number_criterion(
 }
 
 /// The criteria of a CSI.
-#[tactic(auto, unfolding(crate::specs::Items::received_as))]
+#[tactic(auto, unfolding(crate::specs::Reading::received_as))]
 pub(crate) fn read_criteria<E: CriteriaEntry + MapItem>(
     alloc: Global,
     list: &Element<'_>,

@@ -2,11 +2,10 @@
 
 ghost use Rattle.std.specs.Prelude.{◌≡◌, ◌≤◌};
 ghost use Rattle.std.specs.Option.{option_map};
-ghost use Rattle.camel_ber.specs.Reading.{view};
+ghost use Rattle.camel_ber.specs.Elements.{view};
 ghost use Rattle.camel_map.specs.Reading.{IsMemory};
 ghost use Rattle.camel_reading.specs.Reading.{ReadsAs};
-ghost use Rattle.camel_map.specs.Update.{delete_in};
-ghost use Rattle.camel_map.specs.Withdrawal.{is_bit_set, is_bit_string, is_named, unused_bits, withdrawal_with};
+ghost use Rattle.camel_map.specs.Update.{delete_in, is_bit_set, is_bit_string, is_named, unused_bits, withdrawal_with};
 
 use crate::field::{find_field, identified, mandatory};
 use crate::identifier::{PRIMITIVE, SEQUENCE};
@@ -57,7 +56,7 @@ fn is_bit_set(content: &[u8], bit: u8, weight: u8) -> bool
 }
 
 /// What DeleteSubscriberData names: everything, and what specificCSI-Withdraw says if it is there.
-#[tactic(auto, unfolding(crate::specs::Withdrawal::withdrawal_in))]
+#[tactic(auto, unfolding(crate::specs::Update::withdrawal_in))]
 fn read_withdrawal(everything: bool, field: Option<Element<'_>>) -> Result<Withdrawal, MapFault>
     ensures { result ≡ withdrawal_with everything (option_map view field.entry) }
 {

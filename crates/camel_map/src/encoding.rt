@@ -1,11 +1,9 @@
 //! The octets of the argument that says an update.
 
 ghost use Rattle.std.specs.Prelude.{◌≡◌, ◌≤◌, ◌++◌, ℕ, List, length, Ok, Option, IfOk, IfSome, OnErr, OnOk};
-ghost use Rattle.camel_map.specs.Encoding.{IsInDialogue};
-ghost use Rattle.camel_map.specs.Kept.{IsKept};
+ghost use Rattle.camel_map.specs.Encoding.{IsInDialogue, IsKept, octets_of_update, operation_of_update};
 ghost use Rattle.camel_map.specs.Reading.{whole};
 ghost use Rattle.camel_map.specs.Update.{update_of};
-ghost use Rattle.camel_map.specs.Written.{octets_of_update, operation_of_update};
 
 pub(crate) mod argument;
 pub(crate) mod csi;

@@ -2,8 +2,8 @@
 
 ghost use Rattle.std.specs.Prelude.{◌≡◌, [], ◌∷◌, ◌++◌, OnOk};
 ghost use Rattle.camel_map.specs.Encoding.{call_type_number, cause_element, if_any, if_some, leaf, service_element};
-ghost use Rattle.camel_map.specs.Identifier.{constructed, primitive};
-ghost use Rattle.camel_map.specs.Written.{before};
+ghost use Rattle.camel_map.specs.Encoding.{before};
+ghost use Rattle.camel_map.specs.Reading.{constructed, primitive};
 
 use crate::criteria::{read_listed, read_number_criterion};
 use crate::encoding::element::put_number_leaf;
@@ -24,7 +24,7 @@ use std::alloc::{AllocError, Global};
 const IGNORED_ENTRY: [u8; 6] = [0x30, 4, 0x0a, 2, 0, 255];
 
 impl MapItem for OCriteria {
-    ghost use Rattle.camel_map.specs.Criteria.{o_entry_of_fields};
+    ghost use Rattle.camel_map.specs.Csi.{o_entry_of_fields};
     ghost use Rattle.camel_map.specs.Encoding.{ignored_o_entry, o_entry_fields};
 
     ghost of_fields = { o_entry_of_fields };
@@ -33,7 +33,7 @@ impl MapItem for OCriteria {
 
     ghost ignored = { ignored_o_entry };
 
-    #[tactic(auto, unfolding(crate::specs::Criteria::o_entry_of_fields))]
+    #[tactic(auto, unfolding(crate::specs::Csi::o_entry_of_fields))]
     fn read_fields(
         alloc: Global,
         item: &Element<'_>,
@@ -86,7 +86,7 @@ fn put_behind_number(writer: &mut Writer, entry: &OCriteria) -> Result<(), TooLo
 }
 
 impl MapItem for TCriteria {
-    ghost use Rattle.camel_map.specs.Criteria.{t_entry_of_fields};
+    ghost use Rattle.camel_map.specs.Csi.{t_entry_of_fields};
     ghost use Rattle.camel_map.specs.Encoding.{ignored_t_entry, t_entry_fields};
 
     ghost of_fields = { t_entry_of_fields };
@@ -95,7 +95,7 @@ impl MapItem for TCriteria {
 
     ghost ignored = { ignored_t_entry };
 
-    #[tactic(auto, unfolding(crate::specs::Criteria::t_entry_of_fields))]
+    #[tactic(auto, unfolding(crate::specs::Csi::t_entry_of_fields))]
     fn read_fields(
         alloc: Global,
         item: &Element<'_>,

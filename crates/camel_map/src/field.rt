@@ -3,8 +3,8 @@
 ghost use Rattle.std.specs.Prelude.{◌≡◌, Result};
 ghost use Rattle.std.specs.Fn.{FnReturnsAt};
 ghost use Rattle.std.specs.Option.{option_map};
-ghost use Rattle.camel_ber.specs.Reading.{PlacedData, view, views};
-ghost use Rattle.camel_map.specs.Field.{field_of, identified, if_present, is_identified, is_tagged, mandatory};
+ghost use Rattle.camel_ber.specs.Elements.{PlacedData, view, views};
+ghost use Rattle.camel_map.specs.Reading.{field_of, identified, if_present, is_identified, is_tagged, mandatory};
 ghost use Rattle.camel_map.specs.Reading.{IsMemory, LendsElement, LendsField};
 ghost use Rattle.camel_reading.specs.Reading.{AnswersAs, ReadsAs};
 ghost use Rattle.camel_map.specs.declared.map_fault.MapFault.{MapFault};
@@ -63,7 +63,7 @@ pub(crate) fn find_field<'a>(
 }
 
 /// The field of this identifier octet, which an element must have among its fields.
-#[tactic(auto, unfolding(crate::specs::Field::mandatory))]
+#[tactic(auto, unfolding(crate::specs::Reading::mandatory))]
 pub(crate) fn mandatory<'a>(
     element: &Element<'_>,
     octet: u8,

@@ -2,8 +2,8 @@
 
 ghost use Rattle.std.specs.Prelude.{◌≡◌};
 ghost use Rattle.std.specs.Option.{option_map};
-ghost use Rattle.camel_ber.specs.Reading.{view};
-ghost use Rattle.camel_map.specs.Imsi.{imsi_in, imsi_or_of_dialogue, own_imsi};
+ghost use Rattle.camel_ber.specs.Elements.{view};
+ghost use Rattle.camel_map.specs.Reading.{imsi_in, imsi_or_of_dialogue, own_imsi};
 
 use crate::map_fault::{MapFault, MapFaultKind};
 use crate::value::refused_at;
@@ -11,7 +11,7 @@ use camel_ber::Element;
 use camel_tbcd::Imsi;
 
 /// The IMSI of TBCD octets.
-#[tactic(auto, unfolding(crate::specs::Imsi::imsi_in))]
+#[tactic(auto, unfolding(crate::specs::Reading::imsi_in))]
 fn read_imsi(element: &Element<'_>) -> Result<Imsi, MapFault>
     ensures { result ≡ imsi_in (view element.now) }
 {
@@ -22,7 +22,7 @@ fn read_imsi(element: &Element<'_>) -> Result<Imsi, MapFault>
 }
 
 /// The IMSI of an element, which is that of the dialogue if the dialogue has one.
-#[tactic(auto, unfolding(crate::specs::Imsi::own_imsi))]
+#[tactic(auto, unfolding(crate::specs::Reading::own_imsi))]
 pub(crate) fn read_own_imsi(
     dialogue_imsi: Option<Imsi>,
     element: &Element<'_>,
@@ -40,7 +40,7 @@ pub(crate) fn read_own_imsi(
 }
 
 /// The IMSI of an argument that may leave it to the dialogue.
-#[tactic(auto, unfolding(crate::specs::Imsi::imsi_or_of_dialogue))]
+#[tactic(auto, unfolding(crate::specs::Reading::imsi_or_of_dialogue))]
 pub(crate) fn read_imsi_or_of_dialogue(
     argument: &Element<'_>,
     dialogue_imsi: Option<Imsi>,

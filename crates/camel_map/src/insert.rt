@@ -2,13 +2,12 @@
 
 ghost use Rattle.std.specs.Prelude.{◌≡◌, ◌≤◌, length};
 ghost use Rattle.std.specs.Option.{option_map};
-ghost use Rattle.camel_ber.specs.Reading.{view, views};
-ghost use Rattle.camel_map.specs.Reading.{IsMemory};
+ghost use Rattle.camel_ber.specs.Elements.{view, views};
+ghost use Rattle.camel_map.specs.Reading.{IsMemory, item_in, received_as};
 ghost use Rattle.camel_reading.specs.Reading.{ReadsAs, ReadsBy};
 ghost use Rattle.camel_map.specs.Update.{camel_fields, insert_in, insert_of_fields};
-ghost use Rattle.camel_map.specs.Items.{item_in, received_as};
-ghost use Rattle.camel_map.specs.Row.{lists_of_fields};
-ghost use Rattle.camel_rows.specs.Received.{kept_of};
+ghost use Rattle.camel_map.specs.Csi.{lists_of_fields};
+ghost use Rattle.camel_rows.specs.TdpRow.{kept_of};
 
 use crate::arrival::Arrival;
 use crate::criteria::read_criteria;
@@ -39,7 +38,7 @@ fn read_camel_fields<'a>(
 }
 
 /// A CSI and its criteria, which are fields of these identifiers.
-#[tactic(auto, unfolding(crate::specs::Row::lists_of_fields))]
+#[tactic(auto, unfolding(crate::specs::Csi::lists_of_fields))]
 fn read_lists<K: CsiKind, E: CriteriaEntry + MapItem, const MOST: usize>(
     alloc: Global,
     csi: u8,

@@ -1,12 +1,10 @@
 //! An item of a list of a CSI: a TDP row, or an entry of its criteria.
 
 ghost use Rattle.std.specs.Prelude.{◌≡◌, [], ◌∷◌, IfOk, OnOk};
-ghost use Rattle.camel_ber.specs.Reading.{view, views};
-ghost use Rattle.camel_map.specs.Encoding.{encoding, item_element};
-ghost use Rattle.camel_map.specs.Items.{item_in};
-ghost use Rattle.camel_map.specs.Reading.{IsMemory};
+ghost use Rattle.camel_ber.specs.Elements.{view, views};
+ghost use Rattle.camel_map.specs.Encoding.{encoding, item_element, before};
+ghost use Rattle.camel_map.specs.Reading.{item_in, IsMemory};
 ghost use Rattle.camel_reading.specs.Reading.{ReadsAs};
-ghost use Rattle.camel_map.specs.Written.{before};
 
 use crate::encoding::element::close;
 use crate::encoding::list::Part;
@@ -21,8 +19,7 @@ use std::alloc::{AllocError, Global};
 /// An item of a list of a CSI, which is a SEQUENCE (TS 29.002).
 pub(crate) trait MapItem: Drop + Sized {
     ghost use Rattle.std.specs.Prelude.{List, Result};
-    ghost use Rattle.camel_ber.specs.Grammar.{ElementData};
-    ghost use Rattle.camel_ber.specs.Reading.{PlacedData};
+    ghost use Rattle.camel_ber.specs.Elements.{ElementData, PlacedData};
     ghost use Rattle.camel_map.specs.declared.map_fault.MapFault.{MapFault};
 
     /// What an item is by its fields.
@@ -56,7 +53,7 @@ pub(crate) trait MapItem: Drop + Sized {
 }
 
 /// An item with its fields.
-#[tactic(auto, unfolding(crate::specs::Items::item_in))]
+#[tactic(auto, unfolding(crate::specs::Reading::item_in))]
 pub(crate) fn read_item<I: MapItem>(alloc: Global, item: &Element<'_>) -> Result<I, MapFault>
     ensures { ReadsAs IsMemory result (item_in I.of_fields (view item.now)) }
 {

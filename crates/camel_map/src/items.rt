@@ -2,9 +2,8 @@
 
 ghost use Rattle.std.specs.Prelude.{Result};
 ghost use Rattle.std.specs.Fn.{FnReturnsAt};
-ghost use Rattle.camel_ber.specs.Reading.{PlacedData, view, views};
-ghost use Rattle.camel_map.specs.Items.{items_as};
-ghost use Rattle.camel_map.specs.Reading.{IsMemory};
+ghost use Rattle.camel_ber.specs.Elements.{PlacedData, view, views};
+ghost use Rattle.camel_map.specs.Reading.{items_as, IsMemory};
 ghost use Rattle.camel_reading.specs.Reading.{AnswersAs, ReadsList, each_of};
 ghost use Rattle.camel_map.specs.declared.map_fault.MapFault.{MapFault};
 
@@ -25,7 +24,7 @@ pub(crate) struct ReceivedList<L> {
 }
 
 /// What `read` returns for each item of a list, in their order, or the first fault. A list without items is refused.
-#[tactic(auto, unfolding(crate::specs::Items::items_as))]
+#[tactic(auto, unfolding(crate::specs::Reading::items_as))]
 pub(crate) fn read_items<T: Drop, F: Fn(&Element<'_>) -> Result<T, MapFault>>(
     alloc: Global,
     list: &Element<'_>,

@@ -1,8 +1,8 @@
 //! Lists that an HLR splits over the operations of a dialogue, joined.
 
 ghost use Rattle.std.specs.Prelude.{◌≡◌, Err, IfOk, IfSome};
-ghost use Rattle.camel_map.specs.Lists.{IsJoin, IsOfLists, IsReceived, join_fault};
-ghost use Rattle.camel_map.specs.MapFault.{join_fault_code};
+ghost use Rattle.camel_map.specs.Arrival.{IsJoin, IsOfLists, IsReceived, join_fault};
+ghost use Rattle.camel_map.specs.Update.{join_fault_code};
 
 pub(crate) mod list;
 

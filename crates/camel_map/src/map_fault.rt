@@ -1,5 +1,5 @@
 ghost use Rattle.std.specs.Prelude.{◌≡◌};
-ghost use Rattle.camel_map.specs.MapFault.{map_fault_code};
+ghost use Rattle.camel_map.specs.Update.{map_fault_code};
 
 use camel_ber::{FaultKind, ReadError};
 use camel_criteria::Refusal;

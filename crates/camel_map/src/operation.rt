@@ -1,5 +1,5 @@
 ghost use Rattle.std.specs.Prelude.{◌≡◌};
-ghost use Rattle.camel_map.specs.Operation.{operation_code, operation_of};
+ghost use Rattle.camel_map.specs.Update.{operation_code, operation_of};
 
 /// An operation of MAP by which an HLR changes subscriber data.
 #[derive(Clone, Copy, Debug, PartialEq, Eq)]

@@ -1,7 +1,7 @@
 //! What every part of an argument is read by.
 
 ghost use Rattle.std.specs.Prelude.{◌≡◌};
-ghost use Rattle.camel_ber.specs.Reading.{octets_data, views};
+ghost use Rattle.camel_ber.specs.Elements.{octets_data, views};
 ghost use Rattle.camel_map.specs.Reading.{IsMemory, elements_in, or_refused_at};
 ghost use Rattle.camel_reading.specs.Reading.{ReadsBy};
 

@@ -1,11 +1,11 @@
 //! O-CSI and T-CSI, and their TDP rows.
 
 ghost use Rattle.std.specs.Prelude.{◌≡◌, ◌≤◌, length};
-ghost use Rattle.camel_ber.specs.Reading.{view, views};
+ghost use Rattle.camel_ber.specs.Elements.{view, views};
 ghost use Rattle.camel_map.specs.Reading.{IsMemory, LendsElement};
 ghost use Rattle.camel_reading.specs.Reading.{ReadsAs};
-ghost use Rattle.camel_map.specs.Row.{csi_in, first_of};
-ghost use Rattle.camel_rows.specs.Received.{kept_of};
+ghost use Rattle.camel_map.specs.Csi.{csi_in, first_of};
+ghost use Rattle.camel_rows.specs.TdpRow.{kept_of};
 
 use crate::encoding::element::{put_leaf, put_number_leaf};
 use crate::encoding::value::handling_number;
@@ -47,7 +47,7 @@ const IGNORED_ROW: [u8; 15] = [
 
 impl MapItem for TdpRow {
     ghost use Rattle.camel_map.specs.Encoding.{ignored_row, row_fields};
-    ghost use Rattle.camel_map.specs.Row.{row_of_fields};
+    ghost use Rattle.camel_map.specs.Csi.{row_of_fields};
 
     ghost of_fields = { row_of_fields };
 
@@ -55,7 +55,7 @@ impl MapItem for TdpRow {
 
     ghost ignored = { ignored_row };
 
-    #[tactic(auto, unfolding(crate::specs::Row::row_of_fields))]
+    #[tactic(auto, unfolding(crate::specs::Csi::row_of_fields))]
     fn read_fields(
         _alloc: Global,
         item: &Element<'_>,
@@ -100,7 +100,7 @@ pub(crate) fn first_of<'a>(
 }
 
 /// A CSI.
-#[tactic(auto, unfolding(crate::specs::Row::csi_in, crate::specs::Items::received_as))]
+#[tactic(auto, unfolding(crate::specs::Csi::csi_in, crate::specs::Reading::received_as))]
 pub(crate) fn read_csi<K: CsiKind, const MOST: usize>(
     alloc: Global,
     csi: &Element<'_>,

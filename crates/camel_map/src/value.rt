@@ -3,11 +3,10 @@
 ghost use Rattle.std.specs.Prelude.{◌≡◌, min};
 ghost use Rattle.camel_criteria.specs.declared.refusal.Refusal.TheVariants.{UnexpectedDataValue};
 ghost use Rattle.camel_map.specs.declared.map_fault.MapFaultKind.TheVariants.{Refused};
-ghost use Rattle.camel_ber.specs.Grammar.{value_of};
-ghost use Rattle.camel_ber.specs.Reading.{view};
-ghost use Rattle.camel_map.specs.Value.{basic_service_in, call_type_in, cause_in, detection_point_in, greatest};
-ghost use Rattle.camel_map.specs.Value.{isdn_address_in, length_in, match_type_in, number_in, service_code_in};
-ghost use Rattle.camel_map.specs.Value.{unsigned_in};
+ghost use Rattle.camel_ber.specs.Elements.{value_of, view};
+ghost use Rattle.camel_map.specs.Reading.{basic_service_in, call_type_in, cause_in, detection_point_in, greatest};
+ghost use Rattle.camel_map.specs.Reading.{isdn_address_in, length_in, match_type_in, number_in, service_code_in};
+ghost use Rattle.camel_map.specs.Reading.{unsigned_in};
 
 use crate::field::{identified, is_identified};
 use crate::identifier::{INTEGER, OCTET_STRING, PRIMITIVE};
@@ -35,7 +34,7 @@ fn magnitude(octets: &[u8]) -> u32
 }
 
 /// An INTEGER or ENUMERATED that is not below 0.
-#[tactic(auto, unfolding(crate::specs::Value::unsigned_in))]
+#[tactic(auto, unfolding(crate::specs::Reading::unsigned_in))]
 pub(crate) fn read_unsigned(element: &Element<'_>) -> Result<u32, MapFault>
     ensures { result ≡ unsigned_in (view element.now) }
 {
@@ -50,7 +49,7 @@ pub(crate) fn read_unsigned(element: &Element<'_>) -> Result<u32, MapFault>
 }
 
 /// A detection point; 255 for each that no octet holds.
-#[tactic(auto, unfolding(crate::specs::Value::detection_point_in))]
+#[tactic(auto, unfolding(crate::specs::Reading::detection_point_in))]
 pub(crate) fn read_detection_point(element: &Element<'_>) -> Result<u8, MapFault>
     ensures { result ≡ detection_point_in (view element.now) }
 {
@@ -72,7 +71,7 @@ fn to_octet(value: u32) -> u8
 }
 
 /// A listed length, in digits.
-#[tactic(auto, unfolding(crate::specs::Value::length_in))]
+#[tactic(auto, unfolding(crate::specs::Reading::length_in))]
 pub(crate) fn read_length(item: &Element<'_>) -> Result<u8, MapFault>
     ensures { result ≡ length_in (view item.now) }
 {
@@ -81,7 +80,7 @@ pub(crate) fn read_length(item: &Element<'_>) -> Result<u8, MapFault>
 }
 
 /// MatchType.
-#[tactic(auto, unfolding(crate::specs::Value::match_type_in))]
+#[tactic(auto, unfolding(crate::specs::Reading::match_type_in))]
 pub(crate) fn read_match_type(field: &Element<'_>) -> Result<MatchType, MapFault>
     ensures { result ≡ match_type_in (view field.now) }
 {
@@ -93,7 +92,7 @@ pub(crate) fn read_match_type(field: &Element<'_>) -> Result<MatchType, MapFault
 }
 
 /// CallTypeCriteria.
-#[tactic(auto, unfolding(crate::specs::Value::call_type_in))]
+#[tactic(auto, unfolding(crate::specs::Reading::call_type_in))]
 pub(crate) fn read_call_type(field: &Element<'_>) -> Result<CallType, MapFault>
     ensures { result ≡ call_type_in (view field.now) }
 {
@@ -105,7 +104,7 @@ pub(crate) fn read_call_type(field: &Element<'_>) -> Result<CallType, MapFault>
 }
 
 /// ISDN-AddressString.
-#[tactic(auto, unfolding(crate::specs::Value::isdn_address_in))]
+#[tactic(auto, unfolding(crate::specs::Reading::isdn_address_in))]
 pub(crate) fn read_isdn_address(element: &Element<'_>) -> Result<IsdnAddress, MapFault>
     ensures { result ≡ isdn_address_in (view element.now) }
 {
@@ -116,7 +115,7 @@ pub(crate) fn read_isdn_address(element: &Element<'_>) -> Result<IsdnAddress, Ma
 }
 
 /// A listed number.
-#[tactic(auto, unfolding(crate::specs::Value::number_in))]
+#[tactic(auto, unfolding(crate::specs::Reading::number_in))]
 pub(crate) fn read_number(item: &Element<'_>) -> Result<IsdnAddress, MapFault>
     ensures { result ≡ number_in (view item.now) }
 {
@@ -124,7 +123,7 @@ pub(crate) fn read_number(item: &Element<'_>) -> Result<IsdnAddress, MapFault>
 }
 
 /// CauseValue: one octet, of which bit 8 says nothing.
-#[tactic(auto, unfolding(crate::specs::Value::cause_in))]
+#[tactic(auto, unfolding(crate::specs::Reading::cause_in))]
 pub(crate) fn read_cause(item: &Element<'_>) -> Result<u8, MapFault>
     ensures { result ≡ cause_in (view item.now) }
 {
@@ -136,7 +135,7 @@ pub(crate) fn read_cause(item: &Element<'_>) -> Result<u8, MapFault>
 }
 
 /// The first of the one to five octets of the code of a basic service.
-#[tactic(auto, unfolding(crate::specs::Value::service_code_in))]
+#[tactic(auto, unfolding(crate::specs::Reading::service_code_in))]
 fn read_service_code(item: &Element<'_>) -> Result<u8, MapFault>
     ensures { result ≡ service_code_in (view item.now) }
 {
@@ -148,7 +147,7 @@ fn read_service_code(item: &Element<'_>) -> Result<u8, MapFault>
 }
 
 /// Ext-BasicServiceCode.
-#[tactic(auto, unfolding(crate::specs::Value::basic_service_in))]
+#[tactic(auto, unfolding(crate::specs::Reading::basic_service_in))]
 pub(crate) fn read_basic_service(item: &Element<'_>) -> Result<BasicService, MapFault>
     ensures { result ≡ basic_service_in (view item.now) }
 {

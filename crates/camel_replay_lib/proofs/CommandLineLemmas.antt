@@ -3,16 +3,16 @@ use Rattle.std.proofs.Common.{◌≡◌, ◌≤◌, ◌∙◌, ◌⊎◌, ℕ, L
 use Rattle.camel_tbcd.specs.declared.profile.Profile.{Profile}
 use Rattle.clap.proofs.OnLiterals.{clap_on_literals}
 use Rattle.clap.proofs.WalkLemmas.{first_value-rows}
-use Rattle.clap.specs.Words.{App, HasKind, HasMatchesOf, IsAmong, Kinds, Text, fault_of, first_of, first_value, found_of}
-use Rattle.clap.specs.Words.{is_simple, is_simple_and_free, kind_of}
+use Rattle.clap.specs.Words.{App, HasKind, HasMatchesOf, IsAmong, Kinds, Text, fault_of, first_of, first_value}
+use Rattle.clap.specs.Words.{found_of, is_simple, is_simple_and_free, kind_of}
 use Rattle.clap.specs.declared.error.Error.{Error}
 use Rattle.clap.specs.declared.error.kind.ErrorKind.{ErrorKind}
 use Rattle.clap.specs.declared.error.kind.ErrorKind.TheVariants.{DisplayHelp, OutOfMemory}
 use Rattle.clap.specs.declared.parser.matches.ArgMatches.{ArgMatches}
-use Rattle.camel_replay_lib.specs.CommandLine.{AsksForHelp, GivesNumber, HoldsLimit, HoldsProfile, HoldsThreads, LimitOf, MayGiveNumber, ProfileOf}
-use Rattle.camel_replay_lib.specs.CommandLine.{ThreadsOf, option_text, profile_number, the_program}
-use Rattle.camel_script_replay.specs.Limits.{max_limit}
-use Rattle.camel_replay_lib.specs.Limits.{max_profile, max_threads}
+use Rattle.camel_replay_lib.specs.ProgramRun.{AsksForHelp, GivesNumber, HoldsLimit, HoldsProfile, HoldsThreads, LimitOf}
+use Rattle.camel_replay_lib.specs.ProgramRun.{MayGiveNumber, ProfileOf, ThreadsOf, option_text, profile_number}
+use Rattle.camel_replay_lib.specs.ProgramRun.{the_program, max_profile, max_threads}
+use Rattle.camel_script_replay.specs.Output.{max_limit}
 
 -- the program is simple, so `clap` says which matches every list of words has
 program_is_simple : is_simple the_program ≡ true

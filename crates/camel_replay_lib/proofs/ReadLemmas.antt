@@ -1,19 +1,16 @@
 -- How far a script is read.
-use Rattle.std.proofs.Common.{arith, ◌≡◌, ◌∙◌, inl, inr, refl, sym, ap, true, false, IsTrue, ℕ, ◌+◌, ◌≤◌, Option, Some, None, IfSome}
-use Rattle.std.proofs.Common.{List, [], ◌∷◌, ◌++◌, append_assoc, append-nil, length, length-append}
+use Rattle.std.proofs.Common.{arith, ◌≡◌, ◌∙◌, inl, inr, refl, sym, ap, true, false, IsTrue, ℕ, ◌+◌, ◌≤◌, Option, Some}
+use Rattle.std.proofs.Common.{None, IfSome, List, [], ◌∷◌, ◌++◌, append_assoc, append-nil, length, length-append}
 use Rattle.std.specs.Io.KnownBytes.{Keeps}
 use Rattle.camel_tbcd.specs.declared.profile.Profile.{Profile}
 use Rattle.camel_audit.specs.declared.audit_fault.AuditFault.TheVariants as audit
-use Rattle.camel_script.specs.Script.{FaultsAs, Gives, IsMemoryOrReadFault, ScriptData}
-use Rattle.camel_script.specs.ScriptFault.{script_fault_code}
+use Rattle.camel_script.specs.Script.{FaultsAs, Gives, IsMemoryOrReadFault, ScriptData, script_fault_code}
 use Rattle.camel_script.specs.declared.record.Record.{Record}
 use Rattle.camel_script.specs.declared.script_fault.ScriptFault.{ScriptFault}
 use Rattle.camel_script_replay.proofs.Progress.{not_of_kind}
-use Rattle.camel_script_replay.specs.ReplayFault.{is_text_code, is_write_code}
-use Rattle.camel_replay_lib.specs.ThreadsFault.{is_later_code, threads_fault_code}
-use Rattle.camel_replay_lib.specs.ThreadsOutput.{IsThreadsOutput}
-use Rattle.camel_replay_lib.specs.ThreadsWritten.{IsAllOf, StopsReading, ThreadsStop}
-use Rattle.camel_script_replay.specs.Written.{AppendsPart}
+use Rattle.camel_script_replay.specs.Output.{is_text_code, is_write_code, AppendsPart}
+use Rattle.camel_replay_lib.specs.ThreadsOutput.{is_later_code, threads_fault_code, IsThreadsOutput, IsAllOf}
+use Rattle.camel_replay_lib.specs.ThreadsOutput.{StopsReading, ThreadsStop}
 use Rattle.camel_script_replay.specs.declared.script_replay.ReplayFault.{ReplayFault}
 use Rattle.camel_replay_lib.specs.declared.threaded_replay.threads_fault.ThreadsFault.{ThreadsFault}
 use Rattle.camel_replay_lib.specs.declared.threaded_replay.threads_fault.ThreadsFault.TheVariants as run

@@ -1,24 +1,22 @@
 -- What the workers of a round give back, put together.
-use Rattle.std.proofs.Common.{arith, ◌≡◌, ◌∙◌, refl, sym, ap, ℕ, ◌+◌, ◌≤◌, Option, None, Some, IfSome, IsSomeAnd}
-use Rattle.std.proofs.Common.{All, List, [], ◌∷◌, ◌++◌, get_or, length, length-append, map}
+use Rattle.std.proofs.Common.{arith, ◌≡◌, ◌∙◌, refl, sym, ap, ℕ, ◌+◌, ◌≤◌, Option, None, Some, IfSome, IsSomeAnd, All}
+use Rattle.std.proofs.Common.{List, [], ◌∷◌, ◌++◌, get_or, length, length-append, map}
 use Rattle.std.proofs.lemmas.List.{get_or-map, length-map}
 use Rattle.std.proofs.lemmas.List.Elements.{All-cons, All-head, All-nil, All-tail, All-weaker}
 use Rattle.std.specs.List.{AllZip}
 use Rattle.camel_audit.specs.declared.transcript.Entry.{Entry}
 use Rattle.camel_audit.specs.declared.transcript.Job.{Job}
-use Rattle.camel_rows.specs.Front.{Extends}
+use Rattle.camel_rows.specs.Update.{Extends}
 use Rattle.camel_rows.specs.declared.subscriber.update.Update.{Update}
 use Rattle.camel_rows.specs.declared.trigger.outcome.Answer.{Answer}
 use Rattle.camel_vlr.proofs.FrontLemmas.{all_last}
-use Rattle.camel_vlr.specs.Prefix.{PrefixData, StoreId}
-use Rattle.camel_vlr.specs.Run.{Run}
-use Rattle.camel_vlr.specs.Session.{SessionData}
-use Rattle.camel_vlr.specs.Store.{StoreData, fresh_session}
+use Rattle.camel_vlr.specs.History.{PrefixData, StoreId}
+use Rattle.camel_vlr.specs.Store.{Run, SessionData, StoreData, fresh_session}
 use Rattle.camel_audit.specs.Serves.{answer_in, event_in, job_of}
 use Rattle.camel_replay_lib.proofs.SegmentLemmas.{call_between}
-use Rattle.camel_replay_lib.specs.Round.{FrontIsAtLeast, FrontIsAtMost, IsJoined, IsOfStore, IsWorkerOf, ServesJobs, ServesSeat}
-use Rattle.camel_replay_lib.specs.Rounds.{AreNumbered, HasAnswered, HasNoEntries, entries_in, session_in}
-use Rattle.camel_replay_lib.specs.Segments.{jobs_for}
+use Rattle.camel_replay_lib.specs.Rounds.{FrontIsAtLeast, FrontIsAtMost, IsJoined, IsOfStore, IsWorkerOf, ServesJobs}
+use Rattle.camel_replay_lib.specs.Rounds.{ServesSeat, AreNumbered, HasAnswered, HasNoEntries, entries_in, session_in}
+use Rattle.camel_replay_lib.specs.Rounds.{jobs_for}
 use Rattle.camel_replay_lib.specs.ThreadsOutput.{AnswersCall, Call, SessionsAnswer}
 use Rattle.camel_replay_lib.specs.declared.threaded_replay.round.ServedOf.{ServedOf}
 use Rattle.camel_replay_lib.specs.declared.threaded_replay.round.Worker.{Worker}

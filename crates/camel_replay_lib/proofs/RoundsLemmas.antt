@@ -6,18 +6,15 @@ use Rattle.camel_audit.specs.declared.transcript.Job.{Job}
 use Rattle.camel_tbcd.specs.declared.profile.Profile.{Profile}
 use Rattle.camel_rows.specs.Store.{Updates, no_updates}
 use Rattle.camel_script.specs.declared.record.Record.{Record}
-use Rattle.camel_vlr.specs.Prefix.{StoreId}
+use Rattle.camel_vlr.specs.History.{StoreId}
 use Rattle.camel_script_replay.proofs.FrontLemmas.{updates_from-append}
 use Rattle.camel_replay_lib.proofs.RoundLemmas.{AllZip-All, AllZip-append, Answers-between}
 use Rattle.camel_replay_lib.proofs.SegmentLemmas.{call_between, calls_from-segment, calls_of-append, jobs_from-append}
 use Rattle.camel_replay_lib.proofs.SegmentLemmas.{output_from-append, updates_from-no_calls}
-use Rattle.camel_script_replay.specs.Fronts.{updates_from}
-use Rattle.camel_script_replay.specs.Output.{output, output_from}
-use Rattle.camel_replay_lib.specs.Round.{IsOfStore, ServesRound, ServesSeat, WritesLines}
-use Rattle.camel_replay_lib.specs.Rounds.{HasAnswered, IsNewWriter, WritesScript}
-use Rattle.camel_replay_lib.specs.Segments.{IsSegment, jobs_for, jobs_from}
+use Rattle.camel_script_replay.specs.Output.{updates_from, output, output_from}
+use Rattle.camel_replay_lib.specs.Rounds.{IsOfStore, ServesRound, ServesSeat, WritesLines, HasAnswered, IsNewWriter}
+use Rattle.camel_replay_lib.specs.Rounds.{WritesScript, IsSegment, jobs_for, jobs_from, WriterData}
 use Rattle.camel_replay_lib.specs.ThreadsOutput.{AnswersCall, Call, calls_from, is_no_call, script_calls}
-use Rattle.camel_replay_lib.specs.Writer.{WriterData}
 use Rattle.camel_replay_lib.specs.declared.threaded_replay.seat.Seat.{Seat}
 
 -- the numbers of calls go on

@@ -1,20 +1,19 @@
 -- Segments of a script, and the calls among its records.
-use Rattle.std.proofs.Common.{arith, ◌≡◌, ◌≢◌, ◌∙◌, refl, sym, ap, subst, Bool, true, false, ℕ, suc, ◌+◌, ◌≤◌, ◌%◌, ◌==◌}
-use Rattle.std.proofs.Common.{List, [], ◌∷◌, ◌++◌, append_assoc, append-nil, length, map}
+use Rattle.std.proofs.Common.{arith, ◌≡◌, ◌≢◌, ◌∙◌, refl, sym, ap, subst, Bool, true, false, ℕ, suc, ◌+◌, ◌≤◌, ◌%◌}
+use Rattle.std.proofs.Common.{◌==◌, List, [], ◌∷◌, ◌++◌, append_assoc, append-nil, length, map}
 use Rattle.std.proofs.Math.Bool.{cond}
 use Rattle.std.proofs.lemmas.List.Elements.{filter-append}
 use Rattle.std.specs.List.{filter}
 use Rattle.camel_audit.specs.declared.transcript.Job.{Job}
 use Rattle.camel_tbcd.specs.declared.profile.Profile.{Profile}
-use Rattle.camel_rows.specs.Event.{EventData}
+use Rattle.camel_rows.specs.Decision.{EventData}
 use Rattle.camel_rows.specs.Store.{Updates}
 use Rattle.camel_script.specs.Line.{line_text}
 use Rattle.camel_script.specs.declared.record.Record.{Record}
 use Rattle.camel_script.specs.declared.record.Record.TheVariants as script_record
 use Rattle.camel_script_replay.proofs.FrontLemmas.{published-after_submission}
-use Rattle.camel_script_replay.specs.Fronts.{updates_from}
-use Rattle.camel_script_replay.specs.Output.{line_of, output_from, updates_after}
-use Rattle.camel_replay_lib.specs.Segments.{IsSegment, jobs_for, jobs_from}
+use Rattle.camel_script_replay.specs.Output.{updates_from, line_of, output_from, updates_after}
+use Rattle.camel_replay_lib.specs.Rounds.{IsSegment, jobs_for, jobs_from}
 use Rattle.camel_replay_lib.specs.ThreadsOutput.{Call, calls_from, calls_of, is_no_call, next_front}
 
 pub jobs_from-append : (number : ℕ) (xs ys : List Record)

@@ -1,11 +1,10 @@
 -- What the threads of the sessions find and make, put together.
-use Rattle.std.proofs.Common.{arith, ◌≡◌, ◌∙◌, sym, ap, subst, ℕ, zero, suc, ◌+◌, ◌<◌, add-one, Result, Ok, Err, IfOk, IsOkAnd}
-use Rattle.std.proofs.Common.{List, [], ◌∷◌, ◌++◌, append_assoc, append-nil, drop, drop-cons, get_or, length}
+use Rattle.std.proofs.Common.{arith, ◌≡◌, ◌∙◌, sym, ap, subst, ℕ, zero, suc, ◌+◌, ◌<◌, add-one, Result, Ok, Err, IfOk}
+use Rattle.std.proofs.Common.{IsOkAnd, List, [], ◌∷◌, ◌++◌, append_assoc, append-nil, drop, drop-cons, get_or, length}
 use Rattle.std.proofs.lemmas.Grind.{flat_map-append}
 use Rattle.std.specs.List.{flat_map}
 use Rattle.camel_audit.proofs.PartLemmas.{passes_whole}
-use Rattle.camel_audit.specs.Audit.{Passes}
-use Rattle.camel_audit.specs.Part.{PassesInPart, is_in_part}
+use Rattle.camel_audit.specs.Audit.{Passes, PassesInPart, is_in_part}
 use Rattle.camel_audit.specs.declared.transcript.Entry.{Entry}
 use Rattle.camel_tbcd.specs.declared.profile.Profile.{Profile}
 use Rattle.camel_rows.specs.declared.subscriber.update.Update.{Update}

@@ -1,13 +1,3 @@
-pub mod CommandLine
-pub mod FaultLine
-pub mod Limits
 pub mod ProgramRun
-pub mod Round
 pub mod Rounds
-pub mod Segments
-pub mod SessionLines
-pub mod SessionTask
-pub mod ThreadsFault
 pub mod ThreadsOutput
-pub mod ThreadsWritten
-pub mod Writer

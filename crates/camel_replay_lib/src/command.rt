@@ -3,12 +3,10 @@
 ghost use Rattle.std.specs.Prelude.{◌≡◌, ◌≤◌, ◌⊎◌, true, None, Some, IfErr, IfOk, IfSome, OnOk, map, string_bytes};
 ghost use Rattle.clap.specs.Words.{kind_of};
 ghost use Rattle.clap.specs.declared.error.kind.ErrorKind.TheVariants.{DisplayHelp, OutOfMemory};
-ghost use Rattle.camel_replay_lib.specs.FaultLine.{fault_line, fault_line_at};
+ghost use Rattle.camel_replay_lib.specs.ProgramRun.{fault_line, fault_line_at, max_threads, Helps, LacksMemory};
+ghost use Rattle.camel_replay_lib.specs.ProgramRun.{Rejects, Replays, RunData, Runs, promise_of};
 ghost use Rattle.camel_script.specs.Script.{script};
-ghost use Rattle.camel_script_replay.specs.Limits.{max_limit, max_records};
-ghost use Rattle.camel_replay_lib.specs.Limits.{max_threads};
-ghost use Rattle.camel_replay_lib.specs.ProgramRun.{Helps, LacksMemory, Rejects, Replays, RunData, Runs, promise_of};
-ghost use Rattle.camel_script_replay.specs.Written.{AppendsPart};
+ghost use Rattle.camel_script_replay.specs.Output.{max_limit, max_records, AppendsPart};
 
 pub(crate) mod words;
 

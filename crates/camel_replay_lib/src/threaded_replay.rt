@@ -4,15 +4,12 @@ ghost use Rattle.std.specs.Prelude.{◌≡◌, ◌≤◌, ◌++◌, true, All, I
 ghost use Rattle.std.specs.Io.KnownBytes.{Appends};
 ghost use Rattle.camel_script.specs.Line.{line_text};
 ghost use Rattle.camel_script.specs.Script.{script};
-ghost use Rattle.camel_script_replay.specs.Limits.{max_limit, max_records};
-ghost use Rattle.camel_replay_lib.specs.Limits.{max_threads};
-ghost use Rattle.camel_replay_lib.specs.ThreadsFault.{is_threaded_replay_code};
+ghost use Rattle.camel_script_replay.specs.Output.{max_limit, max_records, AppendsPart};
+ghost use Rattle.camel_replay_lib.specs.ProgramRun.{max_threads};
+ghost use Rattle.camel_replay_lib.specs.ThreadsOutput.{is_threaded_replay_code, IsThreadsOutput, script_calls};
+ghost use Rattle.camel_replay_lib.specs.ThreadsOutput.{sessions_text, ThreadsStop, WritesThreadsOutput};
 ghost use Rattle.camel_replay_lib.specs.Rounds.{AreNumbered, HasAnswered, HasNoEntries, IsNewWriter, WritesScript};
-ghost use Rattle.camel_replay_lib.specs.Rounds.{entries_in, session_in};
-ghost use Rattle.camel_replay_lib.specs.Round.{IsOfStore};
-ghost use Rattle.camel_replay_lib.specs.ThreadsOutput.{IsThreadsOutput, script_calls, sessions_text};
-ghost use Rattle.camel_replay_lib.specs.ThreadsWritten.{ThreadsStop, WritesThreadsOutput};
-ghost use Rattle.camel_script_replay.specs.Written.{AppendsPart};
+ghost use Rattle.camel_replay_lib.specs.Rounds.{entries_in, session_in, IsOfStore};
 
 mod open_store;
 mod read;

@@ -3,11 +3,9 @@
 use Rattle.std.proofs.Common.{◌≡◌, ◌+◌, ◌-◌, ◌==◌, ℕ, List, Some, None, refl, ap, arith}
 use Rattle.std.specs.FinMap as map
 use Rattle.camel_rows.proofs.DirectoryLemmas.{IsDirectoryOf-after, IsDirectoryOf-empty, put_back-same, same_refusal}
-use Rattle.camel_rows.specs.Admission.{AdmissionData, IsAdmissionOf, admission_refusal, no_admissions, refusal_or_full, with_admission}
-use Rattle.camel_rows.specs.ByImsi.{value_of, with_value}
-use Rattle.camel_rows.specs.CsisPresent.{csis_after}
-use Rattle.camel_rows.specs.Records.{RecordsData, no_records}
-use Rattle.camel_rows.specs.Update.{records_after, refusal, update_imsi}
+use Rattle.camel_rows.specs.Store.{AdmissionData, IsAdmissionOf, admission_refusal, no_admissions, refusal_or_full, with_admission}
+use Rattle.camel_rows.specs.Update.{value_of, with_value, csis_after, RecordsData, no_records, records_after, refusal}
+use Rattle.camel_rows.specs.Update.{update_imsi}
 use Rattle.camel_rows.specs.declared.subscriber.csis_present.CsisPresent.{CsisPresent}
 use Rattle.camel_rows.specs.declared.subscriber.update.Update.{Update}
 

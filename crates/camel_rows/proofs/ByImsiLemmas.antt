@@ -9,7 +9,7 @@ use Rattle.std.proofs.lemmas.Bool.Decides.{same_from_decides}
 use Rattle.std.proofs.lemmas.Map.Lookups.{exact_bytes}
 use Rattle.std.proofs.lemmas.Map.Views.{tells_apart}
 use Rattle.std.proofs.lemmas.Slice.Eq.{bytes_eq-Decides}
-use Rattle.camel_rows.specs.ByImsi.{ByImsi, concerns, value_of, with_value, with_value_of}
+use Rattle.camel_rows.specs.Update.{ByImsi, concerns, value_of, with_value, with_value_of}
 
 -- both tests of two keys say the same
 same_test : (key imsi : List ℕ) → eq_by_cmp (slice_cmp nat_cmp) imsi key ≡ bytes_eq key imsi

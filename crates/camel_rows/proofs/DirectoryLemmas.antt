@@ -10,13 +10,12 @@ use Rattle.std.specs.FinMap.{same_map}
 use Rattle.std.specs.Option.{option_map}
 use Rattle.std.specs.Ordering.{nat_cmp, eq_by_cmp}
 use Rattle.camel_rows.proofs.ByImsiLemmas.{get-with_value, get-with_value_of}
-use Rattle.camel_rows.specs.ByImsi.{concerns, value_of, with_value, with_value_of}
+use Rattle.camel_rows.specs.Update.{concerns, value_of, with_value, with_value_of, RecordsData, csis_after, csis_of}
+use Rattle.camel_rows.specs.Update.{csis_refusal, removes_o, removes_vt, records_after, csi_after, csi_unless}
+use Rattle.camel_rows.specs.Update.{record_after, refusal, update_imsi}
 use Rattle.camel_rows.specs.TdpRow.{TdpRowData}
-use Rattle.camel_rows.specs.Records.{RecordsData}
-use Rattle.camel_rows.specs.CsisPresent.{csis_after, csis_of, csis_refusal, removes_o, removes_vt}
-use Rattle.camel_rows.specs.Directory.{IsDirectoryOf, DirectoryData}
+use Rattle.camel_rows.specs.Store.{IsDirectoryOf, DirectoryData}
 use Rattle.camel_rows.specs.Subscriber.{StoredCsiData, SubscriberData}
-use Rattle.camel_rows.specs.Update.{records_after, csi_after, csi_unless, record_after, refusal, update_imsi}
 use Rattle.camel_rows.specs.declared.subscriber.csis_present.CsisPresent.{CsisPresent}
 use Rattle.camel_rows.specs.declared.subscriber.update.Update.{Update}
 use Rattle.camel_rows.specs.declared.subscriber.update.Update.TheVariants.{Register, Insert, Delete, Cancel, ClearAll}

@@ -3,7 +3,7 @@ use Rattle.std.proofs.Common.{◌≡◌, ◌∙◌, refl, ap}
 use Rattle.camel_criteria.specs.declared.basic_service.BasicService.{BasicService}
 use Rattle.camel_criteria.specs.declared.event.TEvent.{TEvent}
 use Rattle.camel_tbcd.specs.declared.address.Address.{Address}
-use Rattle.camel_rows.specs.Event.{EventData, ShownData, ToO, ToVt, event_basic, event_data, event_dp, shown_of}
+use Rattle.camel_rows.specs.Decision.{EventData, ShownData, ToO, ToVt, event_basic, event_data, event_dp, shown_of}
 use Rattle.camel_rows.specs.declared.trigger.event.TdpEvent.{TdpEvent}
 use Rattle.camel_rows.specs.declared.trigger.event.TdpEvent.TheVariants.{CollectedInfo, RouteSelectFailure, TerminatingAttempt, Busy, NoAnswer}
 

@@ -4,11 +4,9 @@ use Rattle.std.proofs.lemmas.List.Elements.{All-head, All-tail}
 use Rattle.std.specs.FinMap as map
 use Rattle.std.specs.Option.{option_map}
 use Rattle.camel_rows.proofs.UpdateLemmas.{other_record, own_record}
-use Rattle.camel_rows.specs.ByImsi.{value_of}
-use Rattle.camel_rows.specs.CsisPresent.{csis_of, csis_refusal}
-use Rattle.camel_rows.specs.Records.{RecordsData}
+use Rattle.camel_rows.specs.Update.{value_of, csis_of, csis_refusal, RecordsData, AcceptedFrom, is_of, leaves_record}
+use Rattle.camel_rows.specs.Update.{record_after, records_after, records_from, refusal, update_imsi}
 use Rattle.camel_rows.specs.Subscriber.{SubscriberData}
-use Rattle.camel_rows.specs.Update.{AcceptedFrom, is_of, leaves_record, record_after, records_after, records_from, refusal, update_imsi}
 use Rattle.camel_rows.specs.declared.subscriber.update.Update.{Update}
 use Rattle.camel_rows.specs.declared.subscriber.update.Update.TheVariants.{Register, Insert, Delete, Cancel, ClearAll}
 

@@ -7,9 +7,8 @@ use Rattle.std.specs.Cmp.Lexicographic.{nat_list_cmp_total}
 use Rattle.std.specs.FinMap as map
 use Rattle.std.specs.Option.{option_map}
 use Rattle.camel_table.specs.ByImsi.{is_same, times_listed}
-use Rattle.camel_rows.specs.CsisPresent.{csis_of}
-use Rattle.camel_rows.specs.Directory.{DirectoryData}
-use Rattle.camel_rows.specs.Records.{RecordsData}
+use Rattle.camel_rows.specs.Update.{csis_of, RecordsData}
+use Rattle.camel_rows.specs.Store.{DirectoryData}
 use Rattle.camel_rows.specs.declared.subscriber.csis_present.CsisPresent.{CsisPresent}
 
 -- the value of an IMSI that is listed so many times; none, if it is not listed

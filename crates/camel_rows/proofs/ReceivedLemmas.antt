@@ -1,10 +1,10 @@
 -- The rows that are kept are few enough for the room of a CSI.
-use Rattle.std.proofs.Common.{◌≡◌, ◌≤◌, ◌<◌, ◌+◌, ◌==◌, ℕ, zero, suc, Bool, true, false, List, [], ◌∷◌, length, take, slice_get, count_by, Some, None, refl}
-use Rattle.std.proofs.Common.{arith}
+use Rattle.std.proofs.Common.{◌≡◌, ◌≤◌, ◌<◌, ◌+◌, ◌==◌, ℕ, zero, suc, Bool, true, false, List, [], ◌∷◌, length, take}
+use Rattle.std.proofs.Common.{slice_get, count_by, Some, None, refl, arith}
 use Rattle.camel_criteria.specs.DetectionPoint.{is_among}
 use Rattle.std.proofs.lemmas.Bool.Decides.{nat_tests}
 use Rattle.std.proofs.lemmas.Grind.{common_steps}
-use Rattle.camel_rows.specs.Received.{has_no_two, items_at, list_refusal}
+use Rattle.camel_rows.specs.TdpRow.{has_no_two, items_at, list_refusal}
 
 module _ {Item : Type 0} (dp_of : Item → ℕ) where
   length-items_at : (point : ℕ) (points : List ℕ) (items : List Item)

@@ -1,6 +1,6 @@
 -- What the trigger rules mean.
-use Rattle.std.proofs.Common.{◌≡◌, ◌∙◌, ◌↔◌, ℕ, Bool, true, false, IsTrue, IsSome, IsNone, IfSome, List, Option, Some, None, if◌then◌else◌, refl, sym, subst}
-use Rattle.std.proofs.Common.{ap}
+use Rattle.std.proofs.Common.{◌≡◌, ◌∙◌, ◌↔◌, ℕ, Bool, true, false, IsTrue, IsSome, IsNone, IfSome, List, Option, Some}
+use Rattle.std.proofs.Common.{None, if◌then◌else◌, refl, sym, subst, ap}
 use Rattle.std.proofs.lemmas.Bool.{both_ways, false_from_ne_true}
 use Rattle.std.proofs.lemmas.Option.{option_and_then_some}
 use Rattle.std.specs.FinMap as map
@@ -10,10 +10,11 @@ use Rattle.camel_criteria.specs.BasicService.{is_emergency}
 use Rattle.camel_criteria.specs.Met.{o_met, t_met}
 use Rattle.camel_tbcd.specs.declared.profile.Profile.{Profile}
 use Rattle.camel_rows.specs.TdpRow.{TdpRowData}
-use Rattle.camel_rows.specs.Decision.{DecisionData, Triggers, TriggersNothing, by_csi, by_record, by_row, by_shown, decision}
-use Rattle.camel_rows.specs.Event.{EventData, ShownData, ToO, ToVt, event_basic, event_dp, event_imsi, shown_of}
-use Rattle.camel_rows.specs.Records.{RecordsData}
-use Rattle.camel_rows.specs.Standard.{FailsCriteria, Invokes, IsEmergencyCall, IsNotArmed, IsUnknown, LacksCsi, Meets, ShownMeets}
+use Rattle.camel_rows.specs.Decision.{DecisionData, Triggers, TriggersNothing, by_csi, by_record, by_row, by_shown}
+use Rattle.camel_rows.specs.Decision.{decision, EventData, ShownData, ToO, ToVt, event_basic, event_dp, event_imsi}
+use Rattle.camel_rows.specs.Decision.{shown_of, FailsCriteria, Invokes, IsEmergencyCall, IsNotArmed, IsUnknown}
+use Rattle.camel_rows.specs.Decision.{LacksCsi, Meets, ShownMeets}
+use Rattle.camel_rows.specs.Update.{RecordsData}
 use Rattle.camel_rows.specs.Subscriber.{EntryData, O, T, StoredCsiData, SubscriberData, entry_at, entry_of, item_among, row_at, rows_of, rows_tested_at}
 use Rattle.camel_rows.specs.declared.trigger.decision.Reason.{Reason}
 use Rattle.camel_rows.specs.declared.trigger.decision.Reason.TheVariants.{Unknown, NoCsi, NotArmed, Emergency, Criteria}

@@ -1,18 +1,15 @@
 -- The accepted updates of a store are a front, and stay one.
-use Rattle.std.proofs.Common.{◌≡◌, ◌∙◌, ℕ, ◌+◌, ◌≤◌, ◌==◌, Bool, true, false, List, [], ◌∷◌, ◌++◌, length, Option, Some, None, refl, sym, ap, arith}
-use Rattle.std.proofs.Common.{append_assoc}
+use Rattle.std.proofs.Common.{◌≡◌, ◌∙◌, ℕ, ◌+◌, ◌≤◌, ◌==◌, Bool, true, false, List, [], ◌∷◌, ◌++◌, length, Option, Some}
+use Rattle.std.proofs.Common.{None, refl, sym, ap, arith, append_assoc}
 use Rattle.std.proofs.lemmas.Bool.Decides.{nat_tests}
 use Rattle.std.proofs.lemmas.List.{length-append}
 use Rattle.camel_criteria.specs.declared.refusal.Refusal.{Refusal}
 use Rattle.camel_rows.proofs.AdmissionLemmas.{IsAdmissionOf-after, admission-refusal}
 use Rattle.camel_rows.proofs.UpdateLemmas.{AcceptedFrom-prefix, AcceptedFrom-push, records_from-append}
-use Rattle.camel_rows.specs.Admission.{AdmissionData, admission_refusal, refusal_or_full, with_admission}
-use Rattle.camel_rows.specs.ByImsi.{value_of}
-use Rattle.camel_rows.specs.CsisPresent.{csis_after}
-use Rattle.camel_rows.specs.Front.{IsFront}
-use Rattle.camel_rows.specs.Records.{no_records}
+use Rattle.camel_rows.specs.Store.{AdmissionData, admission_refusal, refusal_or_full, with_admission}
 use Rattle.camel_rows.specs.Store.{IsAdmissionOfUpdates, Updates, accepted_updates, store_refusal, with_update}
-use Rattle.camel_rows.specs.Update.{AcceptedFrom, records_after, records_from, records_of, refusal, update_imsi}
+use Rattle.camel_rows.specs.Update.{value_of, csis_after, IsFront, no_records, AcceptedFrom, records_after}
+use Rattle.camel_rows.specs.Update.{records_from, records_of, refusal, update_imsi}
 use Rattle.camel_rows.specs.declared.subscriber.update.Update.{Update}
 
 not_refused : (o : Option Refusal) (is_full : Bool) → refusal_or_full o is_full ≡ None → (o ≡ None) × (is_full ≡ false)

@@ -7,13 +7,12 @@ use Rattle.camel_criteria.specs.Criteria.{OCriteriaData, TCriteriaData}
 use Rattle.camel_criteria.specs.declared.refusal.Refusal.{Refusal}
 use Rattle.camel_rows.proofs.DirectoryLemmas.{record_after-none}
 use Rattle.camel_rows.proofs.ByImsiLemmas.{get-with_value_of, get-with_value_there, insert_same}
-use Rattle.camel_rows.specs.ByImsi.{value_of, with_value, with_value_of}
-use Rattle.camel_rows.specs.CsisPresent.{csis_of, csis_refusal}
+use Rattle.camel_rows.specs.Update.{value_of, with_value, with_value_of, csis_of, csis_refusal, RecordsData}
+use Rattle.camel_rows.specs.Update.{AcceptedFrom, is_of, records_after, record_after, record_with_insert, refusal}
+use Rattle.camel_rows.specs.Update.{records_from, update_imsi}
 use Rattle.camel_rows.specs.TdpRow.{TdpRowData}
-use Rattle.camel_rows.specs.Standard.{HasO, HasVt, csi_with}
-use Rattle.camel_rows.specs.Records.{RecordsData}
+use Rattle.camel_rows.specs.Decision.{HasO, HasVt, csi_with}
 use Rattle.camel_rows.specs.Subscriber.{SubscriberData, empty_record}
-use Rattle.camel_rows.specs.Update.{AcceptedFrom, is_of, records_after, record_after, record_with_insert, refusal, records_from, update_imsi}
 use Rattle.camel_rows.specs.declared.subscriber.update.Update.{Update}
 use Rattle.camel_rows.specs.declared.subscriber.update.Update.TheVariants.{Register, Insert}
 

@@ -2,8 +2,7 @@
 use Rattle.std.specs.Prelude.{ℕ, refl}
 use Rattle.std.specs.Coded.{Coded, code_by, coded_list, coded_ℕ, coded×}
 use Rattle.std.specs.FinMap as map
-use Rattle.camel_rows.specs.Admission.{AdmissionData}
-use Rattle.camel_rows.specs.Directory.{DirectoryData}
+use Rattle.camel_rows.specs.Store.{AdmissionData, DirectoryData}
 use Rattle.camel_rows.specs.contracts.subscriber.csis_present.CsisPresent as csis
 
 -- they are told apart as the tuple of their parts

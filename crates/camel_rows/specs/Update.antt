@@ -1,19 +1,103 @@
+-- The data of all subscribers, and what updates make of them.
+use Rattle.std.specs.Prelude.{ℕ, Bool, true, List, Option, Some, None, false, ◌||◌, is_some, if◌then◌else◌, ◌≡◌, []}
+use Rattle.std.specs.Prelude.{◌∷◌, unwrap_or, ◌≤◌, length}
+use Rattle.std.specs.Str.{bytes_eq}
+use Rattle.std.specs.Option.{option_map}
+use mathlib.Core.List.{IsPrefix}
+pub use Rattle.camel_table.specs.ByImsi.{ByImsi}
+use Rattle.camel_rows.specs.Subscriber.{SubscriberData, StoredCsiData, empty_record}
+use Rattle.camel_criteria.specs.Criteria.{OCriteriaData, TCriteriaData}
+use Rattle.camel_criteria.specs.declared.refusal.Refusal.{Refusal}
+use Rattle.camel_criteria.specs.declared.refusal.Refusal.TheVariants.{UnidentifiedSubscriber, DataMissing}
+use Rattle.camel_rows.specs.TdpRow.{TdpRowData}
+use Rattle.camel_rows.specs.declared.subscriber.csis_present.CsisPresent.{CsisPresent}
+use Rattle.camel_rows.specs.declared.subscriber.update.Update.{Update}
+use Rattle.camel_rows.specs.declared.subscriber.update.Update.TheVariants.{Register, Insert, Delete, Cancel, ClearAll}
+use Rattle.camel_rows.specs.declared.subscriber.update.Withdrawal.{Withdrawal}
+use Rattle.std.specs.FinMap as map
+
+-- Data of subscribers, by IMSI.
+
+-- the map with this value, or with none, at one IMSI
+abbrev pub with_value : {X : Type 0} → ByImsi X → List ℕ → Option X → ByImsi X
+with_value m imsi None = map.remove m imsi
+with_value m imsi (Some value) = map.insert m imsi value
+
+-- What concerns one subscriber has an IMSI, and what concerns all of them has none. The subscriber with this IMSI is
+-- concerned.
+abbrev pub concerns : Option (List ℕ) → List ℕ → Bool
+concerns None imsi = true
+concerns (Some own) imsi = bytes_eq own imsi
+
+-- what the map holds of the one whom something concerns; nothing, if it concerns all
+abbrev pub value_of : {X : Type 0} → ByImsi X → Option (List ℕ) → Option X
+value_of m None = None
+value_of m (Some imsi) = map.get m imsi
+
+-- the map with this value, or with none, for the one whom something concerns; with none at all, if it concerns all
+abbrev pub with_value_of : {X : Type 0} → ByImsi X → Option (List ℕ) → Option X → ByImsi X
+with_value_of m None value = map.empty
+with_value_of m (Some imsi) value = with_value m imsi value
+
+-- The data of all subscribers.
+
+-- the records of the subscribers
+abbrev pub RecordsData : Type 0
+RecordsData = ByImsi SubscriberData
+
+abbrev pub no_records : RecordsData
+no_records = map.empty
+
+-- Which CSIs are stored for a subscriber, which is all that decides whether an update is refused.
+
+-- the CSIs that are stored in a record
+abbrev pub csis_of : SubscriberData → CsisPresent
+csis_of subscriber = record { o = is_some subscriber.o; vt = is_some subscriber.vt }
+
+-- entries come without their CSI, and that CSI is not stored
+abbrev pub lacks_csi : {Entry : Type 0} → Bool → Option (List TdpRowData) → Option (List Entry) → Bool
+lacks_csi false None (Some entries) = true
+lacks_csi is_stored rows entries = false
+
+-- why an Insert is refused: `UnidentifiedSubscriber` (5) with no record, `DataMissing` (35) with criteria that lack
+-- their CSI
+abbrev pub insert_refusal : Option CsisPresent → Option (List TdpRowData) → Option (List OCriteriaData) → Option (List TdpRowData)
+    → Option (List TCriteriaData) → Option Refusal
+insert_refusal None o o_criteria vt t_criteria = Some UnidentifiedSubscriber
+insert_refusal (Some csis) o o_criteria vt t_criteria =
+    if lacks_csi csis.o o o_criteria || lacks_csi csis.vt vt t_criteria then Some DataMissing else None
+
+-- why an update is refused, by the CSIs in the record of its IMSI, or by none if that has no record
+abbrev pub csis_refusal : Option CsisPresent → Update → Option Refusal
+csis_refusal csis (Insert imsi o o_criteria vt t_criteria) = insert_refusal csis o o_criteria vt t_criteria
+csis_refusal csis (Delete imsi what) = if is_some csis then None else Some UnidentifiedSubscriber
+csis_refusal csis update = None
+
+-- a Delete removes the O-CSI if it names it or everything
+abbrev pub removes_o : Withdrawal → Bool
+removes_o what = what.o || what.everything
+
+-- a Delete removes the VT-CSI if it names it or everything
+abbrev pub removes_vt : Withdrawal → Bool
+removes_vt what = what.vt || what.everything
+
+-- the CSIs that an update which is not refused leaves in the record of its IMSI, or that it leaves no record
+abbrev pub csis_after : Option CsisPresent → Update → Option CsisPresent
+csis_after csis (Register imsi) = Some (record { o = false; vt = false })
+csis_after csis (Insert imsi o o_criteria vt t_criteria) =
+    option_map (λ (old : CsisPresent). record { o = old.o || is_some o; vt = old.vt || is_some vt }) csis
+csis_after csis (Delete imsi what) =
+    option_map (λ (old : CsisPresent). record {
+      o = if removes_o what then false else old.o;
+      vt = if removes_vt what then false else old.vt;
+    }) csis
+csis_after csis (Cancel imsi) = None
+csis_after csis ClearAll = None
+
 -- What updates make of the subscriber data. Insert, Delete and Cancel are InsertSubscriberData, DeleteSubscriberData
 -- and CancelLocation of TS 29.002; Register and ClearAll are profile 1's own, and so is what an update leaves of a CSI
 -- that it does not name whole, that criteria without their CSI are refused if it is not stored, and that an update
 -- which changes nothing is taken.
-use Rattle.std.specs.Prelude.{◌≡◌, ℕ, Bool, true, false, List, [], ◌∷◌, Option, Some, None, is_some, unwrap_or, if◌then◌else◌}
-use Rattle.std.specs.Option.{option_map}
-use Rattle.camel_criteria.specs.Criteria.{OCriteriaData, TCriteriaData}
-use Rattle.camel_criteria.specs.declared.refusal.Refusal.{Refusal}
-use Rattle.camel_rows.specs.ByImsi.{concerns, value_of, with_value_of}
-use Rattle.camel_rows.specs.CsisPresent.{csis_of, csis_refusal, removes_o, removes_vt}
-use Rattle.camel_rows.specs.TdpRow.{TdpRowData}
-use Rattle.camel_rows.specs.Subscriber.{StoredCsiData, SubscriberData, empty_record}
-use Rattle.camel_rows.specs.Records.{RecordsData, no_records}
-use Rattle.camel_rows.specs.declared.subscriber.update.Update.{Update}
-use Rattle.camel_rows.specs.declared.subscriber.update.Update.TheVariants.{Register, Insert, Delete, Cancel, ClearAll}
-use Rattle.camel_rows.specs.declared.subscriber.update.Withdrawal.{Withdrawal}
 
 -- the subscriber whom an update concerns; none, if it concerns all of them
 abbrev pub update_imsi : Update → Option (List ℕ)
@@ -95,3 +179,14 @@ AcceptedFrom m (update ∷ updates) = (refusal m update ≡ None) × AcceptedFro
 
 abbrev pub Accepted : List Update → Type 0
 Accepted updates = AcceptedFrom no_records updates
+
+-- Fronts: the prefixes of the accepted updates.
+
+-- an accepted list of at most `limit` updates, the first update first
+pub record IsFront (limit : ℕ) (updates : List Update) : Type 0 where
+  pub accepted : Accepted updates
+  pub few : length updates ≤ limit
+
+-- the first list extends the second: the second is a prefix of it
+abbrev pub Extends : List Update → List Update → Type 0
+Extends front earlier = IsPrefix earlier front

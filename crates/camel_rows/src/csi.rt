@@ -3,7 +3,7 @@
 ghost use Rattle.std.specs.Prelude.{◌≡◌, ◌<◌, ◌≤◌, ◌++◌, ◌↔◌, ◌==◌, [], ◌∷◌, IsTrue, length, slice_get};
 ghost use Rattle.std.specs.List.{position_or_len};
 ghost use Rattle.std.specs.Option.{option_copied};
-ghost use Rattle.camel_rows.specs.Received.{kept_of, o_csi_of, vt_csi_of};
+ghost use Rattle.camel_rows.specs.TdpRow.{kept_of, o_csi_of, vt_csi_of};
 ghost use Rattle.camel_rows.specs.Subscriber.{item_among};
 
 pub(crate) mod criteria_set;
@@ -43,8 +43,7 @@ pub type VtCsi = Csi<VmscTerminating, 3>;
 impl<K, const MOST: usize> Model for Csi<K, MOST> {
     ghost use Rattle.std.specs.Prelude.{List, length, take};
     ghost use Rattle.std.proofs.Common.{sym};
-    ghost use Rattle.camel_rows.specs.RowRoom.{IsKept, room_with};
-    ghost use Rattle.camel_rows.specs.TdpRow.{TdpRowData};
+    ghost use Rattle.camel_rows.specs.TdpRow.{IsKept, room_with, TdpRowData};
 
     ghost Value = { List TdpRowData };
 

@@ -2,11 +2,10 @@
 
 ghost use Rattle.std.specs.Prelude.{◌≡◌, ◌⊎◌, Err, IfErr, IfOk, IfSome, IsSome, IsTrue, None, OnErr, OnOk, Some};
 ghost use Rattle.std.specs.Option.{option_and_then, option_copied, option_map};
-ghost use Rattle.camel_rows.specs.StoredCsi.{stored_in};
-ghost use Rattle.camel_rows.specs.RoomForCsi.{IsRoomFor, IsRoomForUpdate};
-ghost use Rattle.camel_rows.specs.CsisPresent.{csis_of, csis_refusal, insert_refusal};
-ghost use Rattle.camel_rows.specs.Subscriber.{empty_record, entry_at, entry_data, row_at, rows_of};
-ghost use Rattle.camel_rows.specs.Update.{is_insert, record_after, record_with_insert, record_without, update_imsi};
+ghost use Rattle.camel_rows.specs.Subscriber.{stored_in, IsRoomFor, IsRoomForUpdate, empty_record, entry_at};
+ghost use Rattle.camel_rows.specs.Subscriber.{entry_data, row_at, rows_of};
+ghost use Rattle.camel_rows.specs.Update.{csis_of, csis_refusal, insert_refusal, is_insert, record_after};
+ghost use Rattle.camel_rows.specs.Update.{record_with_insert, record_without, update_imsi};
 
 pub(crate) mod admission;
 pub(crate) mod boxed;
@@ -54,8 +53,7 @@ const _: () = prove!(size_of::<Subscriber>() == 96);
 
 impl Model for Subscriber {
     ghost use Rattle.std.specs.Option.{option_and_then};
-    ghost use Rattle.camel_rows.specs.StoredCsi.{stored_in};
-    ghost use Rattle.camel_rows.specs.Subscriber.{SubscriberData};
+    ghost use Rattle.camel_rows.specs.Subscriber.{stored_in, SubscriberData};
 
     ghost Value = { SubscriberData };
 

@@ -9,8 +9,7 @@ use Rattle.camel_criteria.specs.declared.refusal.Refusal.TheVariants.{Unexpected
 use Rattle.camel_script.proofs.ReceivedLists.{refusal_at, refusal_with, refused_with}
 use Rattle.camel_script.proofs.RefusedItem.{is_eleventh, is_second, is_taken, passes_by}
 use Rattle.camel_script.specs.Item.{item_dp, refused_item}
-use Rattle.camel_script.specs.Mistake.{mistake_at}
-use Rattle.camel_script.specs.Parts.{item_part}
+use Rattle.camel_script.specs.Fields.{mistake_at, item_part}
 use Rattle.camel_script.specs.declared.mistake.Expected.{Expected}
 use Rattle.camel_script.specs.declared.mistake.Mistake.{Mistake}
 use Rattle.camel_script.specs.declared.text.record_fault.RecordFault.{RecordFault}

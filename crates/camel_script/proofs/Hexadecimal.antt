@@ -8,7 +8,7 @@ use Rattle.std.proofs.lemmas.List.Sums.{AllPass-from_list_all, list_all-from_All
 use Rattle.hex.proofs.HexLemmas.{decode_of-digits, decode_of-ok}
 use Rattle.hex.specs.Hex.{decode_of, is_hex_digit}
 use Rattle.hex.specs.declared.error.FromHexError.{FromHexError}
-use Rattle.camel_script.specs.Texts.{octets_of}
+use Rattle.camel_script.specs.Fields.{octets_of}
 
 pub octets_are : (text : List ℕ) → is_ok (octets_of text) ≡ (length text % 2 == 0 && list_all is_hex_digit text)
 unfolding octets_of

@@ -1,10 +1,9 @@
 -- Fields and other sources in turn, as a loop takes them.
-use Rattle.std.proofs.Common.{◌≡◌, ◌⊎◌, ℕ, zero, suc, ◌+◌, ◌<◌, ◌≤◌, List, [], ◌∷◌, length, drop, Result, Ok, Err}
-use Rattle.std.proofs.Common.{inl, inr, refl, sym, add-one, arith}
+use Rattle.std.proofs.Common.{◌≡◌, ◌⊎◌, ℕ, zero, suc, ◌+◌, ◌<◌, ◌≤◌, List, [], ◌∷◌, length, drop, Result, Ok, Err, inl}
+use Rattle.std.proofs.Common.{inr, refl, sym, add-one, arith}
 use Rattle.std.proofs.lemmas.List.{drop_all}
 use Rattle.csv.specs.Records.{field_at}
-use Rattle.camel_script.specs.Field.{field}
-use Rattle.camel_script.specs.Reading.{in_turn, numbered}
+use Rattle.camel_script.specs.Fields.{field, in_turn, numbered}
 
 -- the fields from a place on begin with the one there
 pub drop-field : (fields : List (List ℕ)) (at : ℕ) → at < length fields → drop at fields ≡ field fields at ∷ drop (suc at) fields

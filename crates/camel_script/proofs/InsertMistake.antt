@@ -1,24 +1,23 @@
 -- The mistake of an insert that can be read: a list that its items make is refused.
-use Rattle.std.proofs.Common.{◌≡◌, ◌∙◌, inl, inr, ℕ, List, [], ◌∷◌, length, drop, codes, false, nat_lt}
-use Rattle.std.proofs.Common.{Option, Some, Result, Ok, Err, refl, sym, ap, arith}
+use Rattle.std.proofs.Common.{◌≡◌, ◌∙◌, inl, inr, ℕ, List, [], ◌∷◌, length, drop, codes, false, nat_lt, Option, Some}
+use Rattle.std.proofs.Common.{Result, Ok, Err, refl, sym, ap, arith}
 use Rattle.std.proofs.lemmas.Bool.Decides.{nat_tests}
 use Rattle.std.specs.Result.{result_err}
 use Rattle.camel_criteria.specs.DetectionPoint.{o_detection_points, vt_detection_points}
 use Rattle.camel_criteria.specs.declared.refusal.Refusal.{Refusal}
 use Rattle.camel_criteria.specs.declared.refusal.Refusal.TheVariants.{DataMissing}
-use Rattle.camel_rows.specs.Received.{o_criteria_set_of, o_csi_of, t_criteria_set_of, vt_csi_of}
+use Rattle.camel_rows.specs.TdpRow.{o_criteria_set_of, o_csi_of, t_criteria_set_of, vt_csi_of}
 use Rattle.csv.specs.Records.{field_at}
 use Rattle.camel_reading.proofs.StepLemmas.{step_err}
 use Rattle.camel_script.proofs.ListDps.{by_dps_in, dps_in, none_refused, points_of}
 use Rattle.camel_script.proofs.ReceivedLists.{refused_as}
 use Rattle.camel_script.proofs.RefusedListLemmas.{find, none_read}
 use Rattle.camel_script.proofs.ItemPlace.{at_place}
-use Rattle.camel_script.specs.Field.{field}
+use Rattle.camel_script.specs.Fields.{field, numbered, record_fault_of, imsi_of_text}
 use Rattle.camel_script.specs.Item.{ItemsData, items_of, no_items, refused_item}
-use Rattle.camel_script.specs.Reading.{numbered, record_fault_of}
 use Rattle.camel_script.specs.Record.{imsi_of, insert_of, insert_of_items, kind_of_word, list_or_mistake, reading_of}
-use Rattle.camel_script.specs.RefusedList.{InsertList, ORows, OCriteria, VtRows, TCriteria, IsAtRefusedItem, IsReadInsert, item_name, refusal_in, refusal_of}
-use Rattle.camel_script.specs.Texts.{imsi_of_text}
+use Rattle.camel_script.specs.Record.{InsertList, ORows, OCriteria, VtRows, TCriteria, IsAtRefusedItem, IsReadInsert}
+use Rattle.camel_script.specs.Record.{item_name, refusal_in, refusal_of}
 use Rattle.camel_script.specs.declared.mistake.Mistake.{Mistake}
 
 module _ (fields : List (List ℕ)) (mistake : Mistake) where

@@ -9,8 +9,8 @@ use Rattle.camel_script.proofs.ItemDps.{o_entry_dp, row_dp, t_entry_dp}
 use Rattle.camel_script.proofs.ListDps.{dps_in}
 use Rattle.camel_script.proofs.StepLemmas.{either_ok}
 use Rattle.camel_script.specs.Item.{ItemsData, item_dp, item_into, o_entry_of, row_of, t_entry_of}
-use Rattle.camel_script.specs.Parts.{item_part}
-use Rattle.camel_script.specs.RefusedList.{InsertList, ORows, OCriteria, VtRows, TCriteria, item_name}
+use Rattle.camel_script.specs.Fields.{item_part}
+use Rattle.camel_script.specs.Record.{InsertList, ORows, OCriteria, VtRows, TCriteria, item_name}
 use Rattle.camel_script.specs.declared.mistake.Mistake.{Mistake}
 
 -- the detection points of a list with an item of a name more

@@ -2,18 +2,17 @@
 use Rattle.std.proofs.Common.{◌≡◌, ◌∙◌, ℕ, Bool, true, false, List, length, nat_le, Ok, Err, refl, sym, ap}
 use Rattle.std.specs.Prelude.{◌&&◌, if◌then◌else◌}
 use Rattle.camel_criteria.specs.Criteria.{OCriteriaData, TCriteriaData, are_causes_at, o_criteria_of, t_criteria_of}
-use Rattle.camel_criteria.specs.Handling.{handling_of}
+use Rattle.camel_criteria.specs.DetectionPoint.{handling_of}
 use Rattle.camel_reading.proofs.StepLemmas.{step_ok}
 use Rattle.camel_rows.specs.TdpRow.{TdpRowData, max_service_key, tdp_row_of}
 use Rattle.camel_script.proofs.StepLemmas.{data_ok, part_ok, parts_ok}
-use Rattle.camel_script.specs.Item.{item_dp, number_criterion_from, number_texts_of, refused_part}
-use Rattle.camel_script.specs.Item.{o_entry_of, o_entry_texts, row_of, row_texts, t_entry_of, t_entry_texts}
-use Rattle.camel_script.specs.Parts.{item_part}
-use Rattle.camel_script.specs.Mistake.{at_part}
-use Rattle.camel_script.specs.Reading.{elements_as}
-use Rattle.camel_script.specs.Texts.{basic_service_of, call_type_of, decimal_of, isdn_address_of, octets_of}
-use Rattle.camel_script.specs.declared.mistake.Expected.TheVariants.{DetectionPoint, ServiceKey, GsmScfAddress, Handling}
-use Rattle.camel_script.specs.declared.mistake.Expected.TheVariants.{NumberCriterion, BasicServices, ItemCallType, Causes}
+use Rattle.camel_script.specs.Item.{item_dp, number_criterion_from, number_texts_of, refused_part, o_entry_of}
+use Rattle.camel_script.specs.Item.{o_entry_texts, row_of, row_texts, t_entry_of, t_entry_texts}
+use Rattle.camel_script.specs.Fields.{item_part, at_part, elements_as, basic_service_of, call_type_of, decimal_of}
+use Rattle.camel_script.specs.Fields.{isdn_address_of, octets_of}
+use Rattle.camel_script.specs.declared.mistake.Expected.TheVariants.{DetectionPoint, ServiceKey, GsmScfAddress}
+use Rattle.camel_script.specs.declared.mistake.Expected.TheVariants.{Handling, NumberCriterion, BasicServices}
+use Rattle.camel_script.specs.declared.mistake.Expected.TheVariants.{ItemCallType, Causes}
 
 if_ok : {A F : Type 0} (test : Bool) (made : A) (fault : F) (value : A) → (if test then Ok made else Err fault) ≡ Ok value
     → made ≡ value

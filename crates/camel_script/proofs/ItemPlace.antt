@@ -1,13 +1,12 @@
 -- The place of the item with which a list is first refused, in the fields of its insert.
-use Rattle.std.proofs.Common.{◌≡◌, ◌∙◌, ℕ, ◌+◌, ◌<◌, List, [], ◌∷◌, ◌++◌, length, take, drop}
-use Rattle.std.proofs.Common.{refl, sym, ap, arith, length-append}
+use Rattle.std.proofs.Common.{◌≡◌, ◌∙◌, ℕ, ◌+◌, ◌<◌, List, [], ◌∷◌, ◌++◌, length, take, drop, refl, sym, ap, arith}
+use Rattle.std.proofs.Common.{length-append}
 use Rattle.std.proofs.Math.Seq.{drop-append_seam, take-append-add, take-append_seam}
 use Rattle.camel_criteria.specs.declared.refusal.Refusal.TheVariants.{UnexpectedDataValue}
 use Rattle.camel_script.proofs.InTurn.{drop-field}
 use Rattle.camel_script.proofs.RefusedListLemmas.{IsFirstRefused}
-use Rattle.camel_script.specs.Field.{field}
-use Rattle.camel_script.specs.Reading.{record_fault_of}
-use Rattle.camel_script.specs.RefusedList.{InsertList, IsAtRefusedItem}
+use Rattle.camel_script.specs.Fields.{field, record_fault_of}
+use Rattle.camel_script.specs.Record.{InsertList, IsAtRefusedItem}
 use Rattle.camel_script.specs.declared.mistake.Mistake.{Mistake}
 use Rattle.camel_script.specs.declared.text.record_fault.RecordFault.{RecordFault}
 

@@ -5,7 +5,7 @@ use Rattle.camel_criteria.specs.DetectionPoint.{o_detection_points, vt_detection
 use Rattle.camel_rows.specs.TdpRow.{TdpRowData}
 use Rattle.camel_script.proofs.ReceivedLists.{by_dps, refusal_at}
 use Rattle.camel_script.specs.Item.{ItemsData, no_items}
-use Rattle.camel_script.specs.RefusedList.{InsertList, ORows, OCriteria, VtRows, TCriteria, refusal_in}
+use Rattle.camel_script.specs.Record.{InsertList, ORows, OCriteria, VtRows, TCriteria, refusal_in}
 
 -- the detection points of the items of a list
 abbrev pub dps_in : InsertList → ItemsData → List ℕ

@@ -5,7 +5,7 @@ use Rattle.std.specs.List.{position_or_len, slice_split}
 use Rattle.std.proofs.lemmas.List.Quantifiers.{position-Some}
 use Rattle.std.proofs.lemmas.List.Splits.{slice_split_first}
 use Rattle.std.proofs.lemmas.List.Sums.{position_or_len_is}
-use Rattle.camel_script.specs.Parts.{part, parts_of}
+use Rattle.camel_script.specs.Fields.{part, parts_of}
 
 -- a text is its first part, and the parts of what is behind the first separator
 pub slice_split_place : (p : ℕ → Bool) (text : List ℕ) (at : ℕ) → position p text ≡ Some at

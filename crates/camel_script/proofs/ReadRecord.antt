@@ -4,9 +4,9 @@ use Rattle.csv.specs.Machine.{Read, next_record}
 use Rattle.csv.specs.Reading.{default_config, ReadsNext, ReadRecord, source_of}
 use Rattle.csv.specs.declared.parser.State.{State}
 use Rattle.csv.specs.declared.reader.Reader.{Reader}
-use Rattle.camel_script.specs.Csv.{IsConfigured, csv_records, known_data}
+use Rattle.camel_script.specs.Script.{IsConfigured, csv_records, known_data, FaultsAs, Gives, IsOnlyFault, ScriptData}
+use Rattle.camel_script.specs.Script.{first_then, script_of, the_end}
 use Rattle.camel_script.specs.Record.{record_of}
-use Rattle.camel_script.specs.Script.{FaultsAs, Gives, IsOnlyFault, ScriptData, first_then, script_of, the_end}
 use Rattle.camel_script.specs.declared.record.Record.{Record}
 use Rattle.camel_script.specs.declared.script_fault.ScriptFault.{ScriptFault}
 use Rattle.camel_script.specs.declared.script_fault.ScriptFault.TheVariants as fault

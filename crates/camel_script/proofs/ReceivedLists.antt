@@ -1,6 +1,6 @@
 -- A received list is refused by the detection points of its items; and so is one that is taken, with an item more.
-use Rattle.std.proofs.Common.{◌≡◌, ◌∙◌, ℕ, suc, ◌+◌, ◌==◌, Bool, true, false, cond, not, nat_le, List, [], ◌∷◌, ◌++◌, map, length, count_by}
-use Rattle.std.proofs.Common.{Option, Some, None, refl, sym, ap, ap₂, arith, length-append}
+use Rattle.std.proofs.Common.{◌≡◌, ◌∙◌, ℕ, suc, ◌+◌, ◌==◌, Bool, true, false, cond, not, nat_le, List, [], ◌∷◌, ◌++◌}
+use Rattle.std.proofs.Common.{map, length, count_by, Option, Some, None, refl, sym, ap, ap₂, arith, length-append}
 use Rattle.std.specs.Prelude.{◌&&◌}
 use Rattle.std.specs.Result.{result_err}
 use Rattle.std.proofs.lemmas.Bool.Decides.{nat_tests}
@@ -10,8 +10,8 @@ use Rattle.std.proofs.lemmas.List.Sums.{sum_by-append, sum_by-cons}
 use Rattle.camel_criteria.specs.DetectionPoint.{is_among}
 use Rattle.camel_criteria.specs.declared.refusal.Refusal.{Refusal}
 use Rattle.camel_criteria.specs.declared.refusal.Refusal.TheVariants.{UnexpectedDataValue}
-use Rattle.camel_rows.specs.Received.{has_no_two, kept_of, kept_unless, list_refusal}
-use Rattle.camel_script.specs.RefusedList.{refusal_of}
+use Rattle.camel_rows.specs.TdpRow.{has_no_two, kept_of, kept_unless, list_refusal}
+use Rattle.camel_script.specs.Record.{refusal_of}
 
 -- why a list of items of these detection points is refused, if it is
 abbrev pub refusal_at : List ℕ → List ℕ → Option Refusal

@@ -4,8 +4,7 @@ use Rattle.std.specs.Prelude.{◌&&◌}
 use Rattle.std.specs.Str.{bytes_eq}
 use Rattle.camel_criteria.specs.DetectionPoint.{is_among}
 use Rattle.camel_script.specs.Item.{item_dp, refused_item}
-use Rattle.camel_script.specs.Mistake.{mistake_at}
-use Rattle.camel_script.specs.Parts.{item_part}
+use Rattle.camel_script.specs.Fields.{mistake_at, item_part}
 use Rattle.camel_script.specs.declared.mistake.Expected.TheVariants.{ItemName, DetectionPoint}
 use Rattle.camel_script.specs.declared.mistake.Mistake.{Mistake}
 use Rattle.camel_script.specs.declared.text.record_fault.RecordFault.{RecordFault}

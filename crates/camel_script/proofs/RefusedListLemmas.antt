@@ -1,6 +1,6 @@
 -- The first item with which a list is refused, in the items of an insert.
-use Rattle.std.proofs.Common.{◌≡◌, ◌∙◌, inl, inr, ℕ, suc, ◌+◌, List, [], ◌∷◌, ◌++◌, length}
-use Rattle.std.proofs.Common.{Some, None, Ok, refl, sym, ap, arith, append_assoc, length-append}
+use Rattle.std.proofs.Common.{◌≡◌, ◌∙◌, inl, inr, ℕ, suc, ◌+◌, List, [], ◌∷◌, ◌++◌, length, Some, None, Ok, refl, sym}
+use Rattle.std.proofs.Common.{ap, arith, append_assoc, length-append}
 use Rattle.camel_criteria.specs.declared.refusal.Refusal.{Refusal}
 use Rattle.camel_criteria.specs.declared.refusal.Refusal.TheVariants.{UnexpectedDataValue}
 use Rattle.camel_reading.proofs.StepLemmas.{step_ok}
@@ -8,9 +8,8 @@ use Rattle.camel_script.proofs.FirstRefused.{at_item}
 use Rattle.camel_script.proofs.ItemAdded.{adds}
 use Rattle.camel_script.proofs.ListDps.{by_dps_in, dps_in, points_of}
 use Rattle.camel_script.specs.Item.{ItemsData, item_into, items_of, no_items, refused_item}
-use Rattle.camel_script.specs.Parts.{item_part}
-use Rattle.camel_script.specs.Reading.{in_turn, numbered}
-use Rattle.camel_script.specs.RefusedList.{InsertList, item_name, refusal_in}
+use Rattle.camel_script.specs.Fields.{item_part, in_turn, numbered}
+use Rattle.camel_script.specs.Record.{InsertList, item_name, refusal_in}
 use Rattle.camel_script.specs.declared.mistake.Mistake.{Mistake}
 use Rattle.camel_script.specs.declared.text.record_fault.RecordFault.{RecordFault}
 

@@ -1,9 +1,7 @@
 -- What the steps of a reading that ends well have read.
 use Rattle.std.proofs.Common.{◌≡◌, ◌⊎◌, ◌==◌, inl, inr, ℕ, Bool, true, false, if◌then◌else◌, List, length, Result, Ok, Err, refl}
 use Rattle.camel_criteria.specs.declared.refusal.Refusal.{Refusal}
-use Rattle.camel_script.specs.Mistake.{at_part, part_count, with_parts}
-use Rattle.camel_script.specs.Parts.{item_separator, parts_of}
-use Rattle.camel_script.specs.Reading.{or_refused}
+use Rattle.camel_script.specs.Fields.{at_part, part_count, with_parts, item_separator, parts_of, or_refused}
 use Rattle.camel_script.specs.declared.mistake.Expected.{Expected}
 use Rattle.camel_script.specs.declared.mistake.Mistake.{Mistake}
 use Rattle.camel_script.specs.declared.text.record_fault.RecordFault.{RecordFault}

@@ -4,20 +4,18 @@ use Rattle.std.specs.Prelude.{ℕ, ◌&&◌, not, nat_le, List, [], ◌∷◌, �
 use Rattle.std.specs.Result.{result_unwrap_or}
 use Rattle.std.specs.Str.{bytes_eq}
 use Rattle.camel_criteria.specs.Criteria.{NumberCriterionData, OCriteriaData, TCriteriaData, number_criterion_of, o_criteria_of, t_criteria_of}
-use Rattle.camel_criteria.specs.DetectionPoint.{is_among}
-use Rattle.camel_criteria.specs.Handling.{handling_of}
+use Rattle.camel_criteria.specs.DetectionPoint.{is_among, handling_of}
 use Rattle.camel_criteria.specs.declared.basic_service.BasicService.{BasicService}
 use Rattle.camel_criteria.specs.declared.criteria.MatchType.{MatchType}
-use Rattle.camel_rows.specs.Received.{max_tdp_data}
-use Rattle.camel_rows.specs.TdpRow.{TdpRowData, tdp_row_of}
+use Rattle.camel_rows.specs.TdpRow.{max_tdp_data, TdpRowData, tdp_row_of}
 use Rattle.camel_reading.specs.Reading.{◌>>=◌, each_of}
-use Rattle.camel_script.specs.Mistake.{at_part, mistake_at, with_parts}
-use Rattle.camel_script.specs.Reading.{elements_as, in_turn, numbered, of_count, or_refused}
-use Rattle.camel_script.specs.Parts.{item_part, number_separator, part, parts_of}
-use Rattle.camel_script.specs.Texts.{basic_service_of, call_type_of, decimal_of, isdn_address_of, match_type_of, octets_of}
+use Rattle.camel_script.specs.Fields.{at_part, mistake_at, with_parts, elements_as, in_turn, numbered, of_count}
+use Rattle.camel_script.specs.Fields.{or_refused, item_part, number_separator, part, parts_of, basic_service_of}
+use Rattle.camel_script.specs.Fields.{call_type_of, decimal_of, isdn_address_of, match_type_of, octets_of}
 use Rattle.camel_script.specs.declared.mistake.Expected.{Expected}
-use Rattle.camel_script.specs.declared.mistake.Expected.TheVariants.{ItemName, DetectionPoint, ServiceKey, GsmScfAddress, Handling}
-use Rattle.camel_script.specs.declared.mistake.Expected.TheVariants.{NumberCriterion, BasicServices, ItemCallType, Causes}
+use Rattle.camel_script.specs.declared.mistake.Expected.TheVariants.{ItemName, DetectionPoint, ServiceKey}
+use Rattle.camel_script.specs.declared.mistake.Expected.TheVariants.{GsmScfAddress, Handling, NumberCriterion}
+use Rattle.camel_script.specs.declared.mistake.Expected.TheVariants.{BasicServices, ItemCallType, Causes}
 use Rattle.camel_script.specs.declared.mistake.Mistake.{Mistake}
 use Rattle.camel_script.specs.declared.text.record_fault.RecordFault.{RecordFault}
 use Rattle.camel_script.specs.declared.text.record_fault.RecordFault.TheVariants as record_fault

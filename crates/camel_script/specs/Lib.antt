@@ -1,15 +1,6 @@
-pub mod Call
-pub mod Csv
-pub mod Field
+pub mod Fields
 pub mod Item
 pub mod Line
-pub mod Mistake
 pub mod Octets
-pub mod Parts
-pub mod Reading
 pub mod Record
-pub mod RecordFault
-pub mod RefusedList
 pub mod Script
-pub mod ScriptFault
-pub mod Texts

@@ -3,7 +3,7 @@
 use Rattle.std.specs.Prelude.{ℕ, List, ◌++◌, codes}
 use Rattle.std.specs.Fmt.{decimal}
 use Rattle.hex.specs.Hex.{encode_lower}
-use Rattle.camel_rows.specs.Outcome.{action_of}
+use Rattle.camel_rows.specs.Decision.{action_of}
 use Rattle.camel_rows.specs.declared.trigger.decision.Reason.{Reason}
 use Rattle.camel_rows.specs.declared.trigger.decision.Reason.TheVariants.{Unknown, NoCsi, NotArmed, Emergency, Criteria}
 use Rattle.camel_rows.specs.declared.trigger.outcome.Answer.{Answer}

@@ -1,31 +1,116 @@
--- The record that the fields of a CSV record stand for (profile 1's own format). The checks are made in the order in
--- which a definition names them.
-use Rattle.std.specs.Prelude.{ℕ, nat_lt, true, false, List, [], ◌∷◌, length, drop, codes, Option, Some, None, Result, Ok, Err, if◌then◌else◌}
+-- The records of a script (profile 1's own format), and where a refused list has its mistake.
+use Rattle.std.specs.Prelude.{ℕ, nat_lt, List, [], ◌∷◌, length, codes, Result, Ok, Err, if◌then◌else◌, true, false}
+use Rattle.std.specs.Prelude.{drop, Option, Some, None, ◌≡◌, ◌+◌, take}
 use Rattle.std.specs.Str.{bytes_eq}
+use Rattle.std.specs.Result.{result_err}
+use Rattle.camel_criteria.specs.declared.basic_service.BasicService.{BasicService}
+use Rattle.camel_rows.specs.declared.trigger.event.TdpEvent.TheVariants.{CollectedInfo, RouteSelectFailure}
+use Rattle.camel_rows.specs.declared.trigger.event.TdpEvent.TheVariants.{TerminatingAttempt, Busy, NoAnswer}
+use Rattle.camel_script.specs.Fields.{field, at_field, field_count, mistake_at, with_fields, basic_service_of}
+use Rattle.camel_script.specs.Fields.{call_address_of, cause_of_value, decimal_of, imsi_of_text, is_forwarded_of}
+use Rattle.camel_script.specs.Fields.{octets_of, in_turn, numbered, record_fault_of, item_part}
+use Rattle.camel_reading.specs.Reading.{◌>>=◌}
+use Rattle.camel_script.specs.declared.mistake.Expected.{Expected}
+use Rattle.camel_script.specs.declared.mistake.Mistake.{Mistake}
+use Rattle.camel_script.specs.declared.record.Record.{Record}
+use Rattle.camel_script.specs.declared.record.Record.TheVariants.{Call}
 use Rattle.camel_criteria.specs.declared.refusal.Refusal.{Refusal}
 use Rattle.camel_criteria.specs.declared.refusal.Refusal.TheVariants.{DataMissing}
 use Rattle.camel_criteria.specs.DetectionPoint.{o_detection_points, vt_detection_points}
-use Rattle.camel_rows.specs.Received.{o_criteria_set_of, o_csi_of, t_criteria_set_of, vt_csi_of}
-use Rattle.camel_rows.specs.declared.subscriber.update.Update.TheVariants as update
+use Rattle.camel_rows.specs.TdpRow.{o_criteria_set_of, o_csi_of, t_criteria_set_of, vt_csi_of}
 use Rattle.camel_rows.specs.declared.subscriber.update.Withdrawal.{Withdrawal}
-use Rattle.camel_reading.specs.Reading.{◌>>=◌}
-use Rattle.camel_script.specs.Call.{call_of}
-use Rattle.camel_script.specs.Field.{field}
 use Rattle.camel_script.specs.Item.{ItemsData, items_of, refused_item}
-use Rattle.camel_script.specs.Mistake.{at_field, field_count, mistake_at, with_fields}
-use Rattle.camel_script.specs.Reading.{in_turn, numbered, record_fault_of}
-use Rattle.camel_script.specs.Texts.{imsi_of_text}
-use Rattle.camel_script.specs.declared.mistake.Expected.{Expected}
 use Rattle.camel_script.specs.declared.mistake.Expected.TheVariants.{Word, Imsi, Withdrawal as What}
-use Rattle.camel_script.specs.declared.mistake.Mistake.{Mistake}
-use Rattle.camel_script.specs.declared.record.Record.{Record}
-use Rattle.camel_script.specs.declared.record.Record.TheVariants as record_of_script
 use Rattle.camel_script.specs.declared.record.RecordKind.{RecordKind}
-use Rattle.camel_script.specs.declared.record.RecordKind.TheVariants as kind
 use Rattle.camel_script.specs.declared.script_fault.ScriptFault.{ScriptFault}
-use Rattle.camel_script.specs.declared.script_fault.ScriptFault.TheVariants as fault
 use Rattle.camel_script.specs.declared.text.record_fault.RecordFault.{RecordFault}
+use Rattle.camel_script.specs.declared.mistake.Expected.TheVariants as expected
 use Rattle.camel_script.specs.declared.text.record_fault.RecordFault.TheVariants as record_fault
+use Rattle.camel_rows.specs.declared.subscriber.update.Update.TheVariants as update
+use Rattle.camel_script.specs.declared.record.Record.TheVariants as record_of_script
+use Rattle.camel_script.specs.declared.record.RecordKind.TheVariants as kind
+use Rattle.camel_script.specs.declared.script_fault.ScriptFault.TheVariants as fault
+
+-- The calls of a script (profile 1's own format). The texts of all fields are read before the data are checked.
+
+-- the word and the detection point
+abbrev pub call_texts : List Expected
+call_texts = expected.Word ∷ expected.CallDetectionPoint ∷ []
+
+-- call,2,IMSI,BASIC,DEST,TYPE
+abbrev pub collected_info_texts : List Expected
+collected_info_texts =
+    expected.Word ∷ expected.CallDetectionPoint ∷ expected.Imsi ∷ expected.BasicService ∷ expected.Destination
+    ∷ expected.Forwarded ∷ []
+
+-- call,4,IMSI,BASIC,DEST,TYPE,CAUSE
+abbrev pub route_select_failure_texts : List Expected
+route_select_failure_texts =
+    expected.Word ∷ expected.CallDetectionPoint ∷ expected.Imsi ∷ expected.BasicService ∷ expected.Destination
+    ∷ expected.Forwarded ∷ expected.Cause ∷ []
+
+-- call,12,IMSI,BASIC
+abbrev pub terminating_attempt_texts : List Expected
+terminating_attempt_texts = expected.Word ∷ expected.CallDetectionPoint ∷ expected.Imsi ∷ expected.BasicService ∷ []
+
+-- call,13,IMSI,BASIC,CAUSE and call,14,IMSI,BASIC,CAUSE
+abbrev pub not_reached_texts : List Expected
+not_reached_texts =
+    expected.Word ∷ expected.CallDetectionPoint ∷ expected.Imsi ∷ expected.BasicService ∷ expected.Cause ∷ []
+
+-- the IMSI and the basic service of a call
+unfoldable pub subscriber_of : List (List ℕ) → Result (List ℕ × BasicService) Mistake
+subscriber_of fields = do
+  imsi ← at_field 3 expected.Imsi (imsi_of_text (field fields 2))
+  basic ← at_field 4 expected.BasicService (basic_service_of (field fields 3))
+  Ok (imsi, basic)
+
+unfoldable pub collected_info_of : List (List ℕ) → Result Record Mistake
+collected_info_of fields = do
+  subscriber ← subscriber_of fields
+  octets ← at_field 5 expected.Destination (octets_of (field fields 4))
+  forwarded ← at_field 6 expected.Forwarded (is_forwarded_of (field fields 5))
+  destination ← at_field 5 expected.Destination (call_address_of octets)
+  Ok (Call (CollectedInfo subscriber.0 destination subscriber.1 forwarded))
+
+unfoldable pub route_select_failure_of : List (List ℕ) → Result Record Mistake
+route_select_failure_of fields = do
+  subscriber ← subscriber_of fields
+  octets ← at_field 5 expected.Destination (octets_of (field fields 4))
+  forwarded ← at_field 6 expected.Forwarded (is_forwarded_of (field fields 5))
+  value ← at_field 7 expected.Cause (decimal_of 255 (field fields 6))
+  destination ← at_field 5 expected.Destination (call_address_of octets)
+  cause ← at_field 7 expected.Cause (cause_of_value value)
+  Ok (Call (RouteSelectFailure subscriber.0 destination subscriber.1 forwarded cause))
+
+unfoldable pub terminating_attempt_of : List (List ℕ) → Result Record Mistake
+terminating_attempt_of fields = subscriber_of fields >>= λ subscriber. Ok (Call (TerminatingAttempt subscriber.0 subscriber.1))
+
+-- the IMSI, the basic service and the cause of a call that was not reached
+unfoldable pub not_reached_of : List (List ℕ) → Result (List ℕ × BasicService × ℕ) Mistake
+not_reached_of fields = with_fields not_reached_texts fields (do
+  subscriber ← subscriber_of fields
+  value ← at_field 5 expected.Cause (decimal_of 255 (field fields 4))
+  cause ← at_field 5 expected.Cause (cause_of_value value)
+  Ok (subscriber.0, subscriber.1, cause))
+
+-- the record that a call reads as; its second field is the detection point, which says what the others are
+unfoldable pub call_of : List (List ℕ) → Result Record Mistake
+call_of fields =
+    if nat_lt (length fields) 2 then Err (field_count call_texts (length fields))
+    else if bytes_eq (field fields 1) (codes "2") then with_fields collected_info_texts fields (collected_info_of fields)
+    else if bytes_eq (field fields 1) (codes "4")
+    then with_fields route_select_failure_texts fields (route_select_failure_of fields)
+    else if bytes_eq (field fields 1) (codes "12")
+    then with_fields terminating_attempt_texts fields (terminating_attempt_of fields)
+    else if bytes_eq (field fields 1) (codes "13")
+    then (not_reached_of fields >>= λ call. Ok (Call (Busy call.0 call.1 call.2)))
+    else if bytes_eq (field fields 1) (codes "14")
+    then (not_reached_of fields >>= λ call. Ok (Call (NoAnswer call.0 call.1 call.2)))
+    else Err (mistake_at 2 0 expected.CallDetectionPoint record_fault.Word)
+
+-- The record that the fields of a CSV record stand for (profile 1's own format). The checks are made in the order in
+-- which a definition names them.
 
 -- a record that has only a word
 abbrev pub word_texts : List Expected
@@ -152,3 +237,54 @@ record_or_fault (Err mistake) = refused_or_fault mistake.fault
 -- the record that fields are, or the fault of the script
 unfoldable pub record_of : List (List ℕ) → Result Record ScriptFault
 record_of fields = record_or_fault (reading_of fields)
+
+-- Where the mistake of an insert is whose IMSI and items can be read: a list that its items make is refused, and the
+-- mistake is at the item with which that list is first refused.
+
+-- the lists of an insert
+pub data InsertList : Type 0 where
+  ORows : InsertList
+  OCriteria : InsertList
+  VtRows : InsertList
+  TCriteria : InsertList
+
+-- the name of the items of a list
+abbrev pub item_name : InsertList → List ℕ
+item_name ORows = codes "o"
+item_name OCriteria = codes "oc"
+item_name VtRows = codes "t"
+item_name TCriteria = codes "tc"
+
+-- why a received list is refused, if it is; without items it is omitted
+abbrev pub refusal_of : {A : Type 0} → (List A → Result (List A) Refusal) → List A → Option Refusal
+refusal_of kept_of [] = None
+refusal_of kept_of (first ∷ more) = result_err (kept_of (first ∷ more))
+
+abbrev pub refusal_in : ItemsData → InsertList → Option Refusal
+refusal_in items ORows = refusal_of o_csi_of items.o
+refusal_in items OCriteria = refusal_of o_criteria_set_of items.o_criteria
+refusal_in items VtRows = refusal_of vt_csi_of items.vt
+refusal_in items TCriteria = refusal_of t_criteria_set_of items.t_criteria
+
+-- the same of the list that the items among the first so many fields make
+abbrev pub refusal_in_first : ℕ → List (List ℕ) → InsertList → Result (Option Refusal) Mistake
+refusal_in_first count fields list = items_of (drop 2 (take count fields)) >>= λ items. Ok (refusal_in items list)
+
+-- a mistake is at an item of a list: the items before it make one that is taken, and with it one that is refused
+pub record IsAtRefusedItem (fields : List (List ℕ)) (mistake : Mistake) : Type 0 where
+  pub list : InsertList
+  pub before : ℕ
+  pub why : Refusal
+  pub number : mistake.field ≡ before + 1
+  pub named : item_part (field fields before) 0 ≡ item_name list
+  pub taken : refusal_in_first before fields list ≡ Ok None
+  pub refused : refusal_in_first (before + 1) fields list ≡ Ok (Some why)
+  pub fault : mistake.fault ≡ record_fault_of why
+
+-- an insert whose IMSI and items can be read
+pub record IsReadInsert (fields : List (List ℕ)) : Type 0 where
+  pub imsi : List ℕ
+  pub items : ItemsData
+  pub word : field fields 0 ≡ codes "insert"
+  pub reads_imsi : imsi_of fields ≡ Ok imsi
+  pub reads_items : items_of (drop 2 fields) ≡ Ok items

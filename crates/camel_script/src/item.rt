@@ -3,9 +3,7 @@
 ghost use Rattle.std.specs.Prelude.{◌≡◌, ◌≢◌, ◌++◌, ◌∷◌, [], IfErr, OnOk, length};
 ghost use Rattle.camel_reading.specs.Reading.{ReadsAs, ReadsInto};
 ghost use Rattle.camel_script.specs.Item.{item_into, no_items, o_entry_of, refused_part, row_of, t_entry_of};
-ghost use Rattle.camel_script.specs.Mistake.{part_count};
-ghost use Rattle.camel_script.specs.Reading.{IsMemoryMistake};
-ghost use Rattle.camel_script.specs.Parts.{item_part, item_separator, parts_of};
+ghost use Rattle.camel_script.specs.Fields.{part_count, IsMemoryMistake, item_part, item_separator, parts_of};
 
 pub(crate) mod number;
 

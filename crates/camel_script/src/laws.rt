@@ -1,6 +1,5 @@
 ghost use Rattle.std.specs.Prelude.{◌≡◌, ℕ, Err, List};
-ghost use Rattle.camel_script.specs.Record.{reading_of};
-ghost use Rattle.camel_script.specs.RefusedList.{IsAtRefusedItem, IsReadInsert};
+ghost use Rattle.camel_script.specs.Record.{reading_of, IsAtRefusedItem, IsReadInsert};
 ghost use Rattle.camel_script.specs.declared.mistake.Mistake.{Mistake};
 
 /// A law of the definitions: if the IMSI and the items of an insert can be read, and it has a mistake, a list that its

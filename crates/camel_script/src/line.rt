@@ -4,7 +4,7 @@
 ghost use Rattle.std.specs.Prelude.{◌≡◌, ◌++◌, IfErr, OnErr, OnOk, codes, length, take};
 ghost use Rattle.std.specs.Fmt.{decimal};
 ghost use Rattle.hex.specs.Hex.{encode_lower};
-ghost use Rattle.camel_rows.specs.Outcome.{action_of};
+ghost use Rattle.camel_rows.specs.Decision.{action_of};
 ghost use Rattle.camel_script.specs.Line.{action_text, decided_text, line_text, reason_text, served_text};
 
 use crate::append::{append_character, append_decimal, append_text};

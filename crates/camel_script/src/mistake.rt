@@ -2,8 +2,8 @@
 
 ghost use Rattle.std.specs.Prelude.{◌≡◌, ◌≢◌, Err, IfErr, IfOk, IsErrAnd, Ok, OnOk, length};
 ghost use Rattle.csv.specs.Records.{fields_of};
-ghost use Rattle.camel_script.specs.Mistake.{at_field, at_part, expected_behind, field_count, mistake_at, part_count};
-ghost use Rattle.camel_script.specs.Reading.{record_fault_of};
+ghost use Rattle.camel_script.specs.Fields.{at_field, at_part, expected_behind, field_count, mistake_at, part_count};
+ghost use Rattle.camel_script.specs.Fields.{record_fault_of};
 ghost use Rattle.camel_script.specs.Record.{refused_or_fault};
 
 use crate::record::Record;

@@ -3,10 +3,10 @@
 ghost use Rattle.std.specs.Prelude.{◌≡◌, ◌⊎◌, Err, IfErr, Ok, OnOk};
 ghost use Rattle.csv.specs.Records.{fields_of};
 ghost use Rattle.camel_reading.specs.Reading.{ReadsInto};
-ghost use Rattle.camel_script.specs.Reading.{IsMemoryMistake};
+ghost use Rattle.camel_script.specs.Fields.{IsMemoryMistake};
 ghost use Rattle.camel_script.specs.Record.{cancel_of, clear_of, imsi_alone_of, imsi_of, kind_of_word, publish_of};
 ghost use Rattle.camel_script.specs.Record.{reading_of, record_of, register_of};
-ghost use Rattle.camel_script.specs.ScriptFault.{IsRecordFault};
+ghost use Rattle.camel_script.specs.Script.{IsRecordFault};
 
 pub(crate) mod call;
 pub(crate) mod delete;

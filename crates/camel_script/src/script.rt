@@ -1,9 +1,8 @@
 ghost use Rattle.std.specs.Prelude.{◌≡◌, ◌≢◌, ◌+◌, Ok, Err, None, IfErr, IfOk, IfSome, IsOk, IsTrue, OnErr, false};
 ghost use Rattle.std.specs.Prelude.{option_map, true};
 ghost use Rattle.csv.specs.Reading.{error_kind, is_io};
-ghost use Rattle.camel_script.specs.Csv.{IsMemoryOrIo};
-ghost use Rattle.camel_script.specs.Script.{Ended, Failed, FaultsAs, Gives, IsMemoryOrReadFault, Unread, read_if};
-ghost use Rattle.camel_script.specs.Script.{records_left, script, still_gives};
+ghost use Rattle.camel_script.specs.Script.{IsMemoryOrIo, Ended, Failed, FaultsAs, Gives, IsMemoryOrReadFault, Unread};
+ghost use Rattle.camel_script.specs.Script.{read_if, records_left, script, still_gives};
 
 use crate::record::{Record, parse_record};
 use crate::script_fault::ScriptFault;
@@ -35,8 +34,7 @@ pub struct Script<R: Read> {
 
 impl<R: Read> Model for Script<R> {
     ghost use Rattle.csv.specs.Reading.{source_of, reader_state};
-    ghost use Rattle.camel_script.specs.Csv.{IsSetUp, script_state_of};
-    ghost use Rattle.camel_script.specs.Script.{ScriptState};
+    ghost use Rattle.camel_script.specs.Script.{IsSetUp, script_state_of, ScriptState};
 
     ghost Value = { ScriptState };
 

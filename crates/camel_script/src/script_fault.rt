@@ -1,5 +1,5 @@
 ghost use Rattle.std.specs.Prelude.{◌≡◌};
-ghost use Rattle.camel_script.specs.ScriptFault.{script_fault_code};
+ghost use Rattle.camel_script.specs.Script.{script_fault_code};
 
 use thiserror::Error;
 

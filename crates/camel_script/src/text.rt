@@ -5,10 +5,9 @@ ghost use Rattle.std.specs.List.{list_all};
 ghost use Rattle.std.specs.Result.{is_ok};
 ghost use Rattle.hex.specs.Hex.{is_hex_digit};
 ghost use Rattle.camel_reading.specs.Reading.{ReadsAs};
-ghost use Rattle.camel_script.specs.Reading.{IsMemory};
-ghost use Rattle.camel_script.specs.Texts.{basic_service_of, call_address_of, call_type_of, cause_of_value, decimal_of};
-ghost use Rattle.camel_script.specs.Texts.{imsi_of_text, is_digits, isdn_address_of, match_type_of, number_of};
-ghost use Rattle.camel_script.specs.Texts.{octet_of, octets_of, is_forwarded_of};
+ghost use Rattle.camel_script.specs.Fields.{IsMemory, basic_service_of, call_address_of, call_type_of, cause_of_value};
+ghost use Rattle.camel_script.specs.Fields.{decimal_of, imsi_of_text, is_digits, isdn_address_of, match_type_of};
+ghost use Rattle.camel_script.specs.Fields.{number_of, octet_of, octets_of, is_forwarded_of};
 
 pub(crate) mod lists;
 pub(crate) mod parts;
@@ -31,7 +30,7 @@ pub(crate) const TELESERVICE: u8 = b't';
 pub(crate) const BEARER_SERVICE: u8 = b'b';
 
 /// Reads an IMSI: 5 to 15 characters `0` to `9`.
-#[tactic(auto, unfolding(crate::specs::Texts::imsi_of_text))]
+#[tactic(auto, unfolding(crate::specs::Fields::imsi_of_text))]
 pub(crate) fn parse_imsi(text: &[u8]) -> Result<Imsi, RecordFault>
     ensures { result ≡ imsi_of_text text.now }
 {
@@ -42,7 +41,7 @@ pub(crate) fn parse_imsi(text: &[u8]) -> Result<Imsi, RecordFault>
 }
 
 /// Reads a decimal: 1 to 10 characters `0` to `9`, of a value not over the greatest.
-#[tactic(auto, unfolding(crate::specs::Texts::decimal_of))]
+#[tactic(auto, unfolding(crate::specs::Fields::decimal_of))]
 pub fn parse_decimal(text: &[u8], greatest: u32) -> Result<u32, RecordFault>
     ensures value { result ≡ decimal_of greatest text.now }
     ensures range { IfOk result (λ value. value ≤ greatest) }
@@ -109,7 +108,7 @@ fn first_of(octets: &[u8], count: usize) -> &[u8]
 }
 
 /// Reads the octets of an address: an even number of hexadecimal digits of either case, possibly none.
-#[tactic(auto, unfolding(crate::specs::Texts::octets_of))]
+#[tactic(auto, unfolding(crate::specs::Fields::octets_of))]
 pub(crate) fn parse_octets(alloc: Global, text: &[u8]) -> Result<Octets, RecordFault>
     ensures { ReadsAs IsMemory result (octets_of text.now) }
 {
@@ -127,7 +126,7 @@ pub(crate) fn parse_octets(alloc: Global, text: &[u8]) -> Result<Octets, RecordF
 }
 
 /// Reads more octets than an address may have, whose text still has to be hexadecimal.
-#[tactic(auto, unfolding(crate::specs::Texts::octets_of))]
+#[tactic(auto, unfolding(crate::specs::Fields::octets_of))]
 fn parse_many_octets(alloc: Global, text: &[u8]) -> Result<Octets, RecordFault>
     ensures { ReadsAs IsMemory result (octets_of text.now) }
 {
@@ -161,7 +160,7 @@ fn is_hex_digit(digit: u8) -> bool
 }
 
 /// Reads a basic service: `t` or `b`, then two hexadecimal digits.
-#[tactic(auto, unfolding(crate::specs::Texts::basic_service_of))]
+#[tactic(auto, unfolding(crate::specs::Fields::basic_service_of))]
 pub fn parse_basic_service(text: &[u8]) -> Result<BasicService, RecordFault>
     ensures { result ≡ basic_service_of text.now }
 {
@@ -176,7 +175,7 @@ pub fn parse_basic_service(text: &[u8]) -> Result<BasicService, RecordFault>
 }
 
 /// Reads one octet: two hexadecimal digits.
-#[tactic(auto, unfolding(crate::specs::Texts::octet_of))]
+#[tactic(auto, unfolding(crate::specs::Fields::octet_of))]
 fn parse_octet(text: &[u8]) -> Result<u8, RecordFault>
     ensures { result ≡ octet_of text.now }
 {
@@ -188,7 +187,7 @@ fn parse_octet(text: &[u8]) -> Result<u8, RecordFault>
 }
 
 /// Reads whether a call is forwarded: `f` or `n`.
-#[tactic(auto, unfolding(crate::specs::Texts::is_forwarded_of))]
+#[tactic(auto, unfolding(crate::specs::Fields::is_forwarded_of))]
 pub(crate) fn parse_forwarded(text: &[u8]) -> Result<bool, RecordFault>
     ensures { result ≡ is_forwarded_of text.now }
 {
@@ -200,7 +199,7 @@ pub(crate) fn parse_forwarded(text: &[u8]) -> Result<bool, RecordFault>
 }
 
 /// Reads the call type criterion of an item: `f` or `n`, or empty for none.
-#[tactic(auto, unfolding(crate::specs::Texts::call_type_of))]
+#[tactic(auto, unfolding(crate::specs::Fields::call_type_of))]
 pub(crate) fn parse_call_type(text: &[u8]) -> Result<Option<CallType>, RecordFault>
     ensures { result ≡ call_type_of text.now }
 {
@@ -215,7 +214,7 @@ pub(crate) fn parse_call_type(text: &[u8]) -> Result<Option<CallType>, RecordFau
 }
 
 /// Reads the match type of a destination number criterion: `e` or `i`.
-#[tactic(auto, unfolding(crate::specs::Texts::match_type_of))]
+#[tactic(auto, unfolding(crate::specs::Fields::match_type_of))]
 pub fn parse_match_type(text: &[u8]) -> Result<MatchType, RecordFault>
     ensures { result ≡ match_type_of text.now }
 {
@@ -227,7 +226,7 @@ pub fn parse_match_type(text: &[u8]) -> Result<MatchType, RecordFault>
 }
 
 /// The cause of a call of this value; over 127 it is refused.
-#[tactic(auto, unfolding(crate::specs::Texts::cause_of_value))]
+#[tactic(auto, unfolding(crate::specs::Fields::cause_of_value))]
 pub(crate) fn make_cause(value: u8) -> Result<Cause, RecordFault>
     ensures { result ≡ cause_of_value value }
 {
@@ -238,7 +237,7 @@ pub(crate) fn make_cause(value: u8) -> Result<Cause, RecordFault>
 }
 
 /// The gsmSCF address of these octets, 1 to 9; else it is refused.
-#[tactic(auto, unfolding(crate::specs::Texts::isdn_address_of))]
+#[tactic(auto, unfolding(crate::specs::Fields::isdn_address_of))]
 pub(crate) fn make_isdn_address(octets: &Octets) -> Result<IsdnAddress, RecordFault>
     ensures { result ≡ isdn_address_of octets.now }
 {
@@ -249,7 +248,7 @@ pub(crate) fn make_isdn_address(octets: &Octets) -> Result<IsdnAddress, RecordFa
 }
 
 /// The destination of these octets, 1 to 20; else it is refused.
-#[tactic(auto, unfolding(crate::specs::Texts::call_address_of))]
+#[tactic(auto, unfolding(crate::specs::Fields::call_address_of))]
 pub(crate) fn make_call_address(octets: &Octets) -> Result<CallAddress, RecordFault>
     ensures { result ≡ call_address_of octets.now }
 {

@@ -4,13 +4,12 @@ use Rattle.std.proofs.Common.{◌≡◌, ◌∙◌, ℕ, List, [], ◌∷◌, �
 use Rattle.std.proofs.lemmas.List.{append-nil}
 use Rattle.camel_criteria.specs.declared.refusal.Refusal.{Refusal}
 use Rattle.camel_rows.proofs.StoreLemmas.{IsFront-empty, IsFront-published, IsFront-with_update}
-use Rattle.camel_rows.specs.Front.{Extends, IsFront}
+use Rattle.camel_rows.specs.Update.{Extends, IsFront}
 use Rattle.camel_rows.specs.Store.{Updates, accepted_updates, no_updates, store_refusal}
 use Rattle.camel_rows.specs.declared.subscriber.update.Update.{Update}
 use Rattle.camel_script.specs.declared.record.Record.{Record}
 use Rattle.camel_script.specs.declared.record.Record.TheVariants as script_record
-use Rattle.camel_script_replay.specs.Fronts.{published_after, updates_from}
-use Rattle.camel_script_replay.specs.Output.{after_submission, updates_after}
+use Rattle.camel_script_replay.specs.Output.{published_after, updates_from, after_submission, updates_after}
 
 -- published and pending updates together are a front
 abbrev AreFront : ℕ → Updates → Type 0

@@ -1,21 +1,20 @@
 -- How far a replay has come: what was written, and what the script still gives.
-use Rattle.std.proofs.Common.{arith, ◌≡◌, ◌≢◌, ◌∙◌, ◌⊎◌, inl, inr, refl, sym, ap, true, false, Bool, IsTrue, ℕ, ◌+◌, ◌-◌, Option, Some, None, IfSome}
-use Rattle.std.proofs.Common.{List, [], ◌∷◌, ◌++◌, append_assoc, length, take}
+use Rattle.std.proofs.Common.{arith, ◌≡◌, ◌≢◌, ◌∙◌, ◌⊎◌, inl, inr, refl, sym, ap, true, false, Bool, IsTrue, ℕ, ◌+◌}
+use Rattle.std.proofs.Common.{◌-◌, Option, Some, None, IfSome, List, [], ◌∷◌, ◌++◌, append_assoc, length, take}
 use Rattle.std.proofs.KnownBytes.{Appends-kept, Appends-nil, Appends-trans, Keeps-refl}
 use Rattle.std.proofs.lemmas.List.{append-nil, length-append}
 use Rattle.std.proofs.Math.Seq.{take-append-add, take-append_seam}
 use Rattle.std.specs.Io.KnownBytes.{Appends, Keeps}
 use Rattle.camel_tbcd.specs.declared.profile.Profile.{Profile}
 use Rattle.camel_script.specs.Line.{line_text}
-use Rattle.camel_script.specs.Script.{FaultsAs, Gives, IsOnlyFault, ScriptData}
-use Rattle.camel_script.specs.ScriptFault.{script_fault_code}
+use Rattle.camel_script.specs.Script.{FaultsAs, Gives, IsOnlyFault, ScriptData, script_fault_code}
 use Rattle.camel_script.specs.declared.record.Record.{Record}
 use Rattle.camel_script.specs.declared.script_fault.ScriptFault.{ScriptFault}
 use Rattle.camel_script.specs.declared.script_fault.ScriptFault.TheVariants as fault
-use Rattle.camel_script_replay.specs.Output.{line_of, output, output_from}
-use Rattle.camel_script_replay.specs.ReplayFault.{is_memory_or_read_code, is_replay_code, is_text_code, is_write_code}
+use Rattle.camel_script_replay.specs.Output.{line_of, output, output_from, is_memory_or_read_code, is_replay_code}
+use Rattle.camel_script_replay.specs.Output.{is_text_code, is_write_code, AppendsPart, AppendsProperPart, Stops}
+use Rattle.camel_script_replay.specs.Output.{StopsAtFault, StopsBeforeLine, StopsInLine, WritesAll}
 use Rattle.camel_script_replay.specs.Store.{StoreData, empty_store, store_after}
-use Rattle.camel_script_replay.specs.Written.{AppendsPart, AppendsProperPart, Stops, StopsAtFault, StopsBeforeLine, StopsInLine, WritesAll}
 use Rattle.camel_script_replay.specs.declared.script_replay.ReplayFault.{ReplayFault}
 
 -- the text of a record's line, and of those of several records

@@ -4,13 +4,10 @@ use Rattle.std.proofs.Common.{◌≡◌, ◌∙◌, ℕ, List, [], ◌∷◌, �
 use Rattle.camel_rows.proofs.AdmissionLemmas.{IsAdmissionOf-empty}
 use Rattle.camel_rows.proofs.StoreLemmas.{IsAdmissionOf-with_update, IsFront-empty, IsFront-with_update, admits, first-pending}
 use Rattle.camel_rows.proofs.UpdateLemmas.{records_from-append}
-use Rattle.camel_rows.specs.ByImsi.{value_of}
-use Rattle.camel_rows.specs.Admission.{AdmissionData, admission_refusal, no_admissions, with_admission}
-use Rattle.camel_rows.specs.CsisPresent.{csis_after}
-use Rattle.camel_rows.specs.Front.{Extends}
-use Rattle.camel_rows.specs.Records.{RecordsData, no_records}
-use Rattle.camel_rows.specs.Store.{Updates, accepted_updates, no_updates, with_update}
-use Rattle.camel_rows.specs.Update.{records_after, refusal, update_imsi}
+use Rattle.camel_rows.specs.Update.{value_of, csis_after, Extends, RecordsData, no_records, records_after, refusal}
+use Rattle.camel_rows.specs.Update.{update_imsi}
+use Rattle.camel_rows.specs.Store.{AdmissionData, admission_refusal, no_admissions, with_admission, Updates}
+use Rattle.camel_rows.specs.Store.{accepted_updates, no_updates, with_update}
 use Rattle.camel_rows.specs.declared.subscriber.update.Update.{Update}
 use Rattle.camel_tbcd.specs.declared.profile.Profile.{Profile}
 use Rattle.camel_script_replay.specs.Store.{IsSound, StoreData}

@@ -5,7 +5,7 @@ use Rattle.std.proofs.KnownBytes.{Appends-kept, Appends-trans}
 use Rattle.std.proofs.lemmas.List.{append-nil, length-drop, take-append-drop, take_all}
 use Rattle.std.proofs.Math.Seq.{take-add}
 use Rattle.std.specs.Io.KnownBytes.{Appends, Keeps}
-use Rattle.camel_script_replay.specs.Written.{AppendsProperPart}
+use Rattle.camel_script_replay.specs.Output.{AppendsProperPart}
 
 -- a write takes some of the octets that are left
 pub wrote_more : (old mid new : Option (List ℕ)) (octets : List ℕ) (written taken : ℕ) → written ≤ length octets → Appends old mid (take written octets)

@@ -1,14 +1,17 @@
--- What a store of one thread keeps.
-use Rattle.std.specs.Prelude.{◌≡◌, ℕ}
+-- The store of a replay on one thread.
+use Rattle.std.specs.Prelude.{◌≡◌, ℕ, List, refl}
+use Rattle.std.specs.Coded.{Coded, code_by, coded_ℕ, coded_list, coded×}
 use Rattle.camel_tbcd.specs.declared.profile.Profile.{Profile}
-use Rattle.camel_rows.specs.Admission.{AdmissionData}
-use Rattle.camel_rows.specs.Front.{Extends, IsFront}
-use Rattle.camel_rows.specs.Records.{RecordsData}
-use Rattle.camel_rows.specs.Store.{IsAdmissionOfUpdates, Updates, accepted_updates, no_updates}
-use Rattle.camel_rows.specs.Update.{records_of}
+use Rattle.camel_rows.specs.Store.{AdmissionData, IsAdmissionOfUpdates, Updates, accepted_updates, no_updates}
+use Rattle.camel_rows.specs.Update.{Extends, IsFront, RecordsData, records_of}
 use Rattle.camel_script.specs.declared.record.Record.{Record}
-use Rattle.camel_script.specs.declared.record.Record.TheVariants as script_record
 use Rattle.camel_script_replay.specs.Output.{updates_after}
+use Rattle.camel_rows.specs.declared.subscriber.update.Update.{Update}
+use Rattle.camel_script.specs.declared.record.Record.TheVariants as script_record
+use Rattle.camel_tbcd.specs.contracts.profile.Profile as profile
+use Rattle.camel_rows.specs.contracts.subscriber.update.Update as update
+
+-- What a store of one thread keeps.
 
 -- The profile under which it decides, the most updates that it accepts, and those that it has accepted.
 pub record StoreData : Type 0 where
@@ -47,3 +50,17 @@ pub record IsSound (admission : AdmissionData) (records : RecordsData) (updates 
   pub front : IsFront admission.limit (accepted_updates updates)
   pub admits : IsAdmissionOfUpdates admission admission.limit updates
   pub published : records ≡ records_of updates.published
+
+-- How a proof tells the values of `StoreData` apart.
+
+-- They are told apart as the tuple of their parts.
+abbrev pub store_code : Coded StoreData
+store_code = code_by (Profile × (ℕ × (List Update × List Update)))
+    (coded× profile.the_row.coded (coded× coded_ℕ (coded× (coded_list update.the_row.coded) (coded_list update.the_row.coded))))
+    (λ store. (store.profile, (store.limit, (store.updates.published, store.updates.pending))))
+    (λ parts. record {
+      profile = parts.0;
+      limit = parts.1.0;
+      updates = record { published = parts.1.1.0; pending = parts.1.1.1 };
+    })
+    (λ _. refl)

@@ -2,11 +2,9 @@ ghost use Rattle.std.specs.Prelude.{◌≡◌, ◌≢◌, ◌≤◌, ◌⊎◌, 
 ghost use Rattle.std.specs.Io.KnownBytes.{Appends, Keeps};
 ghost use Rattle.camel_script.specs.Line.{line_text};
 ghost use Rattle.camel_script.specs.Script.{Failed, records_left, script, still_gives};
-ghost use Rattle.camel_script_replay.specs.Limits.{max_records};
-ghost use Rattle.camel_script_replay.specs.ReplayFault.{is_replay_code};
-ghost use Rattle.camel_script_replay.specs.Output.{line_of};
+ghost use Rattle.camel_script_replay.specs.Output.{max_records, is_replay_code, line_of, AppendsProperPart, Stops};
+ghost use Rattle.camel_script_replay.specs.Output.{WritesAll};
 ghost use Rattle.camel_script_replay.specs.Store.{empty_store, store_after};
-ghost use Rattle.camel_script_replay.specs.Written.{AppendsProperPart, Stops, WritesAll};
 
 use crate::store::Store;
 use crate::write::write_all;

@@ -1,12 +1,11 @@
 ghost use Rattle.std.specs.Prelude.{◌≡◌, ◌+◌, ◌⊎◌, Some, None, IfErr, IfOk, OnErr, OnOk, length};
 ghost use Rattle.std.specs.FinMap as map;
 ghost use Rattle.std.specs.Option.{option_map};
-ghost use Rattle.camel_rows.specs.CsisPresent.{csis_of};
+ghost use Rattle.camel_rows.specs.Update.{csis_of, records_of};
 ghost use Rattle.camel_rows.specs.Store.{accepted_updates, all_published, store_refusal, with_update};
-ghost use Rattle.camel_rows.specs.Update.{records_of};
 ghost use Rattle.camel_script_replay.specs.Output.{answer_of, line_of};
-ghost use Rattle.camel_script_replay.specs.Store.{IsRefusedMemory, PublishesFirst, StoreData};
-ghost use Rattle.camel_script_replay.specs.Store.{empty_store, left_in_place, store_after};
+ghost use Rattle.camel_script_replay.specs.Store.{IsRefusedMemory, PublishesFirst, StoreData, empty_store};
+ghost use Rattle.camel_script_replay.specs.Store.{left_in_place, store_after};
 
 use crate::update_list::UpdateList;
 use camel_criteria::Refusal;
@@ -34,8 +33,7 @@ pub struct Store {
 }
 
 impl Model for Store {
-    ghost use Rattle.camel_script_replay.specs.Store.{IsSound, StoreData};
-    ghost use Rattle.camel_script_replay.specs.StoreCode.{store_code};
+    ghost use Rattle.camel_script_replay.specs.Store.{IsSound, StoreData, store_code};
 
     ghost Value = { StoreData };
 

@@ -1,6 +1,6 @@
 ghost use Rattle.std.specs.Prelude.{OnErr, OnOk};
 ghost use Rattle.std.specs.Io.KnownBytes.{Appends};
-ghost use Rattle.camel_script_replay.specs.Written.{AppendsProperPart};
+ghost use Rattle.camel_script_replay.specs.Output.{AppendsProperPart};
 
 use std::io::Write;
 

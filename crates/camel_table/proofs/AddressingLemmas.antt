@@ -3,7 +3,7 @@ use Rattle.std.proofs.Common.{◌≡◌, ◌⊎◌, ◌∙◌, ℕ, zero, suc, �
 use Rattle.std.proofs.Math.Nat.{mod-eq_of_lt, mod-lt, pow-le-pow_right, pow-succ'}
 use Rattle.std.proofs.lemmas.Bool.{cases_lt, le-ltb, lt-ltb}
 use Rattle.std.proofs.lemmas.Nat.{mod-pow-add, pow_pos}
-use Rattle.camel_table.specs.Addressing.{bucket_in}
+use Rattle.camel_table.specs.Buckets.{bucket_in}
 
 -- the place of a hash by whether there is its bucket of the next round
 pub place_wide : (level count hash : ℕ) → hash % 2 ^ (1 + level) < count → bucket_in level count hash ≡ hash % 2 ^ (1 + level)

@@ -10,9 +10,7 @@ use Rattle.std.specs.declared.cmp.Ordering.TheVariants.{Less, Equal, Greater}
 use Rattle.std.proofs.lemmas.List.{length-map, map-append}
 use Rattle.std.proofs.lemmas.Slice.Zip.{AllZip-long}
 use Rattle.camel_table.specs.ByImsi.{ByImsi, is_same, map_of}
-use Rattle.camel_table.specs.Buckets.{IsTable, table_map}
-use Rattle.camel_table.specs.Segments.{AreFull, joined}
-use Rattle.camel_table.specs.Slots.{in_slot}
+use Rattle.camel_table.specs.Buckets.{IsTable, table_map, AreFull, joined, in_slot}
 use Rattle.camel_table.proofs.BucketLemmas.{Entries}
 use Rattle.camel_table.proofs.BucketsLemmas.{bucket_at, entries-empty}
 use Rattle.camel_table.proofs.OnceLemmas.{keys_of}

@@ -3,10 +3,10 @@ use Rattle.std.proofs.Common.{◌≡◌, ◌∙◌, ℕ, Bool, true, false, T, c
 use Rattle.std.specs.FinMap as map
 use Rattle.std.specs.Option.{is_some, option_copied, option_or}
 use Rattle.std.proofs.lemmas.List.{map-append}
-use Rattle.camel_tbcd.specs.ImsiSlot.{is_in_slot}
+use Rattle.camel_tbcd.specs.Imsi.{is_in_slot}
 use Rattle.camel_table.specs.ByImsi.{map_of}
 use Rattle.camel_table.specs.Lending.{with_value_of}
-use Rattle.camel_table.specs.Slots.{in_slot}
+use Rattle.camel_table.specs.Buckets.{in_slot}
 use Rattle.camel_table.proofs.OnceLemmas.{keys_of}
 use Rattle.camel_table.proofs.BucketLemmas.{get-append, get-none, get-one, get_of_first, get_of_second, with_first, with_second}
 

@@ -1,11 +1,11 @@
 -- An item of a list in segments is found by the number of its segment and its place there.
-use Rattle.std.proofs.Common.{◌≡◌, ◌∙◌, ℕ, zero, suc, ◌+◌, ◌*◌, ◌/◌, ◌%◌, ◌-◌, ◌<◌, ◌≤◌, List, [], ◌∷◌, ◌++◌, length, slice_index_or, slice_set}
-use Rattle.std.proofs.Common.{refl, sym, ap, subst, arith, length-append}
+use Rattle.std.proofs.Common.{◌≡◌, ◌∙◌, ℕ, zero, suc, ◌+◌, ◌*◌, ◌/◌, ◌%◌, ◌-◌, ◌<◌, ◌≤◌, List, [], ◌∷◌, ◌++◌, length}
+use Rattle.std.proofs.Common.{slice_index_or, slice_set, refl, sym, ap, subst, arith, length-append}
 use Rattle.std.specs.Global.{Vec}
 use Rattle.std.proofs.lemmas.List.{append-nil, append_assoc, get_or_append_left, get_or-append_right, length-set, set-append_left, set-append_right}
 use Rattle.std.proofs.lemmas.Nat.{div-add-mod'}
 use Rattle.std.proofs.Math.Nat.{mod-lt}
-use Rattle.camel_table.specs.Segments.{AreFull, HasRoom, joined}
+use Rattle.camel_table.specs.Buckets.{AreFull, HasRoom, joined}
 
 module _ {A : Type 0} where
   -- the list goes on at a place of a segment

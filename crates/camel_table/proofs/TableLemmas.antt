@@ -1,6 +1,7 @@
 -- A table stays whole, and its map is the one that is meant, after each change of a bucket.
-use Rattle.std.proofs.Common.{◌≡◌, ◌⊎◌, ◌∙◌, ℕ, zero, suc, ◌+◌, ◌-◌, ◌*◌, ◌%◌, ◌<◌, ◌≤◌, ◌^◌, ◌==◌, Bool, true, false, cond, not, T, List, [], ◌∷◌, ◌++◌}
-use Rattle.std.proofs.Common.{Option, Some, None, length, slice_index_or, slice_set, inl, inr, refl, sym, ap, subst, arith, length-append}
+use Rattle.std.proofs.Common.{◌≡◌, ◌⊎◌, ◌∙◌, ℕ, zero, suc, ◌+◌, ◌-◌, ◌*◌, ◌%◌, ◌<◌, ◌≤◌, ◌^◌, ◌==◌, Bool, true, false}
+use Rattle.std.proofs.Common.{cond, not, T, List, [], ◌∷◌, ◌++◌, Option, Some, None, length, slice_index_or, slice_set}
+use Rattle.std.proofs.Common.{inl, inr, refl, sym, ap, subst, arith, length-append}
 use Rattle.std.specs.FinMap.{empty, get, get-empty, get-insert, get-remove, insert, len, len-empty, remove, retain_keys, same_map}
 use Rattle.std.specs.Cmp.Lexicographic.{slice_cmp, nat_list_cmp_total}
 use Rattle.std.specs.Int.{from_bool}
@@ -8,12 +9,11 @@ use Rattle.std.specs.Option.{is_some}
 use Rattle.std.specs.Ordering.{nat_cmp}
 use Rattle.std.proofs.lemmas.Map.Lookups.{exact_bytes}
 use Rattle.std.proofs.lemmas.List.{get_or_default, length-set, set-get_or}
-use Rattle.camel_tbcd.specs.ImsiNumber.{imsi_number}
+use Rattle.camel_tbcd.specs.Imsi.{imsi_number}
 use Rattle.camel_table.specs.ByImsi.{ByImsi, is_same}
-use Rattle.camel_table.specs.Buckets.{ArePlaced, IsTable, table_map}
-use Rattle.camel_table.specs.Addressing.{bucket_in, place_of}
-use Rattle.camel_table.proofs.BucketsLemmas.{all-more, divided-placed, divided-same, get-table, bucket_at}
-use Rattle.camel_table.proofs.BucketsLemmas.{none-placed, none_listed, placed-after, placed-more, table-after}
+use Rattle.camel_table.specs.Buckets.{ArePlaced, IsTable, table_map, bucket_in, place_of}
+use Rattle.camel_table.proofs.BucketsLemmas.{all-more, divided-placed, divided-same, get-table, bucket_at, none-placed}
+use Rattle.camel_table.proofs.BucketsLemmas.{none_listed, placed-after, placed-more, table-after}
 use Rattle.camel_table.proofs.CountLemmas.{inserted_counted, removed_counted, replaced_counted}
 use Rattle.camel_table.proofs.AddressingLemmas.{Moves, place_below, place_more, shifted_one, some_power}
 

@@ -34,7 +34,7 @@ impl<S> Addressing<S> {
 }
 
 impl<S: BuildHasher> Addressing<S> {
-    ghost use Rattle.camel_table.specs.Addressing.{hash_of, bucket_in};
+    ghost use Rattle.camel_table.specs.Buckets.{hash_of, bucket_in};
 
     /// The number of its bucket, from 0.
     pub(crate) fn bucket(&self, number: u64) -> usize

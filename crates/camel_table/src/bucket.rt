@@ -4,7 +4,7 @@ ghost use Rattle.std.specs.Borrow.{sem};
 ghost use Rattle.std.specs.FinMap as map;
 ghost use Rattle.std.specs.Option.{is_some, option_copied, option_map};
 ghost use Rattle.camel_table.specs.ByImsi.{ListsEachOnceMore, is_same, map_of};
-ghost use Rattle.camel_table.specs.Addressing.{is_at};
+ghost use Rattle.camel_table.specs.Buckets.{is_at};
 ghost use Rattle.camel_table.specs.Lending.{lends_value};
 
 use crate::addressing::Addressing;

@@ -1,7 +1,7 @@
 ghost use Rattle.std.specs.Prelude.{◌≡◌, ◌≤◌};
 ghost use Rattle.std.specs.Borrow.{sem};
 ghost use Rattle.camel_table.specs.ByImsi.{is_same};
-ghost use Rattle.camel_table.specs.Addressing.{is_at};
+ghost use Rattle.camel_table.specs.Buckets.{is_at};
 ghost use Rattle.camel_table.specs.Lending.{lends_entry};
 
 use crate::addressing::Addressing;

@@ -3,7 +3,7 @@ ghost use Rattle.std.specs.Prelude.{option_to_list, IsSome, OnOk, Some};
 ghost use Rattle.std.specs.Borrow.{sem};
 ghost use Rattle.std.specs.FinMap as map;
 ghost use Rattle.std.specs.Option.{option_copied};
-ghost use Rattle.camel_table.specs.Addressing.{is_at};
+ghost use Rattle.camel_table.specs.Buckets.{is_at};
 ghost use Rattle.camel_table.specs.ByImsi.{is_same, map_of};
 ghost use Rattle.camel_table.specs.Lending.{lends_inline};
 
@@ -34,7 +34,7 @@ pub(crate) struct InlineEntries<V> {
 
 impl<V> Model for InlineEntries<V> {
     ghost use Rattle.std.specs.Prelude.{ℕ, List, ◌++◌};
-    ghost use Rattle.camel_table.specs.Slots.{in_slot};
+    ghost use Rattle.camel_table.specs.Buckets.{in_slot};
 
     ghost Value = { List (List ℕ × V) };
 

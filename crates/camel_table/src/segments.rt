@@ -2,7 +2,7 @@ ghost use Rattle.std.specs.Prelude.{◌≡◌, ◌<◌, ◌^◌, ◌+◌, ◌/�
 ghost use Rattle.std.specs.Prelude.{vec_len, OnErr, OnOk};
 ghost use Rattle.std.specs.Borrow.{sem};
 ghost use Rattle.camel_table.specs.Lending.{lends_item};
-ghost use Rattle.camel_table.specs.Segments.{AreFull, HasRoom, joined, segment};
+ghost use Rattle.camel_table.specs.Buckets.{AreFull, HasRoom, joined, segment};
 
 use std::alloc::{AllocError, Global};
 use std::marker::Model;
@@ -22,7 +22,7 @@ pub struct Segments<T> {
 
 impl<T> Model for Segments<T> {
     ghost use Rattle.std.specs.Prelude.{◌≡◌, List, length};
-    ghost use Rattle.camel_table.specs.Segments.{AreFull, joined};
+    ghost use Rattle.camel_table.specs.Buckets.{AreFull, joined};
 
     ghost Value = { List T };
 

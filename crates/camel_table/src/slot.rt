@@ -3,9 +3,8 @@
 
 ghost use Rattle.std.specs.Prelude.{◌≡◌, ◌≤◌, not, filter};
 ghost use Rattle.std.specs.Option.{is_none};
-ghost use Rattle.camel_table.specs.Addressing.{is_at};
+ghost use Rattle.camel_table.specs.Buckets.{is_at, in_slot};
 ghost use Rattle.camel_table.specs.ByImsi.{is_same};
-ghost use Rattle.camel_table.specs.Slots.{in_slot};
 
 use crate::addressing::Addressing;
 use camel_tbcd::{Imsi, ImsiSlot};

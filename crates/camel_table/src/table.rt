@@ -38,8 +38,7 @@ impl<V, S: BuildHasher> Model for Table<V, S> {
     ghost use Rattle.std.specs.FinMap as map;
     ghost use Rattle.std.specs.Coded.{coded_ℕ, coded_list};
     ghost use Rattle.camel_table.specs.ByImsi.{ByImsi};
-    ghost use Rattle.camel_table.specs.Buckets.{IsTable, table_map};
-    ghost use Rattle.camel_table.specs.Addressing.{hash_of};
+    ghost use Rattle.camel_table.specs.Buckets.{IsTable, table_map, hash_of};
 
     ghost Value = { ByImsi V };
 

@@ -4,7 +4,7 @@ use Rattle.std.proofs.Math.Arith.{mod-mul}
 use Rattle.std.proofs.Math.Nat.{add-mul, div-div-eq-div-mul, div-one, mul-le-mul_right, mul_assoc, one-le-pow, pow-suc, pow-succ'}
 use Rattle.std.proofs.lemmas.List.Elements.{All-cons, All-head, All-nil, All-tail}
 use Rattle.std.proofs.lemmas.Nat.{div-mul-add, mod-mul-add}
-use Rattle.camel_tbcd.specs.ImsiNumber.{last_digits, with_digits}
+use Rattle.camel_tbcd.specs.Imsi.{last_digits, with_digits}
 
 abbrev pub IsDigit : ℕ → Type 0
 IsDigit digit = digit ≤ 9

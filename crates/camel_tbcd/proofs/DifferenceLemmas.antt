@@ -2,8 +2,7 @@
 use Rattle.std.proofs.Common.{◌≡◌, ◌∙◌, ℕ, ◌+◌, ◌*◌, ◌≤◌, ◌↔◌, List, length, take, All, get_or, bit_xor, sym, ap, arith, inl, inr}
 use Rattle.std.proofs.lemmas.Bool.{cases_lt}
 use Rattle.std.proofs.lemmas.List.{get_or-take, length-take, take_all}
-use Rattle.camel_tbcd.specs.Digits.{digits}
-use Rattle.camel_tbcd.specs.PackedDigits.{first_nibbles, packed_digits}
+use Rattle.camel_tbcd.specs.AddressString.{digits, first_nibbles, packed_digits}
 use Rattle.camel_tbcd.proofs.FirstNibbleLemmas.{filler_behind, first_digits, no_filler}
 use Rattle.camel_tbcd.proofs.FirstNumberLemmas.{same_first}
 use Rattle.camel_tbcd.proofs.NibbleLemmas.{IsOctet}

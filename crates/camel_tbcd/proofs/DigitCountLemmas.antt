@@ -1,11 +1,11 @@
 -- The first filler of the first nibbles of an address ends its digits.
-use Rattle.std.proofs.Common.{◌≡◌, ◌∙◌, ℕ, zero, suc, ◌+◌, ◌*◌, ◌/◌, ◌%◌, ◌==◌, ◌<◌, ◌^◌, false, List, [], ◌∷◌, All, drop, length, get_or, min}
-use Rattle.std.proofs.Common.{slice_index, sym, ap, arith, inl, inr}
+use Rattle.std.proofs.Common.{◌≡◌, ◌∙◌, ℕ, zero, suc, ◌+◌, ◌*◌, ◌/◌, ◌%◌, ◌==◌, ◌<◌, ◌^◌, false, List, [], ◌∷◌, All}
+use Rattle.std.proofs.Common.{drop, length, get_or, min, slice_index, sym, ap, arith, inl, inr}
 use Rattle.std.proofs.Math.Nat.{div-div-eq-div-mul, div-one, pow-succ'}
 use Rattle.std.proofs.lemmas.Bool.{cases_lt, ne_eqb}
 use Rattle.std.proofs.lemmas.List.Elements.{All-head, All-tail}
-use Rattle.camel_tbcd.specs.Digits.{digits, nibbles}
-use Rattle.camel_tbcd.specs.PackedDigits.{IsFirstFiller, first_nibbles, nibble_at, packed, packed_digits}
+use Rattle.camel_tbcd.specs.AddressString.{digits, nibbles, IsFirstFiller, first_nibbles, nibble_at, packed}
+use Rattle.camel_tbcd.specs.AddressString.{packed_digits}
 use Rattle.camel_tbcd.proofs.DigitLemmas.{get-digits, same_in_fronts}
 use Rattle.camel_tbcd.proofs.FirstNibbleLemmas.{filler_behind, first_digits, no_filler}
 use Rattle.camel_tbcd.proofs.FirstNumberLemmas.{first_small}

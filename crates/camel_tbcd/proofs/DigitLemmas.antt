@@ -1,6 +1,7 @@
 -- Where the nibbles of octets are.
-use Rattle.std.proofs.Common.{◌≡◌, ◌≤◌, ◌<◌, ℕ, zero, suc, ◌+◌, ◌-◌, ◌*◌, ◌/◌, ◌%◌, ◌==◌, false, true, ◌↔◌, IsTrue, List, [], ◌∷◌, ◌++◌, length, take, drop}
-use Rattle.std.proofs.Common.{get_or, slice_index, min, nat_eq, refl, sym, ap, ◌∙◌, arith, below_more}
+use Rattle.std.proofs.Common.{◌≡◌, ◌≤◌, ◌<◌, ℕ, zero, suc, ◌+◌, ◌-◌, ◌*◌, ◌/◌, ◌%◌, ◌==◌, false, true, ◌↔◌, IsTrue}
+use Rattle.std.proofs.Common.{List, [], ◌∷◌, ◌++◌, length, take, drop, get_or, slice_index, min, nat_eq, refl, sym, ap}
+use Rattle.std.proofs.Common.{◌∙◌, arith, below_more}
 use Rattle.std.proofs.lemmas.Bool.{eq-eqb, ne_eqb}
 use Rattle.std.proofs.lemmas.Grind.{get_or_after_one}
 use Rattle.std.proofs.lemmas.List.{get_or-take, length-drop, length-take, length-take-le, take-append-drop}
@@ -10,7 +11,7 @@ use Rattle.std.proofs.Math.Seq.{take-append_seam, take-suc, take-suc-set}
 use Rattle.std.specs.Cmp.Lexicographic.{bytes_decides}
 use Rattle.std.specs.List.{position_or_len, starts_with}
 use mathlib.Core.List.{IsPrefix}
-use Rattle.camel_tbcd.specs.Digits.{digits, nibbles}
+use Rattle.camel_tbcd.specs.AddressString.{digits, nibbles}
 
 pub length-nibbles : (octets : List ℕ) → length (nibbles octets) ≡ 2 * length octets
 length-nibbles [] = refl

@@ -1,7 +1,7 @@
 -- Octets with fillers behind them, and their nibbles.
 use Rattle.std.proofs.Common.{◌≡◌, ℕ, zero, suc, ◌+◌, ◌/◌, ◌%◌, ◌≤◌, List, [], ◌∷◌, ◌++◌, length, take, replicate, refl, sym, ap, arith}
 use Rattle.std.proofs.lemmas.List.{take_all}
-use Rattle.camel_tbcd.specs.Digits.{nibbles}
+use Rattle.camel_tbcd.specs.AddressString.{nibbles}
 
 -- the nibbles of the first octets are twice as many of the first nibbles
 pub nibbles-take : (count twice : ℕ) (octets : List ℕ) → twice ≡ count + count → nibbles (take count octets) ≡ take twice (nibbles octets)

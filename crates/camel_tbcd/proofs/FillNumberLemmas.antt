@@ -4,7 +4,7 @@ use Rattle.std.proofs.Math.Nat.{mul-suc, mul_assoc, pow-succ'}
 use Rattle.std.proofs.Math.Seq.{take-append-add}
 use Rattle.std.proofs.lemmas.List.{take-replicate}
 use Rattle.std.proofs.lemmas.Nat.{pow-add}
-use Rattle.camel_tbcd.specs.PackedDigits.{packed}
+use Rattle.camel_tbcd.specs.AddressString.{packed}
 
 packed-append : (some more : List ℕ) → packed (some ++ more) ≡ packed some + 16 ^ length some * packed more
 packed-append [] more = omega arith

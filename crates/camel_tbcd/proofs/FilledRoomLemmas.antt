@@ -5,9 +5,7 @@ use Rattle.std.proofs.lemmas.List.{drop_more, get_or-take, get_or_append_left, g
 use Rattle.std.proofs.lemmas.List.Elements.{All-append, All-drop, All-get_or, All-replicate, All-take}
 use Rattle.std.proofs.lemmas.Nat.{le_bytes_8}
 use Rattle.std.specs.Int.{to_le_bytes, w64}
-use Rattle.camel_tbcd.specs.Digits.{nibbles}
-use Rattle.camel_tbcd.specs.PackedDigits.{packed, packed_digits}
-use Rattle.camel_tbcd.specs.ShortList.{room_with}
+use Rattle.camel_tbcd.specs.AddressString.{nibbles, packed, packed_digits, room_with}
 use Rattle.camel_tbcd.proofs.NibbleLemmas.{IsOctet}
 use Rattle.camel_tbcd.proofs.RoomLemmas.{from_le_bytes-8, length-room, packed_digits-room}
 

@@ -3,7 +3,7 @@ use Rattle.std.proofs.Common.{◌≡◌, ◌∙◌, ℕ, zero, suc, ◌+◌, ◌
 use Rattle.std.proofs.Math.Nat.{div-div-eq-div-mul, div-one, pow-le-pow_right, pow-succ'}
 use Rattle.std.proofs.lemmas.List.{append_assoc, drop-set}
 use Rattle.std.proofs.lemmas.Nat.{div-mul-add, mod-mul-add}
-use Rattle.camel_tbcd.specs.ImsiNumber.{last_digits}
+use Rattle.camel_tbcd.specs.Imsi.{last_digits}
 use Rattle.camel_tbcd.proofs.DecimalLemmas.{length-last}
 
 -- the last digit stands behind those of a tenth

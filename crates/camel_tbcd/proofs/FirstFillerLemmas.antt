@@ -6,7 +6,7 @@ use Rattle.std.proofs.lemmas.Nat.Bits.{bit_at-trailing_zeros, bit_at-zero, bit_a
 use Rattle.std.specs.Int.{bit_at, trailing_zeros, w64}
 use Rattle.std.specs.Int.Bits.{bit_and}
 use Rattle.std.specs.Int.Count.{trailing_of_zero}
-use Rattle.camel_tbcd.specs.PackedDigits.{IsFirstFiller, nibble_at}
+use Rattle.camel_tbcd.specs.AddressString.{IsFirstFiller, nibble_at}
 use Rattle.camel_tbcd.proofs.FillerBitLemmas.{four_ones, four_ones_at}
 use Rattle.camel_tbcd.proofs.LowestBitLemmas.{lowest_at, lowest_bits, lowest_only}
 use Rattle.camel_tbcd.proofs.ShiftLemmas.{pow-16}

@@ -4,8 +4,7 @@ use Rattle.std.proofs.lemmas.Bool.{cases_lt, eqb-false, eqb-true}
 use Rattle.std.proofs.lemmas.List.{get_or-append-add, get_or-take, get_or_append_left, length-take, take-append-le, take-take}
 use Rattle.std.proofs.lemmas.List.Sums.{fails_before_first, passes_at_first}
 use Rattle.std.specs.List.{position_or_len}
-use Rattle.camel_tbcd.specs.Digits.{digits, nibbles}
-use Rattle.camel_tbcd.specs.PackedDigits.{first_nibbles}
+use Rattle.camel_tbcd.specs.AddressString.{digits, nibbles, first_nibbles}
 use Rattle.camel_tbcd.proofs.DigitLemmas.{get-digits}
 
 -- the first 16 digits are in octets 2 to 9

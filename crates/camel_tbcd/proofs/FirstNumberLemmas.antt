@@ -2,8 +2,7 @@
 use Rattle.std.proofs.Common.{◌≡◌, ◌∙◌, ℕ, ◌%◌, ◌≤◌, ◌^◌, ◌↔◌, List, length, take, drop, replicate, All, sym, ap, arith}
 use Rattle.std.proofs.lemmas.List.{length-append, length-replicate, length-take-le}
 use Rattle.std.proofs.lemmas.List.Elements.{All-append, All-drop, All-replicate, All-take}
-use Rattle.camel_tbcd.specs.Digits.{nibbles}
-use Rattle.camel_tbcd.specs.PackedDigits.{first_nibbles, packed, packed_digits}
+use Rattle.camel_tbcd.specs.AddressString.{nibbles, first_nibbles, packed, packed_digits}
 use Rattle.camel_tbcd.proofs.NibbleLemmas.{All-nibbles, IsNibble, IsOctet, packed-mod, same_from_packed}
 
 -- octets 2 to 9 hold 16 nibbles, or fillers

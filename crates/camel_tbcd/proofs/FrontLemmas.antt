@@ -4,9 +4,7 @@ use Rattle.std.proofs.lemmas.Bool.Decides.{Decides-and, Decides-eqb, Decides-lik
 use Rattle.std.proofs.lemmas.Nat.{le_or_l, le_or_r}
 use Rattle.std.specs.Cmp.Lexicographic.{bytes_decides}
 use Rattle.std.specs.List.{starts_with}
-use Rattle.camel_tbcd.specs.Digits.{digits}
-use Rattle.camel_tbcd.specs.PackedDigits.{packed_digits}
-use Rattle.camel_tbcd.specs.Profile.{Agree, agrees}
+use Rattle.camel_tbcd.specs.AddressString.{digits, packed_digits, Agree, agrees}
 use Rattle.camel_tbcd.specs.declared.profile.Profile.{Profile}
 use Rattle.camel_tbcd.proofs.BitDifferenceLemmas.{twice_shifted}
 use Rattle.camel_tbcd.proofs.DifferenceLemmas.{first_if_none_differs}

@@ -6,8 +6,7 @@ use Rattle.std.proofs.lemmas.Nat.{div-mul-add, mod-mul-add}
 use Rattle.std.proofs.lemmas.Slice.Eq.{slice_eq-Decides}
 use Rattle.std.specs.Cmp.Lexicographic.{pointwise, slice_cmp, texts_ties}
 use Rattle.std.specs.Ordering.{eq_by_cmp, nat_cmp}
-use Rattle.camel_tbcd.specs.Imsi.{IsImsi}
-use Rattle.camel_tbcd.specs.ImsiNumber.{digits_of_number, imsi_number, last_digits, with_digits}
+use Rattle.camel_tbcd.specs.Imsi.{IsImsi, digits_of_number, imsi_number, last_digits, with_digits}
 use Rattle.camel_tbcd.proofs.DecimalLemmas.{below, digits_back}
 
 -- the decimal value of an IMSI is below the power of its count of digits, and fits in 56 bits

@@ -1,10 +1,7 @@
 -- A slot has an IMSI exactly if it has its number, since that of an IMSI is not 0.
 use Rattle.std.proofs.Common.{◌≡◌, ◌∙◌, ℕ, ◌≤◌, true, false, cond, nat_eq, List, [], Some, None, IfSome, length, sym, ap, ap₂, subst, refl, arith}
 use Rattle.std.proofs.lemmas.Bool.{eqb-true}
-use Rattle.camel_tbcd.specs.Imsi.{IsImsi}
-use Rattle.camel_tbcd.specs.ImsiNumber.{imsi_number}
-use Rattle.camel_tbcd.specs.ImsiSlot.{imsi_of_number, is_in_slot}
-use Rattle.camel_tbcd.specs.ImsiNumber.{digits_of_number}
+use Rattle.camel_tbcd.specs.Imsi.{IsImsi, imsi_number, imsi_of_number, is_in_slot, digits_of_number}
 use Rattle.camel_tbcd.proofs.ImsiNumberLemmas.{same_by_order, digits_of_imsi}
 
 some_number : (imsi : List ℕ) → IsImsi imsi → imsi_number imsi ≡ 0 → ⊥

@@ -1,8 +1,7 @@
 -- Which numbers are those of IMSIs, and of which.
 use Rattle.std.proofs.Common.{◌≡◌, ◌∙◌, ℕ, ◌+◌, ◌*◌, ◌/◌, ◌%◌, ◌<◌, ◌≤◌, ◌^◌, length, sym, ap, arith}
 use Rattle.std.proofs.Math.Nat.{mod-eq_of_lt}
-use Rattle.camel_tbcd.specs.Imsi.{IsImsi}
-use Rattle.camel_tbcd.specs.ImsiNumber.{IsNumberOfNone, digits_of_number, imsi_number, last_digits, with_digits}
+use Rattle.camel_tbcd.specs.Imsi.{IsImsi, IsNumberOfNone, digits_of_number, imsi_number, last_digits, with_digits}
 use Rattle.camel_tbcd.proofs.DecimalLemmas.{digits-last, length-last, value_back}
 use Rattle.camel_tbcd.proofs.ImsiNumberLemmas.{bounds, count_of, value_of}
 

@@ -1,8 +1,7 @@
 -- The number of digits says whether two fronts of digits are the same.
 use Rattle.std.proofs.Common.{◌≡◌, ◌∙◌, ℕ, ◌-◌, ◌*◌, ◌%◌, ◌≤◌, ◌^◌, ◌↔◌, List, length, take, All, sym, ap, arith}
 use Rattle.std.proofs.Math.Nat.{eq_of_mul-eq-mul_right, one-le-pow}
-use Rattle.camel_tbcd.specs.Digits.{digits}
-use Rattle.camel_tbcd.specs.PackedDigits.{packed_digits}
+use Rattle.camel_tbcd.specs.AddressString.{digits, packed_digits}
 use Rattle.camel_tbcd.proofs.FirstNibbleLemmas.{first_digits}
 use Rattle.camel_tbcd.proofs.FirstNumberLemmas.{same_first}
 use Rattle.camel_tbcd.proofs.NibbleLemmas.{IsOctet}

@@ -6,8 +6,7 @@ use Rattle.std.proofs.lemmas.Nat.{and_mask, xor_mod, xor_shr}
 use Rattle.std.proofs.lemmas.Nat.Bits.{and_high}
 use Rattle.std.specs.Bool.{Decides}
 use Rattle.camel_tbcd.proofs.BitDifferenceLemmas.{no_bit_differs}
-use Rattle.camel_tbcd.specs.Nature.{nature_of, plan_of}
-use Rattle.camel_tbcd.specs.Profile.{Agree, agrees, compared_bits, plans_agree}
+use Rattle.camel_tbcd.specs.AddressString.{nature_of, plan_of, Agree, agrees, compared_bits, plans_agree}
 use Rattle.camel_tbcd.specs.declared.profile.Profile.{Profile}
 use Rattle.camel_tbcd.specs.declared.profile.Profile.TheVariants.{One, Two}
 

@@ -2,9 +2,7 @@
 use Rattle.std.proofs.Common.{◌≡◌, ◌∙◌, ℕ, ◌+◌, ◌-◌, ◌≤◌, List, [], ◌∷◌, ◌++◌, length, take, drop, replicate, get_or, refl, ap, arith}
 use Rattle.std.proofs.lemmas.List.{drop-replicate, length-append, length-drop, length-replicate}
 use Rattle.std.specs.Int.{from_le_bytes, w64}
-use Rattle.camel_tbcd.specs.Digits.{nibbles}
-use Rattle.camel_tbcd.specs.PackedDigits.{first_nibbles, packed, packed_digits}
-use Rattle.camel_tbcd.specs.ShortList.{room_with}
+use Rattle.camel_tbcd.specs.AddressString.{nibbles, first_nibbles, packed, packed_digits, room_with}
 use Rattle.camel_tbcd.proofs.DigitLemmas.{length-nibbles}
 use Rattle.camel_tbcd.proofs.FillLemmas.{nibbles-append, nibbles-fill, nibbles-take, take-fill}
 

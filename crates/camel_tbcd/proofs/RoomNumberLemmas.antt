@@ -4,8 +4,7 @@ use Rattle.std.proofs.Math.Nat.{mod-eq_of_lt, pow-le-pow_right}
 use Rattle.std.proofs.lemmas.List.{drop-take, length-drop, length-take-le, take-append-le, take-take}
 use Rattle.std.proofs.lemmas.List.Elements.{All-drop, All-take}
 use Rattle.std.proofs.lemmas.Nat.Bits.{ones_shl}
-use Rattle.camel_tbcd.specs.Digits.{nibbles}
-use Rattle.camel_tbcd.specs.PackedDigits.{first_nibbles, packed, packed_digits}
+use Rattle.camel_tbcd.specs.AddressString.{nibbles, first_nibbles, packed, packed_digits}
 use Rattle.camel_tbcd.proofs.DigitLemmas.{length-nibbles}
 use Rattle.camel_tbcd.proofs.FillLemmas.{nibbles-take}
 use Rattle.camel_tbcd.proofs.FillNumberLemmas.{filled}

@@ -1,11 +1,16 @@
--- An IMSI, as the list of its digits (TS 23.003; the least number of digits is that of 3 octets with a
--- filler, the least size that TS 29.002 gives an IMSI).
-use Rattle.std.specs.Prelude.{ℕ, ◌≤◌, ◌-◌, ◌==◌, ◌&&◌, not, nat_le, nat_lt, List, length, map, position, slice_index, take, All, Option, Some, None, Result}
-use Rattle.std.specs.Prelude.{Ok, Err, if◌then◌else◌}
+-- IMSIs: the lists of digits that they are, and the numbers that they are kept as.
+use Rattle.std.specs.Prelude.{ℕ, ◌≤◌, ◌-◌, ◌==◌, ◌&&◌, not, nat_le, nat_lt, List, length, map, position, slice_index}
+use Rattle.std.specs.Prelude.{take, All, Option, Some, None, Result, Ok, Err, if◌then◌else◌, ◌≢◌, zero, suc, ◌+◌, ◌*◌}
+use Rattle.std.specs.Prelude.{◌/◌, ◌%◌, ◌^◌, [], ◌∷◌, nat_eq, Bool, false}
 use Rattle.std.specs.Char.{is_ascii_digit}
-use Rattle.camel_tbcd.specs.Digits.{filler, nibbles}
+use Rattle.std.specs.Cmp.Lexicographic.{slice_cmp}
+use Rattle.std.specs.Ordering.{eq_by_cmp, nat_cmp}
+use Rattle.camel_tbcd.specs.AddressString.{filler, nibbles}
 use Rattle.camel_tbcd.specs.declared.imsi.ImsiFault.{ImsiFault}
 use Rattle.camel_tbcd.specs.declared.imsi.ImsiFault.TheVariants.{Length, NotDigit}
+
+-- An IMSI, as the list of its digits (TS 23.003; the least number of digits is that of 3 octets with a
+-- filler, the least size that TS 29.002 gives an IMSI).
 
 -- 5 to 15 decimal digits
 pub record IsImsi (digits : List ℕ) : Type 0 where
@@ -50,3 +55,44 @@ abbrev pub imsi_of_tbcd : List ℕ → Result (List ℕ) ImsiFault
 imsi_of_tbcd octets =
     if nat_le 3 (length octets) && nat_le (length octets) 8 then imsi_of_nibbles (without_filler (nibbles octets))
     else Err Length
+
+-- The numbers of the faults of an IMSI.
+
+abbrev pub imsi_fault_code : ImsiFault → ℕ
+imsi_fault_code Length = 1
+imsi_fault_code (NotDigit at) = 2
+
+-- An IMSI as one number of 64 bits, by which two are compared in one step.
+
+-- a number with decimal digits behind its own
+abbrev pub with_digits : ℕ → List ℕ → ℕ
+with_digits number [] = number
+with_digits number (digit ∷ digits) = with_digits (number * 10 + digit) digits
+
+-- the number of an IMSI: how many digits it has, above their decimal value in 56 bits
+abbrev pub imsi_number : List ℕ → ℕ
+imsi_number digits = length digits * 2 ^ 56 + with_digits 0 digits
+
+-- a number is that of no IMSI
+abbrev pub IsNumberOfNone : ℕ → Type 0
+IsNumberOfNone number = (digits : List ℕ) → IsImsi digits → imsi_number digits ≢ number
+
+-- the last digits of a decimal value, the first one first
+abbrev pub last_digits : ℕ → ℕ → List ℕ
+last_digits zero value = []
+last_digits (suc count) value = value / 10 ^ count % 10 ∷ last_digits count value
+
+-- the digits of which a number is the number
+abbrev pub digits_of_number : ℕ → List ℕ
+digits_of_number number = last_digits (number / 2 ^ 56) (number % 2 ^ 56)
+
+-- An IMSI or none, by one number, which is 0 if there is none.
+
+-- the IMSI of a number
+abbrev pub imsi_of_number : ℕ → Option (List ℕ)
+imsi_of_number number = if nat_eq number 0 then None else Some (digits_of_number number)
+
+-- whether a slot has this IMSI
+abbrev pub is_in_slot : List ℕ → Option (List ℕ) → Bool
+is_in_slot imsi None = false
+is_in_slot imsi (Some digits) = eq_by_cmp (slice_cmp nat_cmp) imsi digits

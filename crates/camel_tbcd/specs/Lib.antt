@@ -1,14 +1,3 @@
 pub mod Address
-pub mod AddressFault
-pub mod AddressLength
-pub mod DigitList
-pub mod Digits
+pub mod AddressString
 pub mod Imsi
-pub mod ImsiFault
-pub mod ImsiNumber
-pub mod ImsiSlot
-pub mod IsdnAddress
-pub mod Nature
-pub mod PackedDigits
-pub mod Profile
-pub mod ShortList

@@ -1,8 +1,6 @@
 ghost use Rattle.std.specs.Prelude.{◌≡◌, ◌≤◌, ◌<◌, ◌↔◌, [], ◌∷◌, length, take, IfOk, IsTrue, IsErrOf, OnOk};
-ghost use Rattle.camel_tbcd.specs.Nature.{nature_of, plan_of};
-ghost use Rattle.camel_tbcd.specs.AddressFault.{address_fault_code};
-ghost use Rattle.camel_tbcd.specs.AddressLength.{IsAddress, max_address_length};
-ghost use Rattle.camel_tbcd.specs.Profile.{Agree, agrees, compared_bits};
+ghost use Rattle.camel_tbcd.specs.AddressString.{nature_of, plan_of, address_fault_code, IsAddress, max_address_length};
+ghost use Rattle.camel_tbcd.specs.AddressString.{Agree, agrees, compared_bits};
 
 use crate::digits::Digits;
 use crate::profile::Profile;
@@ -56,9 +54,8 @@ pub struct Address<'a> {
 }
 
 impl<'a> Address<'a> {
-    ghost use Rattle.camel_tbcd.specs.Address.{octets};
-    ghost use Rattle.camel_tbcd.specs.DigitList.{digit_list};
-    ghost use Rattle.camel_tbcd.specs.Digits.{digits};
+    ghost use Rattle.camel_tbcd.specs.Address.{octets, digit_list};
+    ghost use Rattle.camel_tbcd.specs.AddressString.{digits};
 
     /// Borrows octets as an address.
     ///

@@ -1,6 +1,6 @@
 ghost use Rattle.std.specs.Prelude.{◌≡◌, ◌<◌, ◌↔◌, length, IfOk, IsErrOf};
 ghost use Rattle.camel_tbcd.specs.Address.{octets};
-ghost use Rattle.camel_tbcd.specs.AddressLength.{IsAddress, max_address_length};
+ghost use Rattle.camel_tbcd.specs.AddressString.{IsAddress, max_address_length};
 
 use crate::address::{Address, AddressFault, MAX_ADDRESS_LENGTH, check_length};
 use crate::digits::{Digits, room_number};
@@ -17,7 +17,7 @@ pub struct CallAddress {
 
 impl Model for CallAddress {
     ghost use Rattle.std.specs.Prelude.{ℕ, List};
-    ghost use Rattle.camel_tbcd.specs.AddressLength.{IsAddress, max_address_length};
+    ghost use Rattle.camel_tbcd.specs.AddressString.{IsAddress, max_address_length};
 
     ghost Value = { List ℕ };
 

@@ -1,10 +1,9 @@
-ghost use Rattle.std.specs.Prelude.{◌≡◌, ◌≤◌, ◌<◌, ◌↔◌, [], All, IsTrue, drop, length, nat_eq, take};
-ghost use Rattle.std.specs.Prelude.{slice_get, slice_index};
+ghost use Rattle.std.specs.Prelude.{◌≡◌, ◌≤◌, ◌<◌, ◌↔◌, [], All, IsTrue, drop, length, nat_eq, take, slice_get};
+ghost use Rattle.std.specs.Prelude.{slice_index};
 ghost use Rattle.std.specs.List.{starts_with};
 ghost use mathlib.Core.List.{IsPrefix};
-ghost use Rattle.camel_tbcd.specs.AddressLength.{IsAddress, max_address_length};
-ghost use Rattle.camel_tbcd.specs.Digits.{digits, nibbles};
-ghost use Rattle.camel_tbcd.specs.PackedDigits.{IsFirstFiller, packed, packed_digits};
+ghost use Rattle.camel_tbcd.specs.AddressString.{IsAddress, max_address_length, digits, nibbles, IsFirstFiller, packed};
+ghost use Rattle.camel_tbcd.specs.AddressString.{packed_digits};
 
 use crate::address::MAX_ADDRESS_LENGTH;
 use crate::short_list::ShortList;
@@ -23,7 +22,7 @@ pub struct Digits<'a> {
 }
 
 impl<'a> Digits<'a> {
-    ghost use Rattle.camel_tbcd.specs.DigitList.{digit_list};
+    ghost use Rattle.camel_tbcd.specs.Address.{digit_list};
 
     // The digits of an address of these octets.
     pub(crate) fn of_address(bytes: &'a [u8]) -> Digits<'a>

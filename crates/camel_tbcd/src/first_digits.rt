@@ -1,5 +1,5 @@
 ghost use Rattle.std.specs.Prelude.{◌≡◌, ◌≤◌, ◌<◌, ◌++◌, ◌∷◌, [], length};
-ghost use Rattle.camel_tbcd.specs.ImsiNumber.{imsi_number};
+ghost use Rattle.camel_tbcd.specs.Imsi.{imsi_number};
 
 use crate::imsi::VALUE_BITS;
 use std::marker::Model;
@@ -13,7 +13,7 @@ pub(crate) struct FirstDigits {
 
 impl Model for FirstDigits {
     ghost use Rattle.std.specs.Prelude.{ℕ, List, ◌<◌, ◌≤◌, ◌^◌};
-    ghost use Rattle.camel_tbcd.specs.ImsiNumber.{last_digits};
+    ghost use Rattle.camel_tbcd.specs.Imsi.{last_digits};
 
     ghost Value = { List ℕ };
 

@@ -4,11 +4,9 @@ ghost use Rattle.std.specs.Ordering.{nat_cmp, as_partial_cmp};
 ghost use Rattle.std.specs.Cmp.{partial_equiv_from_equiv, partial_order_from_agreeing_total};
 ghost use Rattle.std.specs.Cmp.Lexicographic.{slice_cmp, pointwise, nat_list_cmp_total, nat_list_eq_equiv, texts_ties};
 ghost use Rattle.std.proofs.Common.{refl};
-ghost use Rattle.camel_tbcd.specs.Digits.{nibbles};
+ghost use Rattle.camel_tbcd.specs.AddressString.{nibbles};
 ghost use Rattle.camel_tbcd.specs.Imsi.{IsImsi, digit_values, imsi_of, imsi_of_ascii, imsi_of_nibbles, imsi_of_tbcd};
-ghost use Rattle.camel_tbcd.specs.Imsi.{without_filler};
-ghost use Rattle.camel_tbcd.specs.ImsiNumber.{IsNumberOfNone, digits_of_number, imsi_number};
-ghost use Rattle.camel_tbcd.specs.ImsiFault.{imsi_fault_code};
+ghost use Rattle.camel_tbcd.specs.Imsi.{without_filler, IsNumberOfNone, digits_of_number, imsi_number, imsi_fault_code};
 
 use crate::digits::FILLER;
 use crate::first_digits::FirstDigits;
@@ -75,8 +73,7 @@ pub struct Imsi {
 impl Model for Imsi {
     ghost use Rattle.std.specs.Prelude.{◌≡◌, ℕ, List};
     ghost use Rattle.std.proofs.Common.{sym};
-    ghost use Rattle.camel_tbcd.specs.Imsi.{IsImsi};
-    ghost use Rattle.camel_tbcd.specs.ImsiNumber.{digits_of_number, imsi_number};
+    ghost use Rattle.camel_tbcd.specs.Imsi.{IsImsi, digits_of_number, imsi_number};
 
     ghost Value = { List ℕ };
 

@@ -1,5 +1,5 @@
 ghost use Rattle.std.specs.Prelude.{◌≡◌, ◌≤◌};
-ghost use Rattle.camel_tbcd.specs.ImsiNumber.{last_digits};
+ghost use Rattle.camel_tbcd.specs.Imsi.{last_digits};
 
 use crate::imsi::MAX_IMSI_DIGITS;
 use crate::short_list::ShortList;

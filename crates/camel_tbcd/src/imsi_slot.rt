@@ -1,5 +1,5 @@
 ghost use Rattle.std.specs.Prelude.{◌≡◌, None, Some};
-ghost use Rattle.camel_tbcd.specs.ImsiSlot.{is_in_slot};
+ghost use Rattle.camel_tbcd.specs.Imsi.{is_in_slot};
 
 use crate::imsi::Imsi;
 use std::marker::Model;
@@ -15,9 +15,7 @@ pub struct ImsiSlot {
 
 impl Model for ImsiSlot {
     ghost use Rattle.std.specs.Prelude.{◌≡◌, ℕ, List, Option, IfSome};
-    ghost use Rattle.camel_tbcd.specs.Imsi.{IsImsi};
-    ghost use Rattle.camel_tbcd.specs.ImsiNumber.{imsi_number};
-    ghost use Rattle.camel_tbcd.specs.ImsiSlot.{imsi_of_number};
+    ghost use Rattle.camel_tbcd.specs.Imsi.{IsImsi, imsi_number, imsi_of_number};
 
     ghost Value = { Option (List ℕ) };
 

@@ -2,13 +2,9 @@ ghost use Rattle.std.specs.Prelude.{◌≡◌, ◌+◌, ◌<◌, ◌≤◌, ◌�
 ghost use Rattle.std.specs.Cmp.{partial_equiv_from_equiv};
 ghost use Rattle.std.specs.Cmp.Lexicographic.{nat_list_eq_equiv, pointwise};
 ghost use Rattle.std.specs.List.{starts_with};
-ghost use Rattle.camel_tbcd.specs.Address.{octets};
-ghost use Rattle.camel_tbcd.specs.AddressLength.{IsAddress, max_isdn_address_length};
-ghost use Rattle.camel_tbcd.specs.DigitList.{digit_list};
-ghost use Rattle.camel_tbcd.specs.Digits.{digits};
-ghost use Rattle.camel_tbcd.specs.PackedDigits.{packed_digits};
-ghost use Rattle.camel_tbcd.specs.Profile.{agrees};
-ghost use Rattle.camel_tbcd.specs.ShortList.{room_with};
+ghost use Rattle.camel_tbcd.specs.Address.{octets, digit_list};
+ghost use Rattle.camel_tbcd.specs.AddressString.{IsAddress, max_isdn_address_length, digits, packed_digits, agrees};
+ghost use Rattle.camel_tbcd.specs.AddressString.{room_with};
 
 use crate::address::{Address, AddressFault, check_length, differing_bits};
 use crate::digits::{Digits, digit_count, first_number, room_number};
@@ -38,9 +34,8 @@ pub struct IsdnAddress {
 impl Model for IsdnAddress {
     ghost use Rattle.std.specs.Prelude.{ℕ, List};
     ghost use Rattle.std.proofs.Common.{sym};
-    ghost use Rattle.camel_tbcd.specs.AddressLength.{max_isdn_address_length};
-    ghost use Rattle.camel_tbcd.specs.IsdnAddress.{IsCounted, counted_octets, counts_of};
-    ghost use Rattle.camel_tbcd.specs.ShortList.{room_with};
+    ghost use Rattle.camel_tbcd.specs.AddressString.{max_isdn_address_length, IsCounted, counted_octets, counts_of};
+    ghost use Rattle.camel_tbcd.specs.AddressString.{room_with};
 
     ghost Value = { List ℕ };
 

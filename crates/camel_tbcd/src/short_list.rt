@@ -1,7 +1,7 @@
 ghost use Rattle.std.specs.Prelude.{◌≡◌, ◌<◌, ◌≤◌, length, nat_eq};
 ghost use Rattle.std.specs.Cmp.{partial_equiv_from_equiv};
 ghost use Rattle.std.specs.Cmp.Lexicographic.{nat_list_eq_equiv, pointwise};
-ghost use Rattle.camel_tbcd.specs.ShortList.{room_with};
+ghost use Rattle.camel_tbcd.specs.AddressString.{room_with};
 
 use std::marker::Model;
 
@@ -22,7 +22,7 @@ const FILL: u8 = 255;
 impl<const MOST: usize> Model for ShortList<MOST> {
     ghost use Rattle.std.specs.Prelude.{ℕ, List, length, take};
     ghost use Rattle.std.proofs.Common.{sym};
-    ghost use Rattle.camel_tbcd.specs.ShortList.{IsKept, length-kept, room_with};
+    ghost use Rattle.camel_tbcd.specs.AddressString.{IsKept, length-kept, room_with};
 
     ghost Value = { List ℕ };
 

@@ -2,13 +2,11 @@
 use Rattle.std.proofs.Common.{◌≡◌, ◌∙◌, ℕ, List, [], ◌∷◌, ◌++◌, append-nil, append_assoc, Option, Some, None, fold, refl, sym, ap, subst}
 use Rattle.camel_criteria.specs.declared.refusal.Refusal.{Refusal}
 use Rattle.camel_rows.proofs.StoreLemmas.{IsAdmissionOf-with_update, IsFront-with_update, admits}
-use Rattle.camel_rows.specs.Admission.{AdmissionData, admission_refusal}
-use Rattle.camel_rows.specs.Front.{IsFront}
-use Rattle.camel_rows.specs.Store.{IsAdmissionOfUpdates, accepted_updates}
+use Rattle.camel_rows.specs.Store.{AdmissionData, admission_refusal, IsAdmissionOfUpdates, accepted_updates}
+use Rattle.camel_rows.specs.Update.{IsFront}
 use Rattle.camel_rows.specs.declared.subscriber.update.Update.{Update}
-use Rattle.camel_vlr.specs.Group.{AcceptsAll, RejectsAt, refusal_among}
-use Rattle.camel_vlr.specs.GroupFields.{admitted}
-use Rattle.camel_vlr.specs.Store.{StoreData, submission_refusal, with_accepted}
+use Rattle.camel_vlr.specs.Store.{AcceptsAll, RejectsAt, refusal_among, StoreData, submission_refusal, with_accepted}
+use Rattle.camel_vlr.specs.StoreFields.{admitted}
 
 -- the accepted updates of a store are a front, of which this is the admission
 pub record IsOf (admission : AdmissionData) (store : StoreData) : Type 0 where

@@ -1,13 +1,14 @@
 -- Each step keeps the chain, and what was seen of it stays.
-use Rattle.std.proofs.Common.{◌≡◌, ◌∙◌, ℕ, zero, suc, ◌<◌, ◌==◌, Bool, true, false, List, [], ◌∷◌, ◌++◌, length, length-append, append-nil, append_assoc}
-use Rattle.std.proofs.Common.{if◌then◌else◌, refl, ap, sym, subst, arith, inl, None, slice_set}
+use Rattle.std.proofs.Common.{◌≡◌, ◌∙◌, ℕ, zero, suc, ◌<◌, ◌==◌, Bool, true, false, List, [], ◌∷◌, ◌++◌, length}
+use Rattle.std.proofs.Common.{length-append, append-nil, append_assoc, if◌then◌else◌, refl, ap, sym, subst, arith, inl}
+use Rattle.std.proofs.Common.{None, slice_set}
 use Rattle.std.proofs.lemmas.Bool.Decides.{nat_tests}
 use mathlib.Core.List.{IsPrefix}
 use base.Growing.{prefix_trans}
 use prog.Atomic.{either}
 use Rattle.logbook.specs.Pages.{Away, Cell, Goes, Moves, Nib, View, adds, cell, gives, keeps, may_write, no_nib, step}
 use Rattle.camel_rows.specs.declared.subscriber.update.Update.{Update}
-use Rattle.camel_vlr.specs.Chain.{AddsLink, AllUsedUp, IsUsedUp, KeepsChain, MakesCell, UsedUp, list_of, root_of, tail_of, terms_of}
+use Rattle.camel_vlr.specs.History.{AddsLink, AllUsedUp, IsUsedUp, KeepsChain, MakesCell, UsedUp, list_of, root_of, tail_of, terms_of}
 use Rattle.camel_vlr.specs.declared.history.link.Link.{Link}
 
 -- the cell of this key is there, and at home

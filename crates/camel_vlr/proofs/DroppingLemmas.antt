@@ -1,7 +1,7 @@
 -- Restoring what the published records have of all whom pending updates concern makes the admission of the published
 -- updates.
-use Rattle.std.proofs.Common.{◌≡◌, ◌∙◌, inl, inr, ℕ, Bool, true, false, cond, List, [], ◌∷◌, ◌++◌, length, append-nil, Option, Some, None}
-use Rattle.std.proofs.Common.{IsSome, refl, sym, ap, subst}
+use Rattle.std.proofs.Common.{◌≡◌, ◌∙◌, inl, inr, ℕ, Bool, true, false, cond, List, [], ◌∷◌, ◌++◌, length, append-nil}
+use Rattle.std.proofs.Common.{Option, Some, None, IsSome, refl, sym, ap, subst}
 use Rattle.std.proofs.lemmas.List.Elements.{All-append, All-cons, All-nil}
 use Rattle.std.proofs.lemmas.Slice.Eq.{bytes_eq-Decides}
 use Rattle.std.specs.FinMap as map
@@ -9,17 +9,14 @@ use Rattle.std.specs.Option.{option_map}
 use Rattle.camel_rows.proofs.ByImsiLemmas.{get-with_value_of}
 use Rattle.camel_rows.proofs.KeptRecordLemmas.{kept, unconcerned}
 use Rattle.camel_rows.proofs.UpdateLemmas.{records_from-append}
-use Rattle.camel_rows.specs.Admission.{AdmissionData, IsAdmissionOf}
-use Rattle.camel_rows.specs.ByImsi.{concerns, with_value}
-use Rattle.camel_rows.specs.CsisPresent.{csis_of}
-use Rattle.camel_rows.specs.Front.{IsFront}
-use Rattle.camel_rows.specs.Records.{RecordsData, no_records}
+use Rattle.camel_rows.specs.Store.{AdmissionData, IsAdmissionOf}
+use Rattle.camel_rows.specs.Update.{concerns, with_value, csis_of, IsFront, RecordsData, no_records, AcceptedFrom}
+use Rattle.camel_rows.specs.Update.{is_of, records_after, records_from, records_of, update_imsi}
 use Rattle.camel_rows.specs.Subscriber.{SubscriberData}
-use Rattle.camel_rows.specs.Update.{AcceptedFrom, is_of, records_after, records_from, records_of, update_imsi}
 use Rattle.camel_rows.specs.declared.subscriber.csis_present.CsisPresent.{CsisPresent}
 use Rattle.camel_rows.specs.declared.subscriber.update.Update.{Update}
-use Rattle.camel_vlr.specs.Dropping.{HasAll, IsAdmissionOver, IsRestored, IsRestoredAt}
-use Rattle.camel_vlr.specs.PublishedCopy.{IsOfItsFront}
+use Rattle.camel_vlr.specs.Operation.{HasAll, IsAdmissionOver, IsRestored, IsRestoredAt}
+use Rattle.camel_vlr.specs.Seat.{IsOfItsFront}
 use Rattle.camel_vlr.specs.Store.{AllLeave}
 use Rattle.camel_vlr.specs.declared.published_copy.PublishedCopy.{PublishedCopy}
 

@@ -3,10 +3,10 @@ use base.Growing.{prefix_trans}
 use Rattle.std.proofs.Common.{true≢false, Bool, true, false, not, ◌≡◌, ◌∙◌, ◌≤◌, List, [], ◌++◌, append-nil, append_assoc, ap, refl, subst, sym}
 use Rattle.std.specs.Prelude.{Option, unwrap_or}
 use Rattle.camel_rows.proofs.AdmissionLemmas.{IsAdmissionOf-empty}
-use Rattle.camel_rows.specs.Front.{IsFront}
+use Rattle.camel_rows.specs.Update.{IsFront}
 use Rattle.camel_rows.specs.declared.subscriber.update.Update.{Update}
 use Rattle.camel_vlr.proofs.AcceptanceLemmas.{IsOf, with_pending}
-use Rattle.camel_vlr.specs.PublishedCopy.{IsOfItsFront}
+use Rattle.camel_vlr.specs.Seat.{IsOfItsFront}
 use Rattle.camel_vlr.specs.StoreFields.{IsNew, IsStore, limit_in, operations_in, pending_in, published_in, store_of, updates_in}
 use Rattle.camel_vlr.specs.declared.base.publisher.Publisher.{Ghosts}
 use Rattle.camel_vlr.specs.declared.writer.TheConstants.{MAX_UPDATES}

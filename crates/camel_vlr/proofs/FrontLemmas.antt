@@ -3,9 +3,9 @@ use base.Growing.{prefix_trans}
 use Rattle.std.proofs.Common.{◌≡◌, ◌∙◌, ◌≤◌, All, List, [], ◌∷◌, ◌++◌, length, refl, sym, ap, arith, append-nil, length-append}
 use Rattle.std.proofs.lemmas.List.Elements.{All-head, All-push, All-tail, All-weaker}
 use Rattle.std.proofs.lemmas.List.{nil_from_length}
-use Rattle.camel_rows.specs.Front.{Extends}
+use Rattle.camel_rows.specs.Update.{Extends}
 use Rattle.camel_rows.specs.declared.subscriber.update.Update.{Update}
-use Rattle.camel_vlr.specs.Session.{ExtendsAll}
+use Rattle.camel_vlr.specs.Store.{ExtendsAll}
 
 pub extends_length : (f g : List Update) → Extends f g → length g ≤ length f
 extends_length f g (r, p) = omega (arith, ap length p, length-append g r)

@@ -4,12 +4,12 @@ use Rattle.std.specs.FinMap as map
 use Rattle.camel_criteria.specs.declared.refusal.Refusal.{Refusal}
 use Rattle.camel_rows.proofs.AdmissionLemmas.{taken_back}
 use Rattle.camel_rows.proofs.ByImsiLemmas.{get-with_value_there}
-use Rattle.camel_rows.specs.Admission.{AdmissionData, with_admission}
-use Rattle.camel_rows.specs.ByImsi.{with_value}
+use Rattle.camel_rows.specs.Store.{AdmissionData, with_admission}
+use Rattle.camel_rows.specs.Update.{with_value}
 use Rattle.camel_rows.specs.declared.subscriber.csis_present.CsisPresent.{CsisPresent}
 use Rattle.camel_rows.specs.declared.subscriber.update.Update.{Update}
-use Rattle.camel_vlr.specs.Group.{AcceptsAll, refusal_among}
-use Rattle.camel_vlr.specs.GroupFields.{AllTakenBackTo, IsTakenBackTo}
+use Rattle.camel_vlr.specs.Store.{AcceptsAll, refusal_among}
+use Rattle.camel_vlr.specs.StoreFields.{AllTakenBackTo, IsTakenBackTo}
 use Rattle.camel_vlr.specs.declared.writer.group.Accepted.{Accepted}
 
 -- one more is accepted over those before it

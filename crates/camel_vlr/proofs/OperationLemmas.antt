@@ -1,16 +1,15 @@
 -- Operations, and the updates among them.
-use Rattle.std.proofs.Common.{◌≡◌, ◌∙◌, ◌+◌, ◌-◌, ◌^◌, ◌<◌, ◌≤◌, ℕ, List, All, take, [], ◌∷◌, ◌++◌, length, drop, fold, min, sym}
-use Rattle.std.proofs.Common.{refl, ap, subst, arith, add-zero, append-nil, append_assoc}
+use Rattle.std.proofs.Common.{◌≡◌, ◌∙◌, ◌+◌, ◌-◌, ◌^◌, ◌<◌, ◌≤◌, ℕ, List, All, take, [], ◌∷◌, ◌++◌, length, drop, fold}
+use Rattle.std.proofs.Common.{min, sym, refl, ap, subst, arith, add-zero, append-nil, append_assoc}
 use Prim.Native.Nat.{zero, suc}
 use Rattle.std.proofs.Math.ListN.{get_or}
 use Rattle.std.proofs.Math.Seq.{drop-append_seam}
 use Rattle.std.proofs.lemmas.List.{take_more}
 use Rattle.std.proofs.lemmas.List.Elements.{All-cons, All-head, All-nil, All-tail}
-use Rattle.camel_rows.specs.Front.{Extends}
-use Rattle.camel_rows.specs.Update.{records_from}
+use Rattle.camel_rows.specs.Update.{Extends, records_from}
 use Rattle.camel_rows.specs.declared.subscriber.update.Update.{Update}
 use Rattle.camel_vlr.specs.Operation.{CopyData, HasMore, copy_after, updates_among}
-use Rattle.camel_vlr.specs.Prefix.{PrefixData}
+use Rattle.camel_vlr.specs.History.{PrefixData}
 use Rattle.camel_vlr.specs.declared.writer.TheConstants.{MAX_UPDATES}
 use Rattle.camel_vlr.specs.declared.writer.operation.Operation.{Operation}
 use Rattle.camel_vlr.specs.declared.writer.operation.Operation.TheVariants as operation

@@ -4,17 +4,13 @@ use Rattle.std.proofs.lemmas.List.Sums.{count_by-le-length, length-filter}
 use Rattle.std.specs.FinMap as map
 use Rattle.camel_rows.proofs.ByImsiLemmas.{value_of-same}
 use Rattle.camel_rows.proofs.UpdateLemmas.{other_record, own_record}
-use Rattle.camel_rows.specs.ByImsi.{value_of}
+use Rattle.camel_rows.specs.Update.{value_of, csis_of, csis_refusal, IsFront, RecordsData, no_records, AcceptedFrom}
+use Rattle.camel_rows.specs.Update.{is_of, records_after, record_after, refusal, records_of, records_from, update_imsi}
 use Rattle.std.specs.Option.{option_map}
-use Rattle.camel_rows.specs.CsisPresent.{csis_of, csis_refusal}
-use Rattle.camel_rows.specs.Decision.{by_record, decision}
-use Rattle.camel_rows.specs.Event.{EventData, event_imsi}
-use Rattle.camel_rows.specs.Front.{IsFront}
-use Rattle.camel_rows.specs.Records.{RecordsData, no_records}
-use Rattle.camel_rows.specs.Update.{AcceptedFrom, is_of, records_after, record_after, refusal, records_of, records_from, update_imsi}
+use Rattle.camel_rows.specs.Decision.{by_record, decision, EventData, event_imsi}
 use Rattle.camel_rows.specs.declared.subscriber.update.Update.{Update}
-use Rattle.camel_vlr.specs.OwnUpdates.{DecidedByOwn, own_updates}
-use Rattle.camel_vlr.specs.Prefix.{StoreId}
+use Rattle.camel_vlr.specs.Store.{DecidedByOwn, own_updates}
+use Rattle.camel_vlr.specs.History.{StoreId}
 
 -- what refuses an update is its own subscriber's record
 same_refusal : (m n : RecordsData) (update : Update) → value_of m (update_imsi update) ≡ value_of n (update_imsi update) → refusal m update ≡ refusal n update

@@ -1,7 +1,7 @@
 -- Prefixes of one list.
 use Rattle.std.proofs.Common.{◌≡◌, List, [], ◌∷◌, refl, ◌⊎◌, inl, inr, ⊎_elim}
 use mathlib.Core.List.{IsPrefix}
-use Rattle.camel_rows.specs.Front.{Extends}
+use Rattle.camel_rows.specs.Update.{Extends}
 use Rattle.camel_rows.specs.declared.subscriber.update.Update.{Update}
 
 -- of two prefixes of one list one extends the other

@@ -1,16 +1,13 @@
 -- One publication keeps the rule.
-use Rattle.std.proofs.Common.{◌≡◌, ◌∙◌, ℕ, ◌+◌, ◌≤◌, List, [], ◌∷◌, ◌++◌, length, length-append, fold, sym, ap, subst, arith, append-nil}
-use Rattle.std.proofs.Common.{Result, Ok, Err, MatchResult, OnOk}
+use Rattle.std.proofs.Common.{◌≡◌, ◌∙◌, ℕ, ◌+◌, ◌≤◌, List, [], ◌∷◌, ◌++◌, length, length-append, fold, sym, ap, subst}
+use Rattle.std.proofs.Common.{arith, append-nil, Result, Ok, Err, MatchResult, OnOk}
 use Rattle.std.proofs.lemmas.List.Sums.{fold-append}
-use Rattle.camel_vlr.specs.Prefix.{PrefixData}
+use Rattle.camel_vlr.specs.History.{PrefixData}
 use Rattle.camel_rows.proofs.UpdateLemmas.{records_from-append}
-use Rattle.camel_rows.specs.Front.{IsFront}
-use Rattle.camel_rows.specs.Records.{no_records}
-use Rattle.camel_rows.specs.Update.{records_of, records_from}
+use Rattle.camel_rows.specs.Update.{IsFront, no_records, records_of, records_from}
 use Rattle.camel_vlr.proofs.OperationLemmas.{fold-copy_after, updates_among-front}
 use Rattle.camel_vlr.specs.Operation.{copy_after, data_of, updates_among}
-use Rattle.camel_vlr.specs.PublishedCopy.{IsOfItsFront}
-use Rattle.camel_vlr.specs.Rule.{Knows, Publishes}
+use Rattle.camel_vlr.specs.Seat.{IsOfItsFront, Knows, Publishes}
 use Rattle.camel_vlr.specs.declared.writer.TheConstants.{MAX_UPDATES}
 use Rattle.camel_vlr.specs.declared.writer.operation.Operation.{Operation}
 use Rattle.camel_vlr.specs.declared.writer.operation.Operation.TheVariants as operation

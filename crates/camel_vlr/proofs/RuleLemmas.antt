@@ -6,10 +6,10 @@ use lib.ListN.{get_elem?}
 use Rattle.std.proofs.lemmas.Option.{IfSome_then}
 use Rattle.atomic_table.proofs.Lists.{at_set, at_snoc}
 use Rattle.crossbeam_utils.specs.Register.{Admits, Forks, Merges, TurnsAt}
-use Rattle.camel_vlr.specs.Prefix.{PrefixData}
-use Rattle.camel_rows.specs.Front.{Extends}
-use Rattle.camel_vlr.specs.PublishedCopy.{IsOfItsFront}
-use Rattle.camel_vlr.specs.Rule.{AllBehind, IsBehind, IsPrefixOf, IsKept, Knows, Looks, Publishes, newcomer}
+use Rattle.camel_vlr.specs.History.{PrefixData}
+use Rattle.camel_rows.specs.Update.{Extends}
+use Rattle.camel_vlr.specs.Seat.{IsOfItsFront, AllBehind, IsBehind, IsPrefixOf, IsKept, Knows, Looks, Publishes}
+use Rattle.camel_vlr.specs.Seat.{newcomer}
 use Rattle.camel_vlr.specs.declared.published_copy.PublishedCopy.{PublishedCopy}
 use Rattle.camel_vlr.specs.declared.history.rule.Known.{Known}
 

@@ -1,13 +1,11 @@
 -- What a session answers, put together.
 use Rattle.std.proofs.Common.{◌≡◌, ◌∙◌, List, [], ◌∷◌, ◌++◌, refl, sym, subst, ap}
-use Rattle.camel_rows.specs.Answer.{answer_over}
-use Rattle.camel_rows.specs.Event.{EventData}
-use Rattle.camel_rows.specs.Front.{IsFront}
+use Rattle.camel_rows.specs.Decision.{answer_over, EventData}
+use Rattle.camel_rows.specs.Update.{IsFront}
 use Rattle.camel_rows.specs.declared.subscriber.update.Update.{Update}
 use Rattle.camel_rows.specs.declared.trigger.outcome.Answer.{Answer}
-use Rattle.camel_vlr.specs.Prefix.{StoreId}
-use Rattle.camel_vlr.specs.Run.{Answers, Run, last_seen}
-use Rattle.camel_vlr.specs.Session.{LeavesLook, Sees, SessionData}
+use Rattle.camel_vlr.specs.History.{StoreId}
+use Rattle.camel_vlr.specs.Store.{Answers, Run, last_seen, LeavesLook, Sees, SessionData}
 
 -- an event is answered over the front of a look, which is left then
 pub Answers-one : (before looking after : SessionData) (event : EventData) (answer : Answer)

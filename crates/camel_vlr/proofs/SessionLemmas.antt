@@ -1,10 +1,10 @@
 -- What a session makes of the copy that its place took.
 use Rattle.std.proofs.Common.{◌≡◌, ◌∙◌, List, Bool, Option, Some, IsSomeAnd, is_some, refl, sym, ap, subst}
-use Rattle.camel_rows.specs.Front.{Extends, IsFront}
+use Rattle.camel_rows.specs.Update.{Extends, IsFront}
 use Rattle.camel_rows.specs.declared.subscriber.update.Update.{Update}
-use Rattle.camel_vlr.specs.Prefix.{PrefixData}
+use Rattle.camel_vlr.specs.History.{PrefixData}
 use Rattle.camel_vlr.specs.Seat.{Enters}
-use Rattle.camel_vlr.specs.Session.{ExtendsAll, Sees}
+use Rattle.camel_vlr.specs.Store.{ExtendsAll, Sees}
 use Rattle.camel_vlr.specs.declared.base.seat.Seat.{Ghosts}
 use Rattle.camel_vlr.specs.declared.published_copy.PublishedCopy.{PublishedCopy}
 

@@ -10,9 +10,7 @@ use Rattle.std.specs.FinMap as map
 use Rattle.std.specs.FinMap.{same_map}
 use Rattle.camel_rows.proofs.ByImsiLemmas.{get-with_value_of}
 use Rattle.camel_rows.proofs.UpdateLemmas.{other_record}
-use Rattle.camel_rows.specs.ByImsi.{concerns, with_value}
-use Rattle.camel_rows.specs.Records.{RecordsData}
-use Rattle.camel_rows.specs.Update.{is_of, update_imsi}
+use Rattle.camel_rows.specs.Update.{concerns, with_value, RecordsData, is_of, update_imsi}
 use Rattle.camel_rows.specs.declared.subscriber.update.Update.{Update}
 use Rattle.camel_vlr.specs.Operation.{CopyData, copy_after, copy_restored, records_restored, updates_among}
 use Rattle.camel_vlr.specs.declared.writer.operation.Operation.{Operation}

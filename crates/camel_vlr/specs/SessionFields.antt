@@ -1,9 +1,9 @@
 -- The data of a session from its fields, and what the fields keep.
 use Rattle.std.specs.Prelude.{◌≡◌, IfSome, is_some}
-use Rattle.camel_rows.specs.Front.{IsFront}
-use Rattle.camel_vlr.specs.Prefix.{PrefixData}
-use Rattle.camel_vlr.specs.PublishedCopy.{IsOfItsFront}
-use Rattle.camel_vlr.specs.Session.{ExtendsAll, SessionData}
+use Rattle.camel_rows.specs.Update.{IsFront}
+use Rattle.camel_vlr.specs.History.{PrefixData}
+use Rattle.camel_vlr.specs.Seat.{IsOfItsFront}
+use Rattle.camel_vlr.specs.Store.{ExtendsAll, SessionData}
 use Rattle.camel_vlr.specs.declared.base.seat.Seat.{Ghosts}
 use Rattle.camel_vlr.specs.declared.published_copy.PublishedCopy.{PublishedCopy}
 use Rattle.camel_vlr.specs.declared.session.Session.TheInside.{Inside}

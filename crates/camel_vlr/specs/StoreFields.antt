@@ -1,18 +1,23 @@
--- The data of a store from its fields, and what the fields keep.
-use Rattle.std.specs.Prelude.{◌≡◌, ℕ, ◌≤◌, Bool, List, [], ◌++◌, None, not, true, false, unwrap_or}
-use Rattle.camel_rows.specs.Admission.{no_admissions}
-use Rattle.camel_rows.specs.Front.{Extends, IsFront}
-use Rattle.camel_rows.specs.Store.{IsAdmissionOfUpdates, Updates, accepted_updates}
+-- The data of a store from its fields, and updates that are accepted together. It is for the proof.
+use Rattle.std.specs.Prelude.{◌≡◌, ℕ, ◌≤◌, Bool, List, [], ◌++◌, None, not, true, false, unwrap_or, ◌∷◌, Some}
+use Rattle.camel_rows.specs.Store.{no_admissions, IsAdmissionOfUpdates, Updates, accepted_updates, AdmissionData}
+use Rattle.camel_rows.specs.Store.{with_admission}
+use Rattle.camel_rows.specs.Update.{Extends, IsFront, value_of, csis_after, update_imsi}
 use Rattle.camel_rows.specs.declared.subscriber.update.Update.{Update}
 use Rattle.camel_vlr.specs.Operation.{updates_among}
-use Rattle.camel_vlr.specs.Prefix.{PrefixData}
-use Rattle.camel_vlr.specs.PublishedCopy.{IsOfItsFront}
+use Rattle.camel_vlr.specs.History.{PrefixData}
+use Rattle.camel_vlr.specs.Seat.{IsOfItsFront}
 use Rattle.camel_vlr.specs.Store.{StoreData}
 use Rattle.camel_vlr.specs.declared.base.publisher.Publisher.{Ghosts}
 use Rattle.camel_vlr.specs.declared.writer.TheConstants.{MAX_UPDATES}
 use Rattle.camel_vlr.specs.declared.writer.Vlr.TheInside.{Inside}
 use Rattle.camel_vlr.specs.declared.writer.operation.Operation.{Operation}
 use Rattle.camel_vlr.specs.declared.writer.state.State.{State}
+use Rattle.camel_rows.specs.declared.subscriber.csis_present.CsisPresent.{CsisPresent}
+use Rattle.camel_vlr.specs.declared.writer.group.Accepted.{Accepted}
+use Rattle.std.specs.FinMap as map
+
+-- The data of a store from its fields, and what the fields keep.
 
 abbrev pub published_in : {W S : Type 0} → Ghosts W S → Inside W S → List Update
 published_in g a = (g.shown a.writer).front.updates
@@ -63,3 +68,26 @@ pub record IsNew (history : PrefixData) (state : State) : Type 0 where
   pub profile : state.profile ≡ history.store.profile
   pub level : state.is_ahead ≡ false
   pub unknown : state.is_free ≡ None
+
+-- How several updates are accepted or taken back. It is for the proof: no promise cites it.
+
+-- an admission with this accepted update more
+abbrev pub admitted : AdmissionData → Update → AdmissionData
+admitted admission update =
+    with_admission admission (update_imsi update) (csis_after (value_of admission.directory (update_imsi update)) update)
+
+-- taking this update back leads to the first of the two admissions
+abbrev pub IsTakenBackTo : AdmissionData → Accepted → AdmissionData → Type 0
+IsTakenBackTo first one admission = (csis : CsisPresent) × (admission ≡ with_admission first (Some one.imsi) (Some csis))
+    × (one.before ≡ map.get first.directory one.imsi)
+
+-- so does taking these back, in this order
+abbrev pub AllTakenBackTo : AdmissionData → List Accepted → AdmissionData → Type 0
+AllTakenBackTo first [] admission = admission ≡ first
+AllTakenBackTo first (one ∷ accepted) admission =
+    (before : AdmissionData) × IsTakenBackTo before one admission × AllTakenBackTo first accepted before
+
+-- an admission and a list as these updates have made them, from the first ones on
+abbrev pub IsMadeFrom : AdmissionData → List Operation → AdmissionData → List Operation → List Accepted → Type 0
+IsMadeFrom first before admission pending accepted =
+    AllTakenBackTo first accepted admission × ((more : List Operation) × (pending ≡ before ++ more))

@@ -1,8 +1,8 @@
 -- A session's place at a store over `two_copies`. It is for the proof: no promise cites it.
 use Rattle.std.specs.Prelude.{Option, Some, None, IfSome}
 use Rattle.two_copies.specs.Reader.{seen_by, shown_in}
-use Rattle.camel_vlr.specs.Prefix.{PrefixData}
-use Rattle.camel_vlr.specs.Rule.{IsPrefixOf}
+use Rattle.camel_vlr.specs.History.{PrefixData}
+use Rattle.camel_vlr.specs.Seat.{IsPrefixOf}
 use Rattle.camel_vlr.specs.declared.base.two_copies_seat.TwoCopiesSeat.{TwoCopiesSeat}
 use Rattle.camel_vlr.specs.declared.base.two_copies_seat.TwoCopiesSeat.TheVariants.{Idle, Looking}
 use Rattle.camel_vlr.specs.declared.published_copy.PublishedCopy.{PublishedCopy}

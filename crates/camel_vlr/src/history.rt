@@ -2,7 +2,7 @@
 
 ghost use Rattle.std.specs.Prelude.{◌≡◌, [], ◌++◌};
 ghost use Rattle.logbook.specs.Pages.{may_write};
-ghost use Rattle.camel_rows.specs.Front.{Extends};
+ghost use Rattle.camel_rows.specs.Update.{Extends};
 
 pub(crate) mod link;
 pub(crate) mod prefix;
@@ -42,7 +42,7 @@ struct AddLink<G> {
 }
 
 impl<G: Growth> Play<Link, u64> for AddLink<G> {
-    ghost use Rattle.camel_vlr.specs.Chain.{AddsLink};
+    ghost use Rattle.camel_vlr.specs.History.{AddsLink};
 
     ghost then = { AddsLink G.updates G.next };
 }
@@ -51,7 +51,7 @@ impl<G: Growth> Play<Link, u64> for AddLink<G> {
 struct KeepChain;
 
 impl Play<Link, u64> for KeepChain {
-    ghost use Rattle.camel_vlr.specs.Chain.{KeepsChain};
+    ghost use Rattle.camel_vlr.specs.History.{KeepsChain};
 
     ghost then = { KeepsChain };
 }
@@ -69,8 +69,7 @@ pub(crate) struct History {
 }
 
 impl Model for History {
-    ghost use Rattle.camel_vlr.specs.Prefix.{PrefixData, prefix_in};
-    ghost use Rattle.camel_vlr.specs.History.{IsHistory};
+    ghost use Rattle.camel_vlr.specs.History.{PrefixData, prefix_in, IsHistory};
 
     ghost Value = { PrefixData };
 

@@ -14,7 +14,7 @@ use std::marker::{Brand, PhantomData};
 /// the first of them is called with `std::marker::Brand`, for which the proof of that call names the store.
 pub trait StoreName: Send + Sync {
     ghost use Rattle.std.specs.Prelude.{Option};
-    ghost use Rattle.camel_vlr.specs.Prefix.{StoreId};
+    ghost use Rattle.camel_vlr.specs.History.{StoreId};
 
     ghost store: { Option StoreId };
 }
@@ -27,7 +27,7 @@ impl StoreName for Brand {
 
 /// What is of one store for good: its writer, its sessions and its receipts.
 pub trait HasStore {
-    ghost use Rattle.camel_vlr.specs.Prefix.{StoreId};
+    ghost use Rattle.camel_vlr.specs.History.{StoreId};
 
     ghost store_of: { Self → StoreId };
 }

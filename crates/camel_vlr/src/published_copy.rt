@@ -1,7 +1,7 @@
 ghost use Rattle.std.specs.Prelude.{◌≡◌, ◌-◌, MatchResult};
-ghost use Rattle.camel_rows.specs.Records.{no_records};
+ghost use Rattle.camel_rows.specs.Update.{no_records};
 ghost use Rattle.camel_vlr.specs.Operation.{copy_after, copy_restored, data_of};
-ghost use Rattle.camel_vlr.specs.PublishedCopy.{IsOfItsFront};
+ghost use Rattle.camel_vlr.specs.Seat.{IsOfItsFront};
 
 use crate::history::prefix::Prefix;
 use crate::receipt::Receipt;

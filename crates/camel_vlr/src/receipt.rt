@@ -1,5 +1,5 @@
 ghost use Rattle.std.specs.Prelude.{◌≡◌, length, true, false};
-ghost use Rattle.camel_rows.specs.Front.{Extends, IsFront};
+ghost use Rattle.camel_rows.specs.Update.{Extends, IsFront};
 
 use crate::history::prefix::Prefix;
 use std::marker::Model;
@@ -14,8 +14,7 @@ pub struct Receipt {
 }
 
 impl Model for Receipt {
-    ghost use Rattle.camel_vlr.specs.Prefix.{PrefixData};
-    ghost use Rattle.camel_vlr.specs.Prefix.{IsReceipt};
+    ghost use Rattle.camel_vlr.specs.History.{PrefixData, IsReceipt};
 
     ghost Value = { PrefixData };
 

@@ -1,8 +1,7 @@
 //! The sessions of a store.
 
 ghost use Rattle.std.specs.Prelude.{◌≡◌, ◌↔◌, None, true, false, length, IfOk, IsTrue};
-ghost use Rattle.camel_rows.specs.Front.{Extends, IsFront};
-ghost use Rattle.camel_rows.specs.Update.{records_of};
+ghost use Rattle.camel_rows.specs.Update.{Extends, IsFront, records_of};
 
 pub(crate) mod answers;
 pub(crate) mod look;
@@ -37,7 +36,7 @@ pub struct Session<S: Seat = LeftRightSeat> {
 }
 
 impl<S: Seat> Model for Session<S> {
-    ghost use Rattle.camel_vlr.specs.Session.{SessionData};
+    ghost use Rattle.camel_vlr.specs.Store.{SessionData};
     ghost use Rattle.camel_vlr.specs.SessionFields.{IsSession, session_of};
 
     ghost Value = { SessionData };
@@ -50,7 +49,7 @@ impl<S: Seat> Model for Session<S> {
 impl<S: Seat> Session<S> {
     ghost use Rattle.std.specs.Borrow.{sem, RestsIfErr};
     ghost use Rattle.camel_vlr.specs.contracts.session.Session.{the_row};
-    ghost use Rattle.camel_vlr.specs.Session.{LeavesLook, Learns, Sees, session_told_nothing};
+    ghost use Rattle.camel_vlr.specs.Store.{LeavesLook, Learns, Sees, session_told_nothing};
 
     /// A session that has seen this front, and has learnt nothing. The profile is that of its store.
     pub(crate) fn new(seat: S, seen: Receipt, profile: Profile) -> Session<S>

@@ -1,13 +1,13 @@
 //! The writer of a store.
 
-ghost use Rattle.std.specs.Prelude.{◌≡◌, ◌+◌, ◌⊎◌, [], ◌++◌, Some, None, fold, length, true, false, vec_len};
-ghost use Rattle.std.specs.Prelude.{All, IfErr, IfOk, IfSome, OnErr, OnOk};
-ghost use Rattle.camel_rows.specs.Front.{Extends, IsFront};
+ghost use Rattle.std.specs.Prelude.{◌≡◌, ◌+◌, ◌⊎◌, [], ◌++◌, Some, None, fold, length, true, false, vec_len, All};
+ghost use Rattle.std.specs.Prelude.{IfErr, IfOk, IfSome, OnErr, OnOk};
+ghost use Rattle.camel_rows.specs.Update.{Extends, IsFront};
 ghost use Rattle.std.specs.FinMap as map;
 ghost use Rattle.camel_rows.specs.Update.{records_of};
 ghost use Rattle.camel_rows.specs.Store.{accepted_updates, with_update};
-ghost use Rattle.camel_vlr.specs.Group.{AcceptsAll, RejectsAt};
-ghost use Rattle.camel_vlr.specs.Store.{fresh_session, submission_refusal, with_accepted, with_all_published};
+ghost use Rattle.camel_vlr.specs.Store.{AcceptsAll, RejectsAt, fresh_session, submission_refusal, with_accepted};
+ghost use Rattle.camel_vlr.specs.Store.{with_all_published};
 
 pub(crate) mod closing;
 pub(crate) mod dropping;

@@ -2,9 +2,8 @@
 //! the receipt's, and a second look extends the first. And what was dropped is in no front.
 
 ghost use Rattle.std.specs.Prelude.{◌≡◌, ◌≤◌, length, true, IfOk, IfSome, OnSome};
-ghost use Rattle.camel_rows.specs.Front.{Extends};
-ghost use Rattle.camel_vlr.specs.Session.{ExtendsAll};
-ghost use Rattle.camel_vlr.specs.Store.{with_none_pending};
+ghost use Rattle.camel_rows.specs.Update.{Extends};
+ghost use Rattle.camel_vlr.specs.Store.{ExtendsAll, with_none_pending};
 
 use crate::bases::{opened, opened_wait_free};
 use camel_criteria::Refusal;

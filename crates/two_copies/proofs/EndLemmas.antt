@@ -10,7 +10,7 @@ use base.Stored.{Coded, Coded-set}
 use Rattle.std.specs.declared.alloc.Global.{Global}
 use Rattle.std.specs.declared.sync.Arc.{Arc}
 use Rattle.two_copies.specs.Place.{IsWriterSeat, SeatData}
-use Rattle.two_copies.specs.Seated.{IsSeated}
+use Rattle.two_copies.specs.Slot.{IsSeated}
 use Rattle.two_copies.specs.declared.place.writer_end.WriterEnd.{WriterEnd}
 
 seat_prop : {T : Type 0} → Coded T → (is_closed newest has_other : Bool) (me : SeatData (Arc T Global)) → IsProp (IsWriterSeat is_closed newest has_other me)

@@ -5,9 +5,8 @@ use Rattle.std.proofs.lemmas.List.Elements.{All-append, All-cons, All-nil, All-s
 use Rattle.std.specs.declared.option.Option.{Option}
 use Rattle.std.specs.declared.result.Result.{Result}
 use Rattle.atomic_table.specs.Seated.{TableId}
-use Rattle.two_copies.specs.Places.{IsOneMore, IsPut}
+use Rattle.two_copies.specs.WriterEnd.{IsOneMore, IsPut, ShowsAt, place_at, slot_at}
 use Rattle.two_copies.specs.Slot.{value_in}
-use Rattle.two_copies.specs.WriterEnd.{ShowsAt, place_at, slot_at}
 use Rattle.two_copies.specs.declared.place.writer_end.WriterEnd.{WriterEnd}
 
 module _ {T F : Type 0} where

@@ -1,4 +1,4 @@
--- What clauses see of the writer.
+-- What clauses see of the writer: its log, its copies and its end.
 use Rattle.std.specs.Prelude.{ℕ, List, All, length, map}
 use Rattle.std.specs.Arc.{arc_value}
 use Rattle.atomic_table.specs.Seated.{TableId}
@@ -6,6 +6,9 @@ use Rattle.two_copies.specs.Log.{IsBroughtUp, pending_in}
 use Rattle.two_copies.specs.WriterEnd.{IsFreeAt, held_in, place_at}
 use Rattle.two_copies.specs.declared.apply.Apply.{Ghosts}
 use Rattle.two_copies.specs.declared.copies.Copies.{Copies}
+use Rattle.two_copies.specs.declared.ending.Ending.{Ending}
+
+-- What clauses see of the writer.
 
 module _ {T O F S : Type 0} {g : Ghosts T O S} where
   -- the value that is shown
@@ -35,3 +38,14 @@ module _ {T O F S : Type 0} {g : Ghosts T O S} where
   -- the places of which the writer lacks it: a bit for each, the lowest for the first reader
   abbrev pub held_by : Copies T O F S g → ℕ
   held_by copies = held_in copies.places.items
+
+-- What clauses see of an end that is held up.
+
+module _ {T F : Type 0} where
+  -- the value that was shown last
+  abbrev pub value_of : Ending T F → T
+  value_of ending = arc_value ending.shown
+
+  -- how many places there are, each of which is closed
+  abbrev pub closed_count : Ending T F → ℕ
+  closed_count ending = length ending.places.items

@@ -1,10 +1,7 @@
 pub mod Copies
-pub mod Ending
 pub mod Log
 pub mod Place
-pub mod Places
 pub mod Reader
 pub mod Restoring
-pub mod Seated
 pub mod Slot
 pub mod WriterEnd

@@ -3,9 +3,8 @@ ghost use Rattle.std.specs.Prelude.{◌≡◌, ◌≢◌, ◌<◌, ◌≤◌, �
 ghost use Rattle.std.specs.Prelude.{MatchResult, OnErr, OnOk, IfErr, IfOk, Err, Some};
 ghost use Rattle.std.specs.Arc.{arc_value};
 ghost use Rattle.two_copies.specs.Log.{IsAlike, pending_in};
-ghost use Rattle.two_copies.specs.Places.{IsOneMore};
+ghost use Rattle.two_copies.specs.WriterEnd.{IsOneMore, IsFreeAt, IsNextAt, ShowsAt};
 ghost use Rattle.two_copies.specs.Reader.{place_of, seen_by};
-ghost use Rattle.two_copies.specs.WriterEnd.{IsFreeAt, IsNextAt, ShowsAt};
 ghost use Rattle.two_copies.specs.declared.copies.TheConstants.{MAX_READERS};
 
 use crate::apply::Apply;
@@ -79,9 +78,9 @@ pub struct Copies<T: Drop + Apply<O>, O: Drop, F: CopyRule<T>> {
 
 impl<T: Drop + Apply<O>, O: Drop, F: CopyRule<T>> Copies<T, O, F> {
     ghost use Rattle.two_copies.specs.Copies.{IsFree, IsReady, held_by, pending_of, places_of, reader_count, shown_by};
+    ghost use Rattle.two_copies.specs.Copies.{closed_count, value_of};
     ghost use Rattle.two_copies.specs.declared.copies.NoReader.TheVariants.{NoPlace};
     ghost use Rattle.two_copies.specs.declared.copies.Unpublished.TheVariants.{Held};
-    ghost use Rattle.two_copies.specs.Ending.{closed_count, value_of};
 
     /// Two copies that are alike, of which the first is shown, with no reader yet. It asks for memory for each; if that
     /// is refused, both are dropped.

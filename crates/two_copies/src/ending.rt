@@ -18,7 +18,7 @@ pub struct Ending<T: Drop, F: CopyRule<T>> {
 }
 
 impl<T: Drop, F: CopyRule<T>> Ending<T, F> {
-    ghost use Rattle.two_copies.specs.Ending.{closed_count, value_of};
+    ghost use Rattle.two_copies.specs.Copies.{closed_count, value_of};
 
     pub(crate) fn new(
         shown: Arc<T, Global>,

@@ -2,8 +2,7 @@
 ghost use Rattle.std.specs.Prelude.{◌≡◌, ◌≤◌, ◌↔◌, true, length, map, option_map, All, Err, IfOk, IsTrue, OnErr, OnOk};
 ghost use Rattle.std.specs.Arc.{arc_value};
 ghost use Rattle.two_copies.specs.Place.{number};
-ghost use Rattle.two_copies.specs.Places.{IsPut};
-ghost use Rattle.two_copies.specs.WriterEnd.{IsClosedAt, IsFreeAt, IsNextAt, ShowsAt, held_in, place_at};
+ghost use Rattle.two_copies.specs.WriterEnd.{IsPut, IsClosedAt, IsFreeAt, IsNextAt, ShowsAt, held_in, place_at};
 ghost use Rattle.two_copies.specs.declared.copies.NoReader.TheVariants.{NoPlace};
 ghost use Rattle.two_copies.specs.declared.copies.TheConstants.{MAX_READERS};
 

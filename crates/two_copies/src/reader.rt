@@ -3,7 +3,7 @@ ghost use Rattle.std.specs.Prelude.{◌≡◌, Some, None, IfErr, IfOk, IsErr, I
 ghost use Rattle.std.specs.Arc.{arc_value};
 ghost use Rattle.atomic_table.specs.Table.{rest};
 ghost use Rattle.two_copies.specs.Place.{AreEmpty, IsSlotIndex, known_of, looking};
-ghost use Rattle.two_copies.specs.Seated.{IsSeated};
+ghost use Rattle.two_copies.specs.Slot.{IsSeated};
 ghost use Rattle.two_copies.specs.declared.place.Part.TheVariants.{Idle};
 
 use crate::place::steps::{enter, leave};

@@ -2,10 +2,9 @@
 use Rattle.std.proofs.Common.{◌≡◌, ◌∙◌, ℕ, List, [], ◌∷◌, filter, IfSome, Option, Some, None, Result, Ok, refl, ap, subst}
 use Rattle.std.proofs.lemmas.Iterator.Adapters.{option_map_id}
 use Rattle.std.specs.Option.{option_map}
-use Rattle.camel_ber.specs.Grammar.{ElementData}
-use Rattle.camel_ber.specs.Reading.{◌>>=◌, PlacedData}
+use Rattle.camel_ber.specs.Elements.{ElementData, ◌>>=◌, PlacedData}
 use Rattle.camel_map.specs.Encoding.{if_any}
-use Rattle.camel_map.specs.Field.{field_of, if_present, is_tagged, mandatory}
+use Rattle.camel_map.specs.Reading.{field_of, if_present, is_tagged, mandatory}
 use Rattle.camel_map.specs.declared.map_fault.MapFault.{MapFault}
 use Rattle.camel_map.proofs.Encoded.Series.{AreRead, Decodes, IsShort, at}
 use Rattle.camel_map.proofs.Encoded.Tags.{field_none, field_one, of_tag, tagged_read}

@@ -1,8 +1,7 @@
 -- The first of the elements that were read.
 use Rattle.std.proofs.Common.{◌≡◌, ℕ, List, [], ◌∷◌, Ok, ap}
-use Rattle.camel_ber.specs.Grammar.{ElementData}
-use Rattle.camel_ber.specs.Reading.{PlacedData}
-use Rattle.camel_map.specs.Row.{first_of}
+use Rattle.camel_ber.specs.Elements.{ElementData, PlacedData}
+use Rattle.camel_map.specs.Csi.{first_of}
 use Rattle.camel_map.proofs.Encoded.Series.{AreRead, IsShort, at}
 
 -- the first part is read where it is

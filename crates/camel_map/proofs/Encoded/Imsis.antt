@@ -1,16 +1,16 @@
 -- An encoded IMSI is read as its digits.
-use Rattle.std.proofs.Common.{◌≡◌, ◌∙◌, ℕ, ◌+◌, ◌*◌, ◌≤◌, true, false, ltb, List, [], ◌∷◌, length, position, All, IfSome}
-use Rattle.std.proofs.Common.{Option, Some, None, Ok, bytes_eq, inl, inr, refl, sym, ap, arith}
+use Rattle.std.proofs.Common.{◌≡◌, ◌∙◌, ℕ, ◌+◌, ◌*◌, ◌≤◌, true, false, ltb, List, [], ◌∷◌, length, position, All}
+use Rattle.std.proofs.Common.{IfSome, Option, Some, None, Ok, bytes_eq, inl, inr, refl, sym, ap, arith}
 use Rattle.std.proofs.lemmas.Bool.{le-leb, le-ltb}
 use Rattle.std.proofs.lemmas.List.{length-append}
 use Rattle.std.proofs.lemmas.List.Sums.{position_or_len_is}
 use Rattle.std.proofs.lemmas.Slice.Eq.{bytes_eq-Decides}
 use Rattle.std.specs.List.{position_or_len}
 use Rattle.camel_tbcd.proofs.DigitLemmas.{length-nibbles}
-use Rattle.camel_tbcd.specs.Digits.{nibbles}
+use Rattle.camel_tbcd.specs.AddressString.{nibbles}
 use Rattle.camel_tbcd.specs.Imsi.{IsImsi, imsi_of_nibbles, imsi_of_tbcd, without_filler}
 use Rattle.camel_map.specs.Encoding.{leaf, tbcd_octets}
-use Rattle.camel_map.specs.Imsi.{imsi_in, own_imsi}
+use Rattle.camel_map.specs.Reading.{imsi_in, own_imsi}
 use Rattle.camel_map.proofs.Encoded.Series.{Decodes, at}
 use Rattle.camel_map.proofs.Encoded.Digits.{AreFilled, IsDigit, digits_left, filled}
 

@@ -1,13 +1,9 @@
 -- An encoded item, and the items of an encoded list, are read as what they encode.
 use Rattle.std.proofs.Common.{◌≡◌, ◌∙◌, ℕ, List, [], ◌∷◌, map, All, Result, Ok, refl, ap}
 use Rattle.std.proofs.lemmas.List.Elements.{All-head, All-tail}
-use Rattle.camel_ber.specs.Grammar.{ElementData, IsIdentifier}
-use Rattle.camel_ber.specs.Reading.{◌>>=◌, PlacedData}
+use Rattle.camel_ber.specs.Elements.{ElementData, IsIdentifier, ◌>>=◌, PlacedData}
 use Rattle.camel_map.specs.Encoding.{if_some, item_element, parent}
-use Rattle.camel_map.specs.Field.{field_of, if_listed}
-use Rattle.camel_map.specs.Identifier.{sequence}
-use Rattle.camel_map.specs.Items.{item_in, items_as, some_of}
-use Rattle.camel_map.specs.Reading.{contents, elements_in}
+use Rattle.camel_map.specs.Reading.{field_of, if_listed, sequence, item_in, items_as, some_of, contents, elements_in}
 use Rattle.camel_reading.specs.Reading.{each_of}
 use Rattle.camel_map.specs.declared.map_fault.MapFault.{MapFault}
 use Rattle.camel_map.proofs.Encoded.Fields.{field_absent, field_there}

@@ -1,7 +1,7 @@
 -- The length octets of an encoding say its length.
 use Rattle.std.proofs.Common.{◌≡◌, ℕ, ◌<◌, ◌≤◌, cond, ltb, List, length, inl, inr, refl, arith}
 use Rattle.std.proofs.lemmas.Bool.{cond_both, ltb-false, ltb-true}
-use Rattle.camel_ber.specs.Grammar.{IsLength, value_of}
+use Rattle.camel_ber.specs.Elements.{IsLength, value_of}
 use Rattle.camel_map.specs.Encoding.{length_octets, octets_of}
 
 -- what holds of each of two holds of the one that is chosen by whether a number is below another

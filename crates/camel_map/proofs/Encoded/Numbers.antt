@@ -1,10 +1,10 @@
 -- The contents of an INTEGER or ENUMERATED are read as the number that they encode.
-use Rattle.std.proofs.Common.{◌≡◌, ℕ, ◌/◌, ◌%◌, ◌<◌, ◌≤◌, false, eqb, leb, List, [], ◌∷◌, length, slice_index, Ok, refl, ap}
-use Rattle.std.proofs.Common.{arith}
+use Rattle.std.proofs.Common.{◌≡◌, ℕ, ◌/◌, ◌%◌, ◌<◌, ◌≤◌, false, eqb, leb, List, [], ◌∷◌, length, slice_index, Ok, refl}
+use Rattle.std.proofs.Common.{ap, arith}
 use Rattle.std.proofs.lemmas.Bool.Decides.{nat_tests}
-use Rattle.camel_ber.specs.Grammar.{value_of}
+use Rattle.camel_ber.specs.Elements.{value_of}
 use Rattle.camel_map.specs.Encoding.{leaf, number_octets}
-use Rattle.camel_map.specs.Value.{detection_point_in, unsigned_in}
+use Rattle.camel_map.specs.Reading.{detection_point_in, unsigned_in}
 use Rattle.camel_map.proofs.Encoded.Lengths.{chosen}
 use Rattle.camel_map.proofs.Encoded.Series.{Decodes}
 

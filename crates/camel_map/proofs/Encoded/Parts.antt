@@ -1,11 +1,11 @@
 -- The parts of an encoding, each of one identifier octet, and the elements of a tag among them.
-use Rattle.std.proofs.Common.{◌≡◌, ◌∙◌, ℕ, Bool, true, false, cond, eqb, List, [], ◌∷◌, ◌++◌, ◌%◌, filter, Option, Some, None, refl}
-use Rattle.std.proofs.Common.{sym, ap, subst}
+use Rattle.std.proofs.Common.{◌≡◌, ◌∙◌, ℕ, Bool, true, false, cond, eqb, List, [], ◌∷◌, ◌++◌, ◌%◌, filter, Option, Some}
+use Rattle.std.proofs.Common.{None, refl, sym, ap, subst}
 use Rattle.std.proofs.lemmas.List.{append-nil}
 use Rattle.std.proofs.lemmas.List.Elements.{filter-append}
-use Rattle.camel_ber.specs.Grammar.{ElementData, IsIdentifier}
+use Rattle.camel_ber.specs.Elements.{ElementData, IsIdentifier}
 use Rattle.camel_map.specs.Encoding.{if_any, if_some}
-use Rattle.camel_map.specs.Field.{same_tag}
+use Rattle.camel_map.specs.Reading.{same_tag}
 use Rattle.camel_map.proofs.Encoded.Series.{AreIdentified, one_octet}
 use Rattle.camel_map.proofs.Encoded.Tags.{has_tag, of_tag}
 

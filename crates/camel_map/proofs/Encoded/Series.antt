@@ -2,12 +2,11 @@
 use Rattle.std.proofs.Common.{◌≡◌, ℕ, zero, suc, ◌<◌, ◌%◌, false, eqb, List, [], ◌∷◌, ◌++◌, length, Result, Ok, inl, refl, ap, arith}
 use Rattle.std.proofs.lemmas.Bool.{eqb-false}
 use Rattle.std.proofs.lemmas.List.{length-append}
-use Rattle.camel_ber.specs.Grammar.{ElementData, IsDefinite, IsElement, IsIdentifier, IsSeries}
-use Rattle.camel_ber.specs.Reading.{OctetsData, PlacedData, elements}
+use Rattle.camel_ber.specs.Elements.{ElementData, IsDefinite, IsElement, IsIdentifier, IsSeries, OctetsData, PlacedData}
+use Rattle.camel_ber.specs.Elements.{elements}
 use Rattle.camel_ber.proofs.SeriesLemmas.{series_read}
 use Rattle.camel_map.specs.Encoding.{encoding, encodings, length_octets, parent}
-use Rattle.camel_map.specs.Identifier.{sequence}
-use Rattle.camel_map.specs.Reading.{contents, elements_in, max_depth, or_malformed}
+use Rattle.camel_map.specs.Reading.{sequence, contents, elements_in, max_depth, or_malformed}
 use Rattle.camel_map.specs.declared.map_fault.MapFault.{MapFault}
 use Rattle.camel_map.proofs.Encoded.Lengths.{length-said}
 

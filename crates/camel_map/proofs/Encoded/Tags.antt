@@ -1,10 +1,9 @@
 -- The elements of a tag, where they were read.
-use Rattle.std.proofs.Common.{◌≡◌, ◌∙◌, ℕ, ◌&&◌, Bool, true, false, cond, eqb, List, [], ◌∷◌, length, filter, slice_index, Some, None}
-use Rattle.std.proofs.Common.{Ok, refl, ap}
+use Rattle.std.proofs.Common.{◌≡◌, ◌∙◌, ℕ, ◌&&◌, Bool, true, false, cond, eqb, List, [], ◌∷◌, length, filter}
+use Rattle.std.proofs.Common.{slice_index, Some, None, Ok, refl, ap}
 use Rattle.std.proofs.lemmas.Bool.{eq-eqb}
-use Rattle.camel_ber.specs.Grammar.{ElementData}
-use Rattle.camel_ber.specs.Reading.{PlacedData, elements}
-use Rattle.camel_map.specs.Field.{is_tagged, only_field, same_tag}
+use Rattle.camel_ber.specs.Elements.{ElementData, PlacedData, elements}
+use Rattle.camel_map.specs.Reading.{is_tagged, only_field, same_tag}
 use Rattle.camel_map.proofs.Encoded.Series.{AreRead, AreShort, IsShort, at}
 
 -- the tag of an element is that of this identifier octet

@@ -6,7 +6,7 @@ use Rattle.std.proofs.lemmas.List.Sums.{AllPass-from_list_all}
 use Rattle.std.specs.List.{list_all}
 use Rattle.camel_criteria.specs.Cause.{max_cause}
 use Rattle.camel_criteria.specs.Criteria.{NumberCriterionData, are_causes_at, is_length}
-use Rattle.camel_map.specs.Kept.{IsNumberCriterion}
+use Rattle.camel_map.specs.Encoding.{IsNumberCriterion}
 
 -- a test that was passed
 pub passed : {A E : Type 0} (test : Bool) (x z : A) (why : E) → cond test (Ok x) (Err why) ≡ Ok z → test ≡ true

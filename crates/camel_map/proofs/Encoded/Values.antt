@@ -1,18 +1,17 @@
 -- The encoded values of criteria are read as they are.
 use Rattle.std.proofs.Common.{◌≡◌, ◌∙◌, ℕ, ◌≤◌, min, List, [], ◌∷◌, length, Result, Ok, refl, ap, arith}
 use Rattle.std.proofs.lemmas.Bool.{le-leb}
-use Rattle.camel_ber.specs.Grammar.{IsIdentifier}
-use Rattle.camel_ber.specs.Reading.{◌>>=◌}
+use Rattle.camel_ber.specs.Elements.{IsIdentifier, ◌>>=◌}
 use Rattle.camel_criteria.specs.declared.basic_service.BasicService.{BasicService}
 use Rattle.camel_criteria.specs.declared.basic_service.BasicService.TheVariants.{Bearer, Tele}
 use Rattle.camel_criteria.specs.declared.criteria.CallType.{CallType}
 use Rattle.camel_criteria.specs.declared.criteria.CallType.TheVariants.{Forwarded, NotForwarded}
 use Rattle.camel_criteria.specs.declared.criteria.MatchType.{MatchType}
 use Rattle.camel_criteria.specs.declared.criteria.MatchType.TheVariants.{Enabling, Inhibiting}
-use Rattle.camel_tbcd.specs.AddressLength.{IsAddress, max_isdn_address_length}
+use Rattle.camel_tbcd.specs.AddressString.{IsAddress, max_isdn_address_length}
 use Rattle.camel_map.specs.Encoding.{call_type_number, cause_element, leaf, match_type_number, service_element}
-use Rattle.camel_map.specs.Identifier.{integer, octet_string, primitive}
-use Rattle.camel_map.specs.Value.{basic_service_in, call_type_in, cause_in, isdn_address_in, length_in, match_type_in, number_in, service_code_in, unsigned_in}
+use Rattle.camel_map.specs.Reading.{integer, octet_string, primitive, basic_service_in, call_type_in, cause_in}
+use Rattle.camel_map.specs.Reading.{isdn_address_in, length_in, match_type_in, number_in, service_code_in, unsigned_in}
 use Rattle.camel_map.specs.declared.map_fault.MapFault.{MapFault}
 use Rattle.camel_map.proofs.Encoded.Items.{AreDecoded}
 use Rattle.camel_map.proofs.Encoded.Numbers.{unsigned_octet}

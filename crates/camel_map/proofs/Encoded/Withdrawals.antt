@@ -1,11 +1,9 @@
 -- What an encoded DeleteSubscriberDataArg names is read.
 use Rattle.std.proofs.Common.{◌≡◌, Bool, true, false, List, [], ◌∷◌, Ok, refl}
-use Rattle.camel_ber.specs.Grammar.{ElementData}
-use Rattle.camel_ber.specs.Reading.{◌>>=◌, PlacedData}
+use Rattle.camel_ber.specs.Elements.{ElementData, ◌>>=◌, PlacedData}
 use Rattle.camel_map.specs.Encoding.{everything_parts, leaf, specific_parts}
-use Rattle.camel_map.specs.Field.{field_of}
-use Rattle.camel_map.specs.Identifier.{primitive}
-use Rattle.camel_map.specs.Withdrawal.{is_named, withdrawal_in, withdrawal_with}
+use Rattle.camel_map.specs.Reading.{field_of, primitive}
+use Rattle.camel_map.specs.Update.{is_named, withdrawal_in, withdrawal_with}
 use Rattle.camel_map.proofs.Encoded.Fields.{field_absent, field_there}
 use Rattle.camel_map.proofs.Encoded.Parts.{AreOf}
 use Rattle.camel_map.proofs.Encoded.Series.{AreRead}

@@ -2,10 +2,9 @@
 use Rattle.std.proofs.Common.{◌≡◌, ℕ, List, [], ◌∷◌, None, Result, Ok, refl}
 use Rattle.camel_criteria.specs.declared.refusal.Refusal.{Refusal}
 use Rattle.camel_rows.specs.TdpRow.{TdpRowData}
-use Rattle.camel_map.specs.Encoding.{csi_element, ignored_row, list_element, row_fields}
-use Rattle.camel_map.specs.Identifier.{primitive, sequence}
-use Rattle.camel_map.specs.Kept.{IsKeptList, IsRow}
-use Rattle.camel_map.specs.Row.{csi_in, first_of, row_of_fields}
+use Rattle.camel_map.specs.Encoding.{csi_element, ignored_row, list_element, row_fields, IsKeptList, IsRow}
+use Rattle.camel_map.specs.Reading.{primitive, sequence}
+use Rattle.camel_map.specs.Csi.{csi_in, first_of, row_of_fields}
 use Rattle.camel_map.specs.declared.row.ReceivedCsi.{ReceivedCsi}
 use Rattle.camel_map.proofs.Encoded.Fields.{field_absent}
 use Rattle.camel_map.proofs.EncodedLists.Kept.{came, sent_read}

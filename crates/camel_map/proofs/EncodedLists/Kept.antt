@@ -1,12 +1,10 @@
 -- An encoded list is read as the items that its constructor keeps.
 use Rattle.std.proofs.Common.{◌≡◌, ℕ, List, [], ◌∷◌, length, map, All, Result, Ok, inl, inr, refl}
 use Rattle.std.proofs.lemmas.List.Elements.{All-cons, All-nil, All-weaker}
-use Rattle.camel_ber.specs.Grammar.{ElementData}
-use Rattle.camel_ber.specs.Reading.{PlacedData}
+use Rattle.camel_ber.specs.Elements.{ElementData, PlacedData}
 use Rattle.camel_criteria.specs.declared.refusal.Refusal.{Refusal}
-use Rattle.camel_map.specs.Encoding.{item_element, list_element, parent, sent}
-use Rattle.camel_map.specs.Items.{item_in, items_as, received_as}
-use Rattle.camel_map.specs.Kept.{IsKeptList}
+use Rattle.camel_map.specs.Encoding.{item_element, list_element, parent, sent, IsKeptList}
+use Rattle.camel_map.specs.Reading.{item_in, items_as, received_as}
 use Rattle.camel_map.specs.declared.items.ReceivedList.{ReceivedList}
 use Rattle.camel_map.specs.declared.map_fault.MapFault.{MapFault}
 use Rattle.camel_map.proofs.Encoded.Items.{items_read}

@@ -1,15 +1,13 @@
 -- An encoded destination number criterion is read as itself.
 use Rattle.std.proofs.Common.{ℕ, ◌≤◌, List, [], ◌∷◌, refl, ap}
 use Rattle.std.proofs.lemmas.List.Elements.{All-weaker}
-use Rattle.camel_ber.specs.Grammar.{ElementData}
+use Rattle.camel_ber.specs.Elements.{ElementData}
 use Rattle.camel_criteria.specs.Criteria.{NumberCriterionData}
-use Rattle.camel_tbcd.specs.AddressLength.{IsAddress, max_isdn_address_length}
-use Rattle.camel_map.specs.Criteria.{number_criterion_in}
-use Rattle.camel_map.specs.Encoding.{leaf, match_type_number, number_element}
-use Rattle.camel_map.specs.Identifier.{constructed, integer, octet_string, primitive}
-use Rattle.camel_map.specs.Kept.{IsNumberCriterion}
-use Rattle.camel_map.specs.Reading.{or_refused_at}
-use Rattle.camel_map.specs.Value.{length_in, match_type_in, number_in}
+use Rattle.camel_tbcd.specs.AddressString.{IsAddress, max_isdn_address_length}
+use Rattle.camel_map.specs.Csi.{number_criterion_in}
+use Rattle.camel_map.specs.Encoding.{leaf, match_type_number, number_element, IsNumberCriterion}
+use Rattle.camel_map.specs.Reading.{constructed, integer, octet_string, primitive, or_refused_at, length_in}
+use Rattle.camel_map.specs.Reading.{match_type_in, number_in}
 use Rattle.camel_map.proofs.Encoded.Fields.{mandatory_read}
 use Rattle.camel_map.proofs.Encoded.Items.{listed_read}
 use Rattle.camel_map.proofs.Encoded.Parts.{Part, found, identified, joined, some_part}

@@ -3,18 +3,14 @@ use Rattle.std.proofs.Common.{ℕ, ◌≤◌, ◌≡◌, leb, List, [], ◌∷�
 use Rattle.std.proofs.lemmas.Bool.{and_parts}
 use Rattle.std.proofs.lemmas.List.Elements.{All-weaker}
 use Rattle.std.proofs.lemmas.Option.{IfSome_then}
-use Rattle.camel_ber.specs.Grammar.{ElementData}
-use Rattle.camel_ber.specs.Reading.{PlacedData}
+use Rattle.camel_ber.specs.Elements.{ElementData, PlacedData}
 use Rattle.camel_criteria.specs.Criteria.{OCriteriaData}
 use Rattle.camel_criteria.specs.declared.criteria.CallType.{CallType}
-use Rattle.camel_map.specs.Criteria.{number_criterion_in, o_entry_of_fields}
-use Rattle.camel_map.specs.Encoding.{call_type_number, cause_element, ignored_o_entry, item_element, leaf, number_element, number_octets}
-use Rattle.camel_map.specs.Encoding.{o_entry_fields, service_element}
-use Rattle.camel_map.specs.Identifier.{constructed, enumerated, octet_string, primitive}
-use Rattle.camel_map.specs.Items.{item_in}
-use Rattle.camel_map.specs.Kept.{IsOEntry}
-use Rattle.camel_map.specs.Reading.{or_refused_at}
-use Rattle.camel_map.specs.Value.{basic_service_in, call_type_in, cause_in, detection_point_in}
+use Rattle.camel_map.specs.Csi.{number_criterion_in, o_entry_of_fields}
+use Rattle.camel_map.specs.Encoding.{call_type_number, cause_element, ignored_o_entry, item_element, leaf}
+use Rattle.camel_map.specs.Encoding.{number_element, number_octets, o_entry_fields, service_element, IsOEntry}
+use Rattle.camel_map.specs.Reading.{constructed, enumerated, octet_string, primitive, item_in, or_refused_at}
+use Rattle.camel_map.specs.Reading.{basic_service_in, call_type_in, cause_in, detection_point_in}
 use Rattle.camel_map.proofs.Encoded.Fields.{mandatory_read, optional_read}
 use Rattle.camel_map.proofs.Encoded.Items.{item_read, listed_read}
 use Rattle.camel_map.proofs.EncodedLists.NumberCriterion.{criterion_read}

@@ -1,18 +1,15 @@
 -- An encoded TDP row is read as itself.
 use Rattle.std.proofs.Common.{◌≡◌, ◌<◌, ◌≤◌, true, leb, List, [], ◌∷◌, Ok, refl, ap, arith}
 use Rattle.std.proofs.lemmas.Bool.{le-leb}
-use Rattle.camel_ber.specs.Reading.{PlacedData}
-use Rattle.camel_criteria.specs.Handling.{handling_of}
+use Rattle.camel_ber.specs.Elements.{PlacedData}
+use Rattle.camel_criteria.specs.DetectionPoint.{handling_of}
 use Rattle.camel_criteria.specs.declared.handling.Handling.{Handling}
 use Rattle.camel_criteria.specs.declared.handling.Handling.TheVariants.{Continue, Release}
 use Rattle.camel_rows.specs.TdpRow.{TdpRowData, max_service_key, tdp_row_of}
-use Rattle.camel_map.specs.Encoding.{handling_number, ignored_row, item_element, leaf, row_fields}
-use Rattle.camel_map.specs.Identifier.{enumerated, integer, primitive}
-use Rattle.camel_map.specs.Items.{item_in}
-use Rattle.camel_map.specs.Kept.{IsRow}
-use Rattle.camel_map.specs.Reading.{or_refused_at}
-use Rattle.camel_map.specs.Row.{row_of_fields}
-use Rattle.camel_map.specs.Value.{detection_point_in, isdn_address_in, unsigned_in}
+use Rattle.camel_map.specs.Encoding.{handling_number, ignored_row, item_element, leaf, row_fields, IsRow}
+use Rattle.camel_map.specs.Reading.{enumerated, integer, primitive, item_in, or_refused_at, detection_point_in}
+use Rattle.camel_map.specs.Reading.{isdn_address_in, unsigned_in}
+use Rattle.camel_map.specs.Csi.{row_of_fields}
 use Rattle.camel_map.proofs.Encoded.Fields.{mandatory_read}
 use Rattle.camel_map.proofs.Encoded.Items.{item_read}
 use Rattle.camel_map.proofs.Encoded.Numbers.{detection_point, unsigned_number, unsigned_octet}

@@ -2,16 +2,13 @@
 use Rattle.std.proofs.Common.{◌≡◌, ℕ, ◌≤◌, leb, List, [], ◌∷◌, length, All, Ok, refl, ap, arith}
 use Rattle.std.proofs.lemmas.Bool.{and_parts}
 use Rattle.std.proofs.lemmas.List.Elements.{All-weaker}
-use Rattle.camel_ber.specs.Grammar.{ElementData}
-use Rattle.camel_ber.specs.Reading.{PlacedData}
+use Rattle.camel_ber.specs.Elements.{ElementData, PlacedData}
 use Rattle.camel_criteria.specs.Criteria.{TCriteriaData}
-use Rattle.camel_map.specs.Criteria.{t_entry_of_fields}
-use Rattle.camel_map.specs.Encoding.{cause_element, ignored_t_entry, item_element, leaf, number_octets, service_element, t_entry_fields}
-use Rattle.camel_map.specs.Identifier.{constructed, enumerated, octet_string}
-use Rattle.camel_map.specs.Items.{item_in}
-use Rattle.camel_map.specs.Kept.{IsTEntry}
-use Rattle.camel_map.specs.Reading.{or_refused_at}
-use Rattle.camel_map.specs.Value.{basic_service_in, cause_in, detection_point_in}
+use Rattle.camel_map.specs.Csi.{t_entry_of_fields}
+use Rattle.camel_map.specs.Encoding.{cause_element, ignored_t_entry, item_element, leaf, number_octets, service_element}
+use Rattle.camel_map.specs.Encoding.{t_entry_fields, IsTEntry}
+use Rattle.camel_map.specs.Reading.{constructed, enumerated, octet_string, item_in, or_refused_at, basic_service_in}
+use Rattle.camel_map.specs.Reading.{cause_in, detection_point_in}
 use Rattle.camel_map.proofs.Encoded.Fields.{mandatory_read}
 use Rattle.camel_map.proofs.Encoded.Items.{item_read, listed_read}
 use Rattle.camel_map.proofs.Encoded.Numbers.{detection_point}

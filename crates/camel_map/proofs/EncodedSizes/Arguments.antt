@@ -5,10 +5,10 @@ use Rattle.camel_criteria.specs.DetectionPoint.{o_detection_points, vt_detection
 use Rattle.camel_rows.specs.declared.subscriber.update.Update.{Update}
 use Rattle.camel_rows.specs.declared.subscriber.update.Update.TheVariants as update
 use Rattle.camel_tbcd.specs.Imsi.{IsImsi}
-use Rattle.camel_map.specs.Encoding.{argument_of, camel_parts, csi_element, everything_parts, ignored_o_entry, ignored_t_entry}
-use Rattle.camel_map.specs.Encoding.{leaf, list_element, o_entry_fields, parent, specific_parts, t_entry_fields, tbcd_octets}
-use Rattle.camel_map.specs.Identifier.{constructed, octet_string, primitive, sequence}
-use Rattle.camel_map.specs.Kept.{IsKept, IsOEntry, IsTEntry}
+use Rattle.camel_map.specs.Encoding.{argument_of, camel_parts, csi_element, everything_parts, ignored_o_entry}
+use Rattle.camel_map.specs.Encoding.{ignored_t_entry, leaf, list_element, o_entry_fields, parent, specific_parts}
+use Rattle.camel_map.specs.Encoding.{t_entry_fields, tbcd_octets, IsKept, IsOEntry, IsTEntry}
+use Rattle.camel_map.specs.Reading.{constructed, octet_string, primitive, sequence}
 use Rattle.camel_map.proofs.EncodedSizes.Bounds.{AreMost, IsMost, leaf_most, more_most, none_most, parent_most}
 use Rattle.camel_map.proofs.EncodedSizes.ListBounds.{any_most, append_most, within}
 use Rattle.camel_map.proofs.EncodedLists.OEntries.{is_ignored_o_entry}

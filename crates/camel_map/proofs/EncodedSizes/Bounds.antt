@@ -1,7 +1,7 @@
 -- How long the encodings of single elements are at most.
 use Rattle.std.proofs.Common.{ℕ, ◌+◌, ◌≤◌, List, [], ◌∷◌, ◌++◌, length, arith}
 use Rattle.std.proofs.lemmas.List.{length-append}
-use Rattle.camel_ber.specs.Grammar.{ElementData}
+use Rattle.camel_ber.specs.Elements.{ElementData}
 use Rattle.camel_map.specs.Encoding.{encoding, encodings, leaf, length_octets, number_octets, parent}
 use Rattle.camel_map.proofs.Encoded.Lengths.{chosen, octets-stand}
 

@@ -5,10 +5,9 @@ use Rattle.std.proofs.lemmas.Option.{IfSome_then}
 use Rattle.camel_criteria.specs.Criteria.{OCriteriaData, TCriteriaData, are_causes_at}
 use Rattle.camel_criteria.specs.declared.basic_service.BasicService.{BasicService}
 use Rattle.camel_criteria.specs.declared.basic_service.BasicService.TheVariants.{Bearer, Tele}
-use Rattle.camel_map.specs.Encoding.{call_type_number, cause_element, if_some, leaf, number_element, number_octets, service_element}
-use Rattle.camel_map.specs.Encoding.{item_element, o_entry_fields, t_entry_fields}
-use Rattle.camel_map.specs.Identifier.{constructed, enumerated, octet_string, primitive, sequence}
-use Rattle.camel_map.specs.Kept.{IsOEntry, IsTEntry}
+use Rattle.camel_map.specs.Encoding.{call_type_number, cause_element, if_some, leaf, number_element, number_octets}
+use Rattle.camel_map.specs.Encoding.{service_element, item_element, o_entry_fields, t_entry_fields, IsOEntry, IsTEntry}
+use Rattle.camel_map.specs.Reading.{constructed, enumerated, octet_string, primitive, sequence}
 use Rattle.camel_map.proofs.EncodedSizes.Bounds.{AreMost, IsMost, more_most, number_most, octet_most, parent_most}
 use Rattle.camel_map.proofs.EncodedSizes.ListBounds.{any_most, append_most, some_most, within}
 use Rattle.camel_map.proofs.EncodedLists.OEntries.{call_type_element, if_some_all}

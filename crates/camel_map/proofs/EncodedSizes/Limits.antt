@@ -1,9 +1,7 @@
 -- The encoding of each update that is kept is shorter than the greatest length.
 use Rattle.std.proofs.Common.{◌≡◌, ℕ, ◌≤◌, ◌<◌, length, IfSome, Option, Some, None, subst, arith}
 use Rattle.camel_rows.specs.declared.subscriber.update.Update.{Update}
-use Rattle.camel_map.specs.Encoding.{Argument, argument_of, encoding}
-use Rattle.camel_map.specs.Kept.{IsKept}
-use Rattle.camel_map.specs.Written.{argument_octets, octets_of_update}
+use Rattle.camel_map.specs.Encoding.{Argument, argument_of, encoding, IsKept, argument_octets, octets_of_update}
 use Rattle.camel_map.proofs.EncodedSizes.Bounds.{IsMost}
 use Rattle.camel_map.proofs.EncodedSizes.Arguments.{argument_most}
 

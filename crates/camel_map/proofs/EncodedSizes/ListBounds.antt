@@ -1,8 +1,8 @@
 -- How long the encodings of lists of elements are at most.
-use Rattle.std.proofs.Common.{◌≡◌, ℕ, suc, ◌+◌, ◌*◌, ◌≤◌, List, [], ◌∷◌, ◌++◌, length, map, All, IfSome, Option, Some, None}
-use Rattle.std.proofs.Common.{refl, sym, ap, subst, ◌∙◌, append_assoc, le_trans, suc-mul, arith}
+use Rattle.std.proofs.Common.{◌≡◌, ℕ, suc, ◌+◌, ◌*◌, ◌≤◌, List, [], ◌∷◌, ◌++◌, length, map, All, IfSome, Option, Some}
+use Rattle.std.proofs.Common.{None, refl, sym, ap, subst, ◌∙◌, append_assoc, le_trans, suc-mul, arith}
 use Rattle.std.proofs.lemmas.List.Elements.{All-head, All-tail}
-use Rattle.camel_ber.specs.Grammar.{ElementData}
+use Rattle.camel_ber.specs.Elements.{ElementData}
 use Rattle.camel_map.specs.Encoding.{encoding, encodings, if_any, if_some, parent}
 use Rattle.camel_map.proofs.EncodedSizes.Bounds.{AreMost, IsMost, both, more_most, none_most, parent_most}
 

@@ -1,13 +1,12 @@
 -- How long the encodings of lists that are kept are at most.
 use Rattle.std.proofs.Common.{ℕ, ◌+◌, ◌*◌, ◌≤◌, List, [], ◌∷◌, length, map, All, inl, inr, subst, sym, mul-le-mul_right, arith}
 use Rattle.std.proofs.lemmas.List.Elements.{All-cons, All-nil, All-weaker}
-use Rattle.camel_ber.specs.Grammar.{ElementData}
+use Rattle.camel_ber.specs.Elements.{ElementData}
 use Rattle.camel_rows.proofs.ReceivedLemmas.{few-from_taken}
-use Rattle.camel_rows.specs.Received.{items_at, kept_of}
-use Rattle.camel_rows.specs.TdpRow.{TdpRowData}
-use Rattle.camel_map.specs.Encoding.{csi_element, ignored_row, item_element, list_element, row_fields, sent}
-use Rattle.camel_map.specs.Identifier.{sequence}
-use Rattle.camel_map.specs.Kept.{IsKeptList, IsRow}
+use Rattle.camel_rows.specs.TdpRow.{items_at, kept_of, TdpRowData}
+use Rattle.camel_map.specs.Encoding.{csi_element, ignored_row, item_element, list_element, row_fields, sent, IsKeptList}
+use Rattle.camel_map.specs.Encoding.{IsRow}
+use Rattle.camel_map.specs.Reading.{sequence}
 use Rattle.camel_map.proofs.EncodedSizes.Bounds.{AreMost, IsMost, more_most, none_most, parent_most}
 use Rattle.camel_map.proofs.EncodedSizes.ListBounds.{map_most, within}
 use Rattle.camel_map.proofs.EncodedLists.Rows.{is_ignored_row}

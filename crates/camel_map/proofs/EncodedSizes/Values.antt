@@ -3,10 +3,10 @@ use Rattle.std.proofs.Common.{◌+◌, ◌*◌, List, [], ◌∷◌, length, get
 use Rattle.std.proofs.lemmas.List.Elements.{All-weaker}
 use Rattle.camel_criteria.specs.Criteria.{NumberCriterionData}
 use Rattle.camel_rows.specs.TdpRow.{TdpRowData}
-use Rattle.camel_tbcd.specs.AddressLength.{IsAddress, max_isdn_address_length}
-use Rattle.camel_map.specs.Encoding.{handling_number, item_element, leaf, match_type_number, number_element, number_octets, row_fields}
-use Rattle.camel_map.specs.Identifier.{constructed, enumerated, integer, octet_string, primitive, sequence}
-use Rattle.camel_map.specs.Kept.{IsNumberCriterion, IsRow}
+use Rattle.camel_tbcd.specs.AddressString.{IsAddress, max_isdn_address_length}
+use Rattle.camel_map.specs.Encoding.{handling_number, item_element, leaf, match_type_number, number_element}
+use Rattle.camel_map.specs.Encoding.{number_octets, row_fields, IsNumberCriterion, IsRow}
+use Rattle.camel_map.specs.Reading.{constructed, enumerated, integer, octet_string, primitive, sequence}
 use Rattle.camel_map.proofs.EncodedSizes.Bounds.{IsMost, leaf_most, more_most, none_most, number_most, octet_most, parent_most}
 use Rattle.camel_map.proofs.EncodedSizes.ListBounds.{append_most, some_most, within}
 use Rattle.camel_map.proofs.EncodedLists.NumberCriterion.{length_element}

@@ -1,7 +1,7 @@
 -- How long the encodings of what a Delete names are at most.
 use Rattle.std.proofs.Common.{ℕ, Bool, true, false, [], ◌∷◌, arith}
 use Rattle.camel_map.specs.Encoding.{everything_parts, leaf, specific_parts}
-use Rattle.camel_map.specs.Identifier.{primitive}
+use Rattle.camel_map.specs.Reading.{primitive}
 use Rattle.camel_map.proofs.EncodedSizes.Bounds.{AreMost, leaf_most, more_most, none_most}
 use Rattle.camel_map.proofs.EncodedSizes.ListBounds.{within}
 

@@ -1,15 +1,12 @@
 -- The argument of an update is read as what brings it.
 use Rattle.std.proofs.Common.{◌≡◌, ℕ, List, Option, Some, Result, Ok, refl, ap, subst}
 use Rattle.std.proofs.lemmas.Option.{IfSome_then}
-use Rattle.camel_ber.specs.Grammar.{ElementData, IsIdentifier}
-use Rattle.camel_ber.specs.Reading.{◌>>=◌, PlacedData}
+use Rattle.camel_ber.specs.Elements.{ElementData, IsIdentifier, ◌>>=◌, PlacedData}
 use Rattle.camel_rows.specs.declared.subscriber.update.Update.{Update}
 use Rattle.camel_rows.specs.declared.subscriber.update.Update.TheVariants as update
-use Rattle.camel_map.specs.Arrival.{bare}
-use Rattle.camel_map.specs.Encoding.{Argument, IsInDialogue, argument_of}
-use Rattle.camel_map.specs.Identifier.{constructed}
-use Rattle.camel_map.specs.Kept.{IsKept}
-use Rattle.camel_map.specs.Lists.{Lists}
+use Rattle.camel_map.specs.Arrival.{bare, Lists}
+use Rattle.camel_map.specs.Encoding.{Argument, IsInDialogue, argument_of, IsKept}
+use Rattle.camel_map.specs.Reading.{constructed}
 use Rattle.camel_map.specs.Update.{arrival_in, cancel_in, delete_in}
 use Rattle.camel_map.specs.declared.arrival.Arrival.{Arrival}
 use Rattle.camel_map.specs.declared.map_fault.MapFault.{MapFault}

@@ -1,11 +1,11 @@
 -- The fields of an encoded VlrCamelSubscriptionInfo, by their tags.
 use Rattle.std.proofs.Common.{◌≡◌, ℕ, List, [], ◌∷◌, refl}
-use Rattle.camel_ber.specs.Grammar.{ElementData}
+use Rattle.camel_ber.specs.Elements.{ElementData}
 use Rattle.camel_rows.specs.declared.subscriber.update.Update.{Update}
 use Rattle.camel_rows.specs.declared.subscriber.update.Update.TheVariants as update
 use Rattle.camel_map.specs.Encoding.{camel_parts, csi_element, ignored_o_entry, ignored_t_entry, list_element, o_entry_fields, t_entry_fields}
-use Rattle.camel_map.specs.Identifier.{constructed}
-use Rattle.camel_map.specs.Lists.{Lists}
+use Rattle.camel_map.specs.Reading.{constructed}
+use Rattle.camel_map.specs.Arrival.{Lists}
 use Rattle.camel_map.proofs.Encoded.Parts.{Part, any_part, found, identified, joined, parts_of}
 use Rattle.camel_map.proofs.Encoded.Series.{AreIdentified}
 use Rattle.camel_map.proofs.Encoded.Tags.{of_tag}

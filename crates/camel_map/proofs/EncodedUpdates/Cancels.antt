@@ -3,9 +3,8 @@ use Rattle.std.proofs.Common.{◌≡◌, ℕ, List, [], ◌∷◌, IfSome, Optio
 use Rattle.camel_rows.specs.declared.subscriber.update.Update.TheVariants as update
 use Rattle.camel_tbcd.specs.Imsi.{IsImsi}
 use Rattle.camel_map.specs.Encoding.{leaf, parent, tbcd_octets}
-use Rattle.camel_map.specs.Identifier.{constructed, octet_string}
-use Rattle.camel_map.specs.Imsi.{own_imsi}
-use Rattle.camel_map.specs.Row.{first_of}
+use Rattle.camel_map.specs.Reading.{constructed, octet_string, own_imsi}
+use Rattle.camel_map.specs.Csi.{first_of}
 use Rattle.camel_map.specs.Update.{cancel_in, cancelled_in, first_identity_in, identity_in}
 use Rattle.camel_map.proofs.Encoded.Imsis.{own_imsi_read}
 use Rattle.camel_map.proofs.Encoded.First.{first_read}

@@ -1,12 +1,11 @@
 -- An encoded DeleteSubscriberDataArg is read as its update.
 use Rattle.std.proofs.Common.{ℕ, ◌≡◌, List, [], ◌∷◌, IfSome, Option, refl}
-use Rattle.camel_ber.specs.Grammar.{ElementData}
+use Rattle.camel_ber.specs.Elements.{ElementData}
 use Rattle.camel_rows.specs.declared.subscriber.update.Update.TheVariants as update
 use Rattle.camel_rows.specs.declared.subscriber.update.Withdrawal.{Withdrawal}
 use Rattle.camel_tbcd.specs.Imsi.{IsImsi}
 use Rattle.camel_map.specs.Encoding.{everything_parts, leaf, parent, specific_parts, tbcd_octets}
-use Rattle.camel_map.specs.Identifier.{primitive, sequence}
-use Rattle.camel_map.specs.Imsi.{own_imsi}
+use Rattle.camel_map.specs.Reading.{primitive, sequence, own_imsi}
 use Rattle.camel_map.specs.Update.{delete_in}
 use Rattle.camel_map.proofs.Encoded.Fields.{mandatory_read}
 use Rattle.camel_map.proofs.Encoded.Imsis.{own_imsi_read}

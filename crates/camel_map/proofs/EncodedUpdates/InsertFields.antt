@@ -2,17 +2,13 @@
 use Rattle.std.proofs.Common.{◌≡◌, ℕ, List, Option, Some, None, Ok, refl}
 use Rattle.std.proofs.lemmas.Option.{IfSome_then}
 use Rattle.std.specs.Option.{option_map}
-use Rattle.camel_ber.specs.Reading.{PlacedData}
-use Rattle.camel_rows.specs.Received.{o_criteria_set_of, o_csi_of, t_criteria_set_of, vt_csi_of}
-use Rattle.camel_rows.specs.TdpRow.{TdpRowData}
-use Rattle.camel_map.specs.Arrival.{insert_of, kept_in, rows_in}
-use Rattle.camel_map.specs.Criteria.{o_entry_of_fields, t_entry_of_fields}
+use Rattle.camel_ber.specs.Elements.{PlacedData}
+use Rattle.camel_rows.specs.TdpRow.{o_criteria_set_of, o_csi_of, t_criteria_set_of, vt_csi_of, TdpRowData}
+use Rattle.camel_map.specs.Arrival.{insert_of, kept_in, rows_in, Lists}
+use Rattle.camel_map.specs.Csi.{o_entry_of_fields, t_entry_of_fields, csi_in, lists_of_fields}
 use Rattle.camel_map.specs.Encoding.{csi_element, ignored_o_entry, ignored_t_entry, o_entry_fields, t_entry_fields}
-use Rattle.camel_map.specs.Identifier.{constructed}
-use Rattle.camel_map.specs.Items.{item_in, received_as}
-use Rattle.camel_map.specs.Kept.{IsKept, IsOEntry, IsTEntry}
-use Rattle.camel_map.specs.Lists.{Lists}
-use Rattle.camel_map.specs.Row.{csi_in, lists_of_fields}
+use Rattle.camel_map.specs.Encoding.{IsKept, IsOEntry, IsTEntry}
+use Rattle.camel_map.specs.Reading.{constructed, item_in, received_as}
 use Rattle.camel_map.specs.Update.{insert_of_fields}
 use Rattle.camel_map.specs.declared.arrival.Arrival.{Arrival}
 use Rattle.camel_map.proofs.EncodedUpdates.CamelFields.{info, the_fields}

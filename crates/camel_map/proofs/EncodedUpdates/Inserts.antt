@@ -1,11 +1,9 @@
 -- An encoded InsertSubscriberDataArg is read as its update.
 use Rattle.std.proofs.Common.{◌≡◌, ℕ, List, [], ◌∷◌, IfSome, Option, refl}
-use Rattle.camel_ber.specs.Grammar.{ElementData}
-use Rattle.camel_map.specs.Encoding.{leaf, parent, tbcd_octets}
-use Rattle.camel_map.specs.Identifier.{constructed, primitive, sequence}
-use Rattle.camel_map.specs.Imsi.{imsi_or_of_dialogue}
-use Rattle.camel_map.specs.Kept.{IsKept}
-use Rattle.camel_map.specs.Lists.{Lists}
+use Rattle.camel_ber.specs.Elements.{ElementData}
+use Rattle.camel_map.specs.Encoding.{leaf, parent, tbcd_octets, IsKept}
+use Rattle.camel_map.specs.Reading.{constructed, primitive, sequence, imsi_or_of_dialogue}
+use Rattle.camel_map.specs.Arrival.{Lists}
 use Rattle.camel_map.specs.Update.{insert_in}
 use Rattle.camel_map.proofs.EncodedUpdates.CamelFields.{all_identified, info, insert_of}
 use Rattle.camel_map.proofs.Encoded.Fields.{field_there}

@@ -1,11 +1,9 @@
 -- Each update that an operation can say is read where it is encoded.
 use Rattle.std.proofs.Common.{◌≡◌, ◌∙◌, ℕ, ◌<◌, List, [], ◌∷◌, length, Option, Result, Ok, sym, ap, subst}
 use Rattle.std.proofs.lemmas.List.{append-nil}
-use Rattle.camel_ber.specs.Grammar.{ElementData}
-use Rattle.camel_ber.specs.Reading.{◌>>=◌, PlacedData}
+use Rattle.camel_ber.specs.Elements.{ElementData, ◌>>=◌, PlacedData}
 use Rattle.camel_rows.specs.declared.subscriber.update.Update.{Update}
-use Rattle.camel_map.specs.Encoding.{Argument, Encodes, IsInDialogue, encoding, encodings}
-use Rattle.camel_map.specs.Kept.{IsKept}
+use Rattle.camel_map.specs.Encoding.{Argument, Encodes, IsInDialogue, encoding, encodings, IsKept}
 use Rattle.camel_map.specs.Reading.{elements_in, whole}
 use Rattle.camel_map.specs.Update.{arrival_in, arrival_of, one_of, update_of}
 use Rattle.camel_map.specs.declared.arrival.Arrival.{Arrival}

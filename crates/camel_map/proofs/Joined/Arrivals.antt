@@ -3,8 +3,7 @@ use Rattle.std.proofs.Common.{◌≡◌, ◌∙◌, ◌⊎◌, Some, None, true,
 use Rattle.camel_criteria.specs.declared.refusal.Refusal.{Refusal}
 use Rattle.camel_criteria.specs.declared.refusal.Refusal.TheVariants.{OutOfMemory}
 use Rattle.camel_rows.specs.Update.{is_insert}
-use Rattle.camel_map.specs.Join.{seen_as}
-use Rattle.camel_map.specs.Lists.{IsOfLists, IsReceived, JoinsAs}
+use Rattle.camel_map.specs.Arrival.{seen_as, IsOfLists, IsReceived, JoinsAs}
 use Rattle.camel_map.specs.declared.arrival.Arrival.{Arrival}
 use Rattle.camel_map.specs.declared.join.JoinFault.{JoinFault}
 use Rattle.camel_map.specs.declared.join.JoinFault.TheVariants.{Refused}

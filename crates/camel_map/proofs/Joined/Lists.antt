@@ -1,12 +1,12 @@
 -- What is kept of a list that has the items of two is told by what is kept of each.
-use Rattle.std.proofs.Common.{◌≡◌, ◌∙◌, ◌≤◌, ◌+◌, ℕ, Bool, true, List, [], ◌∷◌, ◌++◌, filter, length, None, Ok, refl, sym, ap}
-use Rattle.std.proofs.Common.{arith}
+use Rattle.std.proofs.Common.{◌≡◌, ◌∙◌, ◌≤◌, ◌+◌, ℕ, Bool, true, List, [], ◌∷◌, ◌++◌, filter, length, None, Ok, refl}
+use Rattle.std.proofs.Common.{sym, ap, arith}
 use Rattle.std.proofs.lemmas.Grind.{common_steps}
 use Rattle.std.proofs.lemmas.List.{length-append}
 use Rattle.std.proofs.lemmas.List.Elements.{filter-append}
 use Rattle.std.proofs.lemmas.List.Sums.{count_by-le-length, length-filter}
 use Rattle.camel_criteria.specs.DetectionPoint.{is_among}
-use Rattle.camel_rows.specs.Received.{has_no_two, items_at, kept_of, kept_unless, list_refusal}
+use Rattle.camel_rows.specs.TdpRow.{has_no_two, items_at, kept_of, kept_unless, list_refusal}
 use Rattle.camel_map.proofs.Joined.Counts.{first_empty}
 use Rattle.camel_map.proofs.Joined.Refusals.{few_taken, same_refusal, some-from_taken, unless_kept}
 use Rattle.camel_map.proofs.Joined.Singles.{none_two, same_singles}

@@ -2,12 +2,9 @@
 use Rattle.std.proofs.Common.{◌≡◌, ◌∙◌, ℕ, List, Option, Some, None, Result, Ok, refl, sym, ap}
 use Rattle.camel_criteria.specs.Criteria.{OCriteriaData, TCriteriaData}
 use Rattle.camel_criteria.specs.declared.refusal.Refusal.{Refusal}
-use Rattle.camel_rows.specs.Received.{o_criteria_set_of, o_csi_of, t_criteria_set_of, vt_csi_of}
-use Rattle.camel_rows.specs.TdpRow.{TdpRowData}
+use Rattle.camel_rows.specs.TdpRow.{o_criteria_set_of, o_csi_of, t_criteria_set_of, vt_csi_of, TdpRowData}
 use Rattle.camel_rows.specs.declared.subscriber.update.Update.TheVariants as update
-use Rattle.camel_map.specs.Arrival.{count_of, insert_with, kept_in}
-use Rattle.camel_map.specs.Join.{part_of}
-use Rattle.camel_map.specs.Lists.{Lists, insert_of_lists, list_of}
+use Rattle.camel_map.specs.Arrival.{count_of, insert_with, kept_in, part_of, Lists, insert_of_lists, list_of}
 use Rattle.camel_map.specs.declared.arrival.Arrival.{Arrival}
 use Rattle.camel_map.specs.declared.arrival.CapabilityHandling.{CapabilityHandling}
 use Rattle.camel_map.specs.declared.items.ReceivedList.{ReceivedList}

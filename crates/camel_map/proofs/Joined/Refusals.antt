@@ -3,7 +3,7 @@ use Rattle.std.proofs.Common.{◌≡◌, ◌≤◌, ℕ, Bool, true, false, List
 use Rattle.std.proofs.lemmas.Bool.Decides.{nat_tests}
 use Rattle.std.proofs.lemmas.Grind.{common_steps}
 use Rattle.camel_criteria.specs.declared.refusal.Refusal.{Refusal}
-use Rattle.camel_rows.specs.Received.{kept_unless, list_refusal}
+use Rattle.camel_rows.specs.TdpRow.{kept_unless, list_refusal}
 
 -- lists of 1 to 10 items are refused alike
 pub same_refusal : (one other : ℕ) (single : Bool) → 1 ≤ one → one ≤ 10 → 1 ≤ other → other ≤ 10

@@ -3,7 +3,7 @@ use Rattle.std.proofs.Common.{◌≡◌, ◌==◌, ℕ, true, false, List, [], �
 use Rattle.std.proofs.lemmas.Bool.Decides.{nat_tests}
 use Rattle.std.proofs.lemmas.Grind.{common_steps}
 use Rattle.camel_criteria.specs.DetectionPoint.{is_among}
-use Rattle.camel_rows.specs.Received.{has_no_two, items_at}
+use Rattle.camel_rows.specs.TdpRow.{has_no_two, items_at}
 
 here : (point : ℕ) (points : List ℕ) → is_among (point ∷ points) point ≡ true
 here point points = grind (arith, common_steps, nat_tests)

@@ -1,16 +1,13 @@
 -- The rows and the criteria of a CSI that is decoded are what is kept of the received items.
 use Rattle.std.proofs.Common.{◌≡◌, ◌∙◌, ℕ, List, Option, Some, Result, Ok, ap}
 use Rattle.std.proofs.lemmas.Iterator.Adapters.{option_map_id}
-use Rattle.camel_ber.specs.Reading.{◌>>=◌, PlacedData}
+use Rattle.camel_ber.specs.Elements.{◌>>=◌, PlacedData}
 use Rattle.camel_criteria.specs.declared.refusal.Refusal.{Refusal}
 use Rattle.camel_rows.specs.TdpRow.{TdpRowData}
-use Rattle.camel_map.specs.Arrival.{rows_in}
-use Rattle.camel_map.specs.Field.{field_of, identified, if_present}
-use Rattle.camel_map.specs.Identifier.{sequence}
-use Rattle.camel_map.specs.Items.{item_in, received_as}
-use Rattle.camel_map.specs.Lists.{list_of}
-use Rattle.camel_map.specs.Reading.{contents, elements_in}
-use Rattle.camel_map.specs.Row.{capability_in, csi_in, first_of, lists_of_fields, row_of_fields}
+use Rattle.camel_map.specs.Arrival.{rows_in, list_of}
+use Rattle.camel_map.specs.Reading.{field_of, identified, if_present, sequence, item_in, received_as, contents}
+use Rattle.camel_map.specs.Reading.{elements_in}
+use Rattle.camel_map.specs.Csi.{capability_in, csi_in, first_of, lists_of_fields, row_of_fields}
 use Rattle.camel_map.specs.declared.items.ReceivedList.{ReceivedList}
 use Rattle.camel_map.specs.declared.map_fault.MapFault.{MapFault}
 use Rattle.camel_map.specs.declared.row.ReceivedCsi.{ReceivedCsi}

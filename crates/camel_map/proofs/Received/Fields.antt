@@ -1,11 +1,10 @@
 -- The fields of a tag, as a loop finds them.
-use Rattle.std.proofs.Common.{◌≡◌, ◌∙◌, ℕ, ◌+◌, ◌≤◌, true, List, [], ◌∷◌, ◌++◌, length, drop, filter, Option, Some, None, is_some}
-use Rattle.std.proofs.Common.{Result, Ok, Err, inl, inr, refl, sym, ap}
+use Rattle.std.proofs.Common.{◌≡◌, ◌∙◌, ℕ, ◌+◌, ◌≤◌, true, List, [], ◌∷◌, ◌++◌, length, drop, filter, Option, Some}
+use Rattle.std.proofs.Common.{None, is_some, Result, Ok, Err, inl, inr, refl, sym, ap}
 use Rattle.std.proofs.lemmas.List.{append-nil, drop_all}
-use Rattle.camel_ber.specs.Reading.{◌>>=◌, PlacedData, view, views}
+use Rattle.camel_ber.specs.Elements.{◌>>=◌, PlacedData, view, views}
 use Rattle.camel_ber.specs.declared.element.Element.{Element}
-use Rattle.camel_map.specs.Field.{is_tagged, field_of, only_field}
-use Rattle.camel_map.specs.Reading.{IsMemory, fails_at}
+use Rattle.camel_map.specs.Reading.{is_tagged, field_of, only_field, IsMemory, fails_at}
 use Rattle.camel_reading.specs.Reading.{ReadsAs}
 use Rattle.camel_map.specs.declared.map_fault.MapFault.{MapFault}
 use Rattle.camel_map.specs.declared.map_fault.MapFaultKind.TheVariants.{FieldTwice}

@@ -1,15 +1,11 @@
 -- An Insert that is decoded is of lists.
 use Rattle.std.proofs.Common.{◌≡◌, ℕ, List, Option, Ok, refl, subst}
-use Rattle.camel_ber.specs.Reading.{◌>>=◌, PlacedData}
-use Rattle.camel_rows.specs.Received.{o_criteria_set_of, o_csi_of, t_criteria_set_of, vt_csi_of}
-use Rattle.camel_map.specs.Arrival.{insert_of}
-use Rattle.camel_map.specs.Criteria.{o_entry_of_fields, o_lists_in, t_entry_of_fields, vt_lists_in}
-use Rattle.camel_map.specs.Field.{field_of, identified}
-use Rattle.camel_map.specs.Identifier.{constructed, primitive, sequence}
-use Rattle.camel_map.specs.Items.{item_in}
-use Rattle.camel_map.specs.Imsi.{imsi_or_of_dialogue}
-use Rattle.camel_map.specs.Lists.{IsOfLists, Lists, insert_of_lists}
-use Rattle.camel_map.specs.Reading.{contents, elements_in}
+use Rattle.camel_ber.specs.Elements.{◌>>=◌, PlacedData}
+use Rattle.camel_rows.specs.TdpRow.{o_criteria_set_of, o_csi_of, t_criteria_set_of, vt_csi_of}
+use Rattle.camel_map.specs.Arrival.{insert_of, IsOfLists, Lists, insert_of_lists}
+use Rattle.camel_map.specs.Csi.{o_entry_of_fields, o_lists_in, t_entry_of_fields, vt_lists_in}
+use Rattle.camel_map.specs.Reading.{field_of, identified, constructed, primitive, sequence, item_in}
+use Rattle.camel_map.specs.Reading.{imsi_or_of_dialogue, contents, elements_in}
 use Rattle.camel_map.specs.Update.{camel_fields, insert_in, insert_of_fields}
 use Rattle.camel_map.specs.declared.arrival.Arrival.{Arrival}
 use Rattle.camel_map.proofs.Received.Csis.{of_lists}

@@ -1,12 +1,10 @@
 -- A list that is decoded is what is kept of the received items.
 use Rattle.std.proofs.Common.{◌≡◌, ◌∙◌, ℕ, List, Option, Some, None, Result, Ok, Err, refl, ap}
 use Rattle.std.specs.Option.{option_map}
-use Rattle.camel_ber.specs.Reading.{◌>>=◌, PlacedData}
+use Rattle.camel_ber.specs.Elements.{◌>>=◌, PlacedData}
 use Rattle.camel_criteria.specs.declared.refusal.Refusal.{Refusal}
-use Rattle.camel_map.specs.Field.{field_of, if_present}
-use Rattle.camel_map.specs.Items.{items_as, received_as}
-use Rattle.camel_map.specs.Lists.{list_of}
-use Rattle.camel_map.specs.Reading.{or_refused_at}
+use Rattle.camel_map.specs.Reading.{field_of, if_present, items_as, received_as, or_refused_at}
+use Rattle.camel_map.specs.Arrival.{list_of}
 use Rattle.camel_map.specs.declared.items.ReceivedList.{ReceivedList}
 use Rattle.camel_map.specs.declared.map_fault.MapFault.{MapFault}
 use Rattle.camel_map.proofs.Received.Steps.{step}

@@ -1,17 +1,14 @@
 -- What an argument brings is received: an Insert of lists, or another update with nothing beside it.
 use Rattle.std.proofs.Common.{◌≡◌, ℕ, false, List, Option, Result, Ok, Err, inl, inr, refl, subst}
-use Rattle.camel_ber.specs.Reading.{◌>>=◌, OctetsData, PlacedData}
+use Rattle.camel_ber.specs.Elements.{◌>>=◌, OctetsData, PlacedData}
 use Rattle.camel_rows.specs.Update.{is_insert}
 use Rattle.camel_rows.specs.declared.subscriber.update.Update.{Update}
 use Rattle.camel_rows.specs.declared.subscriber.update.Update.TheVariants as update
-use Rattle.camel_map.specs.Arrival.{bare}
-use Rattle.camel_map.specs.Field.{field_of, identified, mandatory}
-use Rattle.camel_map.specs.Identifier.{primitive, sequence}
-use Rattle.camel_map.specs.Imsi.{own_imsi}
-use Rattle.camel_map.specs.Lists.{IsReceived}
-use Rattle.camel_map.specs.Reading.{contents, elements_in}
-use Rattle.camel_map.specs.Update.{arrival_in, arrival_of, cancel_in, cancelled_in, delete_in, one_of}
-use Rattle.camel_map.specs.Withdrawal.{is_named, withdrawal_with}
+use Rattle.camel_map.specs.Arrival.{bare, IsReceived}
+use Rattle.camel_map.specs.Reading.{field_of, identified, mandatory, primitive, sequence, own_imsi, contents}
+use Rattle.camel_map.specs.Reading.{elements_in}
+use Rattle.camel_map.specs.Update.{arrival_in, arrival_of, cancel_in, cancelled_in, delete_in, one_of, is_named}
+use Rattle.camel_map.specs.Update.{withdrawal_with}
 use Rattle.camel_map.specs.declared.arrival.Arrival.{Arrival}
 use Rattle.camel_map.specs.declared.map_fault.MapFault.{MapFault}
 use Rattle.camel_map.specs.declared.operation.Operation.{Operation}

@@ -1,11 +1,10 @@
 -- A CSI that is sent with its criteria is stored as it is.
 use Rattle.std.proofs.Common.{◌≡◌, false, List, [], ◌∷◌, Option, Some, None, refl, ap}
 use Rattle.std.specs.Option.{option_and_then, option_map}
-use Rattle.camel_rows.specs.CsisPresent.{lacks_csi}
+use Rattle.camel_rows.specs.Update.{lacks_csi, csi_after}
 use Rattle.camel_rows.specs.Subscriber.{StoredCsiData, rows_of}
 use Rattle.camel_rows.specs.TdpRow.{TdpRowData}
-use Rattle.camel_rows.specs.Update.{csi_after}
-use Rattle.camel_map.specs.Record.{sent_criteria, some_entries}
+use Rattle.camel_map.specs.Encoding.{sent_criteria, some_entries}
 
 module _ {Entry : Type 0} where
   -- a CSI that is sent with its criteria is stored as it is

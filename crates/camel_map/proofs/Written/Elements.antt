@@ -1,10 +1,9 @@
 -- Elements that are written in front of octets.
-use Rattle.std.proofs.Common.{◌≡◌, ◌∙◌, ℕ, suc, ◌-◌, ◌<◌, ◌≤◌, List, [], ◌∷◌, ◌++◌, length, map, drop, get_or}
-use Rattle.std.proofs.Common.{refl, sym, ap, append_assoc, arith, drop-cons}
+use Rattle.std.proofs.Common.{◌≡◌, ◌∙◌, ℕ, suc, ◌-◌, ◌<◌, ◌≤◌, List, [], ◌∷◌, ◌++◌, length, map, drop, get_or, refl}
+use Rattle.std.proofs.Common.{sym, ap, append_assoc, arith, drop-cons}
 use Rattle.std.proofs.lemmas.List.{length-append}
-use Rattle.camel_ber.specs.Grammar.{ElementData}
-use Rattle.camel_map.specs.Encoding.{encoding, encodings, leaf, length_octets}
-use Rattle.camel_map.specs.Written.{before}
+use Rattle.camel_ber.specs.Elements.{ElementData}
+use Rattle.camel_map.specs.Encoding.{encoding, encodings, leaf, length_octets, before}
 
 pub before_append : (xs ys : List ElementData) (rest : List ℕ) → before (xs ++ ys) rest ≡ before xs (before ys rest)
 before_append [] ys rest = refl

@@ -3,15 +3,14 @@ use Rattle.std.proofs.Common.{◌≡◌, ◌∙◌, ◌||◌, ℕ, Bool, true, f
 use Rattle.std.specs.FinMap as map
 use Rattle.camel_rows.proofs.ByImsiLemmas.{get-with_value_there, insert_twice}
 use Rattle.camel_rows.proofs.UpdateLemmas.{with_record_after}
-use Rattle.camel_rows.specs.CsisPresent.{csis_of, csis_refusal, lacks_csi}
-use Rattle.camel_rows.specs.Records.{no_records}
+use Rattle.camel_rows.specs.Update.{csis_of, csis_refusal, lacks_csi, no_records, is_insert, record_after}
+use Rattle.camel_rows.specs.Update.{record_with_insert, records_after, update_imsi}
 use Rattle.camel_rows.specs.Subscriber.{SubscriberData, empty_record}
-use Rattle.camel_rows.specs.Update.{is_insert, record_after, record_with_insert, records_after, update_imsi}
 use Rattle.camel_criteria.specs.declared.refusal.Refusal.{Refusal}
 use Rattle.camel_criteria.specs.declared.refusal.Refusal.TheVariants.{DataMissing}
 use Rattle.camel_rows.specs.declared.subscriber.update.Update.{Update}
 use Rattle.camel_rows.specs.declared.subscriber.update.Update.TheVariants as update
-use Rattle.camel_map.specs.Record.{insert_of_record, with_some_entries}
+use Rattle.camel_map.specs.Encoding.{insert_of_record, with_some_entries}
 use Rattle.camel_map.proofs.Written.Csis.{csi_sent, csi_stands, none_lacks}
 
 none_refused : (first second : Bool) (why : Refusal) → cond (first || second) (Some why) None ≡ None

@@ -2,11 +2,10 @@
 use Rattle.std.proofs.Common.{◌≡◌, ℕ, List, IfSome, Option, Some, None, Ok, refl}
 use Rattle.std.specs.Option.{option_map}
 use Rattle.camel_rows.specs.declared.subscriber.update.Update.{Update}
-use Rattle.camel_map.specs.Encoding.{Argument, IsInDialogue, argument_of, encoding}
-use Rattle.camel_map.specs.Kept.{IsKept}
+use Rattle.camel_map.specs.Encoding.{Argument, IsInDialogue, argument_of, encoding, IsKept, argument_octets}
+use Rattle.camel_map.specs.Encoding.{octets_of_update, operation_of_update}
 use Rattle.camel_map.specs.Reading.{whole}
 use Rattle.camel_map.specs.Update.{update_of}
-use Rattle.camel_map.specs.Written.{argument_octets, octets_of_update, operation_of_update}
 use Rattle.camel_map.proofs.EncodedUpdates.Updates.{encoding_decodes}
 
 argument_decodes : (dialogue : Option (List ℕ)) (update : Update) (said : Option Argument) → argument_of update ≡ said

@@ -3,8 +3,8 @@
 ghost use Rattle.std.specs.Prelude.{◌≡◌, ◌++◌, [], ◌∷◌, IfOk, OnOk};
 ghost use Rattle.std.specs.Option.{option_copied};
 ghost use Rattle.camel_map.specs.Encoding.{camel_parts, everything_parts, leaf, parent, specific_parts, tbcd_octets};
-ghost use Rattle.camel_map.specs.Identifier.{constructed, octet_string, primitive, sequence};
-ghost use Rattle.camel_map.specs.Written.{before, octets_of_update, operation_of_update};
+ghost use Rattle.camel_map.specs.Encoding.{before, octets_of_update, operation_of_update};
+ghost use Rattle.camel_map.specs.Reading.{constructed, octet_string, primitive, sequence};
 
 use crate::encoding::csi::{put_csi, put_csi_criteria};
 use crate::encoding::element::{close, put_leaf};

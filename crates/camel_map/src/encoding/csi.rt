@@ -2,8 +2,7 @@
 
 ghost use Rattle.std.specs.Prelude.{◌≡◌, [], ◌∷◌, map, OnOk};
 ghost use Rattle.std.specs.Option.{option_copied};
-ghost use Rattle.camel_map.specs.Encoding.{csi_element, if_any, item_element, list_element, sent};
-ghost use Rattle.camel_map.specs.Written.{before};
+ghost use Rattle.camel_map.specs.Encoding.{csi_element, if_any, item_element, list_element, sent, before};
 
 use crate::encoding::element::close;
 use crate::encoding::list::put_each;

@@ -1,9 +1,8 @@
 //! Elements in front of what is written (ITU-T X.690, definite lengths in as few octets as hold them).
 
 ghost use Rattle.std.specs.Prelude.{◌≡◌, ◌++◌, ◌≤◌, [], ◌∷◌, ℕ, List, length, OnOk};
-ghost use Rattle.camel_ber.specs.Grammar.{ElementData};
-ghost use Rattle.camel_map.specs.Encoding.{encoding, leaf, length_octets, number_octets, parent};
-ghost use Rattle.camel_map.specs.Written.{before};
+ghost use Rattle.camel_ber.specs.Elements.{ElementData};
+ghost use Rattle.camel_map.specs.Encoding.{encoding, leaf, length_octets, number_octets, parent, before};
 
 use crate::encoding::writer::{TooLong, Writer};
 

@@ -1,8 +1,7 @@
 //! The IMSI that an argument concerns, in TBCD.
 
 ghost use Rattle.std.specs.Prelude.{◌≡◌, ◌++◌, ◌≤◌, [], ◌∷◌, All, OnOk};
-ghost use Rattle.camel_map.specs.Encoding.{leaf, tbcd_octets};
-ghost use Rattle.camel_map.specs.Written.{before};
+ghost use Rattle.camel_map.specs.Encoding.{leaf, tbcd_octets, before};
 
 use crate::encoding::element::close_octets;
 use crate::encoding::writer::{TooLong, Writer};

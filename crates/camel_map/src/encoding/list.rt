@@ -2,9 +2,8 @@
 
 ghost use Rattle.std.specs.Prelude.{◌≡◌, ◌++◌, map, OnOk};
 ghost use Rattle.std.specs.Option.{option_copied};
-ghost use Rattle.camel_ber.specs.Grammar.{ElementData};
-ghost use Rattle.camel_map.specs.Encoding.{encoding, if_any, if_some};
-ghost use Rattle.camel_map.specs.Written.{before};
+ghost use Rattle.camel_ber.specs.Elements.{ElementData};
+ghost use Rattle.camel_map.specs.Encoding.{encoding, if_any, if_some, before};
 
 use crate::encoding::element::close;
 use crate::encoding::writer::{TooLong, Writer};

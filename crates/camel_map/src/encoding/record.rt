@@ -3,14 +3,11 @@
 ghost use Rattle.std.specs.Prelude.{◌≡◌, ◌++◌, List, Ok, Option, ℕ, OnErr, OnOk};
 ghost use Rattle.std.specs.FinMap as map;
 ghost use Rattle.std.specs.Option.{option_and_then};
-ghost use Rattle.camel_map.specs.Encoding.{IsInDialogue};
-ghost use Rattle.camel_map.specs.Kept.{IsKept};
+ghost use Rattle.camel_map.specs.Encoding.{IsInDialogue, IsKept, insert_of_record, some_entries, with_some_entries};
+ghost use Rattle.camel_map.specs.Encoding.{octets_of_update};
 ghost use Rattle.camel_map.specs.Reading.{whole};
-ghost use Rattle.camel_map.specs.Record.{insert_of_record, some_entries, with_some_entries};
 ghost use Rattle.camel_map.specs.Update.{update_of};
-ghost use Rattle.camel_map.specs.Written.{octets_of_update};
-ghost use Rattle.camel_rows.specs.Records.{no_records};
-ghost use Rattle.camel_rows.specs.Update.{records_after};
+ghost use Rattle.camel_rows.specs.Update.{no_records, records_after};
 
 use crate::encoding::append;
 use crate::operation::Operation;

@@ -3,7 +3,7 @@
 ghost use Rattle.std.specs.Prelude.{◌≡◌, [], ◌∷◌};
 ghost use Rattle.camel_map.specs.Encoding.{call_type_number, cause_element, handling_number, leaf, match_type_number};
 ghost use Rattle.camel_map.specs.Encoding.{number_element, service_element};
-ghost use Rattle.camel_map.specs.Identifier.{integer, octet_string, primitive};
+ghost use Rattle.camel_map.specs.Reading.{integer, octet_string, primitive};
 
 use crate::encoding::element::{close, put_leaf};
 use crate::encoding::list::{Part, put_some};

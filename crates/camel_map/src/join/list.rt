@@ -1,8 +1,8 @@
 //! One list that comes in two operations.
 
 ghost use Rattle.std.specs.Prelude.{◌≡◌, ◌≤◌, ◌++◌, length, IfOk, OnOk};
-ghost use Rattle.camel_rows.specs.Received.{kept_of};
-ghost use Rattle.camel_map.specs.Join.{JoinsLists, JoinsTwo, Keeps};
+ghost use Rattle.camel_rows.specs.TdpRow.{kept_of};
+ghost use Rattle.camel_map.specs.Arrival.{JoinsLists, JoinsTwo, Keeps};
 
 use crate::item::MapItem;
 use crate::items::ReceivedList;

@@ -1,10 +1,9 @@
 ghost use Rattle.std.specs.Prelude.{◌≡◌, false, IfErr, IfOk, IfSome, map, string_bytes};
 ghost use Rattle.clap.specs.Words.{app_of, kind_of, rule_of};
 ghost use Rattle.clap.specs.declared.error.kind.ErrorKind.TheVariants.{DisplayHelp, OutOfMemory};
-ghost use Rattle.camel_replay_lib.specs.CommandLine.{AsksForHelp, HoldsLimit, HoldsProfile, HoldsThreads, IsNumberUpTo};
-ghost use Rattle.camel_replay_lib.specs.CommandLine.{LimitOf};
-ghost use Rattle.camel_replay_lib.specs.CommandLine.{GivesNumber, ProfileOf, ThreadsOf, limit_rule, profile_number};
-ghost use Rattle.camel_replay_lib.specs.CommandLine.{profile_rule, the_program, threads_rule};
+ghost use Rattle.camel_replay_lib.specs.ProgramRun.{AsksForHelp, HoldsLimit, HoldsProfile, HoldsThreads, IsNumberUpTo};
+ghost use Rattle.camel_replay_lib.specs.ProgramRun.{LimitOf, GivesNumber, ProfileOf, ThreadsOf, limit_rule};
+ghost use Rattle.camel_replay_lib.specs.ProgramRun.{profile_number, profile_rule, the_program, threads_rule};
 
 use crate::command::Options;
 use camel_script_replay::MAX_LIMIT;

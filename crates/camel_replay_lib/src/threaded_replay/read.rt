@@ -1,8 +1,7 @@
 ghost use Rattle.std.specs.Prelude.{◌≡◌, ◌≢◌, ◌≤◌, true, IfErr, IfOk, IfSome};
 ghost use Rattle.camel_script.specs.Script.{Failed, records_left, script, still_gives};
-ghost use Rattle.camel_script_replay.specs.Limits.{max_records};
-ghost use Rattle.camel_script_replay.specs.ReplayFault.{is_reading_code};
-ghost use Rattle.camel_replay_lib.specs.ThreadsWritten.{IsAllOf, StopsReading};
+ghost use Rattle.camel_script_replay.specs.Output.{max_records, is_reading_code};
+ghost use Rattle.camel_replay_lib.specs.ThreadsOutput.{IsAllOf, StopsReading};
 
 use camel_script::{Record, Script};
 use camel_script_replay::{MAX_RECORDS, ReplayFault};

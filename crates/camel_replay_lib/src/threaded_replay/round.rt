@@ -3,10 +3,9 @@
 
 ghost use Rattle.std.specs.Prelude.{◌≡◌, ◌≤◌, true, None, Some, Err, length, All, IfErr, IfOk, IfSome, OnOk, []};
 ghost use Rattle.std.specs.List.{AllZip};
-ghost use Rattle.camel_replay_lib.specs.ThreadsFault.{fault_of_end};
-ghost use Rattle.camel_replay_lib.specs.Round.{AreWorkersOf, FrontIsAtMost, IsJoined, IsOfStore, IsPromiseOf};
-ghost use Rattle.camel_replay_lib.specs.Round.{IsWorkerOf, ServesRound, WritesLines};
-ghost use Rattle.camel_replay_lib.specs.ThreadsOutput.{is_no_call};
+ghost use Rattle.camel_replay_lib.specs.ThreadsOutput.{fault_of_end, is_no_call};
+ghost use Rattle.camel_replay_lib.specs.Rounds.{AreWorkersOf, FrontIsAtMost, IsJoined, IsOfStore, IsPromiseOf};
+ghost use Rattle.camel_replay_lib.specs.Rounds.{IsWorkerOf, ServesRound, WritesLines};
 ghost use Rattle.camel_audit.specs.Serves.{Serves};
 
 use crate::threaded_replay::seat::Seat;

@@ -1,7 +1,7 @@
 //! Segments of a script: its records up to and including a publication.
 
 ghost use Rattle.std.specs.Prelude.{◌≡◌, ◌+◌, ◌^◌, ◌<◌, ◌≤◌, ◌++◌, length, IfOk};
-ghost use Rattle.camel_replay_lib.specs.Segments.{IsCutOff, jobs_for, jobs_from};
+ghost use Rattle.camel_replay_lib.specs.Rounds.{IsCutOff, jobs_for, jobs_from};
 
 use camel_audit::Job;
 use camel_rows::CallEvent;

@@ -3,10 +3,8 @@
 
 ghost use Rattle.std.specs.Prelude.{◌≡◌, ℕ, ◌+◌, ◌<◌, ◌++◌, true, [], ◌∷◌, All, IfErr, IfOk, IsOkAnd, OnOk, length};
 ghost use Rattle.std.specs.List.{flat_map};
-ghost use Rattle.camel_audit.specs.Audit.{Passes};
-ghost use Rattle.camel_audit.specs.Part.{PassesInPart, is_in_part, is_member};
-ghost use Rattle.camel_replay_lib.specs.SessionLines.{PassesOf, text_of};
-ghost use Rattle.camel_replay_lib.specs.SessionTask.{IsOfTask, PartPasses, task_text};
+ghost use Rattle.camel_audit.specs.Audit.{Passes, PassesInPart, is_in_part, is_member};
+ghost use Rattle.camel_replay_lib.specs.Rounds.{PassesOf, text_of, IsOfTask, PartPasses, task_text};
 ghost use Rattle.camel_replay_lib.specs.ThreadsOutput.{session_text, sessions_text};
 
 use crate::threaded_replay::threads_fault::ThreadsFault;
@@ -41,7 +39,7 @@ struct Found {
 }
 
 impl<'a> Promise<Found> for Task<'a> {
-    ghost use Rattle.camel_replay_lib.specs.SessionTask.{IsOfTask};
+    ghost use Rattle.camel_replay_lib.specs.Rounds.{IsOfTask};
 
     ghost kept_by = { λ task found. IsOfTask task found };
 }

@@ -1,5 +1,5 @@
 ghost use Rattle.std.specs.Prelude.{◌≡◌};
-ghost use Rattle.camel_replay_lib.specs.ThreadsFault.{threads_fault_code};
+ghost use Rattle.camel_replay_lib.specs.ThreadsOutput.{threads_fault_code};
 
 use camel_audit::AuditFault;
 use camel_criteria::Refusal;
@@ -63,7 +63,7 @@ impl From<AuditFault> for ThreadsFault {
 
 impl From<Refusal> for ThreadsFault {
     ghost use Rattle.std.specs.Prelude.{◌≡◌};
-    ghost use Rattle.camel_replay_lib.specs.ThreadsFault.{threads_fault_of};
+    ghost use Rattle.camel_replay_lib.specs.ThreadsOutput.{threads_fault_of};
 
     ghost from_gives = { λ refusal fault. fault ≡ threads_fault_of refusal };
 

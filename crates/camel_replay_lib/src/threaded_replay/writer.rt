@@ -1,8 +1,7 @@
 //! The writer's part of a replay with threads.
 
 ghost use Rattle.std.specs.Prelude.{◌≡◌, ◌⊎◌, ◌++◌, [], false, true, All, IfErr, IfOk, OnOk, length, take};
-ghost use Rattle.camel_script_replay.specs.Fronts.{updates_from};
-ghost use Rattle.camel_script_replay.specs.Output.{line_of, output_from, updates_after};
+ghost use Rattle.camel_script_replay.specs.Output.{updates_from, line_of, output_from, updates_after};
 ghost use Rattle.camel_replay_lib.specs.ThreadsOutput.{is_no_call};
 ghost use Rattle.camel_rows.specs.Store.{accepted_updates};
 ghost use Rattle.camel_script.specs.Line.{line_text};
@@ -30,7 +29,7 @@ pub(crate) struct Writer<W: Wait + Drop> {
 
 impl<W: Wait + Drop> Model for Writer<W> {
     ghost use Rattle.std.specs.Prelude.{◌≡◌};
-    ghost use Rattle.camel_replay_lib.specs.Writer.{WriterData};
+    ghost use Rattle.camel_replay_lib.specs.Rounds.{WriterData};
     ghost use Rattle.camel_rows.specs.Store.{accepted_updates};
 
     ghost Value = { WriterData };

@@ -1,7 +1,7 @@
 ghost use Rattle.std.specs.Prelude.{◌≡◌, ◌↔◌, [], IsTrue, length, slice_get};
 ghost use Rattle.std.specs.Option.{option_copied};
 ghost use Rattle.camel_rows.specs.Entries.{entries_of};
-ghost use Rattle.camel_rows.specs.Received.{items_at, kept_of};
+ghost use Rattle.camel_rows.specs.TdpRow.{items_at, kept_of};
 ghost use Rattle.camel_rows.specs.Subscriber.{item_among};
 
 use crate::csi::entries::{Entries, find_entry};

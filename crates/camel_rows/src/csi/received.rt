@@ -1,5 +1,5 @@
 ghost use Rattle.std.specs.Prelude.{◌≡◌, Some, None, IfErr, OnOk};
-ghost use Rattle.camel_rows.specs.Received.{has_no_two, is_single, list_refusal};
+ghost use Rattle.camel_rows.specs.TdpRow.{has_no_two, is_single, list_refusal};
 
 use camel_criteria::{AtDetectionPoint, Refusal};
 

@@ -1,8 +1,7 @@
 ghost use Rattle.std.specs.Prelude.{◌≡◌, ◌<◌, ◌≤◌, ◌↔◌, IsErr};
 ghost use Rattle.camel_tbcd.specs.Address.{octets};
-ghost use Rattle.camel_tbcd.specs.AddressLength.{IsAddress, max_isdn_address_length};
-ghost use Rattle.camel_rows.specs.RowRoom.{no_row};
-ghost use Rattle.camel_rows.specs.TdpRow.{max_service_key, tdp_row_of};
+ghost use Rattle.camel_tbcd.specs.AddressString.{IsAddress, max_isdn_address_length};
+ghost use Rattle.camel_rows.specs.TdpRow.{no_row, max_service_key, tdp_row_of};
 
 use camel_criteria::{AtDetectionPoint, Handling, Refusal};
 use camel_tbcd::{Address, IsdnAddress};

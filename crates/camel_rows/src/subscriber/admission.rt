@@ -1,10 +1,8 @@
 ghost use Rattle.std.specs.Prelude.{◌≡◌, ◌<◌, ◌≤◌, ◌-◌, Some, None, IfErr, IfOk, IsSome, OnErr, OnOk};
 ghost use Rattle.std.specs.FinMap as map;
-ghost use Rattle.camel_rows.specs.Admission.{IsAdmissionOf, admission_refusal, no_admissions, with_admission};
-ghost use Rattle.camel_rows.specs.ByImsi.{value_of, with_value};
-ghost use Rattle.camel_rows.specs.CsisPresent.{csis_after};
-ghost use Rattle.camel_rows.specs.Directory.{IsDirectoryOf};
-ghost use Rattle.camel_rows.specs.Update.{update_imsi};
+ghost use Rattle.camel_rows.specs.Store.{IsAdmissionOf, admission_refusal, no_admissions, with_admission};
+ghost use Rattle.camel_rows.specs.Store.{IsDirectoryOf};
+ghost use Rattle.camel_rows.specs.Update.{value_of, with_value, csis_after, update_imsi};
 
 use crate::subscriber::csis_present::{CsisChange, CsisPresent, check_update, csis_after};
 use crate::subscriber::records::Records;
@@ -32,7 +30,7 @@ pub struct Admission {
 
 impl Model for Admission {
     ghost use Rattle.std.specs.Prelude.{◌≤◌};
-    ghost use Rattle.camel_rows.specs.Admission.{AdmissionData};
+    ghost use Rattle.camel_rows.specs.Store.{AdmissionData};
     ghost use Rattle.camel_rows.specs.AdmissionCode.{admission_code};
 
     ghost Value = { AdmissionData };

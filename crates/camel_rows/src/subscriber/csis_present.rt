@@ -1,5 +1,5 @@
 ghost use Rattle.std.specs.Prelude.{◌≡◌, Some, None, IfErr, OnOk};
-ghost use Rattle.camel_rows.specs.CsisPresent.{csis_after, csis_refusal, insert_refusal, lacks_csi};
+ghost use Rattle.camel_rows.specs.Update.{csis_after, csis_refusal, insert_refusal, lacks_csi};
 
 use crate::csi::criteria_set::{CriteriaSet, OCriteriaSet, TCriteriaSet};
 use crate::csi::{Csi, OCsi, VtCsi};

@@ -2,9 +2,8 @@ ghost use Rattle.std.specs.Prelude.{◌≡◌, false, List, ℕ, Option, Some, N
 ghost use Rattle.std.specs.FinMap as map;
 ghost use Rattle.camel_criteria.specs.Criteria.{OCriteriaData, TCriteriaData};
 ghost use Rattle.camel_rows.specs.TdpRow.{TdpRowData};
-ghost use Rattle.camel_rows.specs.Standard.{HasO, HasVt, csi_with};
-ghost use Rattle.camel_rows.specs.Records.{RecordsData, no_records};
-ghost use Rattle.camel_rows.specs.Update.{is_of, records_after, refusal};
+ghost use Rattle.camel_rows.specs.Decision.{HasO, HasVt, csi_with};
+ghost use Rattle.camel_rows.specs.Update.{RecordsData, no_records, is_of, records_after, refusal};
 ghost use Rattle.camel_rows.specs.declared.subscriber.update.Update.{Update};
 
 /// A law of the definitions: an update changes the record of its own IMSI only, but for `ClearAll`, which concerns all

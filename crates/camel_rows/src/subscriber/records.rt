@@ -3,9 +3,7 @@ ghost use Rattle.std.specs.Prelude.{IsTrue, OnErr, OnOk};
 ghost use Rattle.std.specs.FinMap as map;
 ghost use Rattle.std.specs.Option.{option_copied, option_map};
 ghost use Rattle.camel_table.specs.ByImsi.{ListsEachOnce};
-ghost use Rattle.camel_rows.specs.ByImsi.{value_of, with_value};
-ghost use Rattle.camel_rows.specs.CsisPresent.{csis_after, csis_of, insert_refusal};
-ghost use Rattle.camel_rows.specs.Records.{no_records};
+ghost use Rattle.camel_rows.specs.Update.{value_of, with_value, csis_after, csis_of, insert_refusal, no_records};
 ghost use Rattle.camel_rows.specs.Update.{is_insert, records_after, record_with_insert, record_without, refusal};
 ghost use Rattle.camel_rows.specs.Update.{update_imsi};
 
@@ -32,7 +30,7 @@ pub struct Records {
 impl Model for Records {
     ghost use Rattle.std.specs.FinMap as map;
     ghost use Rattle.std.specs.Coded.{coded_ℕ, coded_list};
-    ghost use Rattle.camel_rows.specs.Records.{RecordsData};
+    ghost use Rattle.camel_rows.specs.Update.{RecordsData};
     ghost use Rattle.camel_rows.specs.contracts.subscriber.Subscriber as subscriber;
 
     ghost Value = { RecordsData };

@@ -1,7 +1,6 @@
 ghost use Rattle.std.specs.Prelude.{◌≡◌, [], None, Some, is_some};
 ghost use Rattle.std.specs.Option.{option_and_then, option_copied, option_map};
-ghost use Rattle.camel_rows.specs.StoredCsi.{stored_in};
-ghost use Rattle.camel_rows.specs.Subscriber.{entry_of, rows_of};
+ghost use Rattle.camel_rows.specs.Subscriber.{stored_in, entry_of, rows_of};
 ghost use Rattle.camel_rows.specs.Update.{csi_after};
 
 use crate::csi::Csi;
@@ -150,7 +149,7 @@ impl<K: Copy + Drop, const MOST: usize, E: CriteriaEntry> StoredCsi<K, MOST, E> 
 
 impl<K: Copy + Drop, const MOST: usize, E: CriteriaEntry> Clone for StoredCsi<K, MOST, E> {
     ghost use Rattle.std.specs.Prelude.{◌≡◌};
-    ghost use Rattle.camel_rows.specs.StoredCsi.{stored_in};
+    ghost use Rattle.camel_rows.specs.Subscriber.{stored_in};
 
     ghost is_clone = { λ old new. stored_in new ≡ stored_in old };
 

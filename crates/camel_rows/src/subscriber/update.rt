@@ -1,6 +1,5 @@
 ghost use Rattle.std.specs.Prelude.{◌≡◌, IfErr, IfOk};
-ghost use Rattle.camel_rows.specs.CsisPresent.{removes_o, removes_vt};
-ghost use Rattle.camel_rows.specs.Update.{leaves_record, update_imsi};
+ghost use Rattle.camel_rows.specs.Update.{removes_o, removes_vt, leaves_record, update_imsi};
 
 use crate::csi::criteria_set::{OCriteriaSet, TCriteriaSet};
 use crate::csi::{OCsi, VtCsi};

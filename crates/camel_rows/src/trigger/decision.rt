@@ -2,13 +2,11 @@ ghost use Rattle.std.specs.Prelude.{◌≡◌, Bool, [], ◌∷◌, Some, if◌t
 ghost use Rattle.std.specs.FinMap as map;
 ghost use Rattle.std.specs.Option.{option_copied};
 ghost use Rattle.camel_tbcd.specs.declared.profile.Profile.{Profile};
-ghost use Rattle.camel_criteria.specs.Event.{o_event_data};
-ghost use Rattle.camel_criteria.specs.Met.{o_met, t_met};
-ghost use Rattle.camel_rows.specs.Decision.{by_csi, by_entry, by_record, decision, decision_data};
-ghost use Rattle.camel_rows.specs.Event.{EventData, event_basic, event_data, event_dp, event_imsi};
-ghost use Rattle.camel_rows.specs.Records.{RecordsData};
-ghost use Rattle.camel_rows.specs.StoredCsi.{stored_in};
-ghost use Rattle.camel_rows.specs.Subscriber.{EntryData, O, T, entry_data, item_among};
+ghost use Rattle.camel_criteria.specs.Met.{o_event_data, o_met, t_met};
+ghost use Rattle.camel_rows.specs.Decision.{by_csi, by_entry, by_record, decision, decision_data, EventData};
+ghost use Rattle.camel_rows.specs.Decision.{event_basic, event_data, event_dp, event_imsi};
+ghost use Rattle.camel_rows.specs.Update.{RecordsData};
+ghost use Rattle.camel_rows.specs.Subscriber.{stored_in, EntryData, O, T, entry_data, item_among};
 
 use crate::csi::tdp_row::TdpRow;
 use crate::subscriber::Subscriber;

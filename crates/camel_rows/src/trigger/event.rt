@@ -1,6 +1,6 @@
 ghost use Rattle.std.specs.Prelude.{◌≡◌};
-ghost use Rattle.camel_rows.specs.Event.{event_basic, event_cause, event_data, event_dp, event_imsi, shown_data};
-ghost use Rattle.camel_rows.specs.Event.{shown_of};
+ghost use Rattle.camel_rows.specs.Decision.{event_basic, event_cause, event_data, event_dp, event_imsi, shown_data};
+ghost use Rattle.camel_rows.specs.Decision.{shown_of};
 
 use camel_criteria::{
     BUSY, BasicService, COLLECTED_INFO, Cause, NO_ANSWER, OEvent, ROUTE_SELECT_FAILURE,

@@ -1,10 +1,9 @@
 ghost use Rattle.std.specs.Prelude.{◌≡◌, ◌↔◌, Option};
 ghost use Rattle.camel_tbcd.specs.declared.profile.Profile.{Profile};
 ghost use Rattle.camel_rows.specs.TdpRow.{TdpRowData};
-ghost use Rattle.camel_rows.specs.Decision.{Triggers, TriggersNothing, decision};
-ghost use Rattle.camel_rows.specs.Event.{EventData};
-ghost use Rattle.camel_rows.specs.Standard.{FailsCriteria, Invokes, IsEmergencyCall, IsNotArmed, IsUnknown, LacksCsi};
-ghost use Rattle.camel_rows.specs.Records.{RecordsData};
+ghost use Rattle.camel_rows.specs.Decision.{Triggers, TriggersNothing, decision, EventData, FailsCriteria, Invokes};
+ghost use Rattle.camel_rows.specs.Decision.{IsEmergencyCall, IsNotArmed, IsUnknown, LacksCsi};
+ghost use Rattle.camel_rows.specs.Update.{RecordsData};
 ghost use Rattle.camel_rows.specs.Subscriber.{EntryData};
 ghost use Rattle.camel_rows.specs.declared.trigger.decision.Reason.{Reason};
 

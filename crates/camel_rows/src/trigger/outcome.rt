@@ -1,6 +1,5 @@
 ghost use Rattle.std.specs.Prelude.{◌≡◌};
-ghost use Rattle.camel_rows.specs.Decision.{decision, decision_data};
-ghost use Rattle.camel_rows.specs.Outcome.{action_of, outcome_of};
+ghost use Rattle.camel_rows.specs.Decision.{decision, decision_data, action_of, outcome_of};
 
 use crate::subscriber::records::Records;
 use crate::trigger::decision::{Decision, Reason, decide_in};

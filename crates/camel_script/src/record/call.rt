@@ -1,11 +1,10 @@
 ghost use Rattle.std.specs.Prelude.{◌≡◌};
 ghost use Rattle.csv.specs.Records.{fields_of};
 ghost use Rattle.camel_reading.specs.Reading.{ReadsInto};
-ghost use Rattle.camel_script.specs.Call.{call_of, collected_info_of, collected_info_texts, not_reached_of};
-ghost use Rattle.camel_script.specs.Call.{route_select_failure_of, route_select_failure_texts, subscriber_of};
-ghost use Rattle.camel_script.specs.Call.{terminating_attempt_of, terminating_attempt_texts};
-ghost use Rattle.camel_script.specs.Mistake.{with_fields};
-ghost use Rattle.camel_script.specs.Reading.{IsMemoryMistake};
+ghost use Rattle.camel_script.specs.Record.{call_of, collected_info_of, collected_info_texts, not_reached_of};
+ghost use Rattle.camel_script.specs.Record.{route_select_failure_of, route_select_failure_texts, subscriber_of};
+ghost use Rattle.camel_script.specs.Record.{terminating_attempt_of, terminating_attempt_texts};
+ghost use Rattle.camel_script.specs.Fields.{with_fields, IsMemoryMistake};
 
 use crate::mistake::{Expected, Mistake, at_field, check_fields, field_count, mistake_at};
 use crate::record::Record;
@@ -59,7 +58,7 @@ const NOT_REACHED: [Expected; 5] = [
 
 /// Reads a call at a trigger detection point, which says how many fields there are. A call is put right into its place:
 /// one that is moved is read while it is still being written, which takes longer than the move.
-#[tactic(auto, unfolding(crate::specs::Call::call_of))]
+#[tactic(auto, unfolding(crate::specs::Record::call_of))]
 pub(crate) fn parse_call(
     alloc: Global,
     fields: &ByteRecord,
@@ -89,7 +88,7 @@ pub(crate) fn parse_call(
 }
 
 /// Reads the IMSI and the basic service of a call.
-#[tactic(auto, unfolding(crate::specs::Call::subscriber_of))]
+#[tactic(auto, unfolding(crate::specs::Record::subscriber_of))]
 fn parse_subscriber(fields: &ByteRecord) -> Result<(Imsi, BasicService), Mistake>
     ensures { result ≡ subscriber_of (fields_of fields.now) }
 {
@@ -102,7 +101,7 @@ fn parse_subscriber(fields: &ByteRecord) -> Result<(Imsi, BasicService), Mistake
     Ok((imsi, basic))
 }
 
-#[tactic(auto, unfolding(crate::specs::Call::collected_info_of))]
+#[tactic(auto, unfolding(crate::specs::Record::collected_info_of))]
 fn parse_collected_info(
     alloc: Global,
     fields: &ByteRecord,
@@ -129,7 +128,7 @@ fn parse_collected_info(
     Ok(())
 }
 
-#[tactic(auto, unfolding(crate::specs::Call::route_select_failure_of))]
+#[tactic(auto, unfolding(crate::specs::Record::route_select_failure_of))]
 fn parse_route_select_failure(
     alloc: Global,
     fields: &ByteRecord,
@@ -160,7 +159,7 @@ fn parse_route_select_failure(
     Ok(())
 }
 
-#[tactic(auto, unfolding(crate::specs::Call::terminating_attempt_of))]
+#[tactic(auto, unfolding(crate::specs::Record::terminating_attempt_of))]
 fn parse_terminating_attempt(fields: &ByteRecord, read: &mut Record) -> Result<(), Mistake>
     ensures { ReadsInto IsMemoryMistake result read.new
         (with_fields terminating_attempt_texts (fields_of fields.now) (terminating_attempt_of (fields_of fields.now))) }
@@ -172,7 +171,7 @@ fn parse_terminating_attempt(fields: &ByteRecord, read: &mut Record) -> Result<(
 }
 
 /// Reads the IMSI, the basic service and the cause of a call that was not reached.
-#[tactic(auto, unfolding(crate::specs::Call::not_reached_of))]
+#[tactic(auto, unfolding(crate::specs::Record::not_reached_of))]
 fn parse_not_reached(fields: &ByteRecord) -> Result<(Imsi, BasicService, Cause), Mistake>
     ensures { result ≡ not_reached_of (fields_of fields.now) }
 {

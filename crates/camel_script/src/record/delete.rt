@@ -1,7 +1,7 @@
 ghost use Rattle.std.specs.Prelude.{◌≡◌, drop};
 ghost use Rattle.csv.specs.Records.{fields_of};
 ghost use Rattle.camel_reading.specs.Reading.{ReadsInto};
-ghost use Rattle.camel_script.specs.Reading.{IsMemoryMistake, in_turn, numbered};
+ghost use Rattle.camel_script.specs.Fields.{IsMemoryMistake, in_turn, numbered};
 ghost use Rattle.camel_script.specs.Record.{delete_of, no_withdrawal, withdrawal_with};
 
 use crate::mistake::{Expected, Mistake, field_count, mistake_at};

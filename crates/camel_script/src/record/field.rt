@@ -1,6 +1,6 @@
 ghost use Rattle.std.specs.Prelude.{◌≡◌};
 ghost use Rattle.csv.specs.Records.{fields_of};
-ghost use Rattle.camel_script.specs.Field.{field};
+ghost use Rattle.camel_script.specs.Fields.{field};
 
 use csv::ByteRecord;
 

@@ -2,7 +2,7 @@ ghost use Rattle.std.specs.Prelude.{◌≡◌, drop};
 ghost use Rattle.csv.specs.Records.{fields_of};
 ghost use Rattle.camel_reading.specs.Reading.{ReadsAs, ReadsInto};
 ghost use Rattle.camel_script.specs.Item.{items_of};
-ghost use Rattle.camel_script.specs.Reading.{IsMemoryMistake};
+ghost use Rattle.camel_script.specs.Fields.{IsMemoryMistake};
 ghost use Rattle.camel_script.specs.Record.{insert_of, insert_of_items, list_or_mistake};
 
 use crate::item::Items;

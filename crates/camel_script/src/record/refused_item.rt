@@ -2,7 +2,7 @@ ghost use Rattle.std.specs.Prelude.{◌≡◌, ◌&&◌, [], drop};
 ghost use Rattle.camel_criteria.specs.DetectionPoint.{is_among};
 ghost use Rattle.csv.specs.Records.{fields_of};
 ghost use Rattle.camel_script.specs.Item.{item_dp, refused_item};
-ghost use Rattle.camel_script.specs.Reading.{numbered, record_fault_of};
+ghost use Rattle.camel_script.specs.Fields.{numbered, record_fault_of};
 
 use crate::mistake::{Expected, Mistake, mistake_at};
 use crate::record::field::field;

@@ -1,8 +1,8 @@
 ghost use Rattle.std.specs.Prelude.{List, Result, ℕ};
 ghost use Rattle.std.specs.Fn.{FnReturnsAt};
 ghost use Rattle.camel_reading.specs.Reading.{AnswersAs, ReadsList, each_of};
-ghost use Rattle.camel_script.specs.Reading.{IsMemory, elements_as};
-ghost use Rattle.camel_script.specs.Texts.{basic_service_of, decimal_of, isdn_address_of, octets_of};
+ghost use Rattle.camel_script.specs.Fields.{IsMemory, elements_as, basic_service_of, decimal_of, isdn_address_of};
+ghost use Rattle.camel_script.specs.Fields.{octets_of};
 
 use crate::text::parts::{ELEMENT_SEPARATOR, split_part};
 use crate::text::record_fault::RecordFault;

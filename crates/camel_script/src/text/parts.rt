@@ -1,6 +1,6 @@
 ghost use Rattle.std.specs.Prelude.{◌≡◌, ◌+◌, ◌<◌, ◌==◌, ◌∷◌, All, IfSome, IsNone, ℕ, false, length, position};
 ghost use Rattle.std.specs.Option.{option_map};
-ghost use Rattle.camel_script.specs.Parts.{part, parts_behind, parts_of};
+ghost use Rattle.camel_script.specs.Fields.{part, parts_behind, parts_of};
 
 /// The separator of the parts of an item.
 pub(crate) const ITEM_SEPARATOR: u8 = b':';

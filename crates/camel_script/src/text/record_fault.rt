@@ -1,5 +1,5 @@
 ghost use Rattle.std.specs.Prelude.{◌≡◌};
-ghost use Rattle.camel_script.specs.RecordFault.{record_fault_code};
+ghost use Rattle.camel_script.specs.Fields.{record_fault_code};
 
 use camel_criteria::Refusal;
 use camel_reading::Fault;
@@ -40,7 +40,7 @@ impl RecordFault {
 }
 
 impl Fault for RecordFault {
-    ghost use Rattle.camel_script.specs.Reading.{IsMemory};
+    ghost use Rattle.camel_script.specs.Fields.{IsMemory};
 
     ghost is_out_of_memory = { IsMemory };
 
@@ -73,7 +73,7 @@ impl<T: Drop> From<AllocFailed<T>> for RecordFault {
 
 impl From<Refusal> for RecordFault {
     ghost use Rattle.std.specs.Prelude.{◌≡◌};
-    ghost use Rattle.camel_script.specs.Reading.{record_fault_of};
+    ghost use Rattle.camel_script.specs.Fields.{record_fault_of};
 
     ghost from_gives = { λ refusal fault. fault ≡ record_fault_of refusal };
 

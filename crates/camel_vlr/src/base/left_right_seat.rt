@@ -1,7 +1,7 @@
 ghost use Rattle.std.specs.Prelude.{◌≡◌, None, true, false, IsSomeAnd};
 ghost use Rattle.left_right.specs.Sides.{view};
 ghost use Rattle.camel_vlr.specs.LeftRightSeat.{copy_of, known_of};
-ghost use Rattle.camel_vlr.specs.Rule.{Looks};
+ghost use Rattle.camel_vlr.specs.Seat.{Looks};
 
 use crate::base::seat::Seat;
 use crate::history::rule::{Known, Looking, PublicationRule};
@@ -19,7 +19,7 @@ pub enum LeftRightSeat {
 
 impl Seat for LeftRightSeat {
     ghost use Rattle.camel_vlr.specs.LeftRightSeat.{copy_of, known_of};
-    ghost use Rattle.camel_vlr.specs.Rule.{Knows};
+    ghost use Rattle.camel_vlr.specs.Seat.{Knows};
 
     ghost knows = { λ seat. Knows (known_of seat) };
 

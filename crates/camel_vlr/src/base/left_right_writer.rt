@@ -1,9 +1,8 @@
 ghost use Rattle.std.specs.Prelude.{◌≡◌, ◌≤◌, List, [], ◌∷◌, ◌++◌, OnErr, OnOk};
 ghost use Rattle.left_right.specs.Sides.{view};
-ghost use Rattle.camel_rows.specs.Front.{IsFront};
+ghost use Rattle.camel_rows.specs.Update.{IsFront};
 ghost use Rattle.camel_vlr.specs.Operation.{pending_operations, updates_among};
-ghost use Rattle.camel_vlr.specs.PublishedCopy.{IsOfItsFront};
-ghost use Rattle.camel_vlr.specs.Rule.{Knows};
+ghost use Rattle.camel_vlr.specs.Seat.{IsOfItsFront, Knows};
 ghost use Rattle.camel_vlr.specs.declared.writer.operation.Operation.{Operation};
 ghost use Rattle.camel_vlr.specs.declared.writer.operation.Operation.TheVariants as operation;
 
@@ -28,7 +27,7 @@ impl Publisher for LeftRightWriter {
     ghost use Rattle.std.specs.Prelude.{◌≡◌, []};
     ghost use Rattle.left_right.specs.Sides.{view};
     ghost use Rattle.camel_vlr.specs.Operation.{pending_operations};
-    ghost use Rattle.camel_vlr.specs.Rule.{Knows};
+    ghost use Rattle.camel_vlr.specs.Seat.{Knows};
 
     type Place = LeftRightSeat;
 

@@ -1,10 +1,8 @@
 ghost use Rattle.std.specs.Prelude.{◌≡◌, ◌≤◌, ◌⊎◌, List, [], ◌∷◌, ◌++◌, None, IfErr, IfOk, OnErr, OnOk};
-ghost use Rattle.camel_rows.specs.Front.{IsFront};
-ghost use Rattle.camel_vlr.specs.HandedOver.{IsHandedOver};
-ghost use Rattle.camel_vlr.specs.Operation.{updates_among};
-ghost use Rattle.camel_vlr.specs.Prefix.{PrefixData};
-ghost use Rattle.camel_vlr.specs.PublishedCopy.{IsOfItsFront};
-ghost use Rattle.camel_vlr.specs.Seat.{KnowsNoLess};
+ghost use Rattle.camel_rows.specs.Update.{IsFront};
+ghost use Rattle.camel_vlr.specs.Operation.{IsHandedOver, updates_among};
+ghost use Rattle.camel_vlr.specs.History.{PrefixData};
+ghost use Rattle.camel_vlr.specs.Seat.{IsOfItsFront, KnowsNoLess};
 ghost use Rattle.camel_vlr.specs.declared.writer.operation.Operation.{Operation};
 ghost use Rattle.camel_vlr.specs.declared.writer.operation.Operation.TheVariants as operation;
 
@@ -28,7 +26,7 @@ pub enum HandedOver<'a> {
 /// The writer's part of a base. No other crate sees it.
 pub trait Publisher: Sized {
     ghost use Rattle.std.specs.Prelude.{List};
-    ghost use Rattle.camel_vlr.specs.Prefix.{PrefixData};
+    ghost use Rattle.camel_vlr.specs.History.{PrefixData};
     ghost use Rattle.camel_vlr.specs.declared.published_copy.PublishedCopy.{PublishedCopy};
     ghost use Rattle.camel_vlr.specs.declared.writer.operation.Operation.{Operation};
 

@@ -6,7 +6,7 @@ use crate::published_copy::PublishedCopy;
 /// A session's place at a base. No other crate sees it.
 pub trait Seat: Drop + Sized {
     ghost use Rattle.std.specs.Prelude.{Option};
-    ghost use Rattle.camel_vlr.specs.Prefix.{PrefixData};
+    ghost use Rattle.camel_vlr.specs.History.{PrefixData};
     ghost use Rattle.camel_vlr.specs.declared.published_copy.PublishedCopy.{PublishedCopy};
 
     /// It is known at the place that this front is published.

@@ -13,8 +13,7 @@ pub struct FrontsGrow;
 impl CopyRule<PublishedCopy> for FrontsGrow {
     ghost use base.Growing.{prefix_refl, prefix_trans};
     ghost use Rattle.std.proofs.Common.{◌∙◌, refl};
-    ghost use Rattle.camel_vlr.specs.PublishedCopy.{IsOfItsFront};
-    ghost use Rattle.camel_vlr.specs.Rule.{IsPrefixOf};
+    ghost use Rattle.camel_vlr.specs.Seat.{IsOfItsFront, IsPrefixOf};
 
     ghost holds = { IsOfItsFront };
 

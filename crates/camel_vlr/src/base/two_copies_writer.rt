@@ -1,6 +1,6 @@
 ghost use Rattle.std.specs.Prelude.{◌≡◌};
 ghost use Rattle.two_copies.specs.Copies.{pending_of, shown_by};
-ghost use Rattle.camel_vlr.specs.Rule.{IsPrefixOf};
+ghost use Rattle.camel_vlr.specs.Seat.{IsPrefixOf};
 
 use crate::base::publisher::{HandedOver, Publisher, Publishes};
 use crate::base::two_copies_seat::{FrontsGrow, TwoCopiesSeat};
@@ -17,7 +17,7 @@ pub type TwoCopiesWriter = Copies<PublishedCopy, Operation, FrontsGrow>;
 
 impl Publisher for TwoCopiesWriter {
     ghost use Rattle.two_copies.specs.Copies.{IsFree, IsReady, pending_of, shown_by};
-    ghost use Rattle.camel_vlr.specs.Rule.{IsPrefixOf};
+    ghost use Rattle.camel_vlr.specs.Seat.{IsPrefixOf};
 
     type Place = TwoCopiesSeat;
 

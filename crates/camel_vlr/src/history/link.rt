@@ -1,6 +1,6 @@
 ghost use Rattle.std.specs.Prelude.{◌≡◌, []};
 ghost use Rattle.logbook.specs.Pages.{may_write};
-ghost use Rattle.camel_vlr.specs.Chain.{head_of, list_of, root_of, tail_of, terms_of};
+ghost use Rattle.camel_vlr.specs.History.{head_of, list_of, root_of, tail_of, terms_of};
 
 use crate::history::terms::Terms;
 use camel_rows::Update;
@@ -22,7 +22,7 @@ pub(crate) struct OneChain;
 impl Rule<Link, u64> for OneChain {
     ghost use Rattle.std.specs.Prelude.{[]};
     ghost use base.Fml.{ftrue};
-    ghost use Rattle.camel_vlr.specs.Chain.{UsedUp};
+    ghost use Rattle.camel_vlr.specs.History.{UsedUp};
 
     ghost holds = { λ cells log. UsedUp cells log };
 
@@ -67,7 +67,7 @@ impl Plain<Terms, Link, u64> for WithTerms {
 struct MakeCell;
 
 impl Play<Link, u64> for MakeCell {
-    ghost use Rattle.camel_vlr.specs.Chain.{MakesCell};
+    ghost use Rattle.camel_vlr.specs.History.{MakesCell};
 
     ghost then = { MakesCell };
 }

@@ -1,5 +1,5 @@
 ghost use Rattle.std.specs.Prelude.{◌≡◌, ◌⊎◌};
-ghost use Rattle.camel_rows.specs.Front.{Extends};
+ghost use Rattle.camel_rows.specs.Update.{Extends};
 
 use crate::history::link::SeenLinks;
 use std::marker::Model;
@@ -15,7 +15,7 @@ pub struct Prefix {
 }
 
 impl Model for Prefix {
-    ghost use Rattle.camel_vlr.specs.Prefix.{PrefixData, prefix_in};
+    ghost use Rattle.camel_vlr.specs.History.{PrefixData, prefix_in};
 
     ghost Value = { PrefixData };
 

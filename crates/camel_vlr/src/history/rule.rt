@@ -13,7 +13,7 @@ pub struct Known {
 pub struct PublicationRule;
 
 impl Protocol<PublishedCopy, Known> for PublicationRule {
-    ghost use Rattle.camel_vlr.specs.Rule.{IsKept, newcomer};
+    ghost use Rattle.camel_vlr.specs.Seat.{IsKept, newcomer};
 
     ghost holds = { IsKept };
 
@@ -24,7 +24,7 @@ impl Protocol<PublishedCopy, Known> for PublicationRule {
 pub(crate) struct Looking;
 
 impl Outcome<PublishedCopy, Known> for Looking {
-    ghost use Rattle.camel_vlr.specs.Rule.{Looks};
+    ghost use Rattle.camel_vlr.specs.Seat.{Looks};
 
     ghost then = { Looks };
 }
@@ -33,7 +33,7 @@ impl Outcome<PublishedCopy, Known> for Looking {
 pub(crate) struct Publishing;
 
 impl Outcome<PublishedCopy, Known> for Publishing {
-    ghost use Rattle.camel_vlr.specs.Rule.{Publishes};
+    ghost use Rattle.camel_vlr.specs.Seat.{Publishes};
 
     ghost then = { Publishes };
 }
@@ -48,7 +48,7 @@ impl Split<Known> for Introducing {
 }
 
 impl Join<Known> for Introducing {
-    ghost use Rattle.camel_vlr.specs.Rule.{newcomer};
+    ghost use Rattle.camel_vlr.specs.Seat.{newcomer};
 
     ghost both = { λ v w. w };
 

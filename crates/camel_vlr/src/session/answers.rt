@@ -2,10 +2,9 @@
 
 ghost use Rattle.std.specs.Prelude.{◌≡◌, ◌<◌, ◌+◌, ◌⊎◌, [], ◌∷◌, ◌++◌, false, Err, List, length, take, vec_len, IfErr};
 ghost use Rattle.std.specs.Prelude.{IfOk, OnErr, OnOk};
-ghost use Rattle.camel_rows.specs.Event.{event_data};
+ghost use Rattle.camel_rows.specs.Decision.{event_data};
 ghost use Rattle.camel_rows.specs.declared.trigger.outcome.Answer.{Answer};
-ghost use Rattle.camel_vlr.specs.Run.{Answers};
-ghost use Rattle.camel_vlr.specs.Session.{LeavesLook};
+ghost use Rattle.camel_vlr.specs.Store.{Answers, LeavesLook};
 
 use crate::base::seat::Seat;
 use crate::session::Session;

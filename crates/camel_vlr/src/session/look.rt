@@ -1,11 +1,10 @@
 ghost use Rattle.std.specs.Prelude.{◌≡◌, true, length};
 ghost use Rattle.std.specs.FinMap as map;
 ghost use Rattle.std.specs.Option.{option_and_then, option_copied, option_map};
-ghost use Rattle.camel_rows.specs.Decision.{decision, decision_data};
-ghost use Rattle.camel_rows.specs.Event.{event_data};
+ghost use Rattle.camel_rows.specs.Decision.{decision, decision_data, event_data};
 ghost use Rattle.camel_rows.specs.Subscriber.{entry_at, entry_data, row_at};
 ghost use Rattle.camel_rows.specs.Update.{records_of};
-ghost use Rattle.camel_vlr.specs.OwnUpdates.{DecidedByOwn};
+ghost use Rattle.camel_vlr.specs.Store.{DecidedByOwn};
 
 use crate::base::left_right_seat::LeftRightSeat;
 use crate::base::seat::Seat;
@@ -27,7 +26,7 @@ pub struct Look<'s, S: Seat = LeftRightSeat> {
 }
 
 impl<S: Seat> Look<'_, S> {
-    ghost use Rattle.camel_vlr.specs.Session.{LeavesLook};
+    ghost use Rattle.camel_vlr.specs.Store.{LeavesLook};
 
     /// Decides an event by the trigger rules of TS 23.078, over the data of the front, under the profile of the store.
     /// The row and the entry that it lends are the stored ones. The updates of the event's subscriber would leave the
@@ -88,7 +87,7 @@ impl<S: Seat> Look<'_, S> {
 
 impl<S: Seat> Drop for Look<'_, S> {
     ghost use Rattle.std.specs.Prelude.{◌≡◌};
-    ghost use Rattle.camel_vlr.specs.Session.{LeavesLook};
+    ghost use Rattle.camel_vlr.specs.Store.{LeavesLook};
 
     fn drop(self)
         ensures { LeavesLook self.entry.session.now self.exit.0.now }

@@ -3,11 +3,10 @@
 ghost use Rattle.std.specs.Prelude.{◌≡◌, true, length};
 ghost use Rattle.std.specs.FinMap as map;
 ghost use Rattle.std.specs.Option.{option_and_then, option_copied, option_map};
-ghost use Rattle.camel_rows.specs.Decision.{decision, decision_data};
-ghost use Rattle.camel_rows.specs.Event.{event_data};
+ghost use Rattle.camel_rows.specs.Decision.{decision, decision_data, event_data};
 ghost use Rattle.camel_rows.specs.Subscriber.{entry_at, entry_data, row_at};
 ghost use Rattle.camel_rows.specs.Update.{records_of};
-ghost use Rattle.camel_vlr.specs.OwnUpdates.{DecidedByOwn};
+ghost use Rattle.camel_vlr.specs.Store.{DecidedByOwn};
 
 use crate::base::seat::Seat;
 use crate::session::Session;

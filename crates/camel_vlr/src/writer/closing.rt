@@ -1,7 +1,6 @@
 ghost use Rattle.std.specs.Prelude.{◌≡◌, ◌⊎◌, [], ◌∷◌, ◌++◌, length, IfErr, IfOk, OnOk};
-ghost use Rattle.camel_rows.specs.Front.{Extends};
-ghost use Rattle.camel_rows.specs.Update.{records_of};
-ghost use Rattle.camel_vlr.specs.Session.{ExtendsAll};
+ghost use Rattle.camel_rows.specs.Update.{Extends, records_of};
+ghost use Rattle.camel_vlr.specs.Store.{ExtendsAll};
 
 use crate::session::Session;
 use crate::writer::Vlr;

@@ -1,9 +1,8 @@
 //! Dropping what is pending.
 
 ghost use Rattle.std.specs.Prelude.{◌≡◌, [], ◌∷◌, ◌++◌, false, true, IfErr, IsOk, OnErr, OnOk};
-ghost use Rattle.camel_vlr.specs.Dropping.{HasAll, IsAdmissionOver, IsRestored};
-ghost use Rattle.camel_vlr.specs.Operation.{updates_among};
-ghost use Rattle.camel_vlr.specs.PublishedCopy.{IsOfItsFront};
+ghost use Rattle.camel_vlr.specs.Operation.{HasAll, IsAdmissionOver, IsRestored, updates_among};
+ghost use Rattle.camel_vlr.specs.Seat.{IsOfItsFront};
 ghost use Rattle.camel_vlr.specs.Store.{AllLeave, with_none_pending};
 
 use crate::base::publisher::{HandedOver, Publisher};

@@ -2,9 +2,9 @@
 
 ghost use Rattle.std.specs.Prelude.{◌≡◌, ◌<◌, ◌⊎◌, [], ◌∷◌, fold, IfErr, OnErr, OnOk};
 ghost use Rattle.camel_criteria.specs.declared.refusal.Refusal.TheVariants.{OutOfMemory};
-ghost use Rattle.camel_rows.specs.Admission.{AdmissionData, admission_refusal};
-ghost use Rattle.camel_vlr.specs.Group.{AcceptsAll, RejectsAt, refusal_among};
-ghost use Rattle.camel_vlr.specs.GroupFields.{AllTakenBackTo, IsTakenBackTo, IsMadeFrom, admitted};
+ghost use Rattle.camel_rows.specs.Store.{AdmissionData, admission_refusal};
+ghost use Rattle.camel_vlr.specs.Store.{AcceptsAll, RejectsAt, refusal_among};
+ghost use Rattle.camel_vlr.specs.StoreFields.{AllTakenBackTo, IsTakenBackTo, IsMadeFrom, admitted};
 ghost use Rattle.camel_vlr.specs.Operation.{HasMore};
 ghost use Rattle.camel_vlr.specs.declared.writer.group.Accepted.{Accepted};
 

@@ -1,7 +1,7 @@
 //! A store over `left_right`: how it begins, publishes, and ends without a word.
 
 ghost use Rattle.std.specs.Prelude.{◌≡◌, ◌≤◌, ◌⊎◌, false, vec_len, All, IfErr, IfOk, OnErr, OnOk};
-ghost use Rattle.camel_rows.specs.Front.{IsFront};
+ghost use Rattle.camel_rows.specs.Update.{IsFront};
 ghost use Rattle.camel_rows.specs.Store.{no_updates};
 ghost use Rattle.camel_vlr.specs.Store.{fresh_session, with_all_published};
 

@@ -1,6 +1,6 @@
 ghost use Rattle.std.specs.Prelude.{◌≡◌, [], ◌∷◌, ◌++◌, OnOk};
 ghost use Rattle.logbook.specs.Pages.{may_write};
-ghost use Rattle.camel_rows.specs.Front.{Extends};
+ghost use Rattle.camel_rows.specs.Update.{Extends};
 ghost use Rattle.camel_vlr.specs.Operation.{updates_among};
 ghost use Rattle.camel_vlr.specs.Seat.{KnowsNoLess};
 ghost use Rattle.camel_vlr.specs.declared.writer.operation.Operation.TheVariants as operation;

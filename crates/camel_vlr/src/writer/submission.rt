@@ -1,7 +1,6 @@
 ghost use Rattle.std.specs.Prelude.{◌≡◌, ◌<◌, [], ◌∷◌, OnErr, OnOk};
-ghost use Rattle.camel_rows.specs.Admission.{with_admission};
-ghost use Rattle.camel_rows.specs.ByImsi.{value_of};
-ghost use Rattle.camel_rows.specs.Update.{update_imsi};
+ghost use Rattle.camel_rows.specs.Store.{with_admission};
+ghost use Rattle.camel_rows.specs.Update.{value_of, update_imsi};
 ghost use Rattle.camel_vlr.specs.Operation.{HasMore};
 
 use crate::writer::operation::Operation;

@@ -2,9 +2,8 @@
 
 ghost use Rattle.std.specs.Prelude.{◌≡◌, ◌≢◌, ◌==◌, ◌≤◌, ◌⊎◌, not, true, false, vec_len, All, Err, IfErr, IfOk};
 ghost use Rattle.std.specs.Prelude.{MatchResult, OnOk};
-ghost use Rattle.camel_rows.specs.Front.{IsFront};
+ghost use Rattle.camel_rows.specs.Update.{IsFront, records_of};
 ghost use Rattle.camel_rows.specs.Store.{no_updates};
-ghost use Rattle.camel_rows.specs.Update.{records_of};
 ghost use Rattle.camel_vlr.specs.Store.{fresh_session, with_all_published};
 
 use crate::base::two_copies_seat::{FrontsGrow, TwoCopiesSeat};
@@ -176,9 +175,9 @@ pub struct Closing {
 
 impl Model for Closing {
     ghost use Rattle.std.specs.Prelude.{List};
-    ghost use Rattle.two_copies.specs.Ending.{value_of};
+    ghost use Rattle.two_copies.specs.Copies.{value_of};
     ghost use Rattle.camel_rows.specs.declared.subscriber.update.Update.{Update};
-    ghost use Rattle.camel_vlr.specs.PublishedCopy.{IsOfItsFront};
+    ghost use Rattle.camel_vlr.specs.Seat.{IsOfItsFront};
 
     ghost Value = { List Update };
 

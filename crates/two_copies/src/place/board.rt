@@ -2,8 +2,7 @@
 ghost use Rattle.std.specs.Prelude.{◌≡◌, [], ◌∷◌, ◌++◌, Some, None, IfOk, OnOk, replicate};
 ghost use Rattle.std.specs.Arc.{arc_value};
 ghost use Rattle.two_copies.specs.Place.{amid};
-ghost use Rattle.two_copies.specs.Seated.{IsSeated};
-ghost use Rattle.two_copies.specs.Slot.{Holds};
+ghost use Rattle.two_copies.specs.Slot.{IsSeated, Holds};
 ghost use Rattle.two_copies.specs.declared.place.Part.TheVariants.{Whole};
 
 use crate::place::{Board, PlaceSeat, Slot};

@@ -3,8 +3,7 @@ ghost use Rattle.std.specs.Prelude.{◌≡◌, ◌==◌, ◌%◌, [], IfSome, No
 ghost use Rattle.atomic_table.specs.Table.{rest};
 ghost use Rattle.two_copies.specs.Place.{AreEmpty, HasClosed, index_of, is_same, is_second, IsSlotIndex, known_of};
 ghost use Rattle.two_copies.specs.Place.{looking, RefusesLooks, writing};
-ghost use Rattle.two_copies.specs.Seated.{IsSeated};
-ghost use Rattle.two_copies.specs.Slot.{Follows, Holds};
+ghost use Rattle.two_copies.specs.Slot.{IsSeated, Follows, Holds};
 ghost use Rattle.two_copies.specs.declared.place.Part.TheVariants.{Idle, Leaving, Whole};
 
 use crate::place::board::{CLOSED, FIRST_SLOT, LOOKING, RETURNED, WORD};

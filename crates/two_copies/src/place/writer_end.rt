@@ -3,8 +3,7 @@ ghost use Rattle.std.specs.Prelude.{◌≡◌, true, Some, None, IfOk, MatchResu
 ghost use Rattle.std.specs.Arc.{arc_value};
 ghost use Rattle.two_copies.specs.Place.{IsWriterSeat};
 ghost use Rattle.two_copies.specs.Reader.{place_of, seen_by};
-ghost use Rattle.two_copies.specs.Seated.{IsSeated};
-ghost use Rattle.two_copies.specs.Slot.{Follows, Holds};
+ghost use Rattle.two_copies.specs.Slot.{IsSeated, Follows, Holds};
 
 use crate::place::board::lay;
 use crate::place::steps::{close, divide, reclaim, show};

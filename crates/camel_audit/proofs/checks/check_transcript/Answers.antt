@@ -3,8 +3,7 @@ use Rattle.std.proofs.lemmas.Grind.{take_at_read}
 use Rattle.std.proofs.lemmas.Option.{slice_get_read}
 use Rattle.camel_audit.proofs.AuditLemmas.{AreExplained-push, last_front-push, records_of-longer}
 use Rattle.camel_audit.specs.Audit.{outcome_at_front}
-use Rattle.camel_rows.specs.Decision.{decision}
-use Rattle.camel_rows.specs.Outcome.{outcome_of}
+use Rattle.camel_rows.specs.Decision.{decision, outcome_of}
 use Rattle.camel_rows.specs.Update.{records_from, records_of}
 use Rattle.camel_audit.proofs.checks.check_transcript.Goals as goal
 

@@ -2,8 +2,7 @@ use Rattle.std.proofs.Common.{arith, ◌≡◌, ◌∙◌, ◌+◌, ◌++◌, []
 use Rattle.std.proofs.lemmas.Grind.{take_at_read}
 use Rattle.camel_audit.proofs.AuditLemmas.{not_refused}
 use Rattle.camel_rows.proofs.UpdateLemmas.{AcceptedFrom-push, records_from-append}
-use Rattle.camel_rows.specs.Records.{no_records}
-use Rattle.camel_rows.specs.Update.{records_after, refusal}
+use Rattle.camel_rows.specs.Update.{no_records, records_after, refusal}
 use Rattle.camel_audit.proofs.checks.check_updates.Goals as goal
 
 pub loop-at-preserved : goal.loop-at-preserved

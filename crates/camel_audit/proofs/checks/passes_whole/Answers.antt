@@ -1,6 +1,6 @@
 use Rattle.std.proofs.Common.{arith, ◌≡◌, ◌∙◌, ℕ, subst}
 use Rattle.camel_audit.proofs.PartLemmas.{passes_whole}
-use Rattle.camel_audit.specs.Part.{PassesInPart, is_in_part}
+use Rattle.camel_audit.specs.Audit.{PassesInPart, is_in_part}
 use Rattle.camel_audit.proofs.checks.passes_whole.Goals as goal
 
 pub returns-clause-passes : goal.returns-clause-passes

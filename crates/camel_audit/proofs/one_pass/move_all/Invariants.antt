@@ -1,5 +1,4 @@
-use Rattle.camel_audit.specs.OnePass.{AreExplainedTo}
-use Rattle.camel_audit.specs.Part.{is_member}
+use Rattle.camel_audit.specs.Audit.{AreExplainedTo, is_member}
 use Rattle.camel_audit.proofs.one_pass.move_all.Given as goal
 
 abbrev pub invariant-loop-session : goal.invariant-loop-session

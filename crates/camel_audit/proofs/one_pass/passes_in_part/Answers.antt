@@ -4,8 +4,7 @@ use Rattle.std.proofs.lemmas.List.{take_at}
 use Rattle.std.proofs.lemmas.Slice.Zip.{AllZip-long}
 use Rattle.camel_audit.proofs.OnePassLemmas.{AreExplainedTo-longer, AreExplainedTo-none, all_explained}
 use Rattle.camel_audit.proofs.PartUpdateLemmas.{Accepted-push, records-push}
-use Rattle.camel_audit.specs.OnePass.{AreExplainedTo, IsExplainedTo}
-use Rattle.camel_audit.specs.Part.{is_member, updates_of_part}
+use Rattle.camel_audit.specs.Audit.{AreExplainedTo, IsExplainedTo, is_member, updates_of_part}
 use Rattle.camel_rows.specs.Update.{Accepted}
 use Rattle.camel_rows.specs.declared.subscriber.update.Update.{Update}
 use Rattle.camel_audit.proofs.one_pass.passes_in_part.Goals as goal

@@ -1,6 +1,5 @@
 use Rattle.std.proofs.Common.{◌≡◌, take}
-use Rattle.camel_audit.specs.OnePass.{AreExplainedTo}
-use Rattle.camel_audit.specs.Part.{is_member, updates_of_part}
+use Rattle.camel_audit.specs.Audit.{AreExplainedTo, is_member, updates_of_part}
 use Rattle.camel_rows.specs.Update.{Accepted, records_of}
 use Rattle.camel_audit.proofs.one_pass.passes_in_part.Given as goal
 

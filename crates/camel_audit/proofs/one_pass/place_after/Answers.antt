@@ -1,7 +1,6 @@
 use Rattle.std.proofs.Common.{rules, refl}
 use Rattle.camel_audit.proofs.OnePassLemmas.{IsExplainedTo-push}
-use Rattle.camel_audit.specs.OnePass.{IsDecidedOver}
-use Rattle.camel_audit.specs.Part.{is_member, updates_of_part}
+use Rattle.camel_audit.specs.Audit.{IsDecidedOver, is_member, updates_of_part}
 use Rattle.camel_rows.specs.Update.{records_of}
 use Rattle.camel_audit.proofs.one_pass.place_after.Goals as goal
 

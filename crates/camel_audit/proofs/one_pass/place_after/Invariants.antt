@@ -1,6 +1,5 @@
 use Rattle.std.proofs.Common.{◌-◌, length}
-use Rattle.camel_audit.specs.OnePass.{IsExplainedTo}
-use Rattle.camel_audit.specs.Part.{is_member}
+use Rattle.camel_audit.specs.Audit.{IsExplainedTo, is_member}
 use Rattle.camel_audit.proofs.one_pass.place_after.Given as goal
 
 -- the front explains the entries before the place

@@ -1,5 +1,5 @@
 use Rattle.std.proofs.Common.{◌≡◌, ◌≤◌, false, length, map, take, vec_capacity}
-use Rattle.camel_vlr.specs.Run.{Answers}
+use Rattle.camel_vlr.specs.Store.{Answers}
 use Rattle.camel_audit.specs.Serves.{answer_in, event_in, job_of}
 use Rattle.camel_audit.proofs.worker.serve_each.Given as goal
 

@@ -1,5 +1,5 @@
 use Rattle.std.proofs.Common.{◌*◌, ◌+◌, ◌≤◌, length}
-use Rattle.camel_ber.specs.Reading.{element_at, end_by}
+use Rattle.camel_ber.specs.Elements.{element_at, end_by}
 use Rattle.camel_ber.proofs.EndLemmas.{Ends}
 use Rattle.camel_ber.proofs.element.+nested.Given as goal
 

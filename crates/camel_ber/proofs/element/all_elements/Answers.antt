@@ -1,7 +1,7 @@
 use Rattle.std.proofs.Common.{[], ◌++◌, ◌∷◌, ◌≡◌, arith}
 use Rattle.std.proofs.lemmas.List.{map_push}
 use Rattle.std.proofs.lemmas.Result.{err_from_is_err_and}
-use Rattle.camel_ber.specs.Reading.{view, views}
+use Rattle.camel_ber.specs.Elements.{view, views}
 use Rattle.camel_ber.proofs.ListLemmas.{list-ends, list-fails, list-goes_on}
 use Rattle.camel_ber.proofs.element.all_elements.Goals as goal
 

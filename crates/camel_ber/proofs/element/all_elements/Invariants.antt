@@ -1,5 +1,5 @@
 use Rattle.std.proofs.Common.{◌≤◌, length}
-use Rattle.camel_ber.specs.Reading.{series_of, views}
+use Rattle.camel_ber.specs.Elements.{series_of, views}
 use Rattle.camel_ber.proofs.ListLemmas.{Reads}
 use Rattle.camel_ber.proofs.element.all_elements.Given as goal
 

@@ -1,4 +1,4 @@
-use Rattle.camel_ber.specs.Reading.{octets_data}
+use Rattle.camel_ber.specs.Elements.{octets_data}
 use Rattle.camel_ber.proofs.SeriesLemmas.{result_found, result_reads, series_one}
 use Rattle.camel_ber.proofs.element.series.Goals as goal
 

@@ -1,5 +1,5 @@
 use Rattle.std.proofs.Common.{◌≡◌, drop, take}
-use Rattle.camel_ber.specs.Reading.{continuation_at}
+use Rattle.camel_ber.specs.Elements.{continuation_at}
 use Rattle.camel_ber.proofs.ContinuationLemmas.{behind_octets}
 use Rattle.camel_ber.proofs.identifier.read_continuation.Given as goal
 

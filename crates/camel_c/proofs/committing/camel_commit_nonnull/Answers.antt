@@ -1,11 +1,10 @@
 use Rattle.std.proofs.Common.{◌≡◌, ◌∙◌, List, inl, inr, ⊎_elim, refl, sym, ap, subst, arith}
 use Rattle.std.specs.Prelude.{Some}
 use Rattle.camel_rows.specs.declared.subscriber.update.Update.{Update}
-use Rattle.camel_c.specs.Commit.{Commits, ShowsNoMore}
+use Rattle.camel_c.specs.Publication.{Commits, ShowsNoMore, AllReady, FirstUnready}
 use Rattle.camel_c.specs.Failure.{failure_code}
-use Rattle.camel_c.specs.HeldUpdates.{HoldUpdates}
+use Rattle.camel_c.specs.Updates.{HoldUpdates}
 use Rattle.camel_c.specs.Object.{live_store}
-use Rattle.camel_c.specs.Publication.{AllReady, FirstUnready}
 use Rattle.camel_c.specs.declared.handle.CamelHandle.{CamelHandle}
 use Rattle.camel_c.specs.declared.object.LiveStore.{LiveStore}
 use Rattle.camel_c.proofs.HeldLemmas.{as_many, held_once}

@@ -1,7 +1,7 @@
 use Rattle.std.proofs.Common.{◌≡◌, map, take}
 use Rattle.std.specs.Prelude.{Some}
 use Rattle.camel_rows.specs.declared.subscriber.update.Update.{Update}
-use Rattle.camel_c.specs.HeldUpdates.{update_held}
+use Rattle.camel_c.specs.Updates.{update_held}
 use Rattle.camel_c.specs.declared.handle.CamelHandle.{CamelHandle}
 use Rattle.camel_c.proofs.copies.copies_of.Given as goal
 

@@ -1,6 +1,6 @@
 use Rattle.std.proofs.Common.{◌≡◌, List, take}
 use Rattle.camel_rows.specs.declared.subscriber.update.Update.{Update}
-use Rattle.camel_c.specs.HeldUpdates.{HoldUpdates}
+use Rattle.camel_c.specs.Updates.{HoldUpdates}
 use Rattle.camel_c.proofs.copies.hold_updates.Given as goal
 
 -- the handles are as before, and the first ones hold updates

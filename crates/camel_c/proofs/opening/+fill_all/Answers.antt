@@ -1,8 +1,8 @@
 use Rattle.std.proofs.Common.{◌≡◌, ◌∙◌, ap, subst}
 use Rattle.std.proofs.lemmas.List.Elements.{All-pop, All-push}
 use Rattle.std.specs.Prelude.{Option, Some, IfSome}
-use Rattle.camel_vlr.specs.Session.{SessionData}
-use Rattle.camel_c_data.specs.Decisions.{no_decisions}
+use Rattle.camel_vlr.specs.Store.{SessionData}
+use Rattle.camel_c_data.specs.Event.{no_decisions}
 use Rattle.camel_c.specs.declared.handle.CamelHandle.{CamelHandle}
 use Rattle.camel_c.specs.declared.object.Object.TheVariants as object
 use Rattle.camel_c.proofs.opening.+fill_all.Goals as goal

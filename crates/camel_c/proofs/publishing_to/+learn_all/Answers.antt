@@ -1,7 +1,7 @@
 use Rattle.std.proofs.Common.{List, ◌∷◌, length, refl, sym, ap, subst, inl, arith}
 use Rattle.std.proofs.lemmas.List.Elements.{All-head, All-rest, All-same}
 use Rattle.camel_c.specs.Publication.{AllMayLook, IsReady}
-use Rattle.camel_c.specs.Receipts.{MayLook}
+use Rattle.camel_c.specs.Session.{MayLook}
 use Rattle.camel_c.specs.declared.handle.CamelHandle.{CamelHandle}
 use Rattle.camel_c.proofs.PublicationLemmas.{all_of_itself}
 use Rattle.camel_c.proofs.publishing_to.+learn_all.Goals as goal

@@ -2,8 +2,7 @@ use Rattle.std.proofs.Common.{inl, sym, subst}
 use Rattle.std.specs.Prelude.{Ok, Result}
 use Rattle.camel_map.specs.declared.arrival.Arrival.{Arrival}
 use Rattle.camel_c.proofs.OctetsLemmas.{takes_value}
-use Rattle.camel_c.specs.Octets.{no_octet}
-use Rattle.camel_c.specs.OctetsSubmission.{SubmitsOctets, update_read}
+use Rattle.camel_c.specs.Octets.{no_octet, SubmitsOctets, update_read}
 use Rattle.camel_c.specs.Submission.{ReadsAndSubmits}
 use Rattle.camel_c.specs.declared.reading_map.OctetsFault.{OctetsFault}
 use Rattle.camel_c.proofs.submitting_map.submit_read.Goals as goal

@@ -1,9 +1,8 @@
 use Rattle.std.proofs.Common.{rules, Ok, subst}
 use Rattle.camel_reading.proofs.EachLemmas.{each_of-map}
 use Rattle.camel_reading.proofs.StepLemmas.{reads_exactly}
-use Rattle.camel_c_data.specs.BasicService.{basic_service_in}
+use Rattle.camel_c_data.specs.Fields.{basic_service_in, IsMemory}
 use Rattle.camel_reading.specs.Reading.{ReadsList}
-use Rattle.camel_c_data.specs.Reading.{IsMemory}
 use Rattle.camel_c_data.proofs.entry_lists.read_services.Goals as goal
 
 pub returns : goal.returns

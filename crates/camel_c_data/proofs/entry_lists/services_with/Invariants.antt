@@ -1,6 +1,6 @@
 use Rattle.std.proofs.Common.{◌≡◌, ◌≤◌, All, length, map, take}
 use Rattle.camel_c_data.specs.declared.basic_service.CamelBasicService.{CamelBasicService}
-use Rattle.camel_c_data.specs.BasicService.{basic_service_in}
+use Rattle.camel_c_data.specs.Fields.{basic_service_in}
 use Rattle.camel_c_data.proofs.entry_lists.services_with.Given as goal
 
 -- the first places have the fields of the first services

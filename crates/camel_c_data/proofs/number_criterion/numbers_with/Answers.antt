@@ -1,7 +1,7 @@
 use Rattle.std.proofs.Common.{◌∙◌, ◌∷◌, ◌++◌, [], length-set, refl, sym, ap, arith, take}
 use Rattle.std.proofs.lemmas.List.{take_more, take_more_set}
 use Rattle.std.specs.declared.result.Result.TheVariants.{Ok}
-use Rattle.camel_c_data.specs.Address.{isdn_address_in}
+use Rattle.camel_c_data.specs.Fields.{isdn_address_in}
 use Rattle.camel_reading.specs.Reading.{each_of}
 use Rattle.camel_c_data.proofs.EachLemmas.{each_of-more}
 use Rattle.camel_c_data.proofs.number_criterion.numbers_with.Goals as goal

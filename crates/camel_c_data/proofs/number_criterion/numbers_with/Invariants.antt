@@ -1,5 +1,5 @@
 use Rattle.std.proofs.Common.{◌≡◌, Ok, length, take}
-use Rattle.camel_c_data.specs.Address.{isdn_address_in}
+use Rattle.camel_c_data.specs.Fields.{isdn_address_in}
 use Rattle.camel_reading.specs.Reading.{each_of}
 use Rattle.camel_c_data.proofs.number_criterion.numbers_with.Given as goal
 

@@ -1,8 +1,8 @@
 use Rattle.std.proofs.Common.{rules}
 use Rattle.std.proofs.lemmas.Result.{err_from_is_err_and}
-use Rattle.camel_c_data.specs.Row.{row_in}
+use Rattle.camel_c_data.specs.Update.{row_in}
 use Rattle.camel_reading.proofs.StepLemmas.{reads_exactly}
-use Rattle.camel_c_data.specs.Reading.{IsMemory}
+use Rattle.camel_c_data.specs.Fields.{IsMemory}
 use Rattle.camel_c_data.proofs.FewLemmas.{few, refused}
 use Rattle.camel_c_data.proofs.sent_csi.read_rows.Goals as goal
 

@@ -1,7 +1,7 @@
 use Rattle.std.proofs.Common.{ℕ, List, IfOk, Option, Result, Ok, Err, inl, inr, ap, subst}
-use Rattle.camel_ber.specs.Reading.{◌>>=◌, OctetsData}
+use Rattle.camel_ber.specs.Elements.{◌>>=◌, OctetsData}
 use Rattle.camel_rows.specs.declared.subscriber.update.Update.{Update}
-use Rattle.camel_map.specs.Lists.{IsReceived}
+use Rattle.camel_map.specs.Arrival.{IsReceived}
 use Rattle.camel_map.specs.Reading.{IsMemory, whole}
 use Rattle.camel_reading.specs.Reading.{ReadsAs, ReadsBy}
 use Rattle.camel_map.specs.Update.{arrival_of}

@@ -1,6 +1,6 @@
 use Rattle.std.proofs.Common.{◌≡◌, ◌++◌, drop, filter}
-use Rattle.camel_ber.specs.Reading.{views}
-use Rattle.camel_map.specs.Field.{is_tagged}
+use Rattle.camel_ber.specs.Elements.{views}
+use Rattle.camel_map.specs.Reading.{is_tagged}
 use Rattle.camel_map.proofs.Received.Fields.{found_so_far}
 use Rattle.camel_map.proofs.field.find_field.Given as goal
 

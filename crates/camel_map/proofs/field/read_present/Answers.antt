@@ -1,7 +1,7 @@
 use Rattle.std.proofs.Common.{Ok, Err, refl}
 use Rattle.std.proofs.lemmas.Fn.{says_at}
 use Rattle.std.proofs.lemmas.Result.{err_from_is_err_and}
-use Rattle.camel_ber.specs.Reading.{view}
+use Rattle.camel_ber.specs.Elements.{view}
 use Rattle.camel_map.proofs.Received.Fields.{present}
 use Rattle.camel_map.proofs.field.read_present.Goals as goal
 

@@ -1,5 +1,5 @@
 use Rattle.std.proofs.Common.{List, Result, subst}
-use Rattle.camel_ber.specs.Reading.{view}
+use Rattle.camel_ber.specs.Elements.{view}
 use Rattle.camel_map.specs.Reading.{IsMemory}
 use Rattle.camel_map.specs.declared.map_fault.MapFault.{MapFault}
 use Rattle.camel_reading.proofs.EachLemmas.{each_of-seen}

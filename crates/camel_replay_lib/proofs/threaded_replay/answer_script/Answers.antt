@@ -8,8 +8,7 @@ use Rattle.camel_script.specs.Line.{line_text}
 use Rattle.camel_script.specs.declared.line.Line.TheVariants as line
 use Rattle.camel_replay_lib.proofs.RoundLemmas.{IsOf-fresh, SessionsAnswer-numbered}
 use Rattle.std.specs.List.{filter}
-use Rattle.camel_script_replay.specs.Fronts.{published_after}
-use Rattle.camel_script_replay.specs.Output.{output}
+use Rattle.camel_script_replay.specs.Output.{published_after, output}
 use Rattle.camel_replay_lib.specs.Rounds.{HasAnswered, WritesScript, entries_in, session_in}
 use Rattle.camel_replay_lib.specs.ThreadsOutput.{SessionsAnswer, is_no_call, script_calls, sessions_text}
 use Rattle.camel_replay_lib.proofs.threaded_replay.answer_script.Goals as goal

@@ -1,6 +1,6 @@
 use Rattle.std.proofs.Common.{subst}
 use Rattle.camel_replay_lib.proofs.ReadLemmas.{stopped_by_write}
-use Rattle.camel_script_replay.specs.Written.{AppendsPart}
+use Rattle.camel_script_replay.specs.Output.{AppendsPart}
 use Rattle.camel_replay_lib.proofs.threaded_replay.replay_threads.Goals as goal
 
 pub returns-clause-stopped : goal.returns-clause-stopped

@@ -1,9 +1,7 @@
 use Rattle.std.proofs.Common.{◌≡◌, ◌++◌, All, List, length}
 use Rattle.camel_script.specs.declared.record.Record.{Record}
-use Rattle.camel_script_replay.specs.Fronts.{updates_from}
-use Rattle.camel_replay_lib.specs.Round.{IsOfStore}
-use Rattle.camel_replay_lib.specs.Rounds.{AreNumbered, HasAnswered, WritesScript}
-use Rattle.camel_replay_lib.specs.Segments.{jobs_from}
+use Rattle.camel_script_replay.specs.Output.{updates_from}
+use Rattle.camel_replay_lib.specs.Rounds.{IsOfStore, AreNumbered, HasAnswered, WritesScript, jobs_from}
 use Rattle.camel_replay_lib.specs.ThreadsOutput.{Call, calls_from, script_calls}
 use Rattle.camel_rows.specs.Store.{no_updates}
 use Rattle.camel_replay_lib.proofs.threaded_replay.run_rounds.Given as goal

@@ -1,5 +1,5 @@
 use Rattle.std.proofs.Common.{◌≡◌, ◌<◌, ◌^◌, take}
-use Rattle.camel_script.specs.Texts.{number_of}
+use Rattle.camel_script.specs.Fields.{number_of}
 use Rattle.camel_script.proofs.text.decimal_value.Given as goal
 
 -- the number of the digits so far

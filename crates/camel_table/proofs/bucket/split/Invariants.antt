@@ -1,6 +1,6 @@
 use Rattle.std.proofs.Common.{◌≡◌, ℕ, ◌+◌, ◌≤◌, Bool, List, ◌++◌, not, filter, vec_capacity, vec_len}
 use Rattle.std.specs.Vec.Iter.{into_iter_items, into_iter_len}
-use Rattle.camel_table.specs.Addressing.{is_at}
+use Rattle.camel_table.specs.Buckets.{is_at}
 use Rattle.camel_table.proofs.bucket.split.Given as goal
 
 abbrev pub invariant-loop-entry : goal.invariant-loop-entry

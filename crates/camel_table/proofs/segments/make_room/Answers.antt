@@ -1,5 +1,5 @@
 use Rattle.std.proofs.Common.{◌∙◌, ◌<◌, ◌≤◌, ap, subst, arith}
-use Rattle.camel_table.specs.Segments.{joined}
+use Rattle.camel_table.specs.Buckets.{joined}
 use Rattle.camel_table.proofs.SegmentsLemmas.{full_more, joined_more, last_length, last_measured, none_measured, room_by_length, room_more}
 use Rattle.camel_table.proofs.segments.make_room.Goals as goal
 use Rattle.camel_table.proofs.segments.make_room.Goals.{else-count-gt0-via-then-count-gt0+else-len-lt-SEGMENT, else-count-gt0-via-else-count-gt0}

@@ -1,5 +1,5 @@
 use Rattle.std.proofs.Common.{◌≡◌, ◌<◌, ◌*◌, ℕ, ◌==◌, false, drop, slice_index}
-use Rattle.camel_tbcd.specs.Digits.{nibbles}
+use Rattle.camel_tbcd.specs.AddressString.{nibbles}
 use Rattle.camel_tbcd.proofs.digits.digit_count.Given as goal
 
 -- no nibble so far is the filler

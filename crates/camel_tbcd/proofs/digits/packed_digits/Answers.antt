@@ -1,7 +1,5 @@
 use Rattle.std.proofs.Common.{◌∙◌, ap, arith, drop, length, take}
-use Rattle.camel_tbcd.specs.Digits.{nibbles}
-use Rattle.camel_tbcd.specs.PackedDigits.{packed}
-use Rattle.camel_tbcd.specs.ShortList.{room_with}
+use Rattle.camel_tbcd.specs.AddressString.{nibbles, packed, room_with}
 use Rattle.camel_tbcd.proofs.RoomLemmas.{length-room, packed_digits-room}
 use Rattle.camel_tbcd.proofs.digits.packed_digits.Goals as goal
 

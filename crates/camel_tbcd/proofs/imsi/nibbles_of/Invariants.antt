@@ -1,5 +1,5 @@
 use Rattle.std.proofs.Common.{◌≡◌, ◌*◌, length, take}
-use Rattle.camel_tbcd.specs.Digits.{nibbles}
+use Rattle.camel_tbcd.specs.AddressString.{nibbles}
 use Rattle.camel_tbcd.proofs.imsi.nibbles_of.Given as goal
 
 -- the nibbles of the octets so far

@@ -1,7 +1,7 @@
 use Rattle.std.proofs.Common.{◌∙◌, ap, ap₂, sym}
 use Rattle.core.specs.Option.{ghost_name_of}
 use borrow.Follows.Closed.{read_of}
-use Rattle.camel_c.specs.Holding.{with_object}
+use Rattle.camel_c.specs.Object.{with_object}
 use Rattle.camel_c.specs.declared.handle.CamelHandle.{CamelHandle}
 use Rattle.camel_c.proofs.LendingLemmas.{lent, looked_at}
 use Rattle.camel_c.proofs.handle.CamelHandle.lend.Goals as goal

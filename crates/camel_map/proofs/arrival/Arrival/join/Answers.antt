@@ -2,7 +2,7 @@ use Rattle.std.proofs.Common.{◌≡◌, ◌∙◌, ℕ, List, Bool, true, false
 use Rattle.std.proofs.lemmas.Result.{err_from_is_err_and}
 use Rattle.std.proofs.lemmas.Slice.Eq.{bytes_eq-Decides}
 use Rattle.camel_rows.specs.Update.{is_insert}
-use Rattle.camel_map.specs.Lists.{as_one, insert_of_lists, latest}
+use Rattle.camel_map.specs.Arrival.{as_one, insert_of_lists, latest}
 use Rattle.camel_map.specs.declared.arrival.CapabilityHandling.{CapabilityHandling}
 use Rattle.camel_map.proofs.Joined.Parts.{brings_insert, parts}
 use Rattle.camel_map.proofs.Joined.Arrivals.{ends, made_as, received_lists}

@@ -1,5 +1,5 @@
 use Rattle.std.proofs.Common.{◌≡◌, ◌≤◌, drop, length, map}
-use Rattle.camel_map.specs.Written.{before}
+use Rattle.camel_map.specs.Encoding.{before}
 use Rattle.camel_map.proofs.encoding.list.put_each.Given as goal
 
 -- the items from a place on are written

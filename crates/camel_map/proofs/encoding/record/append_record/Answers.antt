@@ -1,6 +1,6 @@
 use Rattle.std.proofs.Common.{◌∙◌, ◌++◌, ap}
 use Rattle.camel_rows.specs.declared.subscriber.update.Update.{Update}
-use Rattle.camel_map.specs.Written.{octets_of_update}
+use Rattle.camel_map.specs.Encoding.{octets_of_update}
 use Rattle.camel_map.proofs.Written.Records.{record_sent}
 use Rattle.camel_map.proofs.encoding.record.append_record.Goals as goal
 

@@ -1,4 +1,4 @@
-use Rattle.camel_map.specs.Record.{insert_of_record}
+use Rattle.camel_map.specs.Encoding.{insert_of_record}
 use Rattle.camel_map.proofs.Written.Records.{record_stands}
 use Rattle.camel_map.proofs.Written.Updates.{update_decodes}
 use Rattle.camel_map.proofs.encoding.record.encode_record.Goals as goal

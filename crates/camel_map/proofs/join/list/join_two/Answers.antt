@@ -1,7 +1,7 @@
 use Rattle.std.proofs.Common.{◌≡◌, ◌∙◌, [], ◌++◌, ◌≤◌, ◌+◌, length, ap, sym, refl, inr, arith}
 use Rattle.std.proofs.lemmas.List.{length-append}
 use Rattle.std.proofs.lemmas.Result.{err_from_is_err_and}
-use Rattle.camel_rows.specs.Received.{kept_of}
+use Rattle.camel_rows.specs.TdpRow.{kept_of}
 use Rattle.camel_map.proofs.Joined.Counts.{no_items, some_length, sum_few}
 use Rattle.camel_map.proofs.Joined.Lists.{none_kept, some_kept}
 use Rattle.camel_map.proofs.join.list.join_two.Goals.{else-is_empty+in_ok-kept-2, then-is_empty+in_ok-kept}

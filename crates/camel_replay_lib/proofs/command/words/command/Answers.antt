@@ -1,7 +1,7 @@
 use Rattle.std.proofs.Common.{◌≡◌, ◌∙◌, ap, ap₂, codes}
 use Rattle.clap.specs.Simple.{app_of_fields}
 use Rattle.clap.specs.Words.{app_of, new_app, with_rule}
-use Rattle.camel_replay_lib.specs.CommandLine.{limit_rule, threads_rule}
+use Rattle.camel_replay_lib.specs.ProgramRun.{limit_rule, threads_rule}
 use Rattle.camel_replay_lib.proofs.command.words.command.Goals as goal
 
 pub returns-clause-program : goal.returns-clause-program

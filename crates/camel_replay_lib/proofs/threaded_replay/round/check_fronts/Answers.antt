@@ -1,6 +1,6 @@
 use Rattle.std.proofs.Common.{rules, take_all}
 use Rattle.std.proofs.lemmas.List.Elements.{All-more}
-use Rattle.camel_replay_lib.specs.Round.{FrontIsAtMost}
+use Rattle.camel_replay_lib.specs.Rounds.{FrontIsAtMost}
 use Rattle.camel_replay_lib.proofs.threaded_replay.round.check_fronts.Goals as goal
 
 pub loop-at-preserved : goal.loop-at-preserved

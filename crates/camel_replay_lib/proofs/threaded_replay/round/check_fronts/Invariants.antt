@@ -1,5 +1,5 @@
 use Rattle.std.proofs.Common.{All, take}
-use Rattle.camel_replay_lib.specs.Round.{FrontIsAtMost}
+use Rattle.camel_replay_lib.specs.Rounds.{FrontIsAtMost}
 use Rattle.camel_replay_lib.proofs.threaded_replay.round.check_fronts.Given as goal
 
 abbrev pub invariant-loop-at : goal.invariant-loop-at

@@ -1,6 +1,6 @@
 use Rattle.std.proofs.Common.{rules, arith, ◌≡◌, ◌≢◌, ◌∙◌, ◌++◌, All, length, refl, ap, take_all}
 use Rattle.camel_replay_lib.proofs.RoundLemmas.{reaches-told}
-use Rattle.camel_replay_lib.specs.Round.{FrontIsAtMost}
+use Rattle.camel_replay_lib.specs.Rounds.{FrontIsAtMost}
 use Rattle.camel_replay_lib.specs.declared.threaded_replay.round.ServedOf.{ServedOf}
 use Rattle.camel_audit.specs.declared.worker.Ended.TheVariants.{All as Answered, OutOfMemory}
 use Rattle.camel_replay_lib.proofs.threaded_replay.round.join.Goals as goal

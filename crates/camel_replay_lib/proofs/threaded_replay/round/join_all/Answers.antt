@@ -1,7 +1,7 @@
 use Rattle.std.proofs.Common.{rules, ◌≡◌, ◌++◌, [], ◌∷◌}
 use Rattle.camel_replay_lib.proofs.RoundLemmas.{AllZip-append}
 use Rattle.camel_replay_lib.proofs.SegmentLemmas.{was_split}
-use Rattle.camel_replay_lib.specs.Round.{IsJoined}
+use Rattle.camel_replay_lib.specs.Rounds.{IsJoined}
 use Rattle.camel_replay_lib.proofs.threaded_replay.round.join_all.Goals as goal
 
 pub workers-preserved : goal.workers-preserved

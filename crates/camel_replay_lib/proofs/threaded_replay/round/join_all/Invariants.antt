@@ -1,6 +1,6 @@
 use Rattle.std.proofs.Common.{◌≡◌, ◌++◌, List, length}
 use Rattle.std.specs.List.{AllZip}
-use Rattle.camel_replay_lib.specs.Round.{IsJoined}
+use Rattle.camel_replay_lib.specs.Rounds.{IsJoined}
 use Rattle.camel_replay_lib.specs.declared.threaded_replay.round.Worker.{Worker}
 use Rattle.camel_replay_lib.proofs.threaded_replay.round.join_all.Given as goal
 

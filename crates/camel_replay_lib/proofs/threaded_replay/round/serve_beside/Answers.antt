@@ -2,8 +2,7 @@ use Rattle.std.proofs.Common.{length, subst}
 use Rattle.std.proofs.lemmas.Result.{IfOk-weaker}
 use Rattle.std.specs.List.{AllZip}
 use Rattle.camel_replay_lib.proofs.RoundLemmas.{AllZip-trans, ServesSeat-joined}
-use Rattle.camel_replay_lib.specs.Round.{AreWorkersOf, IsJoined, IsWorkerOf, ServesSeat}
-use Rattle.camel_replay_lib.specs.Segments.{jobs_for}
+use Rattle.camel_replay_lib.specs.Rounds.{AreWorkersOf, IsJoined, IsWorkerOf, ServesSeat, jobs_for}
 use Rattle.camel_replay_lib.specs.declared.threaded_replay.seat.Seat.{Seat}
 use Rattle.camel_replay_lib.proofs.threaded_replay.round.serve_beside.Goals as goal
 

@@ -1,11 +1,10 @@
 use Rattle.std.proofs.Common.{rules, ◌≡◌, ◌∙◌, ◌++◌, All, List, [], ◌∷◌, length, ap, subst}
 use Rattle.std.proofs.lemmas.List.Elements.{All-tail}
 use Rattle.camel_audit.specs.declared.transcript.Job.{Job}
-use Rattle.camel_vlr.specs.Prefix.{PrefixData}
+use Rattle.camel_vlr.specs.History.{PrefixData}
 use Rattle.camel_replay_lib.proofs.RoundLemmas.{AllZip-append}
 use Rattle.camel_replay_lib.proofs.SegmentLemmas.{was_split}
-use Rattle.camel_replay_lib.specs.Round.{IsOfStore, IsWorkerOf}
-use Rattle.camel_replay_lib.specs.Segments.{jobs_for}
+use Rattle.camel_replay_lib.specs.Rounds.{IsOfStore, IsWorkerOf, jobs_for}
 use Rattle.camel_replay_lib.specs.declared.threaded_replay.seat.Seat.{Seat}
 use Rattle.camel_replay_lib.proofs.threaded_replay.round.start_all.Goals as goal
 

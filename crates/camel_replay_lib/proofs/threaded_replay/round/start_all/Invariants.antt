@@ -1,5 +1,5 @@
 use Rattle.std.proofs.Common.{◌≡◌, ◌++◌, All, List, length}
-use Rattle.camel_replay_lib.specs.Round.{AreWorkersOf, IsOfStore}
+use Rattle.camel_replay_lib.specs.Rounds.{AreWorkersOf, IsOfStore}
 use Rattle.camel_replay_lib.specs.declared.threaded_replay.seat.Seat.{Seat}
 use Rattle.camel_replay_lib.proofs.threaded_replay.round.start_all.Given as goal
 

@@ -2,9 +2,9 @@ use Rattle.std.proofs.Common.{rules, arith, ◌≡◌, ◌∙◌, ◌++◌, [], 
 use Rattle.std.proofs.lemmas.List.Elements.{filter-append}
 use Rattle.camel_script.specs.declared.record.Record.{Record}
 use Rattle.camel_script.specs.declared.record.Record.TheVariants as script_record
-use Rattle.camel_replay_lib.proofs.SegmentLemmas.{IsOther, IsQuiet-push, calls-push, filter-push, is_other, jobs_from-length, no_calls-push}
-use Rattle.camel_replay_lib.proofs.SegmentLemmas.{others-push, was_split}
-use Rattle.camel_replay_lib.specs.Segments.{jobs_from}
+use Rattle.camel_replay_lib.proofs.SegmentLemmas.{IsOther, IsQuiet-push, calls-push, filter-push, is_other}
+use Rattle.camel_replay_lib.proofs.SegmentLemmas.{jobs_from-length, no_calls-push, others-push, was_split}
+use Rattle.camel_replay_lib.specs.Rounds.{jobs_from}
 use Rattle.camel_replay_lib.specs.ThreadsOutput.{is_no_call}
 use Rattle.camel_replay_lib.proofs.threaded_replay.segment.cut_segment.Goals as goal
 

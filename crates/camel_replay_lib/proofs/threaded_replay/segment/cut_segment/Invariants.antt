@@ -1,7 +1,7 @@
 use Rattle.std.proofs.Common.{◌≡◌, ◌++◌, List, length}
 use Rattle.std.specs.List.{filter}
 use Rattle.camel_script.specs.declared.record.Record.{Record}
-use Rattle.camel_replay_lib.specs.Segments.{IsSegment, jobs_from}
+use Rattle.camel_replay_lib.specs.Rounds.{IsSegment, jobs_from}
 use Rattle.camel_replay_lib.specs.ThreadsOutput.{is_no_call}
 use Rattle.camel_replay_lib.proofs.threaded_replay.segment.cut_segment.Given as goal
 

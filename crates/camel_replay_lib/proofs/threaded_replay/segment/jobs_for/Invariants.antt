@@ -1,5 +1,5 @@
 use Rattle.std.proofs.Common.{◌≡◌, ◌++◌, drop}
-use Rattle.camel_replay_lib.specs.Segments.{jobs_for}
+use Rattle.camel_replay_lib.specs.Rounds.{jobs_for}
 use Rattle.camel_replay_lib.proofs.threaded_replay.segment.jobs_for.Given as goal
 
 abbrev pub invariant-loop-job : goal.invariant-loop-job

@@ -1,6 +1,6 @@
 use Rattle.std.proofs.Common.{◌∙◌, ℕ, ◌+◌, length, sym, subst}
 use Rattle.std.proofs.lemmas.Bool.{false≢true}
-use Rattle.camel_audit.specs.Part.{PassesInPart, is_in_part}
+use Rattle.camel_audit.specs.Audit.{PassesInPart, is_in_part}
 use Rattle.camel_replay_lib.proofs.SessionTaskLemmas.{parts_pass}
 use Rattle.camel_replay_lib.proofs.threaded_replay.session_lines.audit_in_scope.Goals as goal
 use Rattle.camel_replay_lib.proofs.threaded_replay.session_lines.audit_in_scope.Goals.{then-own, else-own}

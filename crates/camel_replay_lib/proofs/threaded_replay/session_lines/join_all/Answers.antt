@@ -2,7 +2,7 @@ use Rattle.std.proofs.Common.{rules, ◌≡◌, ◌++◌, All, IfOk, List, ◌�
 use Rattle.std.proofs.lemmas.List.Elements.{All-cons}
 use Rattle.std.specs.List.{flat_map}
 use Rattle.camel_replay_lib.proofs.SessionTaskLemmas.{lines_more}
-use Rattle.camel_replay_lib.specs.SessionLines.{PassesOf, text_of}
+use Rattle.camel_replay_lib.specs.Rounds.{PassesOf, text_of}
 use Rattle.camel_replay_lib.specs.declared.threaded_replay.session_lines.SessionThread.{SessionThread}
 use Rattle.camel_replay_lib.proofs.threaded_replay.session_lines.join_all.Goals as goal
 

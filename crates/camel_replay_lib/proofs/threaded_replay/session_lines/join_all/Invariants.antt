@@ -1,6 +1,6 @@
 use Rattle.std.proofs.Common.{◌≡◌, ◌++◌, true, All, IfOk, length}
 use Rattle.std.specs.List.{flat_map}
-use Rattle.camel_replay_lib.specs.SessionLines.{PassesOf, text_of}
+use Rattle.camel_replay_lib.specs.Rounds.{PassesOf, text_of}
 use Rattle.camel_replay_lib.proofs.threaded_replay.session_lines.join_all.Given as goal
 
 -- what is found so far holds of all threads if the rest passes, and its lines and those that are not joined yet are all

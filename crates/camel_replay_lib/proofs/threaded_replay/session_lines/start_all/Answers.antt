@@ -1,9 +1,8 @@
 use Rattle.std.proofs.Common.{rules, arith, ◌≡◌, ℕ, ◌+◌, ◌++◌, [], ◌∷◌, Some, ap, below_more, length, subst}
 use Rattle.std.proofs.lemmas.List.Elements.{All-pop}
-use Rattle.camel_audit.specs.Part.{PassesInPart, is_in_part}
+use Rattle.camel_audit.specs.Audit.{PassesInPart, is_in_part}
 use Rattle.camel_replay_lib.proofs.SessionTaskLemmas.{text_more}
-use Rattle.camel_replay_lib.specs.SessionLines.{PassesOf, text_of}
-use Rattle.camel_replay_lib.specs.SessionTask.{PartPasses, task_text}
+use Rattle.camel_replay_lib.specs.Rounds.{PassesOf, text_of, PartPasses, task_text}
 use Rattle.camel_replay_lib.specs.ThreadsOutput.{sessions_text}
 use Rattle.camel_replay_lib.specs.declared.threaded_replay.session_lines.Task.{Task}
 use Rattle.camel_replay_lib.proofs.threaded_replay.session_lines.start_all.Goals as goal

@@ -1,7 +1,7 @@
 use Rattle.std.proofs.Common.{◌≡◌, ℕ, ◌+◌, ◌<◌, ◌++◌, All, drop, length}
 use Rattle.std.specs.List.{flat_map}
-use Rattle.camel_audit.specs.Part.{PassesInPart, is_in_part}
-use Rattle.camel_replay_lib.specs.SessionLines.{PassesOf, text_of}
+use Rattle.camel_audit.specs.Audit.{PassesInPart, is_in_part}
+use Rattle.camel_replay_lib.specs.Rounds.{PassesOf, text_of}
 use Rattle.camel_replay_lib.specs.ThreadsOutput.{sessions_text}
 use Rattle.camel_replay_lib.proofs.threaded_replay.session_lines.start_all.Given as goal
 

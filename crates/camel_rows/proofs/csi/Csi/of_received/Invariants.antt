@@ -1,5 +1,5 @@
 use Rattle.std.proofs.Common.{◌≡◌, take}
-use Rattle.camel_rows.specs.Received.{items_at}
+use Rattle.camel_rows.specs.TdpRow.{items_at}
 use Rattle.camel_rows.proofs.csi.Csi.of_received.Given as goal
 
 -- the rows that were kept so far are those of the detection points among the ones before

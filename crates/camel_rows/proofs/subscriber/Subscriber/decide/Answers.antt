@@ -1,9 +1,7 @@
 use Rattle.std.proofs.Common.{◌∙◌, ap, sym}
-use Rattle.camel_criteria.specs.Event.{o_event_data}
-use Rattle.camel_criteria.specs.Met.{o_met}
+use Rattle.camel_criteria.specs.Met.{o_event_data, o_met}
 use Rattle.camel_rows.proofs.EventLemmas.{same_basic, same_dp, shown_basic}
-use Rattle.camel_rows.specs.Decision.{by_csi, by_record, by_shown}
-use Rattle.camel_rows.specs.Event.{event_data, shown_data}
+use Rattle.camel_rows.specs.Decision.{by_csi, by_record, by_shown, event_data, shown_data}
 use Rattle.camel_rows.specs.Subscriber.{O}
 use Rattle.camel_rows.proofs.subscriber.Subscriber.decide.Goals as goal
 

@@ -1,6 +1,6 @@
 use Rattle.std.proofs.Common.{◌≡◌, ◌+◌, drop}
 use Rattle.csv.specs.Records.{fields_of}
-use Rattle.camel_script.specs.Reading.{in_turn, numbered}
+use Rattle.camel_script.specs.Fields.{in_turn, numbered}
 use Rattle.camel_script.specs.Record.{no_withdrawal, withdrawal_with}
 use Rattle.camel_script.proofs.record.delete.parse_withdrawal.Given as goal
 

@@ -1,7 +1,7 @@
 use Rattle.std.proofs.Common.{◌≡◌, ◌+◌, drop}
 use Rattle.csv.specs.Records.{fields_of}
 use Rattle.camel_script.specs.Item.{item_into, items_of}
-use Rattle.camel_script.specs.Reading.{in_turn, numbered}
+use Rattle.camel_script.specs.Fields.{in_turn, numbered}
 use Rattle.camel_script.proofs.record.insert.parse_items.Given as goal
 
 -- the lists so far, with the items that are left, are those of all items

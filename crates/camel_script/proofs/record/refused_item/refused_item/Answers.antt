@@ -5,9 +5,8 @@ use Rattle.std.specs.Str.{bytes_eq}
 use Rattle.csv.specs.Records.{fields_of}
 use Rattle.camel_script.proofs.InTurn.{numbered-field, numbered-none}
 use Rattle.camel_script.proofs.RefusedItem.{is_eleventh, is_second, is_taken, passes_by}
-use Rattle.camel_script.specs.Field.{field}
+use Rattle.camel_script.specs.Fields.{field, item_part}
 use Rattle.camel_script.specs.Item.{refused_item}
-use Rattle.camel_script.specs.Parts.{item_part}
 use Rattle.camel_script.proofs.record.refused_item.refused_item.Goals as goal
 use Rattle.camel_script.proofs.record.refused_item.refused_item.Goals.{then-eq+else-count-eq-MAX_TDP_DATA+else-is_repeated, else-eq}
 

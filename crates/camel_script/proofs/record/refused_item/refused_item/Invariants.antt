@@ -1,7 +1,7 @@
 use Rattle.std.proofs.Common.{◌≡◌, ◌+◌, ◌≤◌, [], drop, length, take}
 use Rattle.csv.specs.Records.{fields_of}
 use Rattle.camel_script.specs.Item.{refused_item}
-use Rattle.camel_script.specs.Reading.{numbered, record_fault_of}
+use Rattle.camel_script.specs.Fields.{numbered, record_fault_of}
 use Rattle.camel_script.proofs.record.refused_item.refused_item.Given as goal
 
 -- the detection points so far, with the items that are left, lead to the item that all lead to

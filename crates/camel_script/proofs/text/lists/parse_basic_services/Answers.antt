@@ -1,7 +1,6 @@
 use Rattle.std.proofs.Common.{rules}
 use Rattle.camel_reading.proofs.StepLemmas.{reads_exactly}
-use Rattle.camel_script.specs.Reading.{IsMemory}
-use Rattle.camel_script.specs.Texts.{basic_service_of}
+use Rattle.camel_script.specs.Fields.{IsMemory, basic_service_of}
 use Rattle.camel_script.proofs.text.lists.parse_basic_services.Goals as goal
 
 pub returns : goal.returns

@@ -1,5 +1,5 @@
 use Rattle.std.proofs.Common.{rules}
-use Rattle.camel_script.specs.Texts.{octets_of}
+use Rattle.camel_script.specs.Fields.{octets_of}
 use Rattle.camel_script.proofs.text.lists.parse_octets_list.Goals as goal
 
 pub returns : goal.returns

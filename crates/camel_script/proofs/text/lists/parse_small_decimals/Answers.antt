@@ -1,7 +1,6 @@
 use Rattle.std.proofs.Common.{rules}
 use Rattle.camel_reading.proofs.StepLemmas.{reads_exactly}
-use Rattle.camel_script.specs.Reading.{IsMemory}
-use Rattle.camel_script.specs.Texts.{decimal_of}
+use Rattle.camel_script.specs.Fields.{IsMemory, decimal_of}
 use Rattle.camel_script.proofs.text.lists.parse_small_decimals.Goals as goal
 
 pub returns : goal.returns

@@ -4,8 +4,7 @@ use Rattle.std.specs.Option.{option_map}
 use Rattle.camel_reading.proofs.EachLemmas.{behind}
 use Rattle.camel_reading.specs.Reading.{AnswersAs, each_of}
 use Rattle.camel_script.proofs.Elements.{length_left}
-use Rattle.camel_script.specs.Parts.{element_separator, parts_behind}
-use Rattle.camel_script.specs.Reading.{IsMemory, elements_as}
+use Rattle.camel_script.specs.Fields.{element_separator, parts_behind, IsMemory, elements_as}
 use Rattle.camel_script.proofs.text.lists.read_elements.Given as goal
 
 -- the values so far, with those of the elements that are left behind them, are those of all elements

@@ -1,6 +1,6 @@
 use Rattle.std.proofs.Common.{◌≡◌, ◌∙◌, ◌<◌, ◌≤◌, ◌+◌, ◌-◌, ◌/◌, ◌^◌, bit_and, sym, ap, subst, arith}
 use Rattle.std.proofs.lemmas.Nat.{and_mask}
-use Rattle.camel_table.specs.Addressing.{bucket_in}
+use Rattle.camel_table.specs.Buckets.{bucket_in}
 use Rattle.camel_table.proofs.AddressingLemmas.{double, place_narrow, place_wide, some_power}
 use Rattle.camel_table.proofs.addressing.Addressing.bucket.Goals as goal
 

@@ -1,5 +1,5 @@
 use Rattle.std.proofs.Common.{◌∙◌, ◌++◌, not, ap₂}
-use Rattle.camel_table.specs.Addressing.{is_at}
+use Rattle.camel_table.specs.Buckets.{is_at}
 use Rattle.camel_table.proofs.BucketLemmas.{kept_in_both}
 use Rattle.camel_table.proofs.OnceLemmas.{kept_once}
 use Rattle.camel_table.proofs.bucket.Bucket.split.Goals as goal

@@ -1,6 +1,5 @@
 use Rattle.std.proofs.Common.{◌∙◌, refl, ap}
-use Rattle.camel_table.specs.Addressing.{hash_of}
-use Rattle.camel_table.specs.Buckets.{table_map}
+use Rattle.camel_table.specs.Buckets.{hash_of, table_map}
 use Rattle.camel_table.proofs.TableLemmas.{grown, unchanged, with_spare}
 use Rattle.camel_table.proofs.table.Table.grow.Goals as goal
 

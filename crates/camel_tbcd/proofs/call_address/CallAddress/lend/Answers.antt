@@ -1,6 +1,5 @@
 use Rattle.std.proofs.Common.{◌∙◌, ap, arith, drop, length, sym, take}
-use Rattle.camel_tbcd.specs.Digits.{nibbles}
-use Rattle.camel_tbcd.specs.PackedDigits.{packed, packed_digits}
+use Rattle.camel_tbcd.specs.AddressString.{nibbles, packed, packed_digits}
 use Rattle.camel_tbcd.proofs.RoomLemmas.{length-room, packed_digits-room}
 use Rattle.camel_tbcd.proofs.call_address.CallAddress.lend.Goals as goal
 

@@ -1,6 +1,6 @@
 use Rattle.std.proofs.Common.{◌∙◌, ◌≡◌, ◌<◌, ℕ, arith, below_more, get_or, length, refl, sym}
 use Rattle.std.proofs.lemmas.List.Prefix.{front_from_reads, front_reads}
-use Rattle.camel_tbcd.specs.DigitList.{digit_list}
+use Rattle.camel_tbcd.specs.Address.{digit_list}
 use Rattle.camel_tbcd.proofs.DigitLemmas.{get-digits, same_in_fronts}
 use Rattle.camel_tbcd.proofs.digits.Digits.has_front.Goals as goal
 

@@ -1,5 +1,5 @@
 use Rattle.std.proofs.Common.{◌≡◌, ◌<◌, ℕ, length, slice_index}
-use Rattle.camel_tbcd.specs.DigitList.{digit_list}
+use Rattle.camel_tbcd.specs.Address.{digit_list}
 use Rattle.camel_tbcd.proofs.digits.Digits.has_front.Given as goal
 
 -- the digits of the front so far are the same

@@ -1,5 +1,5 @@
 use Rattle.std.proofs.Common.{◌≡◌, ◌+◌, ◌*◌, ◌∙◌, ◌++◌, ◌∷◌, [], suc, ap, ap₂, arith}
-use Rattle.camel_tbcd.specs.ImsiNumber.{last_digits}
+use Rattle.camel_tbcd.specs.Imsi.{last_digits}
 use Rattle.camel_tbcd.proofs.FirstDigitLemmas.{few_more, fewer, last_more}
 use Rattle.camel_tbcd.proofs.first_digits.FirstDigits.push.Goals as goal
 

@@ -1,6 +1,5 @@
 use Rattle.std.proofs.Common.{◌≡◌, sym, arith}
-use Rattle.camel_tbcd.specs.Imsi.{IsImsi}
-use Rattle.camel_tbcd.specs.ImsiNumber.{digits_of_number, imsi_number}
+use Rattle.camel_tbcd.specs.Imsi.{IsImsi, digits_of_number, imsi_number}
 use Rattle.camel_tbcd.proofs.NumberOfImsiLemmas.{is_imsi, none_counted, none_valued, number_back}
 use Rattle.camel_tbcd.proofs.imsi.Imsi.from_number.Goals as goal
 

@@ -1,6 +1,5 @@
 use Rattle.std.proofs.Common.{◌∙◌, ap, sym, subst}
-use Rattle.camel_tbcd.specs.Imsi.{IsImsi}
-use Rattle.camel_tbcd.specs.ImsiNumber.{imsi_number, digits_of_number}
+use Rattle.camel_tbcd.specs.Imsi.{IsImsi, imsi_number, digits_of_number}
 use Rattle.camel_tbcd.proofs.ImsiNumberLemmas.{digits_of_imsi}
 use Rattle.camel_tbcd.proofs.imsi.Imsi.of_first.Goals as goal
 

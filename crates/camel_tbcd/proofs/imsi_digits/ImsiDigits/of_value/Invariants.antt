@@ -1,5 +1,5 @@
 use Rattle.std.proofs.Common.{◌≡◌, ◌-◌, ◌++◌, drop, length, take}
-use Rattle.camel_tbcd.specs.ImsiNumber.{last_digits}
+use Rattle.camel_tbcd.specs.Imsi.{last_digits}
 use Rattle.camel_tbcd.proofs.imsi_digits.ImsiDigits.of_value.Given as goal
 
 -- the digits that are left, with those that are read, are all digits

@@ -1,5 +1,5 @@
 use Rattle.std.proofs.Common.{◌∙◌, ap}
-use Rattle.camel_tbcd.specs.ImsiSlot.{is_in_slot}
+use Rattle.camel_tbcd.specs.Imsi.{is_in_slot}
 use Rattle.camel_tbcd.proofs.ImsiSlotLemmas.{in_slot}
 use Rattle.camel_tbcd.proofs.imsi_slot.ImsiSlot.is.Goals as goal
 

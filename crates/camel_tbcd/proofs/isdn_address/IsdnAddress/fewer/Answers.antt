@@ -1,6 +1,5 @@
 use Rattle.std.proofs.Common.{◌≡◌, List, ℕ, ap, arith, length}
-use Rattle.camel_tbcd.specs.Digits.{digits}
-use Rattle.camel_tbcd.specs.IsdnAddress.{counted_octets}
+use Rattle.camel_tbcd.specs.AddressString.{digits, counted_octets}
 use Rattle.camel_tbcd.proofs.DigitLemmas.{length-digits-le}
 use Rattle.camel_tbcd.proofs.isdn_address.IsdnAddress.fewer.Goals as goal
 

@@ -1,7 +1,5 @@
 use Rattle.std.proofs.Common.{◌∙◌, List, ℕ, ap, arith, drop, take}
-use Rattle.camel_tbcd.specs.Digits.{nibbles}
-use Rattle.camel_tbcd.specs.IsdnAddress.{counted_octets}
-use Rattle.camel_tbcd.specs.PackedDigits.{packed, packed_digits}
+use Rattle.camel_tbcd.specs.AddressString.{nibbles, counted_octets, packed, packed_digits}
 use Rattle.camel_tbcd.proofs.RoomLemmas.{packed_digits-room}
 use Rattle.camel_tbcd.proofs.isdn_address.IsdnAddress.number.Goals as goal
 

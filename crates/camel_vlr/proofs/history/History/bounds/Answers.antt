@@ -2,7 +2,7 @@ use Rattle.std.proofs.Common.{◌≡◌, ◌∙◌, List, ap, sym, subst}
 use base.Growing.{prefix_trans}
 use mathlib.Core.List.{IsPrefix}
 use Rattle.camel_vlr.proofs.ChainLemmas.{keeps_chain, list_of-prefix}
-use Rattle.camel_vlr.specs.Chain.{list_of, root_of}
+use Rattle.camel_vlr.specs.History.{list_of, root_of}
 use Rattle.camel_vlr.specs.declared.history.link.Link.{Link}
 use Rattle.camel_vlr.proofs.history.History.bounds.Goals as goal
 

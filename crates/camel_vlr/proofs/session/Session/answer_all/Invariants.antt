@@ -1,6 +1,6 @@
 use Rattle.std.proofs.Common.{◌≡◌, ◌≤◌, ◌+◌, ◌++◌, false, List, length, take, vec_len, vec_capacity}
 use Rattle.camel_rows.specs.declared.trigger.outcome.Answer.{Answer}
-use Rattle.camel_vlr.specs.Run.{Answers}
+use Rattle.camel_vlr.specs.Store.{Answers}
 use Rattle.camel_vlr.proofs.session.Session.answer_all.Given as goal
 
 -- the answers to the events so far stand behind those that were there, and there is room for the others

@@ -1,11 +1,8 @@
 use Rattle.std.proofs.Common.{rules, ◌≡◌, ◌∙◌, ap}
-use Rattle.camel_rows.specs.Answer.{answer_over}
-use Rattle.camel_rows.specs.Decision.{decision}
-use Rattle.camel_rows.specs.Event.{event_data}
-use Rattle.camel_rows.specs.Outcome.{outcome_of}
+use Rattle.camel_rows.specs.Decision.{answer_over, decision, event_data, outcome_of}
 use Rattle.camel_rows.specs.Update.{records_of}
 use Rattle.camel_rows.specs.declared.trigger.outcome.Answer.{Answer}
-use Rattle.camel_vlr.specs.Prefix.{StoreId}
+use Rattle.camel_vlr.specs.History.{StoreId}
 use Rattle.camel_vlr.proofs.RunLemmas.{Answers-one}
 use Rattle.camel_vlr.proofs.session.Session.answer_to.Goals as goal
 

@@ -1,8 +1,7 @@
 use Rattle.std.proofs.Common.{◌∙◌, ap, subst, sym}
-use Rattle.camel_rows.specs.Decision.{DecisionData, decision}
-use Rattle.camel_rows.specs.Event.{event_data}
+use Rattle.camel_rows.specs.Decision.{DecisionData, decision, event_data}
 use Rattle.camel_vlr.proofs.OwnUpdatesLemmas.{decided_by_own}
-use Rattle.camel_vlr.specs.OwnUpdates.{DecidedByOwn}
+use Rattle.camel_vlr.specs.Store.{DecidedByOwn}
 use Rattle.camel_vlr.proofs.session.Session.decide.Goals as goal
 
 pub returns-clause-own : goal.returns-clause-own

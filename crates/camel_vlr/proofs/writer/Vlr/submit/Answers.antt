@@ -1,15 +1,13 @@
 use Rattle.std.proofs.Common.{rules, ◌≡◌, ◌∙◌, ◌++◌, ◌∷◌, [], Some, None, refl, sym, ap}
 use Rattle.camel_rows.proofs.StoreLemmas.{IsAdmissionOf-with_update, IsFront-with_update}
-use Rattle.camel_rows.specs.Admission.{with_admission}
-use Rattle.camel_rows.specs.CsisPresent.{csis_after}
-use Rattle.camel_rows.specs.Update.{update_imsi}
+use Rattle.camel_rows.specs.Store.{with_admission}
+use Rattle.camel_rows.specs.Update.{csis_after, update_imsi}
 use Rattle.camel_vlr.proofs.AcceptanceLemmas.{IsOf, same_refusal}
 use Rattle.camel_vlr.proofs.FieldsLemmas.{fields, own, with_more}
 use Rattle.camel_vlr.proofs.OperationLemmas.{updates_among-more}
-use Rattle.camel_vlr.specs.GroupFields.{admitted}
+use Rattle.camel_vlr.specs.StoreFields.{admitted, limit_in, pending_in, store_of, updates_in}
 use Rattle.camel_vlr.specs.Operation.{updates_among}
 use Rattle.camel_vlr.specs.Store.{StoreData, submission_refusal, with_accepted}
-use Rattle.camel_vlr.specs.StoreFields.{limit_in, pending_in, store_of, updates_in}
 use Rattle.camel_vlr.proofs.writer.Vlr.submit.Given.{Over}
 use Rattle.camel_vlr.proofs.writer.Vlr.submit.Goals.{In_err-change, In_ok-change, In_ok-accept}
 use Rattle.camel_vlr.proofs.writer.Vlr.submit.Goals as goal

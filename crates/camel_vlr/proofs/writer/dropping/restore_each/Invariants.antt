@@ -1,6 +1,5 @@
 use Rattle.std.proofs.Common.{◌-◌, ◌≤◌, length, take}
-use Rattle.camel_vlr.specs.Dropping.{HasAll, IsRestored}
-use Rattle.camel_vlr.specs.Operation.{updates_among}
+use Rattle.camel_vlr.specs.Operation.{HasAll, IsRestored, updates_among}
 use Rattle.camel_vlr.proofs.writer.dropping.restore_each.Given as goal
 
 abbrev pub invariant-loop-at : goal.invariant-loop-at

@@ -1,12 +1,11 @@
 use Rattle.std.proofs.Common.{rules, ◌≡◌, ◌++◌, true, [], All, subst, sym}
 use Rattle.std.proofs.lemmas.List.Elements.{All-append}
-use Rattle.camel_rows.specs.Admission.{AdmissionData}
+use Rattle.camel_rows.specs.Store.{AdmissionData}
 use Rattle.camel_rows.specs.Update.{leaves_record}
 use Rattle.camel_rows.specs.declared.subscriber.update.Update.{Update}
 use Rattle.camel_vlr.proofs.DroppingLemmas.{all_there, restored-both, restored_over}
 use Rattle.camel_vlr.proofs.OperationLemmas.{each_half, updates_among-append}
-use Rattle.camel_vlr.specs.Dropping.{IsAdmissionOver, IsRestored}
-use Rattle.camel_vlr.specs.Operation.{updates_among}
+use Rattle.camel_vlr.specs.Operation.{IsAdmissionOver, IsRestored, updates_among}
 use Rattle.camel_vlr.proofs.writer.dropping.restore_from.Goals as goal
 
 pub restore_each-requires-clause-has : goal.restore_each-requires-clause-has

@@ -1,11 +1,11 @@
 use Rattle.std.proofs.Common.{None, Some, ◌≡◌, ◌⊎◌, inl, inr, ◌∙◌, [], ◌∷◌, ◌++◌, append_assoc, length, length-append, ap, arith, sym, subst}
 use Rattle.std.proofs.lemmas.List.Sums.{fold-append}
 use Rattle.camel_criteria.specs.declared.refusal.Refusal.TheVariants.{OutOfMemory}
-use Rattle.camel_rows.specs.Admission.{AdmissionData, admission_refusal}
+use Rattle.camel_rows.specs.Store.{AdmissionData, admission_refusal}
 use Rattle.camel_vlr.proofs.GroupLemmas.{AcceptsAll-push}
 use Rattle.camel_vlr.proofs.OperationLemmas.{updates_among-append}
-use Rattle.camel_vlr.specs.Group.{refusal_among}
-use Rattle.camel_vlr.specs.GroupFields.{AllTakenBackTo, admitted}
+use Rattle.camel_vlr.specs.Store.{refusal_among}
+use Rattle.camel_vlr.specs.StoreFields.{AllTakenBackTo, admitted}
 use Rattle.camel_vlr.specs.Operation.{updates_among}
 use Rattle.camel_vlr.proofs.writer.group.accept_each.Goals as goal
 

@@ -1,7 +1,7 @@
 use Rattle.std.proofs.Common.{◌≡◌, ◌++◌, fold, length}
-use Rattle.camel_rows.specs.Admission.{admission_refusal}
-use Rattle.camel_vlr.specs.Group.{AcceptsAll}
-use Rattle.camel_vlr.specs.GroupFields.{AllTakenBackTo, admitted}
+use Rattle.camel_rows.specs.Store.{admission_refusal}
+use Rattle.camel_vlr.specs.Store.{AcceptsAll}
+use Rattle.camel_vlr.specs.StoreFields.{AllTakenBackTo, admitted}
 use Rattle.camel_vlr.specs.Operation.{HasMore}
 use Rattle.camel_vlr.proofs.writer.group.accept_each.Given as goal
 

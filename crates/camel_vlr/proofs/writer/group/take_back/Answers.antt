@@ -1,7 +1,7 @@
 use Rattle.std.proofs.Common.{subst}
-use Rattle.camel_rows.specs.Admission.{AdmissionData}
+use Rattle.camel_rows.specs.Store.{AdmissionData}
 use Rattle.camel_vlr.proofs.GroupLemmas.{is_there, leads_on}
-use Rattle.camel_vlr.specs.GroupFields.{AllTakenBackTo}
+use Rattle.camel_vlr.specs.StoreFields.{AllTakenBackTo}
 use Rattle.camel_vlr.proofs.writer.group.take_back.Goals as goal
 
 pub take_back-requires-clause-there : goal.take_back-requires-clause-there

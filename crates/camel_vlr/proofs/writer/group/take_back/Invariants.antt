@@ -1,6 +1,6 @@
 use Rattle.std.proofs.Common.{length}
-use Rattle.camel_rows.specs.Admission.{AdmissionData}
-use Rattle.camel_vlr.specs.GroupFields.{AllTakenBackTo}
+use Rattle.camel_rows.specs.Store.{AdmissionData}
+use Rattle.camel_vlr.specs.StoreFields.{AllTakenBackTo}
 use Rattle.camel_vlr.proofs.writer.group.take_back.Given as goal
 
 abbrev pub invariant-loop-one : goal.invariant-loop-one

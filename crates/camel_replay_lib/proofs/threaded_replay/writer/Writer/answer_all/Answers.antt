@@ -5,10 +5,9 @@ use Rattle.camel_rows.specs.Store.{Updates}
 use Rattle.camel_script.specs.Line.{line_text}
 use Rattle.camel_script.specs.declared.line.Line.{Line}
 use Rattle.camel_script.specs.declared.record.Record.{Record}
-use Rattle.camel_vlr.specs.Prefix.{StoreId}
+use Rattle.camel_vlr.specs.History.{StoreId}
 use Rattle.camel_vlr.specs.Store.{StoreData}
-use Rattle.camel_script_replay.specs.Fronts.{updates_from}
-use Rattle.camel_script_replay.specs.Output.{line_of, output_from, updates_after}
+use Rattle.camel_script_replay.specs.Output.{updates_from, line_of, output_from, updates_after}
 use Rattle.camel_replay_lib.specs.ThreadsOutput.{is_no_call}
 use Rattle.camel_replay_lib.proofs.threaded_replay.writer.Writer.answer_all.Goals as goal
 

@@ -1,6 +1,5 @@
 use Rattle.std.proofs.Common.{◌≡◌, ◌++◌, true, All, length}
-use Rattle.camel_script_replay.specs.Fronts.{updates_from}
-use Rattle.camel_script_replay.specs.Output.{output_from}
+use Rattle.camel_script_replay.specs.Output.{updates_from, output_from}
 use Rattle.camel_replay_lib.specs.ThreadsOutput.{is_no_call}
 use Rattle.camel_replay_lib.proofs.threaded_replay.writer.Writer.answer_all.Given as goal
 

@@ -1,8 +1,8 @@
 use base.Growing.{prefix_refl, prefix_trans}
 use Rattle.std.proofs.Common.{◌∙◌, Option, Some, None, IfSome, IsSomeAnd, refl}
 use Rattle.two_copies.specs.Reader.{seen_by, shown_in}
-use Rattle.camel_vlr.specs.Prefix.{PrefixData}
-use Rattle.camel_vlr.specs.Rule.{IsPrefixOf}
+use Rattle.camel_vlr.specs.History.{PrefixData}
+use Rattle.camel_vlr.specs.Seat.{IsPrefixOf}
 use Rattle.camel_vlr.specs.declared.published_copy.PublishedCopy.{PublishedCopy}
 use Rattle.camel_vlr.proofs.base.two_copies_seat.TwoCopiesSeat.take_copy.Goals as goal
 

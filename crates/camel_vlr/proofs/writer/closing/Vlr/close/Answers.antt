@@ -1,9 +1,8 @@
 use Rattle.std.proofs.Common.{◌≡◌, ◌∙◌, [], ◌∷◌, ◌++◌, ap, subst}
-use Rattle.camel_vlr.specs.Prefix.{PrefixData}
-use Rattle.camel_rows.specs.Front.{Extends}
-use Rattle.camel_rows.specs.Update.{records_of}
+use Rattle.camel_vlr.specs.History.{PrefixData}
+use Rattle.camel_rows.specs.Update.{Extends, records_of}
 use Rattle.camel_vlr.proofs.FrontLemmas.{all_last, same_front}
-use Rattle.camel_vlr.specs.Session.{ExtendsAll}
+use Rattle.camel_vlr.specs.Store.{ExtendsAll}
 use Rattle.camel_vlr.proofs.writer.closing.Vlr.close.Goals as goal
 
 pub returns-in-Ok-clause-records : goal.returns-in-Ok-clause-records

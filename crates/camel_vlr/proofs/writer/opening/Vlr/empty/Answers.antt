@@ -2,10 +2,10 @@ use Rattle.std.proofs.Common.{◌≡◌, ◌∙◌, ℕ, ◌≤◌, false, T, Ok
 use Rattle.std.specs.Result.{is_err, MatchResult}
 use Rattle.std.proofs.lemmas.Result.{IfOk-at_ok}
 use Rattle.left_right.specs.Sides.{view}
-use Rattle.camel_vlr.specs.Prefix.{PrefixData}
+use Rattle.camel_vlr.specs.History.{PrefixData}
 use Rattle.camel_vlr.proofs.FieldsLemmas.{begins}
 use Rattle.camel_vlr.specs.Operation.{pending_operations}
-use Rattle.camel_vlr.specs.Rule.{Knows}
+use Rattle.camel_vlr.specs.Seat.{Knows}
 use Rattle.camel_vlr.specs.StoreFields.{IsNew}
 use Rattle.camel_vlr.specs.declared.writer.TheConstants.{MAX_UPDATES}
 use Rattle.camel_vlr.specs.declared.writer.operation.Operation.{Operation}

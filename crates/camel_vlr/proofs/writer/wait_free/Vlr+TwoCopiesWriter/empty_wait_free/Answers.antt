@@ -3,8 +3,8 @@ use Rattle.std.proofs.Common.{◌≡◌, ◌∙◌, ℕ, ◌≤◌, [], ap, refl
 use Rattle.two_copies.specs.Copies.{shown_by}
 use Rattle.camel_rows.proofs.StoreLemmas.{IsFront-empty}
 use Rattle.camel_vlr.proofs.FieldsLemmas.{begins}
-use Rattle.camel_vlr.specs.Prefix.{PrefixData}
-use Rattle.camel_vlr.specs.PublishedCopy.{IsOfItsFront}
+use Rattle.camel_vlr.specs.History.{PrefixData}
+use Rattle.camel_vlr.specs.Seat.{IsOfItsFront}
 use Rattle.camel_vlr.specs.StoreFields.{IsNew}
 use Rattle.camel_vlr.specs.declared.writer.TheConstants.{MAX_UPDATES}
 use Rattle.camel_vlr.proofs.writer.wait_free.Vlr+TwoCopiesWriter.empty_wait_free.Goals as goal
