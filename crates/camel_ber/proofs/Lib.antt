@@ -1,14 +1,7 @@
-pub mod ContinuationLemmas
-pub mod ElementLemmas
+pub mod ContentsLemmas
 pub mod EndLemmas
+pub mod IdentifierLemmas
 pub mod ListLemmas
-pub mod SeriesLemmas
-pub mod SpelledContents
-pub mod SpelledContinuation
-pub mod SpelledElement
-pub mod SpelledEnd
-pub mod SpelledIdentifier
+pub mod NestedLemmas
 pub mod SpelledLength
-pub mod SpelledList
-pub mod SpelledNested
 pub mod StepLemmas

@@ -22,8 +22,7 @@ use Rattle.std.proofs.impls.GlobalAllocator.shrink.Symbol as shrink
 use Rattle.camel_c.proofs.Destruct++none.drop.Symbol as no_drop
 use Rattle.camel_c.proofs.camel_c++object++Object+Destruct.drop.Symbol as of_object
 use Rattle.camel_c.proofs.ObjectDrop.{X, LX, object_drop, drops}
-use Rattle.camel_c.proofs.BoxRows.{A, LA, heap_drop}
-use Rattle.camel_c.proofs.BoxCalls.{Apart, Again}
+use Rattle.camel_c.proofs.BoxLemmas.{A, LA, heap_drop, Apart, Again}
 
 module _ {M : Type 1} (𝓤 : Ura M) (𝓛 : Logic 𝓤) (𝓜 : Model 𝓤 𝓛.H) (𝓡 : Running 𝓤 𝓛.H 𝓜) where
   abbrev Has : Code → Type 0

@@ -44,7 +44,7 @@ const _: () = prove!(size_of::<CamelUpdateParts>() == 32);
 
 impl CamelUpdateParts {
     /// The fields of an update. A count over 255, which no Insert has, is 255.
-    #[tactic(auto, using(crate::proofs::PartsLemmas::tells_counts))]
+    #[tactic(auto, using(crate::proofs::ReadingLemmas::tells_counts))]
     fn of(arrival: &Arrival) -> CamelUpdateParts
         ensures told { result ≡ parts_of arrival.now }
         ensures counts { IsOfLists arrival.now → TellsCounts arrival.now.counts result }

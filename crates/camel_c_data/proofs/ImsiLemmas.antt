@@ -8,7 +8,7 @@ use Rattle.std.specs.List.{position_or_len}
 use Rattle.std.specs.declared.result.Result.TheVariants.{Err, Ok}
 use Rattle.camel_tbcd.specs.Imsi.{IsImsi, imsi_of, IsNumberOfNone, digits_of_number, imsi_number}
 use Rattle.camel_tbcd.specs.declared.imsi.ImsiFault.{ImsiFault}
-use Rattle.camel_tbcd.proofs.ImsiNumberLemmas.{digits_of_imsi}
+use Rattle.camel_tbcd.proofs.ImsiLemmas.{digits_of_imsi}
 use Rattle.camel_c_data.specs.Fields.{imsi_in, with_number, ok_or_malformed}
 use Rattle.camel_reading.specs.Reading.{◌>>=◌}
 use Rattle.camel_c_data.specs.declared.data_fault.DataFault.TheVariants.{Malformed}

@@ -1,13 +1,4 @@
-pub mod Digits
-pub mod Fields
-pub mod First
 pub mod Imsis
-pub mod Items
-pub mod Lengths
-pub mod Numbers
 pub mod Parts
 pub mod Series
-pub mod Tags
-pub mod Tests
 pub mod Values
-pub mod Withdrawals

@@ -1,5 +1,3 @@
-pub mod Csis
-pub mod Digits
 pub mod Elements
 pub mod Records
 pub mod Updates

@@ -30,7 +30,7 @@ use std::alloc::AllocError;
 ///
 /// Fails if memory is refused, and for an argument of more than [`MAX_ARGUMENT_OCTETS`] octets, which no update has
 /// whose data are those that the constructors keep. `out` is as before then.
-#[tactic(auto, using(crate::proofs::EncodedSizes::Limits::update_few))]
+#[tactic(auto, using(crate::proofs::EncodedSizes::Arguments::update_few))]
 pub fn encode(update: &Update, out: &mut Vec<u8>) -> Result<Option<Operation>, AllocError>
     // The operation is the one that says the update, and the octets are those of its argument.
     ensures operation { IfOk result (λ operation. operation ≡ operation_of_update update.now) }

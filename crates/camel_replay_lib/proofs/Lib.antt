@@ -2,6 +2,5 @@ pub mod CommandLineLemmas
 pub mod LineLemmas
 pub mod ReadLemmas
 pub mod RoundLemmas
-pub mod RoundsLemmas
 pub mod SegmentLemmas
 pub mod SessionTaskLemmas

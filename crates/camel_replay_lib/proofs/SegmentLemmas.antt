@@ -11,7 +11,7 @@ use Rattle.camel_rows.specs.Store.{Updates}
 use Rattle.camel_script.specs.Line.{line_text}
 use Rattle.camel_script.specs.declared.record.Record.{Record}
 use Rattle.camel_script.specs.declared.record.Record.TheVariants as script_record
-use Rattle.camel_script_replay.proofs.FrontLemmas.{published-after_submission}
+use Rattle.camel_script_replay.proofs.StoreLemmas.{published-after_submission}
 use Rattle.camel_script_replay.specs.Output.{updates_from, line_of, output_from, updates_after}
 use Rattle.camel_replay_lib.specs.Rounds.{IsSegment, jobs_for, jobs_from}
 use Rattle.camel_replay_lib.specs.ThreadsOutput.{Call, calls_from, calls_of, is_no_call, next_front}

@@ -1,10 +1,4 @@
-pub mod AdmissionLemmas
-pub mod ByImsiLemmas
-pub mod DirectoryLemmas
 pub mod EventLemmas
-pub mod KeptRecordLemmas
-pub mod ListedLemmas
-pub mod ReceivedLemmas
 pub mod RowLemmas
 pub mod StandardLemmas
 pub mod StoreLemmas

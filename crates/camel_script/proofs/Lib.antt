@@ -1,16 +1,6 @@
 pub mod CsvRecords
-pub mod Elements
 pub mod FirstRefused
-pub mod Hexadecimal
-pub mod InTurn
 pub mod InsertMistake
-pub mod ItemAdded
-pub mod ItemDps
-pub mod ItemPlace
-pub mod ListDps
+pub mod ItemLemmas
 pub mod PartsLemmas
-pub mod ReadRecord
 pub mod ReceivedLists
-pub mod RefusedItem
-pub mod RefusedListLemmas
-pub mod StepLemmas

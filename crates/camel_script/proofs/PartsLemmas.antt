@@ -1,11 +1,19 @@
--- The parts of a text, cut off one by one.
-use Rattle.std.proofs.Common.{◌≡◌, ℕ, zero, suc, ◌+◌, ◌<◌, Bool, List, [], ◌∷◌, length, drop, take, Some, refl, add-one, arith}
-use Rattle.std.specs.Prelude.{position}
-use Rattle.std.specs.List.{position_or_len, slice_split}
+-- The parts of a text, cut off one by one, and read as octets or as a list.
+use Rattle.std.proofs.Common.{◌≡◌, ℕ, zero, suc, ◌+◌, ◌<◌, Bool, List, [], ◌∷◌, length, drop, take, Some, refl, add-one}
+use Rattle.std.proofs.Common.{arith, ◌∙◌, ◌%◌, ◌==◌, true, false, Result, Ok, Err, sym, Bor, Option, None}
+use Rattle.std.specs.Prelude.{position, ◌&&◌}
+use Rattle.std.specs.List.{position_or_len, slice_split, list_all}
 use Rattle.std.proofs.lemmas.List.Quantifiers.{position-Some}
 use Rattle.std.proofs.lemmas.List.Splits.{slice_split_first}
-use Rattle.std.proofs.lemmas.List.Sums.{position_or_len_is}
-use Rattle.camel_script.specs.Fields.{part, parts_of}
+use Rattle.std.proofs.lemmas.List.Sums.{position_or_len_is, AllPass-from_list_all, list_all-from_AllPass}
+use Rattle.std.specs.Result.{is_ok}
+use Rattle.std.proofs.lemmas.Bool.Decides.{nat_tests}
+use Rattle.camel_script.specs.Fields.{part, parts_of, octets_of}
+use Rattle.hex.proofs.HexLemmas.{decode_of-digits, decode_of-ok}
+use Rattle.hex.specs.Hex.{decode_of, is_hex_digit}
+use Rattle.hex.specs.declared.error.FromHexError.{FromHexError}
+
+-- The parts of a text, cut off one by one.
 
 -- a text is its first part, and the parts of what is behind the first separator
 pub slice_split_place : (p : ℕ → Bool) (text : List ℕ) (at : ℕ) → position p text ≡ Some at
@@ -33,3 +41,28 @@ pub part-past : (separator : ℕ) (text : List ℕ) (at : ℕ)
     → parts_of separator text ≡ text ∷ [] → part separator text (at + 1) ≡ part separator [] at
 part-past separator text zero parts = rw parts refl
 part-past separator text (suc at) parts = rw (parts, add-one) refl
+
+-- A text is read as octets if it is an even number of hexadecimal digits.
+
+pub octets_are : (text : List ℕ) → is_ok (octets_of text) ≡ (length text % 2 == 0 && list_all is_hex_digit text)
+unfolding octets_of
+octets_are text = by (decode_of text) refl (length text % 2 == 0) (list_all is_hex_digit text) refl refl
+  where
+    by : (decoded : Result (List ℕ) FromHexError) → decode_of text ≡ decoded → (even digits : Bool)
+        → (length text % 2 == 0) ≡ even → list_all is_hex_digit text ≡ digits
+        → is_ok (octets_of text) ≡ (length text % 2 == 0 && list_all is_hex_digit text)
+    by (Ok bytes) read even digits is_even are_digits =
+        let ok = decode_of-ok text bytes read in
+        rw (read, ok.0, list_all-from_AllPass is_hex_digit text ok.1) refl
+    by (Err fault) read true true is_even are_digits =
+        let found = decode_of-digits text (grind (arith, nat_tests)) (AllPass-from_list_all is_hex_digit text are_digits) in
+        absurd (let both = sym read ∙ found.1 in cc)
+    by (Err fault) read true false is_even are_digits = rw (read, is_even, are_digits) refl
+    by (Err fault) read false digits is_even are_digits = rw (read, is_even) refl
+
+-- How much of the text of a list is left, as a loop takes its elements.
+
+-- one more than the characters, where the last element may be empty
+abbrev pub length_left : Option (Bor (List ℕ)) → ℕ
+length_left None = 0
+length_left (Some rest) = suc (length rest.now)

@@ -1,4 +1,4 @@
--- A received list is refused by the detection points of its items; and so is one that is taken, with an item more.
+-- A received list is refused by the detection points of its items.
 use Rattle.std.proofs.Common.{◌≡◌, ◌∙◌, ℕ, suc, ◌+◌, ◌==◌, Bool, true, false, cond, not, nat_le, List, [], ◌∷◌, ◌++◌}
 use Rattle.std.proofs.Common.{map, length, count_by, Option, Some, None, refl, sym, ap, ap₂, arith, length-append}
 use Rattle.std.specs.Prelude.{◌&&◌}
@@ -7,11 +7,15 @@ use Rattle.std.proofs.lemmas.Bool.Decides.{nat_tests}
 use Rattle.std.proofs.lemmas.Grind.{common_steps}
 use Rattle.std.proofs.lemmas.List.{length-map}
 use Rattle.std.proofs.lemmas.List.Sums.{sum_by-append, sum_by-cons}
-use Rattle.camel_criteria.specs.DetectionPoint.{is_among}
+use Rattle.camel_criteria.specs.DetectionPoint.{is_among, o_detection_points, vt_detection_points}
 use Rattle.camel_criteria.specs.declared.refusal.Refusal.{Refusal}
 use Rattle.camel_criteria.specs.declared.refusal.Refusal.TheVariants.{UnexpectedDataValue}
-use Rattle.camel_rows.specs.TdpRow.{has_no_two, kept_of, kept_unless, list_refusal}
-use Rattle.camel_script.specs.Record.{refusal_of}
+use Rattle.camel_rows.specs.TdpRow.{has_no_two, kept_of, kept_unless, list_refusal, TdpRowData}
+use Rattle.camel_script.specs.Record.{refusal_of, InsertList, ORows, OCriteria, VtRows, TCriteria, refusal_in}
+use Rattle.camel_criteria.specs.Criteria.{OCriteriaData, TCriteriaData}
+use Rattle.camel_script.specs.Item.{ItemsData, no_items}
+
+-- A received list is refused by the detection points of its items; and so is one that is taken, with an item more.
 
 -- why a list of items of these detection points is refused, if it is
 abbrev pub refusal_at : List ℕ → List ℕ → Option Refusal
@@ -95,3 +99,31 @@ refused_as points (dp ∷ dps) why refused =
   where
     unexpected : (count : ℕ) (single : Bool) → list_refusal (suc count) single ≡ Some why → why ≡ UnexpectedDataValue
     unexpected count single refused = grind (arith, common_steps, nat_tests)
+
+-- The detection points of the items of a list, by which it is taken or refused.
+
+-- the detection points of the items of a list
+abbrev pub dps_in : InsertList → ItemsData → List ℕ
+dps_in ORows items = map (λ (row : TdpRowData). row.dp) items.o
+dps_in OCriteria items = map (λ (entry : OCriteriaData). entry.dp) items.o_criteria
+dps_in VtRows items = map (λ (row : TdpRowData). row.dp) items.vt
+dps_in TCriteria items = map (λ (entry : TCriteriaData). entry.dp) items.t_criteria
+
+-- the detection points that count for a list
+abbrev pub points_of : InsertList → List ℕ
+points_of ORows = o_detection_points
+points_of OCriteria = o_detection_points
+points_of VtRows = vt_detection_points
+points_of TCriteria = vt_detection_points
+
+pub by_dps_in : (list : InsertList) (items : ItemsData) → refusal_in items list ≡ refusal_at (points_of list) (dps_in list items)
+by_dps_in ORows items = by_dps (λ (row : TdpRowData). row.dp) o_detection_points items.o
+by_dps_in OCriteria items = by_dps (λ (entry : OCriteriaData). entry.dp) o_detection_points items.o_criteria
+by_dps_in VtRows items = by_dps (λ (row : TdpRowData). row.dp) vt_detection_points items.vt
+by_dps_in TCriteria items = by_dps (λ (entry : TCriteriaData). entry.dp) vt_detection_points items.t_criteria
+
+pub none_refused : (list : InsertList) → (refusal_in no_items list ≡ None) × (dps_in list no_items ≡ [])
+none_refused ORows = (refl, refl)
+none_refused OCriteria = (refl, refl)
+none_refused VtRows = (refl, refl)
+none_refused TCriteria = (refl, refl)

@@ -140,7 +140,7 @@ fn parse_many_octets(alloc: Global, text: &[u8]) -> Result<Octets, RecordFault>
 }
 
 /// Whether a text is read as octets: an even number of hexadecimal digits of either case, possibly none.
-#[tactic(auto, using(crate::proofs::Hexadecimal::octets_are))]
+#[tactic(auto, using(crate::proofs::PartsLemmas::octets_are))]
 pub fn is_octets(text: &[u8]) -> bool
     ensures { result ≡ is_ok (octets_of text.now) }
 {

@@ -1,4 +1,2 @@
-pub mod FrontLemmas
 pub mod Progress
 pub mod StoreLemmas
-pub mod WriteLemmas

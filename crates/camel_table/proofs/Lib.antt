@@ -1,8 +1,6 @@
 pub mod AddressingLemmas
 pub mod BucketLemmas
 pub mod BucketsLemmas
-pub mod CloneLemmas
-pub mod CountLemmas
 pub mod InlineLemmas
 pub mod OnceLemmas
 pub mod SegmentsLemmas

@@ -1,14 +1,21 @@
--- The test of two addresses says whether they agree.
-use Rattle.std.proofs.Common.{◌≡◌, ℕ, ◌*◌, ◌/◌, ◌%◌, ◌↔◌, List, [], ◌∷◌, bit_and, bit_xor, slice_index, refl, sym, ap, ◌∙◌, arith}
+-- When two addresses agree, and when one begins with the other.
+use Rattle.std.proofs.Common.{◌≡◌, ℕ, ◌*◌, ◌/◌, ◌%◌, ◌↔◌, List, [], ◌∷◌, bit_and, bit_xor, slice_index, refl, sym, ap}
+use Rattle.std.proofs.Common.{◌∙◌, arith, ◌+◌, ◌==◌, ◌&&◌, length, take, All, bit_or, nat_eq, ap₂}
 use Rattle.std.proofs.lemmas.Bool.{eq-eqb, eqb-true}
-use Rattle.std.proofs.lemmas.Bool.Decides.{Decides-and, Decides-eqb}
-use Rattle.std.proofs.lemmas.Nat.{and_mask, xor_mod, xor_shr}
+use Rattle.std.proofs.lemmas.Bool.Decides.{Decides-and, Decides-eqb, Decides-like, same_from_decides}
+use Rattle.std.proofs.lemmas.Nat.{and_mask, xor_mod, xor_shr, le_or_l, le_or_r}
 use Rattle.std.proofs.lemmas.Nat.Bits.{and_high}
 use Rattle.std.specs.Bool.{Decides}
-use Rattle.camel_tbcd.proofs.BitDifferenceLemmas.{no_bit_differs}
-use Rattle.camel_tbcd.specs.AddressString.{nature_of, plan_of, Agree, agrees, compared_bits, plans_agree}
+use Rattle.std.specs.Cmp.Lexicographic.{bytes_decides}
+use Rattle.std.specs.List.{starts_with}
+use Rattle.camel_tbcd.proofs.DifferenceLemmas.{no_bit_differs, twice_shifted, first_if_none_differs}
+use Rattle.camel_tbcd.specs.AddressString.{nature_of, plan_of, Agree, agrees, compared_bits, plans_agree, digits}
+use Rattle.camel_tbcd.specs.AddressString.{packed_digits}
 use Rattle.camel_tbcd.specs.declared.profile.Profile.{Profile}
 use Rattle.camel_tbcd.specs.declared.profile.Profile.TheVariants.{One, Two}
+use Rattle.camel_tbcd.proofs.DigitLemmas.{IsOctet}
+
+-- The test of two addresses says whether they agree.
 
 plans_decide : (profile : Profile) (first second : List ℕ) → Decides (plans_agree profile first second) (profile ≡ Two → plan_of first ≡ plan_of second)
 plans_decide One first second = (λ _ two. absurd (cc two), λ _. refl)
@@ -46,3 +53,30 @@ agree_by_firsts profile some others first other mine theirs = (
   λ are. record { nature = omega (arith, are.nature); plan = λ two. omega (arith, are.plan two) },
   λ are. record { nature = omega (arith, are.nature); plan = λ two. omega (arith, are.plan two) },
 )
+
+-- When a destination begins with a listed number.
+
+-- two numbers have no bit together exactly if neither has one
+no_bit_of_both : (a b : ℕ) → (bit_or a b ≡ 0) ↔ ((a ≡ 0) × (b ≡ 0))
+no_bit_of_both a b = (
+  λ none. (omega (arith, le_or_l a b), omega (arith, le_or_r a b)),
+  λ both. ap₂ bit_or both.0 both.1,
+)
+
+-- `fewer` is by how many digits the listed number has fewer than 16
+pub front_told : (profile : Profile) (listed destination called : List ℕ) (fewer differing : ℕ)
+    → All IsOctet listed → All IsOctet called → digits called ≡ digits destination
+    → fewer + length (digits listed) ≡ 16 → ((differing ≡ 0) ↔ Agree profile listed destination)
+    → (bit_or (twice_shifted (bit_xor (packed_digits called) (packed_digits listed)) (2 * fewer)) differing == 0)
+    ≡ (agrees profile listed destination && starts_with nat_eq (digits destination) (digits listed))
+front_told profile listed destination called fewer differing small smaller same fewer_is agree =
+    let count : ℕ = length (digits listed) in
+    let told = first_if_none_differs called listed (2 * fewer) smaller small (omega arith) (omega arith) in
+    let front : take count (digits called) ≡ take count (digits destination) = ap (take count) same in
+    let none = no_bit_of_both (twice_shifted (bit_xor (packed_digits called) (packed_digits listed)) (2 * fewer)) differing in
+    same_from_decides _ _
+    (Decides-like _
+    (λ no_bit. let apart = none.0 no_bit in (agree.0 apart.1, told.0 apart.0 ∙ front))
+    (λ are. none.1 (told.1 (are.1 ∙ sym front), agree.1 are.0))
+    (Decides-eqb _ _))
+    (Decides-and _ _ (agrees_decides profile listed destination) (bytes_decides (digits listed) (take count (digits destination))))

@@ -1,15 +1,31 @@
--- Each step keeps the chain, and what was seen of it stays.
-use Rattle.std.proofs.Common.{◌≡◌, ◌∙◌, ℕ, zero, suc, ◌<◌, ◌==◌, Bool, true, false, List, [], ◌∷◌, ◌++◌, length}
-use Rattle.std.proofs.Common.{length-append, append-nil, append_assoc, if◌then◌else◌, refl, ap, sym, subst, arith, inl}
-use Rattle.std.proofs.Common.{None, slice_set}
-use Rattle.std.proofs.lemmas.Bool.Decides.{nat_tests}
+-- Each step keeps the chain, and what was seen of it stays a prefix.
+use Rattle.std.proofs.Common.{◌≡◌, List, [], ◌∷◌, refl, ◌⊎◌, inl, inr, ⊎_elim, ◌∙◌, ℕ, zero, suc, ◌<◌, ◌==◌, Bool, true}
+use Rattle.std.proofs.Common.{false, ◌++◌, length, length-append, append-nil, append_assoc, if◌then◌else◌, ap, sym}
+use Rattle.std.proofs.Common.{subst, arith, None, slice_set}
 use mathlib.Core.List.{IsPrefix}
+use Rattle.std.proofs.lemmas.Bool.Decides.{nat_tests}
 use base.Growing.{prefix_trans}
 use prog.Atomic.{either}
-use Rattle.logbook.specs.Pages.{Away, Cell, Goes, Moves, Nib, View, adds, cell, gives, keeps, may_write, no_nib, step}
+use Rattle.camel_rows.specs.Update.{Extends}
 use Rattle.camel_rows.specs.declared.subscriber.update.Update.{Update}
-use Rattle.camel_vlr.specs.History.{AddsLink, AllUsedUp, IsUsedUp, KeepsChain, MakesCell, UsedUp, list_of, root_of, tail_of, terms_of}
+use Rattle.logbook.specs.Pages.{Away, Cell, Goes, Moves, Nib, View, adds, cell, gives, keeps, may_write, no_nib, step}
+use Rattle.camel_vlr.specs.History.{AddsLink, AllUsedUp, IsUsedUp, KeepsChain, MakesCell, UsedUp, list_of, root_of}
+use Rattle.camel_vlr.specs.History.{tail_of, terms_of}
 use Rattle.camel_vlr.specs.declared.history.link.Link.{Link}
+
+-- Prefixes of one list.
+
+-- of two prefixes of one list one extends the other
+pub one_extends : (first second whole : List Update) → IsPrefix first whole → IsPrefix second whole → Extends second first ⊎ Extends first second
+one_extends [] second whole p q = inl (second, refl)
+one_extends (x ∷ first) [] whole p q = inr (x ∷ first, refl)
+one_extends (x ∷ first) (y ∷ second) [] p q = absurd (cc (p.1))
+one_extends (x ∷ first) (y ∷ second) (z ∷ whole) p q =
+    let same : x ≡ y = cc (p.1, q.1) in
+    ⊎_elim (λ (e : Extends second first). inl (e.0, cc (same, e.1))) (λ (e : Extends first second). inr (e.0, cc (same, e.1)))
+    (one_extends first second whole (p.0, cc (p.1)) (q.0, cc (q.1)))
+
+-- Each step keeps the chain, and what was seen of it stays.
 
 -- the cell of this key is there, and at home
 abbrev IsHome : List Cell → ℕ → Type 0

@@ -1,13 +1,5 @@
-pub mod AcceptanceLemmas
 pub mod ChainLemmas
-pub mod DroppingLemmas
-pub mod FieldsLemmas
-pub mod FrontLemmas
-pub mod GroupLemmas
 pub mod OperationLemmas
-pub mod OwnUpdatesLemmas
-pub mod PrefixLemmas
-pub mod PublicationLemmas
 pub mod RuleLemmas
-pub mod RunLemmas
 pub mod SessionLemmas
+pub mod StoreLemmas

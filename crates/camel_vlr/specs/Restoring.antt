@@ -8,8 +8,7 @@ use Rattle.std.proofs.lemmas.Slice.Eq.{bytes_eq-Decides}
 use Rattle.std.specs.Cmp.Lexicographic.{nat_list_cmp_total}
 use Rattle.std.specs.FinMap as map
 use Rattle.std.specs.FinMap.{same_map}
-use Rattle.camel_rows.proofs.ByImsiLemmas.{get-with_value_of}
-use Rattle.camel_rows.proofs.UpdateLemmas.{other_record}
+use Rattle.camel_rows.proofs.UpdateLemmas.{get-with_value_of, other_record}
 use Rattle.camel_rows.specs.Update.{concerns, with_value, RecordsData, is_of, update_imsi}
 use Rattle.camel_rows.specs.declared.subscriber.update.Update.{Update}
 use Rattle.camel_vlr.specs.Operation.{CopyData, copy_after, copy_restored, records_restored, updates_among}

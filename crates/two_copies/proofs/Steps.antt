@@ -9,12 +9,11 @@ use Rattle.atomic_table.specs.Table.{Allows, opening, Splits, Step, step}
 use Rattle.two_copies.specs.declared.place.Part.{Part}
 use Rattle.two_copies.specs.declared.place.Part.TheVariants.{Whole, Idle, Looking, Leaving, Refused, HasOther, HasNone, Closed}
 use Rattle.two_copies.specs.declared.rule.CopyRule.{Ghosts}
-use Rattle.two_copies.specs.Place.{amid, ClosesWithNone, ClosesWithOther, Enters, fresh, index_of, known_of, Leaves, PlaceData, Reclaims}
-use Rattle.two_copies.specs.Place.{RefusesLooks, SeatData, Settles, Shows, Stage, state_of, writing}
+use Rattle.two_copies.specs.Place.{amid, ClosesWithNone, ClosesWithOther, Enters, fresh, index_of, known_of, Leaves}
+use Rattle.two_copies.specs.Place.{PlaceData, Reclaims, RefusesLooks, SeatData, Settles, Shows, Stage, state_of}
+use Rattle.two_copies.specs.Place.{writing}
 use Rattle.two_copies.specs.Slot.{Follows, Holds}
-use Rattle.two_copies.proofs.Owed.{Copy, IsKept, Moves, Owes, plus}
-use Rattle.two_copies.proofs.Plays.{plays}
-use Rattle.two_copies.proofs.Views.{by_view}
+use Rattle.two_copies.proofs.Plays.{Copy, IsKept, Moves, Owes, plus, plays, by_view}
 
 module _ {F T : Type 0} (rule : Ghosts F T) where
   abbrev Seat : Type 0

@@ -1,22 +1,41 @@
--- How long the encoding of the argument of an update is at most.
-use Rattle.std.proofs.Common.{ℕ, List, [], ◌∷◌, ◌++◌, IfSome, arith}
+-- How long the encoding of the argument of an update is at most: shorter than the greatest length.
+use Rattle.std.proofs.Common.{ℕ, Bool, true, false, [], ◌∷◌, arith, List, ◌++◌, IfSome, ◌≡◌, ◌≤◌, ◌<◌, length, Option}
+use Rattle.std.proofs.Common.{Some, None, subst}
 use Rattle.std.proofs.lemmas.Option.{IfSome_then}
+use Rattle.camel_map.specs.Encoding.{everything_parts, leaf, specific_parts, argument_of, camel_parts, csi_element}
+use Rattle.camel_map.specs.Encoding.{ignored_o_entry, ignored_t_entry, list_element, o_entry_fields, parent}
+use Rattle.camel_map.specs.Encoding.{t_entry_fields, tbcd_octets, IsKept, IsOEntry, IsTEntry, Argument, encoding}
+use Rattle.camel_map.specs.Encoding.{argument_octets, octets_of_update}
+use Rattle.camel_map.specs.Reading.{primitive, constructed, octet_string, sequence}
+use Rattle.camel_map.proofs.EncodedSizes.Bounds.{AreMost, leaf_most, more_most, none_most, within, IsMost, parent_most}
+use Rattle.camel_map.proofs.EncodedSizes.Bounds.{any_most, append_most}
 use Rattle.camel_criteria.specs.DetectionPoint.{o_detection_points, vt_detection_points}
 use Rattle.camel_rows.specs.declared.subscriber.update.Update.{Update}
-use Rattle.camel_rows.specs.declared.subscriber.update.Update.TheVariants as update
 use Rattle.camel_tbcd.specs.Imsi.{IsImsi}
-use Rattle.camel_map.specs.Encoding.{argument_of, camel_parts, csi_element, everything_parts, ignored_o_entry}
-use Rattle.camel_map.specs.Encoding.{ignored_t_entry, leaf, list_element, o_entry_fields, parent, specific_parts}
-use Rattle.camel_map.specs.Encoding.{t_entry_fields, tbcd_octets, IsKept, IsOEntry, IsTEntry}
-use Rattle.camel_map.specs.Reading.{constructed, octet_string, primitive, sequence}
-use Rattle.camel_map.proofs.EncodedSizes.Bounds.{AreMost, IsMost, leaf_most, more_most, none_most, parent_most}
-use Rattle.camel_map.proofs.EncodedSizes.ListBounds.{any_most, append_most, within}
-use Rattle.camel_map.proofs.EncodedLists.OEntries.{is_ignored_o_entry}
-use Rattle.camel_map.proofs.EncodedLists.TEntries.{is_ignored_t_entry}
+use Rattle.camel_map.proofs.EncodedLists.Entries.{is_ignored_o_entry, is_ignored_t_entry}
 use Rattle.camel_map.proofs.Encoded.Imsis.{octets_few as imsi_octets_few}
-use Rattle.camel_map.proofs.EncodedSizes.Entries.{o_entry_most, t_entry_most}
-use Rattle.camel_map.proofs.EncodedSizes.Lists.{csi_most, list_most}
-use Rattle.camel_map.proofs.EncodedSizes.Withdrawals.{everything_most, specific_most}
+use Rattle.camel_map.proofs.EncodedSizes.Lists.{o_entry_most, t_entry_most, csi_most, list_most}
+use Rattle.camel_rows.specs.declared.subscriber.update.Update.TheVariants as update
+
+-- How long the encodings of what a Delete names are at most.
+
+pub everything_most : (everything : Bool) → AreMost 6 (everything_parts everything)
+everything_most false = within [] 0 6 none_most (omega arith)
+everything_most true =
+    more_most (leaf (primitive 9) []) [] 6 0 (leaf_most (primitive 9) [] 0 (omega arith)) none_most
+
+bits_most : (bits : ℕ) → AreMost 8 (leaf (primitive 15) (0 ∷ bits ∷ []) ∷ [])
+bits_most bits =
+    let e = leaf (primitive 15) (0 ∷ bits ∷ []) in
+    more_most e [] 8 0 (leaf_most (primitive 15) (0 ∷ bits ∷ []) 2 (omega arith)) none_most
+
+pub specific_most : (o vt : Bool) → AreMost 8 (specific_parts o vt)
+specific_most false false = within [] 0 8 none_most (omega arith)
+specific_most true false = bits_most 0x80
+specific_most false true = bits_most 0x08
+specific_most true true = bits_most 0x88
+
+-- How long the encoding of the argument of an update is at most.
 
 imsi_most : (octet : ℕ) (imsi : List ℕ) → IsImsi imsi → IsMost 14 (leaf octet (tbcd_octets imsi))
 imsi_most octet imsi is = leaf_most octet (tbcd_octets imsi) 8 (imsi_octets_few imsi is)
@@ -58,3 +77,26 @@ argument_most (update.Cancel imsi) kept =
     parent_most (constructed 3) (own ∷ []) 1192 (within (own ∷ []) 14 1192 fields (omega arith))
 argument_most (update.Register imsi) kept = tt
 argument_most update.ClearAll kept = tt
+
+-- The encoding of each update that is kept is shorter than the greatest length.
+
+few_enough : (count : ℕ) → count ≤ 1198 → count < 4294967296
+few_enough count most = omega arith
+
+-- the argument of a kept update has a length
+pub encoding_few : (update : Update) (argument : Argument) → IsKept update → argument_of update ≡ Some argument
+    → length (encoding argument.element) < 4294967296
+encoding_few update argument kept said =
+    let most : IsMost 1198 argument.element =
+    subst (λ (said : Option Argument). IfSome said (λ argument. IsMost 1198 argument.element)) said
+    (argument_most update kept) in
+    few_enough (length (encoding argument.element)) most
+
+octets_few : (said : Option Argument) → IfSome said (λ argument. IsMost 1198 argument.element)
+    → length (argument_octets said) ≤ 1198
+octets_few None few = omega arith
+octets_few (Some argument) few = few
+
+-- the octets of a kept update are at most so many
+pub update_few : (update : Update) → IsKept update → length (octets_of_update update) ≤ 1198
+update_few update kept = octets_few (argument_of update) (argument_most update kept)

@@ -7,8 +7,7 @@ use Rattle.camel_map.specs.Encoding.{camel_parts, csi_element, ignored_o_entry, 
 use Rattle.camel_map.specs.Reading.{constructed}
 use Rattle.camel_map.specs.Arrival.{Lists}
 use Rattle.camel_map.proofs.Encoded.Parts.{Part, any_part, found, identified, joined, parts_of}
-use Rattle.camel_map.proofs.Encoded.Series.{AreIdentified}
-use Rattle.camel_map.proofs.Encoded.Tags.{of_tag}
+use Rattle.camel_map.proofs.Encoded.Series.{AreIdentified, of_tag}
 
 -- the Insert of lists, as they are sent
 abbrev pub insert_of : List ℕ → Lists → Update

@@ -13,12 +13,9 @@ use Rattle.camel_map.specs.Update.{insert_of_fields}
 use Rattle.camel_map.specs.declared.arrival.Arrival.{Arrival}
 use Rattle.camel_map.proofs.EncodedUpdates.CamelFields.{info, the_fields}
 use Rattle.camel_map.proofs.EncodedUpdates.CamelFields as sent
-use Rattle.camel_map.proofs.Encoded.Fields.{came_read}
-use Rattle.camel_map.proofs.EncodedLists.Csis.{csi_came, csi_read}
-use Rattle.camel_map.proofs.EncodedLists.Kept.{came, sent_read}
-use Rattle.camel_map.proofs.EncodedLists.OEntries.{is_ignored_o_entry, o_entry_read}
-use Rattle.camel_map.proofs.EncodedLists.TEntries.{is_ignored_t_entry, t_entry_read}
-use Rattle.camel_map.proofs.Encoded.Series.{AreRead}
+use Rattle.camel_map.proofs.Encoded.Series.{came_read, AreRead}
+use Rattle.camel_map.proofs.EncodedLists.Csis.{csi_came, csi_read, came, sent_read}
+use Rattle.camel_map.proofs.EncodedLists.Entries.{is_ignored_o_entry, o_entry_read, is_ignored_t_entry, t_entry_read}
 
 -- the items of a list that came are those that were sent
 rows_kept : (o : Option (List TdpRowData)) → kept_in (rows_in (option_map csi_came o)) ≡ o

@@ -6,9 +6,8 @@ use Rattle.camel_map.specs.Reading.{constructed, primitive, sequence, imsi_or_of
 use Rattle.camel_map.specs.Arrival.{Lists}
 use Rattle.camel_map.specs.Update.{insert_in}
 use Rattle.camel_map.proofs.EncodedUpdates.CamelFields.{all_identified, info, insert_of}
-use Rattle.camel_map.proofs.Encoded.Fields.{field_there}
+use Rattle.camel_map.proofs.Encoded.Series.{field_there, AreIdentified, Decodes, one_octet, parts_read}
 use Rattle.camel_map.proofs.Encoded.Imsis.{own_imsi_read}
-use Rattle.camel_map.proofs.Encoded.Series.{AreIdentified, Decodes, one_octet, parts_read}
 use Rattle.camel_map.proofs.EncodedUpdates.InsertFields.{came_insert, fields_read}
 
 module _ (imsi : List ℕ) (lists : Lists) where

@@ -8,7 +8,7 @@ use Rattle.camel_map.specs.Arrival.{count_of, insert_with, kept_in, part_of, Lis
 use Rattle.camel_map.specs.declared.arrival.Arrival.{Arrival}
 use Rattle.camel_map.specs.declared.arrival.CapabilityHandling.{CapabilityHandling}
 use Rattle.camel_map.specs.declared.items.ReceivedList.{ReceivedList}
-use Rattle.camel_map.proofs.Received.Steps.{step}
+use Rattle.camel_map.proofs.Received.Updates.{step}
 
 -- a list that came, or did not
 abbrev pub Came : Type 0 → Type 0

@@ -1,6 +1,6 @@
 use Rattle.std.proofs.Common.{rules, arith, ◌≡◌, ◌∙◌, get_or}
 use Rattle.std.proofs.lemmas.Slice.Zip.{AllZip-long}
-use Rattle.camel_audit.proofs.PairLemmas.{AllZip-at, AllZip-set}
+use Rattle.camel_audit.proofs.AuditLemmas.{AllZip-at, AllZip-set}
 use Rattle.camel_audit.specs.Audit.{IsExplainedTo, is_member}
 use Rattle.camel_audit.proofs.one_pass.move_all.Goals as goal
 

@@ -2,8 +2,8 @@ use Rattle.std.proofs.Common.{rules, arith, ◌≡◌, ◌∙◌, ℕ, ◌+◌, 
 use Rattle.std.proofs.lemmas.Grind.{take_at_read}
 use Rattle.std.proofs.lemmas.List.{take_at}
 use Rattle.std.proofs.lemmas.Slice.Zip.{AllZip-long}
-use Rattle.camel_audit.proofs.OnePassLemmas.{AreExplainedTo-longer, AreExplainedTo-none, all_explained}
-use Rattle.camel_audit.proofs.PartUpdateLemmas.{Accepted-push, records-push}
+use Rattle.camel_audit.proofs.AuditLemmas.{AreExplainedTo-longer, AreExplainedTo-none, all_explained}
+use Rattle.camel_audit.proofs.PartLemmas.{Accepted-push, records-push}
 use Rattle.camel_audit.specs.Audit.{AreExplainedTo, IsExplainedTo, is_member, updates_of_part}
 use Rattle.camel_rows.specs.Update.{Accepted}
 use Rattle.camel_rows.specs.declared.subscriber.update.Update.{Update}

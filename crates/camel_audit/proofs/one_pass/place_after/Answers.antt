@@ -1,5 +1,5 @@
 use Rattle.std.proofs.Common.{rules, refl}
-use Rattle.camel_audit.proofs.OnePassLemmas.{IsExplainedTo-push}
+use Rattle.camel_audit.proofs.AuditLemmas.{IsExplainedTo-push}
 use Rattle.camel_audit.specs.Audit.{IsDecidedOver, is_member, updates_of_part}
 use Rattle.camel_rows.specs.Update.{records_of}
 use Rattle.camel_audit.proofs.one_pass.place_after.Goals as goal

@@ -2,7 +2,7 @@ use Rattle.std.proofs.Common.{arith, ◌≡◌, ◌+◌, ◌++◌, [], ◌∷◌
 use Rattle.std.proofs.lemmas.Grind.{take_at_read}
 use Rattle.std.proofs.lemmas.List.{map_push}
 use Rattle.camel_audit.specs.declared.transcript.Entry.{Entry}
-use Rattle.camel_vlr.proofs.RunLemmas.{Answers-append}
+use Rattle.camel_vlr.proofs.SessionLemmas.{Answers-append}
 use Rattle.camel_audit.specs.Serves.{answer_in, event_in, job_of}
 use Rattle.camel_audit.proofs.worker.serve_each.Goals as goal
 

@@ -2,8 +2,8 @@ use Rattle.std.proofs.Common.{◌∙◌, ◌≡◌, ap, arith, eq-eqb, false, su
 use Rattle.std.proofs.lemmas.Bool.{ne_eqb}
 use Rattle.std.proofs.lemmas.Result.{err_from_is_err_and}
 use Rattle.camel_ber.specs.Elements.{Answers, element_at, is_constructed, view}
-use Rattle.camel_ber.proofs.ElementLemmas.{at_contents, Begins-form, ends_at, ends_at-deeper, ends_at-zero, has_end}
-use Rattle.camel_ber.proofs.ElementLemmas.{has_no_end, is_primitive, no_identifier, no_length}
+use Rattle.camel_ber.proofs.NestedLemmas.{at_contents, Begins-form, ends_at, ends_at-deeper, ends_at-zero, has_end}
+use Rattle.camel_ber.proofs.NestedLemmas.{has_no_end, is_primitive, no_identifier, no_length}
 use Rattle.camel_ber.proofs.EndLemmas.{end-at_zero, end-fails, end-goes_on, end-is_missing}
 use Rattle.camel_ber.proofs.element.+nested.Goals as goal
 

@@ -1,5 +1,5 @@
 use Rattle.camel_ber.specs.Elements.{octets_data}
-use Rattle.camel_ber.proofs.SeriesLemmas.{result_found, result_reads, series_one}
+use Rattle.camel_ber.proofs.ListLemmas.{result_found, result_reads, series_one}
 use Rattle.camel_ber.proofs.element.series.Goals as goal
 
 pub returns-clause-found : goal.returns-clause-found

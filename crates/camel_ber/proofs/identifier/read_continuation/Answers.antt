@@ -1,5 +1,5 @@
 use Rattle.std.proofs.lemmas.Bool.{le-ltb, lt-ltb}
-use Rattle.camel_ber.proofs.ContinuationLemmas.{continuation-endless, continuation-ends, continuation-goes_on}
+use Rattle.camel_ber.proofs.IdentifierLemmas.{continuation-endless, continuation-ends, continuation-goes_on}
 use Rattle.camel_ber.proofs.identifier.read_continuation.Goals as goal
 
 pub returns-then-octet-lt128-clause-answer : goal.returns-then-octet-lt128-clause-answer

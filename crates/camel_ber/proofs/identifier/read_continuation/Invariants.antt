@@ -1,6 +1,6 @@
 use Rattle.std.proofs.Common.{◌≡◌, drop, take}
 use Rattle.camel_ber.specs.Elements.{continuation_at}
-use Rattle.camel_ber.proofs.ContinuationLemmas.{behind_octets}
+use Rattle.camel_ber.proofs.IdentifierLemmas.{behind_octets}
 use Rattle.camel_ber.proofs.identifier.read_continuation.Given as goal
 
 abbrev pub invariant-loop-at : goal.invariant-loop-at

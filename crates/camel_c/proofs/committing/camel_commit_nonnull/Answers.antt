@@ -7,7 +7,7 @@ use Rattle.camel_c.specs.Updates.{HoldUpdates}
 use Rattle.camel_c.specs.Object.{live_store}
 use Rattle.camel_c.specs.declared.handle.CamelHandle.{CamelHandle}
 use Rattle.camel_c.specs.declared.object.LiveStore.{LiveStore}
-use Rattle.camel_c.proofs.HeldLemmas.{as_many, held_once}
+use Rattle.camel_c.proofs.HandleLemmas.{as_many, held_once}
 use Rattle.camel_c.proofs.PublicationLemmas.{same_live}
 use Rattle.camel_c.proofs.committing.camel_commit_nonnull.Goals as goal
 

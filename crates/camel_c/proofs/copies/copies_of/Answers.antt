@@ -1,6 +1,6 @@
 use Rattle.std.proofs.Common.{◌≡◌, ◌∙◌, List, ⊎_elim, sym, subst, arith}
 use Rattle.camel_criteria.specs.declared.refusal.Refusal.TheVariants as refusal
-use Rattle.camel_c.proofs.HeldLemmas.{held_at, if_err}
+use Rattle.camel_c.proofs.HandleLemmas.{held_at, if_err}
 use Rattle.camel_c.specs.Updates.{HoldUpdates}
 use Rattle.camel_c.specs.declared.failure.Failure.TheVariants as failure
 use Rattle.camel_c.specs.declared.handle.CamelHandle.{CamelHandle}

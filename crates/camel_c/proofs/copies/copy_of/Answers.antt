@@ -1,4 +1,4 @@
-use Rattle.camel_c.proofs.LendingLemmas.{looked_at}
+use Rattle.camel_c.proofs.HandleLemmas.{looked_at}
 use Rattle.camel_c.proofs.copies.copy_of.Goals as goal
 
 pub returns-in-Ok-clause-same : goal.returns-in-Ok-clause-same

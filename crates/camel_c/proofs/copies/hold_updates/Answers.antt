@@ -2,8 +2,7 @@ use Rattle.std.proofs.Common.{◌≡◌, ◌∙◌, ◌<◌, ◌≤◌, length, 
 use Rattle.std.proofs.Math.ListN.{set}
 use Rattle.std.proofs.lemmas.List.{set-get_or}
 use Rattle.std.specs.Prelude.{Some}
-use Rattle.camel_c.proofs.HeldLemmas.{held_at}
-use Rattle.camel_c.proofs.HoldingLemmas.{hold_all, hold_more, none_of, whole_of}
+use Rattle.camel_c.proofs.HandleLemmas.{held_at, hold_all, hold_more, none_of, whole_of}
 use Rattle.camel_c.specs.Updates.{HoldUpdates, update_held}
 use Rattle.camel_c.specs.declared.handle.CamelHandle.{CamelHandle}
 use Rattle.camel_c.proofs.copies.hold_updates.Goals as goal

@@ -1,4 +1,4 @@
-use Rattle.camel_c.proofs.LendingLemmas.{looked_at}
+use Rattle.camel_c.proofs.HandleLemmas.{looked_at}
 use Rattle.camel_c.proofs.copies.holds_update.Goals as goal
 
 pub returns-in-Some-clause-same : goal.returns-in-Some-clause-same

@@ -1,4 +1,4 @@
-use Rattle.camel_c.proofs.LendingLemmas.{looked_at}
+use Rattle.camel_c.proofs.HandleLemmas.{looked_at}
 use Rattle.camel_c.proofs.publishing_to.unready.Goals as goal
 
 pub returns-then-is_looking-clause-same : goal.returns-then-is_looking-clause-same

@@ -1,6 +1,6 @@
 use Rattle.std.proofs.Common.{List, inl, subst}
 use Rattle.camel_rows.specs.declared.subscriber.update.Update.{Update}
-use Rattle.camel_c.proofs.HeldLemmas.{held_once}
+use Rattle.camel_c.proofs.HandleLemmas.{held_once}
 use Rattle.camel_c.specs.Submission.{SubmitsAll}
 use Rattle.camel_c.specs.Updates.{HoldUpdates}
 use Rattle.camel_c.specs.declared.handle.CamelHandle.{CamelHandle}

@@ -1,7 +1,6 @@
 use Rattle.std.proofs.Common.{inr}
 use Rattle.std.specs.Prelude.{Ok}
-use Rattle.camel_c.proofs.OctetsLemmas.{takes_octets_as}
-use Rattle.camel_c.proofs.OctetsUpdate.{reads_update}
+use Rattle.camel_c.proofs.OctetsLemmas.{takes_octets_as, reads_update}
 use Rattle.camel_c.specs.Octets.{octets_in, update_read}
 use Rattle.camel_c.specs.Submission.{ReadsAndSubmits}
 use Rattle.camel_c.proofs.submitting_map.camel_submit_map_nonnull.Goals as goal

@@ -2,8 +2,7 @@ use Rattle.std.proofs.Common.{subst}
 use Rattle.camel_map.specs.declared.arrival.ItemCounts.{ItemCounts}
 use Rattle.camel_c_data.specs.Update.{insert_in}
 use Rattle.camel_c.specs.Updates.{Makes, ReadsAndMakes, counted}
-use Rattle.camel_c.proofs.InsertLemmas.{made_lists}
-use Rattle.camel_c.proofs.ReadingLemmas.{makes_as}
+use Rattle.camel_c.proofs.ReadingLemmas.{made_lists, makes_as}
 use Rattle.camel_c.proofs.updates.keep_insert.Goals as goal
 
 pub returns-clause-made : goal.returns-clause-made

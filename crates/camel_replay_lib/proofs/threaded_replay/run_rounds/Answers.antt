@@ -7,8 +7,8 @@ use Rattle.camel_audit.specs.declared.transcript.Job.{Job}
 use Rattle.camel_rows.specs.Store.{no_updates}
 use Rattle.camel_script.specs.declared.record.Record.{Record}
 use Rattle.camel_vlr.specs.History.{StoreId}
-use Rattle.camel_replay_lib.proofs.RoundLemmas.{AllZip-numbered, HasAnswered-none}
-use Rattle.camel_replay_lib.proofs.RoundsLemmas.{HasAnswered-more, IsOf-more, WritesScript-more, WritesScript-none, calls-more, number-more}
+use Rattle.camel_replay_lib.proofs.RoundLemmas.{AllZip-numbered, HasAnswered-none, HasAnswered-more, IsOf-more}
+use Rattle.camel_replay_lib.proofs.RoundLemmas.{WritesScript-more, WritesScript-none, calls-more, number-more}
 use Rattle.camel_replay_lib.proofs.SegmentLemmas.{call_between, jobs_from-length}
 use Rattle.camel_script_replay.specs.Output.{updates_from}
 use Rattle.camel_replay_lib.specs.Rounds.{ServesRound, ServesSeat, WritesLines, jobs_from, WriterData}

@@ -1,4 +1,4 @@
-use Rattle.camel_script_replay.proofs.FrontLemmas.{published_grows, published_is_front}
+use Rattle.camel_script_replay.proofs.StoreLemmas.{published_grows, published_is_front}
 use Rattle.camel_script_replay.proofs.laws.published_fronts.Goals as goal
 
 pub returns-clause-front : goal.returns-clause-front

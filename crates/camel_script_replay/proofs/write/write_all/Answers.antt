@@ -1,5 +1,5 @@
 use Rattle.std.proofs.Common.{arith}
-use Rattle.camel_script_replay.proofs.WriteLemmas.{Keeps-append_none, wrote_more, wrote_part}
+use Rattle.camel_script_replay.proofs.StoreLemmas.{Keeps-append_none, wrote_more, wrote_part}
 use Rattle.camel_script_replay.proofs.write.write_all.Goals as goal
 
 pub returns-in-Ok-eq0-clause-part : goal.returns-in-Ok-eq0-clause-part

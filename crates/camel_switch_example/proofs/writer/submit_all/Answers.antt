@@ -1,7 +1,7 @@
 use Rattle.std.proofs.Common.{◌≡◌, ◌∙◌, List, Some, sym, ap}
 use Rattle.std.specs.Prelude.{Result, Ok, Err, OnOk, OnErr, fold}
 use Rattle.camel_rows.specs.declared.subscriber.update.Update.{Update}
-use Rattle.camel_vlr.proofs.AcceptanceLemmas.{with_all-pending}
+use Rattle.camel_vlr.proofs.StoreLemmas.{with_all-pending}
 use Rattle.camel_vlr.specs.Store.{StoreData, with_accepted}
 use Rattle.camel_switch_example.proofs.writer.submit_all.Goals as goal
 

@@ -1,5 +1,5 @@
 use Rattle.std.proofs.Common.{◌≡◌, ◌∙◌, ◌-◌, arith, length, sym}
-use Rattle.camel_tbcd.proofs.DigitCountLemmas.{count_by_filler, none_before}
+use Rattle.camel_tbcd.proofs.DifferenceLemmas.{count_by_filler, none_before}
 use Rattle.camel_tbcd.proofs.DigitLemmas.{high_filler, length-digits, length-digits-le, length-nibbles-drop, low_filler, octet_more}
 use Rattle.camel_tbcd.proofs.digits.digit_count.Goals as goal
 

@@ -1,4 +1,4 @@
-use Rattle.camel_tbcd.proofs.FirstFillerLemmas.{first_filler}
+use Rattle.camel_tbcd.proofs.FillerLemmas.{first_filler}
 use Rattle.camel_tbcd.proofs.digits.first_filler.Goals as goal
 
 pub returns : goal.returns

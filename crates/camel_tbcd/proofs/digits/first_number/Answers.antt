@@ -1,6 +1,6 @@
 use Rattle.std.proofs.Common.{◌≡◌, ◌∙◌, ◌≤◌, ◌+◌, ◌-◌, ◌%◌, ◌^◌, ℕ, ap, arith, take}
 use Rattle.camel_tbcd.specs.AddressString.{packed_digits}
-use Rattle.camel_tbcd.proofs.RoomNumberLemmas.{first_filled, first_full, read_filled}
+use Rattle.camel_tbcd.proofs.RoomLemmas.{first_filled, first_full, read_filled}
 use Rattle.camel_tbcd.proofs.digits.first_number.Goals as goal
 
 pub returns-then-len : goal.returns-then-len

@@ -1,8 +1,8 @@
 use Rattle.std.proofs.Common.{◌∷◌, ◌∙◌, ap, get_or, length}
 use Rattle.std.proofs.lemmas.List.Elements.{All-from_get_or}
 use Rattle.std.specs.Int.{to_le_bytes, w64}
-use Rattle.camel_tbcd.proofs.FilledRoomLemmas.{filled_room, one_by_one}
-use Rattle.camel_tbcd.proofs.NibbleLemmas.{IsOctet}
+use Rattle.camel_tbcd.proofs.RoomLemmas.{filled_room, one_by_one}
+use Rattle.camel_tbcd.proofs.DigitLemmas.{IsOctet}
 use Rattle.camel_tbcd.proofs.isdn_address.filled_room.Goals as goal
 
 pub returns : goal.returns

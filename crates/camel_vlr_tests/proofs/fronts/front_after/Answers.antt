@@ -1,5 +1,5 @@
 use Rattle.std.proofs.Common.{ap, arith, subst}
-use Rattle.camel_vlr.proofs.FrontLemmas.{all_last, extends_length}
+use Rattle.camel_vlr.proofs.SessionLemmas.{all_last, extends_length}
 use Rattle.camel_vlr.specs.Store.{ExtendsAll}
 use Rattle.camel_vlr_tests.proofs.fronts.front_after.Goals as goal
 

@@ -1,5 +1,5 @@
 use Rattle.std.proofs.Common.{arith}
-use Rattle.camel_vlr.proofs.FrontLemmas.{extends_length}
+use Rattle.camel_vlr.proofs.SessionLemmas.{extends_length}
 use Rattle.camel_vlr_tests.proofs.fronts.fronts_after.Goals as goal
 
 pub returns-clause-second : goal.returns-clause-second

@@ -1,7 +1,6 @@
 use Rattle.std.proofs.Common.{rules, ◌∙◌, arith, ap, length, not, ◌≤◌, ◌<◌, ◌+◌, ◌*◌, ◌^◌}
 use Rattle.two_copies.specs.Place.{number}
-use Rattle.two_copies.proofs.HeldLemmas.{has_room, held_with, number_small}
-use Rattle.two_copies.proofs.PlacesLemmas.{all_show, same_places}
+use Rattle.two_copies.proofs.PlacesLemmas.{has_room, held_with, number_small, all_show, same_places}
 use Rattle.two_copies.proofs.places.reclaim_each.Given.{Over}
 use Rattle.two_copies.proofs.places.reclaim_each.Goals.{In-loop-next}
 use Rattle.two_copies.proofs.places.reclaim_each.Goals as goal

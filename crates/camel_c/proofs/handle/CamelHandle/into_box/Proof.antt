@@ -5,8 +5,8 @@ use mathlib.Core.Bool.{Bool, not}
 use mir.Val.{Val, vcons, vnil}
 use base.Logic.{SProp, emp}
 use prog.Wp.{WpFn}
-use types.Kit.{‵, raw, ◌⊛◌, some, given, later, at_ret, prop, ◌$◌, ◌∵◌, !, qed}
-use types.Kit.{by, move, keep, split, fsplit, fjoin, pick, learn, regoal, use0, use1, use2, await}
+use types.Kit.{‵, raw, ◌⊛◌, some, given, later, at_ret, prop, ◌$◌, ◌∵◌, !, qed, by, move, keep, split, fsplit, fjoin}
+use types.Kit.{pick, learn, regoal, use0, use1, use2, await}
 use types.Run.{stop, fld, lit, of_opd, un, no_more, and_then, first, blocks, branches, skips, exec, returns, returns_within, enter}
 use types.ByLocal.{alloc_all, pass_all, free_all, look_at, get, get_in, sets, lands_last, env}
 use types.Match.{live}
@@ -30,8 +30,7 @@ use Rattle.std.proofs.raw_atomic.Walks.{proved_at, leaves}
 use Rattle.std.specs.declared.alloc.Global.{Global}
 use Rattle.std.specs.contracts.alloc.Global.{the_row as Z}
 use Rattle.std_alloc.proofs.ResultValues.{and_tt}
-use Rattle.camel_c.proofs.BoxRows.{Whole, box_good, global_tells}
-use Rattle.camel_c.proofs.BoxCalls.{Again, at_again, again_goes, again_gives}
+use Rattle.camel_c.proofs.BoxLemmas.{Whole, box_good, global_tells, Again, at_again, again_goes, again_gives}
 use Rattle.camel_c.proofs.BoxCode.{is_again}
 use Rattle.camel_c.proofs.Values.{Row, R, word, word_good, handle_out, handle_cases}
 use Rattle.camel_c.specs.contracts.handle.CamelHandle.into_box.{ended, clauses}

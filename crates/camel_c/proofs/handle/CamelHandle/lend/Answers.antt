@@ -3,7 +3,7 @@ use Rattle.core.specs.Option.{ghost_name_of}
 use borrow.Follows.Closed.{read_of}
 use Rattle.camel_c.specs.Object.{with_object}
 use Rattle.camel_c.specs.declared.handle.CamelHandle.{CamelHandle}
-use Rattle.camel_c.proofs.LendingLemmas.{lent, looked_at}
+use Rattle.camel_c.proofs.HandleLemmas.{lent, looked_at}
 use Rattle.camel_c.proofs.handle.CamelHandle.lend.Goals as goal
 
 pub returns : goal.returns

@@ -22,8 +22,7 @@ use Rattle.core.proofs.atomic.Steps.{fm, Ptr-Good}
 use Rattle.std.proofs.raw_atomic.Walks.{proved_at, leaves}
 use Rattle.std.specs.declared.alloc.Global.{Global}
 use Rattle.camel_c.specs.Handle.{global_box}
-use Rattle.camel_c.proofs.BoxRows.{Whole, box_tells}
-use Rattle.camel_c.proofs.BoxCalls.{Apart, at_apart, apart_goes, apart_gives}
+use Rattle.camel_c.proofs.BoxLemmas.{Whole, box_tells, Apart, at_apart, apart_goes, apart_gives}
 use Rattle.camel_c.proofs.BoxCode.{is_apart}
 use Rattle.camel_c.proofs.Values.{R, word, word_good, handle_in}
 use Rattle.camel_c.specs.contracts.handle.CamelHandle.of.{ended, clauses}

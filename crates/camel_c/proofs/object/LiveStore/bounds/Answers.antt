@@ -1,7 +1,7 @@
 use Rattle.std.proofs.Common.{subst}
 use Rattle.camel_rows.specs.Update.{Extends}
 use Rattle.camel_rows.specs.Store.{accepted_updates}
-use Rattle.camel_vlr.proofs.FrontLemmas.{longer_extends}
+use Rattle.camel_vlr.proofs.SessionLemmas.{longer_extends}
 use Rattle.camel_vlr.specs.History.{PrefixData}
 use Rattle.camel_c.proofs.object.LiveStore.bounds.Goals as goal
 

@@ -1,7 +1,7 @@
 use Rattle.std.proofs.Common.{ℕ, sym, ap, subst}
 use Rattle.camel_c.specs.Publication.{AllReady}
 use Rattle.camel_c.specs.declared.object.LiveStore.{LiveStore}
-use Rattle.camel_c.proofs.CommitLemmas.{cleared, not_taken, taken}
+use Rattle.camel_c.proofs.PublicationLemmas.{cleared, not_taken, taken}
 use Rattle.camel_c.proofs.object.LiveStore.commit.Goals as goal
 
 -- no step has changed the number of the store

@@ -1,6 +1,6 @@
 use Rattle.std.proofs.Common.{◌∙◌, inl, refl, ap}
 use Rattle.camel_vlr.specs.Store.{StoreData}
-use Rattle.camel_c.proofs.GroupLemmas.{all_pending, several_accepted}
+use Rattle.camel_c.proofs.PublicationLemmas.{all_pending, several_accepted}
 use Rattle.camel_c.proofs.object.LiveStore.take_several.Goals as goal
 
 pub returns-in-Ok : goal.returns-in-Ok

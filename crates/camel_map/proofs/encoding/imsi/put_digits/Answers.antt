@@ -1,5 +1,5 @@
 use Rattle.std.proofs.Common.{◌≡◌, ◌∙◌, ◌∷◌, ◌+◌, ◌-◌, get_or, length, arith}
-use Rattle.camel_map.proofs.Written.Digits.{last_put, none_put, pair_put}
+use Rattle.camel_map.proofs.Written.Elements.{last_put, none_put, pair_put}
 use Rattle.camel_map.proofs.encoding.imsi.put_digits.Goals as goal
 use Rattle.camel_map.proofs.encoding.imsi.put_digits.Goals.{then-at-eq1+in_ok-put, else-at-eq1}
 

@@ -3,7 +3,7 @@ use Rattle.std.proofs.lemmas.Bool.Decides.{nat_tests}
 use Rattle.std.proofs.lemmas.Option.{slice_get_read}
 use Rattle.camel_criteria.specs.DetectionPoint.{is_among}
 use Rattle.camel_rows.specs.TdpRow.{has_no_two, list_refusal, TdpRowData}
-use Rattle.camel_rows.proofs.ReceivedLemmas.{few-from_taken, room_left}
+use Rattle.camel_rows.proofs.RowLemmas.{few-from_taken, room_left}
 use Rattle.camel_rows.proofs.csi.Csi.of_received.Goals as goal
 
 -- the room of a CSI fits into memory

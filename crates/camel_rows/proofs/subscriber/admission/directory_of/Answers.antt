@@ -1,6 +1,6 @@
 use Rattle.std.proofs.Common.{◌∙◌, [], ◌∷◌, ◌++◌, sym, ap, append_assoc, subst, rules}
 use Rattle.camel_table.specs.ByImsi.{ListsEachOnce}
-use Rattle.camel_rows.proofs.ListedLemmas.{IsDirectoryOfListed, next_left_out, next_put, none_listed}
+use Rattle.camel_rows.proofs.StoreLemmas.{IsDirectoryOfListed, next_left_out, next_put, none_listed}
 use Rattle.camel_rows.specs.Store.{DirectoryData}
 use Rattle.camel_rows.proofs.subscriber.admission.directory_of.Goals as goal
 

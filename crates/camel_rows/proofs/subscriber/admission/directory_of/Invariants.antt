@@ -1,6 +1,6 @@
 use Rattle.std.proofs.Common.{◌++◌}
 use Rattle.camel_table.specs.ByImsi.{ListsEachOnce}
-use Rattle.camel_rows.proofs.ListedLemmas.{IsDirectoryOfListed}
+use Rattle.camel_rows.proofs.StoreLemmas.{IsDirectoryOfListed}
 use Rattle.camel_rows.proofs.subscriber.admission.directory_of.Given as goal
 
 -- the directory is that of the IMSIs so far

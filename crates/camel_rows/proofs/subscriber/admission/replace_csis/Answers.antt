@@ -1,5 +1,5 @@
 use Rattle.std.proofs.Common.{◌≡◌, ◌∙◌, Bool, true, false, Some, not, refl, sym, ap, ap₂}
-use Rattle.camel_rows.proofs.ByImsiLemmas.{insert_same}
+use Rattle.camel_rows.proofs.UpdateLemmas.{insert_same}
 use Rattle.camel_rows.specs.declared.subscriber.csis_present.CsisPresent.{CsisPresent}
 use mathlib.Core.Bool.{beq}
 use Rattle.camel_rows.proofs.subscriber.admission.replace_csis.Goals as goal

@@ -1,7 +1,7 @@
 use Rattle.std.proofs.Common.{arith, sym}
 use Rattle.std.proofs.lemmas.Result.{err_from_is_err_and}
 use Rattle.csv.specs.Records.{fields_of}
-use Rattle.camel_script.proofs.InTurn.{fails_here, goes_on, is_done, numbered-field, numbered-none}
+use Rattle.camel_script.proofs.InsertMistake.{fails_here, goes_on, is_done, numbered-field, numbered-none}
 use Rattle.camel_script.specs.Record.{withdrawal_with}
 use Rattle.camel_script.proofs.record.delete.parse_withdrawal.Goals as goal
 

@@ -1,7 +1,7 @@
 use Rattle.std.proofs.Common.{arith}
 use Rattle.std.proofs.lemmas.Result.{err_from_is_err_and}
 use Rattle.csv.specs.Records.{fields_of}
-use Rattle.camel_script.proofs.InTurn.{fails_at, goes_on, is_done, numbered-field, numbered-none}
+use Rattle.camel_script.proofs.InsertMistake.{fails_at, goes_on, is_done, numbered-field, numbered-none}
 use Rattle.camel_script.specs.Item.{item_into}
 use Rattle.camel_script.proofs.record.insert.parse_items.Goals as goal
 

@@ -3,8 +3,8 @@ use Rattle.std.proofs.lemmas.Bool.Decides.{nat_tests}
 use Rattle.std.proofs.lemmas.List.{length-set, length-take-le, take_more_set}
 use Rattle.std.specs.Str.{bytes_eq}
 use Rattle.csv.specs.Records.{fields_of}
-use Rattle.camel_script.proofs.InTurn.{numbered-field, numbered-none}
-use Rattle.camel_script.proofs.RefusedItem.{is_eleventh, is_second, is_taken, passes_by}
+use Rattle.camel_script.proofs.InsertMistake.{numbered-field, numbered-none}
+use Rattle.camel_script.proofs.FirstRefused.{is_eleventh, is_second, is_taken, passes_by}
 use Rattle.camel_script.specs.Fields.{field, item_part}
 use Rattle.camel_script.specs.Item.{refused_item}
 use Rattle.camel_script.proofs.record.refused_item.refused_item.Goals as goal

@@ -1,7 +1,7 @@
 use Rattle.std.proofs.Common.{◌-◌, arith}
 use Rattle.csv.specs.Reading.{source_of}
 use Rattle.csv.specs.Records.{fields_of}
-use Rattle.camel_script.proofs.ReadRecord.{fault_in_record, gives_record, read_none, read_one, too_many}
+use Rattle.camel_script.proofs.CsvRecords.{fault_in_record, gives_record, read_none, read_one, too_many}
 use Rattle.camel_script.proofs.script.Script.read_into.Goals as goal
 
 pub returns-then-not-found-clause-gives : goal.returns-then-not-found-clause-gives

@@ -3,7 +3,7 @@ use Rattle.std.specs.Fn.{FnReturnsAt}
 use Rattle.std.specs.Option.{option_map}
 use Rattle.camel_reading.proofs.EachLemmas.{behind}
 use Rattle.camel_reading.specs.Reading.{AnswersAs, each_of}
-use Rattle.camel_script.proofs.Elements.{length_left}
+use Rattle.camel_script.proofs.PartsLemmas.{length_left}
 use Rattle.camel_script.specs.Fields.{element_separator, parts_behind, IsMemory, elements_as}
 use Rattle.camel_script.proofs.text.lists.read_elements.Given as goal
 

@@ -2,8 +2,7 @@ use Rattle.std.proofs.Common.{◌∙◌, ◌++◌, ap, ap₂}
 use Rattle.std.specs.FinMap as map
 use Rattle.std.proofs.lemmas.List.Elements.{same_from_all_zip}
 use Rattle.camel_table.specs.ByImsi.{map_of}
-use Rattle.camel_table.proofs.CloneLemmas.{all_same, both_lists, same_keys}
-use Rattle.camel_table.proofs.OnceLemmas.{same_once}
+use Rattle.camel_table.proofs.OnceLemmas.{all_same, both_lists, same_keys, same_once}
 use Rattle.camel_table.proofs.bucket.BucketClone.clone.Goals as goal
 
 pub invariant_of-result : goal.invariant_of-result

@@ -1,5 +1,5 @@
 use Rattle.std.proofs.Common.{◌≡◌, ℕ, List}
-use Rattle.camel_table.proofs.CloneLemmas.{both_lists, slot_clone}
+use Rattle.camel_table.proofs.OnceLemmas.{both_lists, slot_clone}
 use Rattle.camel_table.proofs.inline_entries.InlineEntriesClone.clone.Goals as goal
 
 pub returns : goal.returns

@@ -1,6 +1,6 @@
 use Rattle.std.proofs.Common.{◌∙◌, sym}
 use Rattle.std.proofs.lemmas.Slice.Zip.{AllZip-long}
-use Rattle.camel_table.proofs.CloneLemmas.{full_clone, joined_clone}
+use Rattle.camel_table.proofs.OnceLemmas.{full_clone, joined_clone}
 use Rattle.camel_table.proofs.segments.SegmentsClone.clone.Goals as goal
 
 pub invariant_of-result : goal.invariant_of-result

@@ -1,7 +1,7 @@
 use Rattle.std.proofs.Common.{◌∙◌, ap}
 use Rattle.std.proofs.lemmas.List.Elements.{same_from_all_zip}
 use Rattle.camel_table.specs.Buckets.{table_map}
-use Rattle.camel_table.proofs.CloneLemmas.{whole_clone}
+use Rattle.camel_table.proofs.OnceLemmas.{whole_clone}
 use Rattle.camel_table.proofs.table.TableClone.clone.Goals as goal
 
 pub invariant_of-result : goal.invariant_of-result

@@ -1,6 +1,6 @@
 use Rattle.std.proofs.Common.{◌*◌, ◌-◌, ◌%◌, ◌^◌, ◌∙◌, ap, sym}
 use Rattle.std.proofs.lemmas.Bool.Decides.{Decides-eqb}
-use Rattle.camel_tbcd.proofs.PackedDigitLemmas.{same_shifted}
+use Rattle.camel_tbcd.proofs.DifferenceLemmas.{same_shifted}
 use Rattle.camel_tbcd.proofs.digits.Digits.has_same_first.Goals as goal
 
 pub returns : goal.returns

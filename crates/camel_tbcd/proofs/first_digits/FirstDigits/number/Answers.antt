@@ -1,6 +1,6 @@
 use Rattle.std.proofs.Common.{◌∙◌, ap, arith}
 use Rattle.camel_tbcd.specs.Imsi.{imsi_number}
-use Rattle.camel_tbcd.proofs.NumberOfImsiLemmas.{number_of}
+use Rattle.camel_tbcd.proofs.ImsiLemmas.{number_of}
 use Rattle.camel_tbcd.proofs.first_digits.FirstDigits.number.Goals as goal
 
 pub returns : goal.returns

@@ -1,6 +1,6 @@
 use Rattle.std.proofs.Common.{◌≡◌, ◌+◌, ◌*◌, ◌∙◌, ◌++◌, ◌∷◌, [], suc, ap, ap₂, arith}
 use Rattle.camel_tbcd.specs.Imsi.{last_digits}
-use Rattle.camel_tbcd.proofs.FirstDigitLemmas.{few_more, fewer, last_more}
+use Rattle.camel_tbcd.proofs.ImsiLemmas.{few_more, fewer, last_more}
 use Rattle.camel_tbcd.proofs.first_digits.FirstDigits.push.Goals as goal
 
 pub overflow_mul-self : goal.overflow_mul-self

@@ -1,5 +1,5 @@
 use Rattle.std.proofs.Common.{◌/◌, ◌%◌, ◌^◌, arith}
-use Rattle.camel_tbcd.proofs.DecimalLemmas.{length-last}
+use Rattle.camel_tbcd.proofs.ImsiLemmas.{length-last}
 use Rattle.camel_tbcd.proofs.imsi.Imsi.digits.Goals as goal
 
 pub of_value-requires : goal.of_value-requires

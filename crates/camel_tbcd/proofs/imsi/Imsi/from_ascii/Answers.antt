@@ -1,6 +1,6 @@
 use Rattle.std.proofs.Common.{◌≡◌, ◌∙◌, arith, length, take, refl, sym}
 use Rattle.std.proofs.lemmas.Grind.{common_steps}
-use Rattle.camel_tbcd.proofs.CharacterLemmas.{IsImsi-digit_values, accepted, refused}
+use Rattle.camel_tbcd.proofs.ImsiLemmas.{IsImsi-digit_values, accepted, refused}
 use Rattle.camel_tbcd.proofs.imsi.Imsi.from_ascii.Goals as goal
 
 pub returns-then-not-is_ascii_digit-clause-answer : goal.returns-then-not-is_ascii_digit-clause-answer

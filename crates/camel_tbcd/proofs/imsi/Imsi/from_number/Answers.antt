@@ -1,6 +1,6 @@
 use Rattle.std.proofs.Common.{◌≡◌, sym, arith}
 use Rattle.camel_tbcd.specs.Imsi.{IsImsi, digits_of_number, imsi_number}
-use Rattle.camel_tbcd.proofs.NumberOfImsiLemmas.{is_imsi, none_counted, none_valued, number_back}
+use Rattle.camel_tbcd.proofs.ImsiLemmas.{is_imsi, none_counted, none_valued, number_back}
 use Rattle.camel_tbcd.proofs.imsi.Imsi.from_number.Goals as goal
 
 pub returns-then-count-lt-MIN_IMSI_DIGITS-clause-none : goal.returns-then-count-lt-MIN_IMSI_DIGITS-clause-none

@@ -1,6 +1,6 @@
 use Rattle.std.proofs.Common.{◌∙◌, ap, sym, subst}
 use Rattle.camel_tbcd.specs.Imsi.{IsImsi, imsi_number, digits_of_number}
-use Rattle.camel_tbcd.proofs.ImsiNumberLemmas.{digits_of_imsi}
+use Rattle.camel_tbcd.proofs.ImsiLemmas.{digits_of_imsi}
 use Rattle.camel_tbcd.proofs.imsi.Imsi.of_first.Goals as goal
 
 pub invariant_of-result : goal.invariant_of-result

@@ -2,7 +2,7 @@ use Rattle.std.proofs.Common.{◌≡◌, ◌∙◌, ◌+◌, ◌-◌, ◌/◌, �
 use Rattle.std.proofs.Math.Seq.{take-set-lt}
 use Rattle.std.proofs.lemmas.List.{length-take-le}
 use Rattle.camel_tbcd.specs.Imsi.{last_digits}
-use Rattle.camel_tbcd.proofs.FirstDigitLemmas.{digit_read}
+use Rattle.camel_tbcd.proofs.ImsiLemmas.{digit_read}
 use Rattle.camel_tbcd.proofs.imsi_digits.ImsiDigits.of_value.Goals as goal
 
 pub loop-read-preserved : goal.loop-read-preserved

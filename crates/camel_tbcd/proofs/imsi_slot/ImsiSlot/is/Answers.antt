@@ -1,6 +1,6 @@
 use Rattle.std.proofs.Common.{◌∙◌, ap}
 use Rattle.camel_tbcd.specs.Imsi.{is_in_slot}
-use Rattle.camel_tbcd.proofs.ImsiSlotLemmas.{in_slot}
+use Rattle.camel_tbcd.proofs.ImsiLemmas.{in_slot}
 use Rattle.camel_tbcd.proofs.imsi_slot.ImsiSlot.is.Goals as goal
 
 pub returns : goal.returns

@@ -2,8 +2,7 @@ use Rattle.std.proofs.Common.{◌≡◌, ◌∙◌, ◌%◌, ap, arith, get_or, 
 use Rattle.std.proofs.lemmas.List.{get_or-take, length-take}
 use Rattle.camel_tbcd.specs.Address.{octets}
 use Rattle.camel_tbcd.specs.AddressString.{packed_digits}
-use Rattle.camel_tbcd.proofs.FrontLemmas.{front_told}
-use Rattle.camel_tbcd.proofs.ProfileLemmas.{agree_by_firsts}
+use Rattle.camel_tbcd.proofs.ProfileLemmas.{front_told, agree_by_firsts}
 use Rattle.camel_tbcd.proofs.isdn_address.IsdnAddress.is_front_of.Goals as goal
 
 pub returns : goal.returns

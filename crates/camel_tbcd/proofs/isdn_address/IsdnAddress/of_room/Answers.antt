@@ -1,8 +1,7 @@
 use Rattle.std.proofs.Common.{arith, take}
 use Rattle.std.proofs.lemmas.List.{length-take-le}
 use Rattle.std.proofs.lemmas.List.Elements.{All-from_get_or, All-take}
-use Rattle.camel_tbcd.proofs.DigitLemmas.{length-digits-le}
-use Rattle.camel_tbcd.proofs.NibbleLemmas.{IsOctet}
+use Rattle.camel_tbcd.proofs.DigitLemmas.{length-digits-le, IsOctet}
 use Rattle.camel_tbcd.proofs.isdn_address.IsdnAddress.of_room.Goals as goal
 
 pub first_number-number-requires-clause-octets : goal.first_number-number-requires-clause-octets

@@ -1,8 +1,7 @@
 use Rattle.std.proofs.Common.{◌∙◌, ap, sym}
 use Rattle.left_right.specs.Sides.{view}
 use Rattle.std.proofs.lemmas.Result.{MatchResult-weaker}
-use Rattle.camel_vlr.proofs.PublicationLemmas.{both_ok, knows_published, next_copy}
-use Rattle.camel_vlr.proofs.RuleLemmas.{publishes}
+use Rattle.camel_vlr.proofs.RuleLemmas.{both_ok, knows_published, next_copy, publishes}
 use Rattle.camel_vlr.specs.Operation.{pending_operations, updates_among}
 use Rattle.camel_vlr.proofs.base.left_right_writer.publish_all.Goals as goal
 

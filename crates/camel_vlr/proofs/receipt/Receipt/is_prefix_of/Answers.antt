@@ -1,6 +1,6 @@
 use Rattle.std.proofs.Common.{◌≡◌, ◌∙◌, ◌≤◌, length, ap, arith}
 use Rattle.std.proofs.lemmas.Bool.Decides.{nat_tests}
-use Rattle.camel_vlr.proofs.FrontLemmas.{extends_length}
+use Rattle.camel_vlr.proofs.SessionLemmas.{extends_length}
 use Rattle.camel_vlr.proofs.receipt.Receipt.is_prefix_of.Goals as goal
 
 pub returns-clause-exact : goal.returns-clause-exact

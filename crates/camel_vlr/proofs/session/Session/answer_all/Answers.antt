@@ -1,6 +1,6 @@
 use Rattle.std.proofs.Common.{arith, ◌≡◌, ◌∙◌, ◌+◌, ◌++◌, [], ◌∷◌, ap, append_assoc, length-append, take}
 use Rattle.std.proofs.lemmas.Grind.{take_at_read}
-use Rattle.camel_vlr.proofs.RunLemmas.{Answers-append}
+use Rattle.camel_vlr.proofs.SessionLemmas.{Answers-append}
 use Rattle.camel_vlr.proofs.session.Session.answer_all.Goals as goal
 
 pub loop-event-preserved : goal.loop-event-preserved

@@ -3,7 +3,7 @@ use Rattle.camel_rows.specs.Decision.{answer_over, decision, event_data, outcome
 use Rattle.camel_rows.specs.Update.{records_of}
 use Rattle.camel_rows.specs.declared.trigger.outcome.Answer.{Answer}
 use Rattle.camel_vlr.specs.History.{StoreId}
-use Rattle.camel_vlr.proofs.RunLemmas.{Answers-one}
+use Rattle.camel_vlr.proofs.SessionLemmas.{Answers-one}
 use Rattle.camel_vlr.proofs.session.Session.answer_to.Goals as goal
 
 pub returns-clause-answers : goal.returns-clause-answers

@@ -1,6 +1,6 @@
 use Rattle.std.proofs.Common.{◌∙◌, ap, subst, sym}
 use Rattle.camel_rows.specs.Decision.{DecisionData, decision, event_data}
-use Rattle.camel_vlr.proofs.OwnUpdatesLemmas.{decided_by_own}
+use Rattle.camel_vlr.proofs.SessionLemmas.{decided_by_own}
 use Rattle.camel_vlr.specs.Store.{DecidedByOwn}
 use Rattle.camel_vlr.proofs.session.Session.decide.Goals as goal
 

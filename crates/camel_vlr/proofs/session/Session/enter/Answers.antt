@@ -1,5 +1,4 @@
-use Rattle.camel_vlr.proofs.FrontLemmas.{all_further}
-use Rattle.camel_vlr.proofs.SessionLemmas.{sees}
+use Rattle.camel_vlr.proofs.SessionLemmas.{all_further, sees}
 use Rattle.camel_vlr.proofs.session.Session.enter.Goals as goal
 
 pub returns-clause-yes : goal.returns-clause-yes

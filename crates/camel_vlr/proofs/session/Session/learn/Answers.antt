@@ -1,7 +1,7 @@
 use base.Growing.{prefix_refl}
 use Rattle.std.proofs.Common.{◌∙◌, List, [], ◌∷◌, ◌++◌, ap, sym, refl}
 use Rattle.camel_rows.specs.declared.subscriber.update.Update.{Update}
-use Rattle.camel_vlr.proofs.FrontLemmas.{all_further, all_push}
+use Rattle.camel_vlr.proofs.SessionLemmas.{all_further, all_push}
 use Rattle.camel_vlr.proofs.session.Session.learn.Goals as goal
 
 pub invariant_of-self : goal.invariant_of-self

@@ -1,6 +1,6 @@
 use base.Growing.{prefix_refl}
 use Rattle.std.proofs.Common.{◌≡◌, ◌∙◌, ◌++◌, true, true≢false, ap, refl, sym}
-use Rattle.camel_vlr.proofs.FieldsLemmas.{fields}
+use Rattle.camel_vlr.proofs.StoreLemmas.{fields}
 use Rattle.camel_vlr.proofs.OperationLemmas.{updates_among-front}
 use Rattle.camel_vlr.specs.Operation.{updates_among}
 use Rattle.camel_vlr.specs.Store.{StoreData}

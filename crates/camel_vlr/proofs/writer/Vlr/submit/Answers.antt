@@ -2,8 +2,7 @@ use Rattle.std.proofs.Common.{rules, ◌≡◌, ◌∙◌, ◌++◌, ◌∷◌, 
 use Rattle.camel_rows.proofs.StoreLemmas.{IsAdmissionOf-with_update, IsFront-with_update}
 use Rattle.camel_rows.specs.Store.{with_admission}
 use Rattle.camel_rows.specs.Update.{csis_after, update_imsi}
-use Rattle.camel_vlr.proofs.AcceptanceLemmas.{IsOf, same_refusal}
-use Rattle.camel_vlr.proofs.FieldsLemmas.{fields, own, with_more}
+use Rattle.camel_vlr.proofs.StoreLemmas.{IsOf, same_refusal, fields, own, with_more}
 use Rattle.camel_vlr.proofs.OperationLemmas.{updates_among-more}
 use Rattle.camel_vlr.specs.StoreFields.{admitted, limit_in, pending_in, store_of, updates_in}
 use Rattle.camel_vlr.specs.Operation.{updates_among}

@@ -1,6 +1,6 @@
 use Rattle.std.proofs.Common.{◌≡◌, ◌∙◌, ◌++◌, inl, inr, fold, refl, ap, subst, sym}
-use Rattle.camel_vlr.proofs.AcceptanceLemmas.{IsOf, accepts, rejects, with_all, with_all-pending, with_pending}
-use Rattle.camel_vlr.proofs.FieldsLemmas.{fields, own, with_more}
+use Rattle.camel_vlr.proofs.StoreLemmas.{IsOf, accepts, rejects, with_all, with_all-pending, with_pending, fields, own}
+use Rattle.camel_vlr.proofs.StoreLemmas.{with_more}
 use Rattle.camel_vlr.proofs.OperationLemmas.{updates_among-more}
 use Rattle.camel_vlr.specs.Operation.{updates_among}
 use Rattle.camel_vlr.specs.Store.{StoreData, with_accepted}

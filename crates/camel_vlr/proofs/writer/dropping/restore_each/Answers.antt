@@ -1,8 +1,7 @@
 use Rattle.std.proofs.Common.{◌≡◌, true, [], ◌∷◌, take, arith, subst, sym}
 use Rattle.camel_rows.specs.Update.{leaves_record}
 use Rattle.camel_rows.specs.declared.subscriber.update.Update.{Update}
-use Rattle.camel_vlr.proofs.DroppingLemmas.{restored-both, restored-has}
-use Rattle.camel_vlr.proofs.OperationLemmas.{each_of, updates_among-next}
+use Rattle.camel_vlr.proofs.OperationLemmas.{restored-both, restored-has, each_of, updates_among-next}
 use Rattle.camel_vlr.specs.Operation.{IsRestored, updates_among}
 use Rattle.camel_vlr.proofs.writer.dropping.restore_each.Goals as goal
 

@@ -3,8 +3,7 @@ use Rattle.std.proofs.lemmas.List.Elements.{All-append}
 use Rattle.camel_rows.specs.Store.{AdmissionData}
 use Rattle.camel_rows.specs.Update.{leaves_record}
 use Rattle.camel_rows.specs.declared.subscriber.update.Update.{Update}
-use Rattle.camel_vlr.proofs.DroppingLemmas.{all_there, restored-both, restored_over}
-use Rattle.camel_vlr.proofs.OperationLemmas.{each_half, updates_among-append}
+use Rattle.camel_vlr.proofs.OperationLemmas.{all_there, restored-both, restored_over, each_half, updates_among-append}
 use Rattle.camel_vlr.specs.Operation.{IsAdmissionOver, IsRestored, updates_among}
 use Rattle.camel_vlr.proofs.writer.dropping.restore_from.Goals as goal
 

@@ -1,7 +1,7 @@
 use Rattle.std.proofs.Common.{◌∙◌, [], ◌∷◌, ap, subst, sym}
 use Rattle.camel_rows.specs.Store.{AdmissionData}
 use Rattle.camel_rows.specs.Update.{update_imsi}
-use Rattle.camel_vlr.proofs.DroppingLemmas.{restored-one}
+use Rattle.camel_vlr.proofs.OperationLemmas.{restored-one}
 use Rattle.camel_vlr.specs.Operation.{IsRestored, updates_among}
 use Rattle.camel_vlr.specs.declared.writer.operation.Operation.{Operation}
 use Rattle.camel_vlr.proofs.writer.dropping.restore_one.Goals as goal

@@ -2,7 +2,7 @@ use Rattle.std.proofs.Common.{None, Some, ◌≡◌, ◌⊎◌, inl, inr, ◌∙
 use Rattle.std.proofs.lemmas.List.Sums.{fold-append}
 use Rattle.camel_criteria.specs.declared.refusal.Refusal.TheVariants.{OutOfMemory}
 use Rattle.camel_rows.specs.Store.{AdmissionData, admission_refusal}
-use Rattle.camel_vlr.proofs.GroupLemmas.{AcceptsAll-push}
+use Rattle.camel_vlr.proofs.StoreLemmas.{AcceptsAll-push}
 use Rattle.camel_vlr.proofs.OperationLemmas.{updates_among-append}
 use Rattle.camel_vlr.specs.Store.{refusal_among}
 use Rattle.camel_vlr.specs.StoreFields.{AllTakenBackTo, admitted}

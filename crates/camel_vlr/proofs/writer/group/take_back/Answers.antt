@@ -1,6 +1,6 @@
 use Rattle.std.proofs.Common.{subst}
 use Rattle.camel_rows.specs.Store.{AdmissionData}
-use Rattle.camel_vlr.proofs.GroupLemmas.{is_there, leads_on}
+use Rattle.camel_vlr.proofs.StoreLemmas.{is_there, leads_on}
 use Rattle.camel_vlr.specs.StoreFields.{AllTakenBackTo}
 use Rattle.camel_vlr.proofs.writer.group.take_back.Goals as goal
 

@@ -1,6 +1,6 @@
 use mathlib.Core.Logic.{∥∥₁_map}
 use Rattle.std.proofs.Common.{◌∙◌, sym}
-use Rattle.two_copies.proofs.HeldLemmas.{free_if_none, none_if_free}
+use Rattle.two_copies.proofs.PlacesLemmas.{free_if_none, none_if_free}
 use Rattle.two_copies.proofs.copies.Copies.holders.Goals as goal
 
 pub invariant_of-self-clause-shows : goal.invariant_of-self-clause-shows

@@ -2,8 +2,7 @@ use Rattle.std.proofs.Common.{arith, rules, ap, subst, sym, ◌∙◌}
 use Rattle.two_copies.specs.Place.{AreEmpty, is_second, known_of}
 use Rattle.two_copies.specs.declared.place.Part.TheVariants.{Idle}
 use Rattle.two_copies.proofs.Steps.{leaves}
-use Rattle.two_copies.proofs.SlotLemmas.{gives_full_slot}
-use Rattle.two_copies.proofs.Views.{fills_slot, has_slot}
+use Rattle.two_copies.proofs.Plays.{gives_full_slot, fills_slot, has_slot}
 use Rattle.two_copies.proofs.place.steps.leave.Goals as goal
 
 pub fetch_sub-found-requires : goal.fetch_sub-found-requires

@@ -1,6 +1,6 @@
 use Rattle.std.proofs.Common.{arith, ◌∙◌}
 use Rattle.two_copies.proofs.Steps.{shows}
-use Rattle.two_copies.proofs.Views.{fills_slot}
+use Rattle.two_copies.proofs.Plays.{fills_slot}
 use Rattle.two_copies.proofs.place.steps.show.Goals as goal
 
 pub fetch_xor-found-requires : goal.fetch_xor-found-requires

@@ -1,5 +1,5 @@
 use Rattle.std.proofs.Common.{rules}
-use Rattle.camel_rows.proofs.ByImsiLemmas.{insert_same}
+use Rattle.camel_rows.proofs.UpdateLemmas.{insert_same}
 use Rattle.camel_rows.proofs.subscriber.records.Records.insert.Goals as goal
 
 pub returns-clause-unchanged : goal.returns-clause-unchanged

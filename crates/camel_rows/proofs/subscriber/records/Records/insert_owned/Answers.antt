@@ -1,6 +1,5 @@
 use Rattle.std.proofs.Common.{rules}
-use Rattle.camel_rows.proofs.ByImsiLemmas.{insert_same}
-use Rattle.camel_rows.proofs.UpdateLemmas.{with_record_after}
+use Rattle.camel_rows.proofs.UpdateLemmas.{insert_same, with_record_after}
 use Rattle.camel_rows.proofs.subscriber.records.Records.insert_owned.Goals as goal
 
 pub returns-clause-applied : goal.returns-clause-applied

@@ -1,7 +1,7 @@
 use Rattle.std.proofs.Common.{◌∙◌, ap, sym}
 use Rattle.std.proofs.lemmas.Result.{MatchResult-weaker}
 use Rattle.two_copies.specs.Copies.{pending_of, shown_by}
-use Rattle.camel_vlr.proofs.PublicationLemmas.{next_copy}
+use Rattle.camel_vlr.proofs.RuleLemmas.{next_copy}
 use Rattle.camel_vlr.specs.Operation.{updates_among}
 use Rattle.camel_vlr.proofs.base.two_copies_writer.TwoCopiesWriterPublishesUnit.publish_all.Goals as goal
 

@@ -1,7 +1,6 @@
 use Rattle.std.proofs.Common.{◌≡◌, ◌∙◌, ℕ, List, ap, sym, subst}
 use mathlib.Core.List.{IsPrefix}
-use Rattle.camel_vlr.proofs.ChainLemmas.{list_of-prefix}
-use Rattle.camel_vlr.proofs.PrefixLemmas.{one_extends}
+use Rattle.camel_vlr.proofs.ChainLemmas.{list_of-prefix, one_extends}
 use Rattle.camel_vlr.specs.History.{list_of, root_of}
 use Rattle.camel_vlr.specs.declared.history.link.Link.{Link}
 use Rattle.camel_vlr.proofs.history.prefix.Prefix.are_comparable.Goals as goal

@@ -1,7 +1,7 @@
 use Rattle.std.proofs.Common.{◌≡◌, ◌∙◌, [], ◌∷◌, ◌++◌, ap, subst}
 use Rattle.camel_vlr.specs.History.{PrefixData}
 use Rattle.camel_rows.specs.Update.{Extends, records_of}
-use Rattle.camel_vlr.proofs.FrontLemmas.{all_last, same_front}
+use Rattle.camel_vlr.proofs.SessionLemmas.{all_last, same_front}
 use Rattle.camel_vlr.specs.Store.{ExtendsAll}
 use Rattle.camel_vlr.proofs.writer.closing.Vlr.close.Goals as goal
 

@@ -3,7 +3,7 @@ use Rattle.std.specs.Result.{is_err, MatchResult}
 use Rattle.std.proofs.lemmas.Result.{IfOk-at_ok}
 use Rattle.left_right.specs.Sides.{view}
 use Rattle.camel_vlr.specs.History.{PrefixData}
-use Rattle.camel_vlr.proofs.FieldsLemmas.{begins}
+use Rattle.camel_vlr.proofs.StoreLemmas.{begins}
 use Rattle.camel_vlr.specs.Operation.{pending_operations}
 use Rattle.camel_vlr.specs.Seat.{Knows}
 use Rattle.camel_vlr.specs.StoreFields.{IsNew}

@@ -2,7 +2,7 @@ use base.Growing.{prefix_refl}
 use Rattle.std.proofs.Common.{◌≡◌, ◌∙◌, ℕ, ◌≤◌, [], ap, refl, subst, sym}
 use Rattle.two_copies.specs.Copies.{shown_by}
 use Rattle.camel_rows.proofs.StoreLemmas.{IsFront-empty}
-use Rattle.camel_vlr.proofs.FieldsLemmas.{begins}
+use Rattle.camel_vlr.proofs.StoreLemmas.{begins}
 use Rattle.camel_vlr.specs.History.{PrefixData}
 use Rattle.camel_vlr.specs.Seat.{IsOfItsFront}
 use Rattle.camel_vlr.specs.StoreFields.{IsNew}

@@ -1,5 +1,5 @@
 use Rattle.std.proofs.Common.{◌∙◌}
-use Rattle.two_copies.proofs.EndLemmas.{same_end}
+use Rattle.two_copies.proofs.PlacesLemmas.{same_end}
 use Rattle.two_copies.proofs.place.writer_end.WriterEnd.replace.Goals as goal
 
 pub returns-in-Err : goal.returns-in-Err
