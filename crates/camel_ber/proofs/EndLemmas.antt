@@ -1,7 +1,6 @@
 -- The end of contents: as a loop looks for it, and behind which elements it is.
 use Rattle.std.proofs.Common.{[], ◌+◌, ◌<◌, ◌∙◌, ◌∷◌, ◌≡◌, ◌≢◌, ◌≤◌, arith, Err, get_or, length, List, Ok, refl, Result}
 use Rattle.std.proofs.Common.{subst, suc, sym, zero, ℕ, ◌++◌, ap, append_assoc}
-use Rattle.std.specs.Prelude.{IfOk}
 use Rattle.std.proofs.lemmas.List.{length-append}
 use Rattle.camel_ber.specs.declared.fault.Fault.{Fault}
 use Rattle.camel_ber.specs.declared.fault.FaultKind.TheVariants.{PastEnd}
@@ -16,10 +15,6 @@ pub record Ends (end : ℕ) (one : ElementReader) (rest : List ℕ) (total : Res
   pub fuel : ℕ
   pub enough : length rest ≤ fuel
   pub ends : end_by end one fuel rest ≡ total
-
-pub end-begins : (end : ℕ) (one : ElementReader) (bytes : List ℕ)
-    → Ends end one bytes (end_by end one (length bytes) bytes)
-end-begins end one bytes = record { fuel = length bytes; enough = omega arith; ends = refl }
 
 -- an element that is passed
 pub end-passes : (end : ℕ) (one : ElementReader) (fuel octet : ℕ) (more : List ℕ)
@@ -74,11 +69,6 @@ end-at_zero {X} view end one rest r total some answer so_far = from so_far.fuel 
     from : (fuel : ℕ) → length rest ≤ fuel → end_by end one fuel rest ≡ total → Answers view r total
     from zero enough ends = absurd (omega arith)
     from (suc fuel) enough ends = subst (λ (t : Result (List ℕ) Fault). Answers view r t) ends (answer fuel)
-
-pub shorter_still : {X : Type 0} (r : Result X Fault) (n : X → ℕ) (a b : ℕ) → IfOk r (λ x. n x + 2 ≡ a) → a ≤ b
-    → IfOk r (λ x. n x + 2 ≤ b)
-shorter_still (Ok x) n a b is le = omega arith
-shorter_still (Err fault) n a b is le = tt
 
 -- An end of contents is found exactly behind elements, where a reader of one element is exact.
 

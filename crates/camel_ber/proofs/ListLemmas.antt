@@ -25,24 +25,12 @@ behind_elements-regroup : (front : List PlacedData) (one : PlacedData) (reading 
 behind_elements-regroup front one (Ok others) = ap (λ (all : List PlacedData). Ok all) (simp append_assoc)
 behind_elements-regroup front one (Err fault) = refl
 
-behind_elements-nil : (reading : Result (List PlacedData) Fault) → behind_elements [] reading ≡ reading
-behind_elements-nil (Ok others) = refl
-behind_elements-nil (Err fault) = refl
-
 -- what was read and what is read from here is what is read from the beginning
 pub record Reads (end depth : ℕ) (front : List PlacedData) (rest : List ℕ)
     (total : Result (List PlacedData) Fault) : Type 0 where
   pub fuel : ℕ
   pub enough : length rest ≤ fuel
   pub reads : behind_elements front (elements_of end depth fuel rest) ≡ total
-
-pub list-begins : (end depth : ℕ) (bytes : List ℕ)
-    → Reads end depth [] bytes (elements_of end depth (length bytes) bytes)
-list-begins end depth bytes = record {
-  fuel = length bytes;
-  enough = omega arith;
-  reads = behind_elements-nil (elements_of end depth (length bytes) bytes);
-}
 
 -- an element and those behind it
 abbrev pub first_then : ℕ → ℕ → ℕ → Result (PlacedData × List ℕ) Fault → Result (List PlacedData) Fault

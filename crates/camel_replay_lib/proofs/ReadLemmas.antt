@@ -1,7 +1,6 @@
 -- How far a script is read.
-use Rattle.std.proofs.Common.{arith, ◌≡◌, ◌∙◌, inl, inr, refl, sym, ap, true, false, IsTrue, ℕ, ◌+◌, ◌≤◌, Option, Some}
+use Rattle.std.proofs.Common.{arith, ◌≡◌, ◌∙◌, inl, inr, refl, sym, ap, false, IsTrue, ℕ, ◌+◌, ◌≤◌, Option, Some}
 use Rattle.std.proofs.Common.{None, IfSome, List, [], ◌∷◌, ◌++◌, append_assoc, append-nil, length, length-append}
-use Rattle.std.specs.Io.KnownBytes.{Keeps}
 use Rattle.camel_tbcd.specs.declared.profile.Profile.{Profile}
 use Rattle.camel_audit.specs.declared.audit_fault.AuditFault.TheVariants as audit
 use Rattle.camel_script.specs.Script.{FaultsAs, Gives, IsMemoryOrReadFault, ScriptData, script_fault_code}
@@ -9,7 +8,7 @@ use Rattle.camel_script.specs.declared.record.Record.{Record}
 use Rattle.camel_script.specs.declared.script_fault.ScriptFault.{ScriptFault}
 use Rattle.camel_script_replay.proofs.Progress.{not_of_kind}
 use Rattle.camel_script_replay.specs.Output.{is_text_code, is_write_code, AppendsPart}
-use Rattle.camel_replay_lib.specs.ThreadsOutput.{is_later_code, threads_fault_code, IsThreadsOutput, IsAllOf}
+use Rattle.camel_replay_lib.specs.ThreadsOutput.{IsThreadsOutput, IsAllOf}
 use Rattle.camel_replay_lib.specs.ThreadsOutput.{StopsReading, ThreadsStop}
 use Rattle.camel_script_replay.specs.declared.script_replay.ReplayFault.{ReplayFault}
 use Rattle.camel_replay_lib.specs.declared.threaded_replay.threads_fault.ThreadsFault.{ThreadsFault}
@@ -21,10 +20,6 @@ HasRead None records left = Unit {0}
 HasRead (Some all) records None = ⊥
 HasRead (Some all) records (Some rest) = (all.records ≡ records ++ rest.records) × (all.fault ≡ rest.fault)
 
-pub HasRead-none : (known : Option ScriptData) → HasRead known [] known
-HasRead-none None = tt
-HasRead-none (Some all) = (refl, refl)
-
 -- one record more was read
 pub HasRead-push : (known left next : Option ScriptData) (records : List Record) (read : Record) → HasRead known records left → Gives left next (Some read)
     → HasRead known (records ++ read ∷ []) next
@@ -33,16 +28,6 @@ HasRead-push (Some all) None next records read so_far gives = absurd so_far
 HasRead-push (Some all) (Some rest) None records read so_far gives = absurd gives
 HasRead-push (Some all) (Some rest) (Some next) records read so_far gives =
     (so_far.0 ∙ rw gives.0 (sym (append_assoc records (read ∷ []) next.records)), so_far.1 ∙ gives.1)
-
--- the end of the script
-pub read_whole : (known left next : Option ScriptData) (records : List Record) → HasRead known records left → Gives left next None
-    → IfSome known (λ given. IsAllOf given records)
-read_whole None left next records so_far gives = tt
-read_whole (Some all) None next records so_far gives = absurd so_far
-read_whole (Some all) (Some rest) next records so_far gives =
-    let none : rest.records ≡ [] = ap (λ (given : ScriptData). given.records) gives in
-    let last : rest.fault ≡ None = ap (λ (given : ScriptData). given.fault) gives in
-    record { fault = so_far.1 ∙ last; records_read = so_far.0 ∙ rw none (append-nil records) }
 
 -- the records that were read are the first of the script
 within_all : (all rest : ScriptData) (records : List Record) → all.records ≡ records ++ rest.records → length records ≤ length all.records
@@ -85,35 +70,6 @@ stopped_reading (Some all) (Some rest) records e stop so_far (inr only) is =
       within = within_all all rest records so_far.0;
       place = ap (λ (x : ReplayFault). x.number) is;
       text = λ _. record { fault = rw (so_far.1 ∙ last, is) refl; place = rw (all_read, is) refl };
-    }
-
--- what the code of a fault is that comes after the reading and before the output
-code_of_run : (fault : ThreadsFault) → let code = threads_fault_code fault in
-    (is_later_code code ≡ true) × (is_write_code code ≡ false) × (is_text_code code ≡ false)
-code_of_run run.OutOfMemory = (refl, refl, refl)
-code_of_run run.NoPlace = (refl, refl, refl)
-code_of_run run.NoGuard = (refl, refl, refl)
-code_of_run run.Stopped = (refl, refl, refl)
-code_of_run run.NoWorker = (refl, refl, refl)
-code_of_run (run.Audit audit.OutOfMemory) = (refl, refl, refl)
-code_of_run (run.Audit (audit.FrontTooLong session entry)) = (refl, refl, refl)
-code_of_run (run.Audit (audit.FrontWentBack session entry)) = (refl, refl, refl)
-code_of_run (run.Audit (audit.AnswerDiffers session entry)) = (refl, refl, refl)
-code_of_run (run.Audit (audit.BadHistory at)) = (refl, refl, refl)
-
--- the script was read whole, and no line was written
-pub stopped_later : {X : Type 0} (given : X → ScriptData) (known : Option X) (old new : Option (List ℕ)) (threads : ℕ) (profile : Profile) (limit : ℕ)
-    (records : List Record) (fault : ThreadsFault) (stop : ReplayFault) → IfSome known (λ x. IsAllOf (given x) records) → Keeps old new
-    → stop ≡ record { number = None; code = threads_fault_code fault } → IfSome known (λ x. ThreadsStop old new threads profile limit (given x) stop)
-stopped_later given None old new threads profile limit records fault stop all keeps is = tt
-stopped_later given (Some x) old new threads profile limit records fault stop all keeps is =
-    let code : stop.code ≡ threads_fault_code fault = ap (λ (f : ReplayFault). f.code) is in
-    let kind = code_of_run fault in
-    record {
-      unwritten = λ _. keeps;
-      write = not_of_kind _ is_write_code stop.code (threads_fault_code fault) code kind.1;
-      text = not_of_kind _ is_text_code stop.code (threads_fault_code fault) code kind.2;
-      place = inr (record { later = rw code kind.0; fault = all.fault; place = ap (λ (f : ReplayFault). f.number) is });
     }
 
 -- the output could not be written

@@ -2,16 +2,16 @@
 use Rattle.std.proofs.Common.{◌≡◌, ◌∙◌, ℕ, zero, suc, ◌+◌, ◌<◌, ◌≤◌, Bool, true, false, not, cond, T, List, [], ◌∷◌, ◌++◌, Option, Some, None, Bor, length, filter}
 use Rattle.std.proofs.Common.{inl, inr, true≢false, position, slice_index_or, slice_set, refl, sym, ap, ap₂, subst, arith}
 use Rattle.std.specs.Prelude.{find}
-use Rattle.std.specs.Cmp.{eq_by_cmp_equiv, tied_itself}
+use Rattle.std.specs.Cmp.{eq_by_cmp_equiv}
 use Rattle.std.specs.Cmp.Lexicographic.{slice_cmp, nat_list_cmp_total}
 use Rattle.std.specs.FinMap as map
 use Rattle.std.specs.FinMap.Entries as entries
 use Rattle.std.specs.List.{position_or_len}
-use Rattle.std.specs.Option.{option_copied, option_map, option_or, is_some, unwrap_or}
+use Rattle.std.specs.Option.{option_copied, option_map, option_or, is_some}
 use Rattle.std.specs.Ordering.{is_eq, nat_cmp}
 use Rattle.std.specs.declared.cmp.Ordering.{Ordering}
 use Rattle.std.specs.declared.cmp.Ordering.TheVariants.{Less, Equal, Greater}
-use Rattle.std.proofs.lemmas.Bool.{cases_lt, le-ltb, lt-ltb}
+use Rattle.std.proofs.lemmas.Bool.{cases_lt, lt-ltb}
 use Rattle.std.proofs.lemmas.List.Elements.{filter-append}
 use Rattle.std.proofs.lemmas.List.Quantifiers.{position-Some}
 use Rattle.std.proofs.lemmas.Map.Lookups.{exact_bytes}
@@ -30,9 +30,6 @@ equal Greater p = absurd (subst T (sym p) tt)
 
 pub same_are_equal : (imsi other : List ℕ) → is_same imsi other ≡ true → imsi ≡ other
 same_are_equal imsi other p = exact_bytes imsi other (equal _ p)
-
-pub same_itself : (imsi : List ℕ) → is_same imsi imsi ≡ true
-same_itself imsi = ap is_eq (tied_itself nat_list_cmp_total imsi)
 
 -- of two tests of which the second holds nowhere else
 shadowed : {A : Type 0} (b : Bool) (x y z : A) → cond b x z ≡ cond b x (cond b y z)

@@ -101,10 +101,6 @@ is_there : (held : Option SubscriberData) → IsSome held → IsSome (option_map
 is_there None some = absurd (cc)
 is_there (Some held) some = some
 
--- nothing is restored for no updates
-pub restored-none : (records : RecordsData) (admission : AdmissionData) → IsRestored records [] admission admission
-restored-none records admission = record { limit = refl; accepted = refl; each = λ imsi. inr (refl, All-nil (λ update. is_of imsi update ≡ false)) }
-
 -- for one update, the entry of its subscriber
 pub restored-one : (records : RecordsData) (admission : AdmissionData) (update : Update) (own : List ℕ) (csis : Option CsisPresent)
     → update_imsi update ≡ Some own → csis ≡ option_map csis_of (map.get records own)

@@ -1,7 +1,7 @@
 -- Each step, and so each publication, keeps the publication rule.
 use base.Growing.{prefix_refl, prefix_trans}
-use Rattle.std.proofs.Common.{◌≡◌, ◌∙◌, ◌≢◌, ℕ, List, [], ◌∷◌, ◌++◌, set, sym, refl, subst, ⊎_elim, Option, Some, None}
-use Rattle.std.proofs.Common.{IfSome, IsSomeAnd, ◌+◌, ◌≤◌, length, length-append, fold, ap, arith, append-nil, Result}
+use Rattle.std.proofs.Common.{◌≡◌, ◌∙◌, ◌≢◌, ℕ, List, [], ◌∷◌, ◌++◌, set, sym, refl, subst, ⊎_elim, Some}
+use Rattle.std.proofs.Common.{◌+◌, ◌≤◌, length, length-append, fold, ap, arith, append-nil, Result}
 use Rattle.std.proofs.Common.{Ok, Err, MatchResult, OnOk}
 use mathlib.Core.Option.{some}
 use lib.ListN.{get_elem?}
@@ -11,7 +11,7 @@ use Rattle.atomic_table.proofs.Lists.{at_set, at_snoc}
 use Rattle.crossbeam_utils.specs.Register.{Admits, Forks, Merges, TurnsAt}
 use Rattle.camel_vlr.specs.History.{PrefixData}
 use Rattle.camel_rows.specs.Update.{Extends, IsFront, no_records, records_of, records_from}
-use Rattle.camel_vlr.specs.Seat.{IsOfItsFront, AllBehind, IsBehind, IsPrefixOf, IsKept, Knows, Looks, Publishes}
+use Rattle.camel_vlr.specs.Seat.{IsOfItsFront, AllBehind, IsBehind, IsKept, Knows, Looks, Publishes}
 use Rattle.camel_vlr.specs.Seat.{newcomer}
 use Rattle.camel_vlr.specs.declared.published_copy.PublishedCopy.{PublishedCopy}
 use Rattle.camel_vlr.specs.declared.history.rule.Known.{Known}
@@ -37,10 +37,6 @@ behind_set copy known seat new is all other own at =
 behind_push : (copy : PublishedCopy) (known : List Known) (new : Known) → IsBehind new copy → AllBehind copy known → AllBehind copy (known ++ new ∷ [])
 behind_push copy known new is all other own at =
     ⊎_elim (all other own) (λ (t : new ≡ own). subst (λ (w : Known). IsBehind w copy) t is) (at_snoc known new own other at)
-
-has_if : {A : Type 0} (o : Option A) (P Q : A → Type 0) (C : Type 0) → ((x : A) → P x → Q x → C) → IsSomeAnd o P → IfSome o Q → C
-has_if None P Q C f h i = absurd h
-has_if (Some x) P Q C f h i = f x h i
 
 -- ---- the steps
 
@@ -80,12 +76,6 @@ publishes seat own old new is store more known kept at = let next : Known = reco
 )
 
 -- ---- what a session makes of a look
-
--- whoever knows that a store published something, and finds a copy, finds that store's, and no less
-pub knows_less : (copy : PublishedCopy) (own : Known) (prefix : PrefixData) → Knows own prefix → IsBehind own copy → IsPrefixOf prefix copy.front
-knows_less copy own prefix =
-    has_if own.front (IsPrefixOf prefix) (λ front. IsPrefixOf front copy.front) (IsPrefixOf prefix copy.front)
-    (λ front knows is. (knows.0 ∙ is.0, prefix_trans prefix.updates front.updates copy.front.updates knows.1 is.1))
 
 -- One publication keeps the rule.
 

@@ -1,9 +1,7 @@
 use Rattle.std.proofs.Common.{◌≡◌, Global, map, rules, string_bytes}
 use Rattle.std.proofs.lemmas.Result.{err_from_is_err_and}
-use Rattle.clap.specs.Words.{app_of, kind_of}
+use Rattle.clap.specs.Words.{app_of}
 use Rattle.clap.specs.declared.error.Error.{Error}
-use Rattle.clap.specs.declared.error.kind.ErrorKind.TheVariants.{DisplayHelp}
-use Rattle.camel_replay_lib.specs.ProgramRun.{AsksForHelp}
 use Rattle.camel_replay_lib.proofs.CommandLineLemmas.{AsksForHelp-answered, LimitOf-held, ProfileOf-held, ThreadsOf-held}
 use Rattle.camel_replay_lib.proofs.command.words.options.Goals as goal
 

@@ -1,7 +1,7 @@
-use Rattle.std.proofs.Common.{◌≡◌, ◌∙◌, ◌++◌, Some, position, slice_set, refl, sym, ap}
+use Rattle.std.proofs.Common.{◌∙◌, ◌++◌, Some, position, refl, sym, ap}
 use Rattle.std.specs.FinMap as map
 use Rattle.std.specs.Option.{is_some}
-use Rattle.camel_table.specs.ByImsi.{is_same, map_of}
+use Rattle.camel_table.specs.ByImsi.{is_same}
 use Rattle.camel_table.proofs.BucketLemmas.{get-first, get_of_first, get_of_second, lent_some, some_position, with_first, with_second_set}
 use Rattle.camel_table.proofs.BucketLemmas.{written}
 use Rattle.camel_table.proofs.OnceLemmas.{valued_once}
