@@ -2,10 +2,7 @@ ghost use Rattle.std.specs.Prelude.{◌≡◌, ◌≢◌, Ok, true, false, IfErr
 ghost use Rattle.camel_audit.specs.Audit.{AreExplained, IsBadHistory, IsFault, IsFaultOf, Passes};
 ghost use Rattle.camel_rows.specs.Update.{Accepted, records_from};
 
-use crate::audit_fault::AuditFault;
-use crate::one_pass::passes_in_part;
-use crate::part::Part;
-use crate::transcript::Transcript;
+use crate::{AuditFault, Part, Transcript, passes_in_part};
 use camel_criteria::Refusal;
 use camel_rows::{Outcome, Records, Update};
 use camel_tbcd::Profile;

@@ -5,10 +5,8 @@ ghost use Rattle.camel_audit.specs.Audit.{AreExplainedTo, IsDecidedOver, IsExpla
 ghost use Rattle.camel_audit.specs.Audit.{updates_of_part};
 ghost use Rattle.camel_rows.specs.Update.{AcceptedFrom, records_from, records_of};
 
-use crate::audit_fault::AuditFault;
 use crate::checks::are_same;
-use crate::part::Part;
-use crate::transcript::{Entry, Transcript};
+use crate::{AuditFault, Entry, Part, Transcript};
 use camel_criteria::Refusal;
 use camel_rows::{Outcome, Records, Update};
 use camel_tbcd::Profile;

@@ -2,8 +2,7 @@ ghost use Rattle.std.specs.Prelude.{◌≡◌, ◌≢◌, ◌≤◌, ◌↔◌, 
 ghost use Rattle.camel_vlr.specs.Store.{Answers};
 ghost use Rattle.camel_audit.specs.Serves.{Serves, answer_in, event_in, job_of};
 
-use crate::gate::Gate;
-use crate::transcript::{Entry, Job, Transcript};
+use crate::{Entry, Gate, Job, Transcript};
 use camel_rows::{Answer, Outcome};
 use camel_vlr::{Receipt, Session};
 use std::alloc::Global;

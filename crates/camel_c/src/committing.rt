@@ -5,10 +5,9 @@ ghost use Rattle.camel_c.specs.Session.{with_published, receipt_of};
 ghost use Rattle.camel_c.specs.Publication.{Commits, CommitsTo, ShowsNoMore, AllLearn, AllMayLook, AllReady};
 
 use crate::copies::{copies_of, hold_updates};
-use crate::failure::Failure;
-use crate::handle::CamelHandle;
 use crate::object::LiveStore;
 use crate::publishing_to::{first_unready, learn_all};
+use crate::{CamelHandle, Failure};
 use camel_rows::Update;
 use camel_vlr::MAX_PLACES;
 use std::alloc::Global;

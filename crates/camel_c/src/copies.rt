@@ -4,8 +4,7 @@ ghost use Rattle.std.specs.Prelude.{◌≡◌, ◌⊎◌, List, true, Some, IfEr
 ghost use Rattle.camel_c.specs.Updates.{HoldUpdates, IsNoCopy, update_held};
 ghost use Rattle.camel_c.specs.declared.failure.Failure.TheVariants as failure;
 
-use crate::failure::Failure;
-use crate::handle::CamelHandle;
+use crate::{CamelHandle, Failure};
 use camel_criteria::Refusal;
 use camel_map::Arrival;
 use camel_rows::Update;

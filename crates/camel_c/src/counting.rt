@@ -5,10 +5,9 @@ ghost use Rattle.camel_c.specs.Object.{Counts, HoldsAnySession, HoldsLiveStore};
 ghost use Rattle.camel_c.specs.declared.object.Object.TheVariants as object;
 ghost use Rattle.camel_c.specs.declared.thread_session.ThreadSession.{ThreadSession};
 
-use crate::failure::Failure;
-use crate::handle::CamelHandle;
 use crate::object::LiveStore;
 use crate::thread_session::ThreadSession;
+use crate::{CamelHandle, Failure};
 use camel_c_data::{CamelCounts, CamelDecisions};
 
 /// Writes how many subscribers have a record in what is published, how many updates are published and pending, and how

@@ -7,9 +7,8 @@ ghost use Rattle.camel_vlr.specs.Store.{SessionData};
 ghost use Rattle.camel_c_data.specs.Event.{ShowsAnswer, event_in};
 ghost use Rattle.camel_c.specs.Session.{Decides, Looks};
 
-use crate::failure::Failure;
-use crate::handle::CamelHandle;
 use crate::thread_session::ThreadSession;
+use crate::{CamelHandle, Failure};
 use camel_c_data::{CamelAnswer, CamelEvent};
 use camel_criteria::Refusal;
 use camel_rows::Event;

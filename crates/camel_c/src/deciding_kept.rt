@@ -8,10 +8,9 @@ ghost use Rattle.camel_c.specs.Object.{HoldsAnySession};
 ghost use Rattle.camel_c.specs.declared.kept_subscriber.KeptSubscriber.{KeptSubscriber};
 ghost use Rattle.camel_c.specs.declared.object.Object.TheVariants as object;
 
-use crate::failure::Failure;
-use crate::handle::CamelHandle;
 use crate::kept_subscriber::KeptSubscriber;
 use crate::thread_session::ThreadSession;
+use crate::{CamelHandle, Failure};
 use camel_c_data::{CamelAnswer, CamelEvent};
 use camel_rows::Event;
 

@@ -4,9 +4,8 @@ ghost use Rattle.std.specs.Prelude.{◌≡◌, ◌≢◌, ◌⊎◌, Some};
 ghost use Rattle.camel_c.specs.Session.{ChangesStore, with_dropped};
 ghost use Rattle.camel_c.specs.Object.{HoldsDroppable, HoldsLevelStore, HoldsLiveStore};
 
-use crate::failure::Failure;
-use crate::handle::CamelHandle;
 use crate::object::LiveStore;
+use crate::{CamelHandle, Failure};
 
 /// Drops all that is pending, as if it had not been submitted: the accepted updates are the published ones again, which
 /// count for the limit. It may follow a publication that failed. It takes no memory if each pending update leaves a

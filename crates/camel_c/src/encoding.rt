@@ -6,11 +6,9 @@ ghost use Rattle.camel_c_data.specs.Fields.{imsi_in};
 ghost use Rattle.camel_c.specs.Object.{MakesRecord};
 ghost use Rattle.camel_c.specs.Session.{Fetches, record_shown, Shows, ShowsWritten};
 
-use crate::argument::CamelArgument;
-use crate::failure::Failure;
-use crate::handle::CamelHandle;
 use crate::showing::write;
 use crate::thread_session::ThreadSession;
+use crate::{CamelArgument, CamelHandle, Failure};
 use camel_c_data::CamelImsi;
 use camel_criteria::Refusal;
 use camel_tbcd::Imsi;

@@ -5,10 +5,9 @@ ghost use Rattle.camel_c.specs.Session.{IsHeldUp};
 ghost use Rattle.camel_c.specs.Object.{HoldsStore, at_stage};
 ghost use Rattle.camel_c.specs.declared.object.Stage.TheVariants as stage;
 
-use crate::failure::Failure;
 use crate::filling::camel_empty;
-use crate::handle::CamelHandle;
 use crate::object::{Stage, Store};
+use crate::{CamelHandle, Failure};
 use core::mem::replace_with;
 use std::alloc::Global;
 

@@ -4,9 +4,8 @@ ghost use Rattle.std.specs.Prelude.{◌≡◌, ◌⊎◌, Err, Some, None, IfErr
 ghost use Rattle.camel_c.specs.Object.{Fills};
 ghost use Rattle.camel_c.specs.declared.failure.Failure.TheVariants as failure;
 
-use crate::failure::Failure;
-use crate::handle::CamelHandle;
 use crate::object::Object;
+use crate::{CamelHandle, Failure};
 use camel_criteria::Refusal;
 use core::mem::replace_with;
 use std::alloc::Global;

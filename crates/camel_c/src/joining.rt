@@ -4,10 +4,9 @@ ghost use Rattle.std.specs.Prelude.{◌≡◌, ◌≢◌, ◌⊎◌, None, Some}
 ghost use Rattle.camel_c.specs.Updates.{HoldsUpdate, JoinsInto};
 ghost use Rattle.camel_c.specs.declared.object.Object.TheVariants as object;
 
-use crate::failure::Failure;
 use crate::filling::put;
-use crate::handle::CamelHandle;
 use crate::object::Object;
+use crate::{CamelHandle, Failure};
 use camel_map::Arrival;
 use std::alloc::Global;
 

@@ -6,12 +6,11 @@ ghost use Rattle.camel_vlr.specs.Store.{SessionData};
 ghost use Rattle.camel_c_data.specs.Fields.{imsi_in};
 ghost use Rattle.camel_c.specs.Session.{Fetches, FillsKept, record_shown, Shows};
 
-use crate::failure::Failure;
 use crate::filling::fill;
-use crate::handle::CamelHandle;
 use crate::kept_subscriber::KeptSubscriber;
 use crate::object::Object;
 use crate::thread_session::ThreadSession;
+use crate::{CamelHandle, Failure};
 use camel_c_data::CamelImsi;
 use camel_criteria::Refusal;
 use camel_tbcd::Imsi;

@@ -6,12 +6,11 @@ ghost use Rattle.camel_c.specs.Session.{Fetches, Shows};
 ghost use Rattle.camel_c.specs.Object.{FillsImsis, HoldsImsis, TellsNext};
 ghost use Rattle.camel_c.specs.declared.object.Object.TheVariants as object;
 
-use crate::failure::Failure;
 use crate::filling::put;
-use crate::handle::CamelHandle;
 use crate::imsi_list::ImsiList;
 use crate::object::Object;
 use crate::thread_session::ThreadSession;
+use crate::{CamelHandle, Failure};
 use camel_c_data::CamelImsi;
 use camel_criteria::Refusal;
 use std::alloc::Global;

@@ -4,9 +4,8 @@ ghost use Rattle.std.specs.Prelude.{◌≡◌, ◌≢◌, ◌⊎◌, Some};
 ghost use Rattle.camel_c.specs.Session.{BeginsLook, IsWithoutLook};
 ghost use Rattle.camel_c.specs.Object.{HoldsAnySession, HoldsLook, HoldsSession};
 
-use crate::failure::Failure;
-use crate::handle::CamelHandle;
 use crate::thread_session::ThreadSession;
+use crate::{CamelHandle, Failure};
 use camel_criteria::Refusal;
 
 /// Begins a look, so that all calls until `camel_leave` are over one front, which extends all that the session saw and

@@ -9,12 +9,11 @@ ghost use Rattle.camel_c.specs.declared.failure.Failure.TheVariants as failure;
 ghost use Rattle.camel_c.specs.declared.object.LiveStore.{LiveStore};
 ghost use Rattle.camel_c.specs.declared.object.Object.TheVariants as object;
 
-use crate::failure::Failure;
 use crate::filling::{camel_empty, fill};
-use crate::handle::CamelHandle;
 use crate::layouts::ABI_VERSION;
 use crate::object::{LiveStore, Object, Stage, Store};
 use crate::thread_session::ThreadSession;
+use crate::{CamelHandle, Failure};
 use camel_c_data::CamelDecisions;
 use camel_criteria::Refusal;
 use camel_table::Seed;

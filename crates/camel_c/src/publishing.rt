@@ -4,9 +4,8 @@ ghost use Rattle.std.specs.Prelude.{◌≡◌, ◌≢◌, ◌⊎◌, ◌==◌, S
 ghost use Rattle.camel_c.specs.Session.{ChangesStore, IsRefused, with_free, with_held, with_published};
 ghost use Rattle.camel_c.specs.Object.{HoldsFreeStore, HoldsLiveStore};
 
-use crate::failure::Failure;
-use crate::handle::CamelHandle;
 use crate::object::LiveStore;
+use crate::{CamelHandle, Failure};
 use camel_criteria::Refusal;
 use camel_vlr::Unpublished;
 

@@ -5,11 +5,10 @@ ghost use Rattle.camel_c.specs.Session.{IsRefused, with_held, with_published, re
 ghost use Rattle.camel_c.specs.Publication.{AllLearn, AllMayLook, AllReady, FirstUnready, IsReady, IsUnready};
 ghost use Rattle.camel_c.specs.Publication.{PublishesTo};
 
-use crate::failure::Failure;
-use crate::handle::CamelHandle;
 use crate::object::LiveStore;
 use crate::receipts::camel_learn;
 use crate::thread_session::ThreadSession;
+use crate::{CamelHandle, Failure};
 use camel_c_data::CamelReceipt;
 use camel_vlr::MAX_PLACES;
 

@@ -8,10 +8,9 @@ ghost use Rattle.camel_c.specs.Session.{Shows};
 ghost use Rattle.camel_c.specs.declared.object.Object.TheVariants as object;
 ghost use Rattle.camel_c.specs.declared.thread_session.ThreadSession.{ThreadSession};
 
-use crate::failure::Failure;
-use crate::handle::CamelHandle;
 use crate::object::LiveStore;
 use crate::thread_session::ThreadSession;
+use crate::{CamelHandle, Failure};
 use camel_c_data::CamelReceipt;
 use camel_criteria::Refusal;
 

@@ -6,10 +6,9 @@ ghost use Rattle.camel_vlr.specs.Store.{SessionData};
 ghost use Rattle.camel_c_data.specs.Event.{event_in};
 ghost use Rattle.camel_c.specs.Session.{Fetches, SetsUp, Shows};
 
-use crate::failure::Failure;
-use crate::handle::CamelHandle;
 use crate::keeping::keep_shown;
 use crate::thread_session::ThreadSession;
+use crate::{CamelHandle, Failure};
 use camel_c_data::{CamelAnswer, CamelEvent};
 use camel_criteria::Refusal;
 use camel_rows::Event;

@@ -10,11 +10,10 @@ ghost use Rattle.camel_c.specs.Session.{ShowsWritten, Writes};
 ghost use Rattle.camel_c.specs.declared.kept_subscriber.KeptSubscriber.{KeptSubscriber};
 ghost use Rattle.camel_c.specs.declared.object.Object.TheVariants as object;
 
-use crate::failure::Failure;
-use crate::handle::CamelHandle;
 use crate::kept_subscriber::KeptSubscriber;
 use crate::shown_at::ShownAt;
 use crate::thread_session::ThreadSession;
+use crate::{CamelHandle, Failure};
 use camel_c_data::{CamelCriteria, CamelImsi, CamelRow};
 use camel_criteria::Refusal;
 use camel_tbcd::Imsi;

@@ -5,9 +5,8 @@ ghost use Rattle.camel_rows.specs.declared.subscriber.update.Update.TheVariants 
 ghost use Rattle.camel_c_data.specs.Update.{delete_in, insert_in};
 ghost use Rattle.camel_c.specs.Submission.{IsNoKind, ReadsAndSubmits, Submits, cancel_in, register_in};
 
-use crate::failure::Failure;
-use crate::handle::CamelHandle;
 use crate::object::LiveStore;
+use crate::{CamelHandle, Failure};
 use camel_c_data::{CamelImsi, CamelInsert, CamelWithdrawal, DataFault};
 use camel_rows::Update;
 use std::alloc::Global;

@@ -6,9 +6,8 @@ ghost use Rattle.camel_c.specs.Submission.{ReadsAndSubmitsAll, SubmitsAll, Takes
 ghost use Rattle.camel_c.specs.Updates.{HoldUpdates};
 
 use crate::copies::{copies_of, hold_updates};
-use crate::failure::Failure;
-use crate::handle::CamelHandle;
 use crate::object::LiveStore;
+use crate::{CamelHandle, Failure};
 use camel_criteria::Refusal;
 use camel_rows::Update;
 use camel_vlr::Rejected;

@@ -6,9 +6,8 @@ ghost use Rattle.camel_c.specs.Updates.{HoldsUpdate, TellsCounts, concerned_numb
 ghost use Rattle.camel_c.specs.Updates.{withdrawal_shown};
 ghost use Rattle.camel_c.specs.declared.object.Object.TheVariants as object;
 
-use crate::failure::Failure;
-use crate::handle::CamelHandle;
 use crate::submitting::{CANCEL, CLEAR_ALL, DELETE, INSERT, REGISTER};
+use crate::{CamelHandle, Failure};
 use camel_c_data::{CamelImsi, CamelWithdrawal};
 use camel_map::Arrival;
 use camel_rows::Update;

@@ -6,11 +6,10 @@ ghost use Rattle.camel_c.specs.Submission.{IsNoKind, cancel_in, register_in};
 ghost use Rattle.camel_c.specs.Updates.{HoldsLists, Makes, ReadsAndMakes, alone, count_in, counted, counts_in};
 ghost use Rattle.camel_c.specs.Updates.{lists_in};
 
-use crate::failure::Failure;
 use crate::filling::put;
-use crate::handle::CamelHandle;
 use crate::object::Object;
 use crate::submitting::{CANCEL, CLEAR_ALL, DELETE, INSERT, REGISTER, read_cancel, read_register};
+use crate::{CamelHandle, Failure};
 use camel_c_data::{CamelImsi, CamelInsert, CamelWithdrawal, DataFault};
 use camel_map::{Arrival, CapabilityHandling, ItemCounts};
 use camel_rows::Update;

@@ -7,9 +7,7 @@ ghost use Rattle.camel_c_data.specs.Fields.{IsMemory};
 ghost use Rattle.camel_c_data.specs.declared.data_fault.DataFault.{DataFault};
 ghost use Rattle.camel_c_data.specs.declared.criteria.CamelCriteria.{CamelCriteria};
 
-use crate::data_fault::DataFault;
-use crate::entry_lists::{CamelBasicServices, CamelCauses};
-use crate::number_criterion::CamelNumberCriterion;
+use crate::{CamelBasicServices, CamelCauses, CamelNumberCriterion, DataFault};
 use camel_criteria::{CallType, CriteriaEntry, NumberCriterion, OCriteria, Refusal, TCriteria};
 use std::alloc::Global;
 use std::mem::size_of;

@@ -5,9 +5,8 @@ ghost use Rattle.camel_c_data.specs.Fields.{basic_service_in, IsMemory};
 ghost use Rattle.camel_c_data.specs.Update.{AreFlags, basic_services_in, causes_in};
 ghost use Rattle.camel_reading.specs.Reading.{ReadsList};
 
-use crate::basic_service::CamelBasicService;
-use crate::data_fault::DataFault;
 use crate::first_items::{first_items, room_with};
+use crate::{CamelBasicService, DataFault};
 use camel_criteria::{BasicService, MAX_BASIC_SERVICES, MAX_CAUSES};
 use camel_reading::read_each;
 use std::alloc::Global;

@@ -3,10 +3,7 @@ ghost use Rattle.camel_rows.specs.Decision.{event_data};
 ghost use Rattle.camel_c_data.specs.Event.{busy_in, cause_in, collected_info_in, event_in, no_answer_in};
 ghost use Rattle.camel_c_data.specs.Event.{route_select_failure_in, terminating_attempt_in};
 
-use crate::address::CamelAddress;
-use crate::basic_service::CamelBasicService;
-use crate::data_fault::DataFault;
-use crate::imsi::CamelImsi;
+use crate::{CamelAddress, CamelBasicService, CamelImsi, DataFault};
 use camel_criteria::{
     BUSY, COLLECTED_INFO, Cause, NO_ANSWER, ROUTE_SELECT_FAILURE, TERMINATING_ATTEMPT,
 };

@@ -3,9 +3,8 @@ ghost use Rattle.camel_c_data.specs.Update.{ShowsNumber, match_type_in, number_c
 ghost use Rattle.camel_c_data.specs.Fields.{isdn_address_in, IsMemory};
 ghost use Rattle.camel_reading.specs.Reading.{ReadsAs, each_of};
 
-use crate::address::CamelIsdnAddress;
-use crate::data_fault::DataFault;
 use crate::first_items::{first_items, room_with};
+use crate::{CamelIsdnAddress, DataFault};
 use camel_criteria::{MAX_LENGTHS, MAX_NUMBERS, MatchType, NumberCriterion};
 use camel_reading::read_into;
 use camel_tbcd::IsdnAddress;

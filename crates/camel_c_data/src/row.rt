@@ -1,8 +1,7 @@
 ghost use Rattle.std.specs.Prelude.{◌≡◌};
 ghost use Rattle.camel_c_data.specs.Update.{ShowsRow, row_in};
 
-use crate::address::CamelIsdnAddress;
-use crate::data_fault::DataFault;
+use crate::{CamelIsdnAddress, DataFault};
 use camel_criteria::Handling;
 use camel_rows::TdpRow;
 use std::mem::size_of;

@@ -8,9 +8,7 @@ ghost use Rattle.camel_c_data.specs.declared.data_fault.DataFault.TheVariants.{R
 ghost use Rattle.camel_criteria.specs.declared.refusal.Refusal.TheVariants.{UnexpectedDataValue};
 ghost use Rattle.camel_rows.specs.TdpRow.{max_tdp_data};
 
-use crate::criteria::{CamelCriteria, SentEntry};
-use crate::data_fault::DataFault;
-use crate::row::CamelRow;
+use crate::{CamelCriteria, CamelRow, DataFault, SentEntry};
 use camel_criteria::{Handling, Refusal};
 use camel_reading::{read_each, read_into};
 use camel_rows::{CriteriaSet, Csi, CsiKind, MAX_TDP_DATA, TdpRow};

@@ -5,9 +5,7 @@ ghost use Rattle.camel_reading.specs.Reading.{ReadsAs};
 ghost use Rattle.camel_c_data.specs.Fields.{IsMemory};
 ghost use Rattle.camel_c_data.specs.Update.{delete_in, insert_in, withdrawal_in};
 
-use crate::data_fault::DataFault;
-use crate::imsi::CamelImsi;
-use crate::sent_csi::CamelSentCsi;
+use crate::{CamelImsi, CamelSentCsi, DataFault};
 use camel_rows::{Update, Withdrawal};
 use std::alloc::Global;
 use std::mem::size_of;

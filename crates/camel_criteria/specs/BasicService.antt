@@ -1,4 +1,5 @@
--- Basic services (TS 29.002). The groups and their members are profile 1's own.
+-- Basic services (TS 29.002). Which codes are groups, and which their members are, is profile 1's own choice;
+-- docs/STANDARD.md compares it with the standard's.
 use Rattle.std.specs.Prelude.{ℕ, Bool, false, ◌==◌, ◌&&◌, ◌||◌, nat_le, List, [], ◌∷◌}
 use Rattle.std.specs.List.{list_any}
 use Rattle.camel_criteria.specs.declared.basic_service.BasicService.{BasicService}

@@ -1,9 +1,7 @@
 ghost use Rattle.std.specs.Prelude.{◌≡◌, ℕ, List};
 ghost use Rattle.camel_criteria.specs.DetectionPoint.{o_detection_points, vt_detection_points};
 
-use crate::detection_point::{O_DETECTION_POINTS, VT_DETECTION_POINTS};
-use crate::o_criteria::OCriteria;
-use crate::t_criteria::TCriteria;
+use crate::{O_DETECTION_POINTS, OCriteria, TCriteria, VT_DETECTION_POINTS};
 
 /// An item that is sent for one trigger detection point: a TDP row, or an entry of criteria (TS 23.078).
 pub trait AtDetectionPoint {

@@ -4,10 +4,9 @@ ghost use Rattle.camel_tbcd.specs.Address.{octets};
 ghost use Rattle.camel_criteria.specs.CriterionLists.{criterion_of};
 ghost use Rattle.camel_criteria.specs.Met.{number_matches, number_met};
 
-use crate::criteria::MatchType;
 use crate::few_numbers::FewNumbers;
 use crate::in_place::InPlace;
-use crate::number_criterion::{MAX_LENGTHS, MAX_NUMBERS};
+use crate::{MAX_LENGTHS, MAX_NUMBERS, MatchType};
 use camel_tbcd::{Address, IsdnAddress, Profile};
 use std::alloc::{AllocError, Global};
 use std::marker::Model;

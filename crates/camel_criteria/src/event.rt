@@ -1,5 +1,4 @@
-use crate::basic_service::BasicService;
-use crate::cause::Cause;
+use crate::{BasicService, Cause};
 use camel_tbcd::Address;
 
 /// What a call shows to the criteria of the O-CSI.

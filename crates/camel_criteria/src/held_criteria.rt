@@ -3,11 +3,8 @@ ghost use Rattle.std.specs.Option.{option_copied};
 ghost use Rattle.camel_criteria.specs.Criteria.{HoldsNoOther};
 ghost use Rattle.camel_criteria.specs.HeldCriteria.{entry_of};
 
-use crate::basic_service::BasicService;
-use crate::criteria::CallType;
-use crate::entry_limits::{MAX_BASIC_SERVICES, MAX_CAUSES};
 use crate::in_place::InPlace;
-use crate::number_criterion::NumberCriterion;
+use crate::{BasicService, CallType, MAX_BASIC_SERVICES, MAX_CAUSES, NumberCriterion};
 use std::alloc::AllocError;
 use std::marker::Model;
 

@@ -5,13 +5,9 @@ ghost use Rattle.camel_tbcd.specs.Address.{octets};
 ghost use Rattle.camel_criteria.specs.BasicService.{covers};
 ghost use Rattle.camel_criteria.specs.Met.{o_event_data, basic_met, cause_met, held_number_met, o_met, t_met, type_met};
 
-use crate::basic_service::{BasicService, covers};
-use crate::cause::Cause;
-use crate::criteria::CallType;
-use crate::event::{OEvent, TEvent};
-use crate::number_criterion::NumberCriterion;
-use crate::o_criteria::OCriteria;
-use crate::t_criteria::TCriteria;
+use crate::{
+    BasicService, CallType, Cause, NumberCriterion, OCriteria, OEvent, TCriteria, TEvent, covers,
+};
 use camel_tbcd::{Address, Profile};
 
 /// Whether an event meets each criterion that an entry of the O-CSI holds. One that holds none is met by every

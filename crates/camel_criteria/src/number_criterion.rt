@@ -6,9 +6,8 @@ ghost use Rattle.camel_criteria.specs.Criteria.{is_length, number_criterion_of};
 ghost use Rattle.camel_criteria.specs.Met.{number_met};
 ghost use Rattle.camel_criteria.specs.Refusal.{MakesOf};
 
-use crate::criteria::MatchType;
 use crate::criterion_lists::CriterionLists;
-use crate::refusal::Refusal;
+use crate::{MatchType, Refusal};
 use camel_tbcd::{Address, IsdnAddress, Profile};
 use std::alloc::{AllocError, Global};
 use std::fmt;

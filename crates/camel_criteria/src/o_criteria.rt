@@ -3,14 +3,14 @@ ghost use Rattle.std.specs.Option.{option_copied};
 ghost use Rattle.camel_criteria.specs.Criteria.{HoldsNoOther, o_criteria_of};
 ghost use Rattle.camel_criteria.specs.Refusal.{MakesOf};
 
-use crate::basic_service::{BLANK, BasicService};
-use crate::criteria::CallType;
-use crate::detection_point::COLLECTED_INFO;
-use crate::entry_limits::{MAX_BASIC_SERVICES, MAX_CAUSES, are_causes_at};
+use crate::basic_service::BLANK;
+use crate::entry_limits::are_causes_at;
 use crate::held_criteria::{CriteriaApart, HeldCriteria};
 use crate::in_place::InPlace;
-use crate::number_criterion::NumberCriterion;
-use crate::refusal::Refusal;
+use crate::{
+    BasicService, COLLECTED_INFO, CallType, MAX_BASIC_SERVICES, MAX_CAUSES, NumberCriterion,
+    Refusal,
+};
 use std::alloc::{AllocError, Global};
 use std::fmt;
 use std::marker::Model;

@@ -1,11 +1,10 @@
 ghost use Rattle.std.specs.Prelude.{◌≡◌, ◌≤◌, length};
 ghost use Rattle.camel_criteria.specs.Criteria.{t_criteria_of};
 
-use crate::basic_service::{BLANK, BasicService};
-use crate::detection_point::TERMINATING_ATTEMPT;
-use crate::entry_limits::{MAX_BASIC_SERVICES, MAX_CAUSES, are_causes_at};
+use crate::basic_service::BLANK;
+use crate::entry_limits::are_causes_at;
 use crate::in_place::InPlace;
-use crate::refusal::Refusal;
+use crate::{BasicService, MAX_BASIC_SERVICES, MAX_CAUSES, Refusal, TERMINATING_ATTEMPT};
 use std::alloc::AllocError;
 use std::marker::Model;
 

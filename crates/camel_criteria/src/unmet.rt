@@ -2,10 +2,8 @@ ghost use Rattle.std.specs.Prelude.{◌≡◌, ◌↔◌, None, IsTrue};
 ghost use Rattle.camel_criteria.specs.Met.{o_event_data, o_met, t_met};
 ghost use Rattle.camel_criteria.specs.Unmet.{first_unmet, o_criterion_met, t_criterion_met};
 
-use crate::event::{OEvent, TEvent};
 use crate::met::{basic_met, cause_met, held_number_met, type_met};
-use crate::o_criteria::OCriteria;
-use crate::t_criteria::TCriteria;
+use crate::{OCriteria, OEvent, TCriteria, TEvent};
 use camel_tbcd::Profile;
 
 /// The kinds of criterion that an entry may hold (TS 29.002), in the order of its sequence.

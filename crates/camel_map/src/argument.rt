@@ -9,13 +9,11 @@ ghost use Rattle.camel_reading.specs.Reading.{ReadsAs, ReadsBy};
 ghost use Rattle.camel_map.specs.Update.{arrival_of, one_of, update_of};
 ghost use Rattle.camel_rows.specs.declared.subscriber.update.Update.{Update};
 
-use crate::arrival::Arrival;
 use crate::cancel::read_cancel;
 use crate::delete::read_delete;
 use crate::insert::read_insert;
-use crate::map_fault::{MapFault, MapFaultKind};
-use crate::operation::Operation;
 use crate::reading::read_elements;
+use crate::{Arrival, MapFault, MapFaultKind, Operation};
 use camel_ber::{Element, Octets};
 use camel_tbcd::Imsi;
 use std::alloc::Global;

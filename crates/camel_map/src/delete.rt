@@ -10,8 +10,8 @@ ghost use Rattle.camel_map.specs.Update.{delete_in, is_bit_set, is_bit_string, i
 use crate::field::{find_field, identified, mandatory};
 use crate::identifier::{PRIMITIVE, SEQUENCE};
 use crate::imsi::read_own_imsi;
-use crate::map_fault::{MapFault, MapFaultKind};
 use crate::reading::read_elements;
+use crate::{MapFault, MapFaultKind};
 use camel_ber::Element;
 use camel_rows::{Update, Withdrawal};
 use camel_tbcd::Imsi;

@@ -15,8 +15,8 @@ pub(crate) mod value;
 pub(crate) mod writer;
 
 use crate::encoding::argument::put_argument;
-use crate::encoding::writer::{MAX_ARGUMENT_OCTETS, Writer};
-use crate::operation::Operation;
+use crate::encoding::writer::Writer;
+use crate::{MAX_ARGUMENT_OCTETS, Operation};
 use camel_rows::Update;
 use std::alloc::AllocError;
 

@@ -9,7 +9,7 @@ ghost use Rattle.camel_map.specs.Reading.{IsMemory, LendsElement, LendsField};
 ghost use Rattle.camel_reading.specs.Reading.{AnswersAs, ReadsAs};
 ghost use Rattle.camel_map.specs.declared.map_fault.MapFault.{MapFault};
 
-use crate::map_fault::{MapFault, MapFaultKind};
+use crate::{MapFault, MapFaultKind};
 use camel_ber::Element;
 
 /// Whether the identifier is this octet.

@@ -5,8 +5,8 @@ ghost use Rattle.std.specs.Option.{option_map};
 ghost use Rattle.camel_ber.specs.Elements.{view};
 ghost use Rattle.camel_map.specs.Reading.{imsi_in, imsi_or_of_dialogue, own_imsi};
 
-use crate::map_fault::{MapFault, MapFaultKind};
 use crate::value::refused_at;
+use crate::{MapFault, MapFaultKind};
 use camel_ber::Element;
 use camel_tbcd::Imsi;
 

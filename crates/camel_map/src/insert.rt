@@ -9,15 +9,14 @@ ghost use Rattle.camel_map.specs.Update.{camel_fields, insert_in, insert_of_fiel
 ghost use Rattle.camel_map.specs.Csi.{lists_of_fields};
 ghost use Rattle.camel_rows.specs.TdpRow.{kept_of};
 
-use crate::arrival::Arrival;
 use crate::criteria::read_criteria;
 use crate::field::{find_field, identified};
 use crate::identifier::{CONSTRUCTED, PRIMITIVE, SEQUENCE};
 use crate::imsi::read_imsi_or_of_dialogue;
 use crate::item::MapItem;
-use crate::map_fault::MapFault;
 use crate::reading::read_elements;
 use crate::row::{ReceivedLists, read_csi};
+use crate::{Arrival, MapFault};
 use camel_ber::Element;
 use camel_criteria::CriteriaEntry;
 use camel_rows::{CriteriaSet, Csi, CsiKind};

@@ -7,8 +7,8 @@ ghost use Rattle.camel_map.specs.Reading.{items_as, IsMemory};
 ghost use Rattle.camel_reading.specs.Reading.{AnswersAs, ReadsList, each_of};
 ghost use Rattle.camel_map.specs.declared.map_fault.MapFault.{MapFault};
 
-use crate::map_fault::{MapFault, MapFaultKind};
 use crate::reading::read_elements;
+use crate::{MapFault, MapFaultKind};
 use camel_ber::Element;
 use camel_criteria::Refusal;
 use camel_reading::read_each;

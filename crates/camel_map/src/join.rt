@@ -6,8 +6,8 @@ ghost use Rattle.camel_map.specs.Update.{join_fault_code};
 
 pub(crate) mod list;
 
-use crate::arrival::{Arrival, CapabilityHandling};
 use crate::join::list::join_lists;
+use crate::{Arrival, CapabilityHandling};
 use camel_criteria::Refusal;
 use camel_rows::Update;
 use std::alloc::Global;

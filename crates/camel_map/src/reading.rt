@@ -5,7 +5,7 @@ ghost use Rattle.camel_ber.specs.Elements.{octets_data, views};
 ghost use Rattle.camel_map.specs.Reading.{IsMemory, elements_in, or_refused_at};
 ghost use Rattle.camel_reading.specs.Reading.{ReadsBy};
 
-use crate::map_fault::{MapFault, MapFaultKind};
+use crate::{MapFault, MapFaultKind};
 use camel_ber::{Element, Octets, series};
 use camel_criteria::Refusal;
 use std::alloc::Global;

@@ -10,7 +10,7 @@ ghost use Rattle.camel_map.specs.Reading.{unsigned_in};
 
 use crate::field::{identified, is_identified};
 use crate::identifier::{INTEGER, OCTET_STRING, PRIMITIVE};
-use crate::map_fault::{MapFault, MapFaultKind};
+use crate::{MapFault, MapFaultKind};
 use camel_ber::Element;
 use camel_criteria::{BasicService, CallType, MatchType, Refusal};
 use camel_tbcd::IsdnAddress;

@@ -12,9 +12,8 @@ pub(crate) mod kind;
 pub(crate) mod received;
 pub(crate) mod tdp_row;
 
-use crate::csi::kind::{CsiKind, Originating, VmscTerminating};
 use crate::csi::received::{check_list, has_no_two};
-use crate::csi::tdp_row::TdpRow;
+use crate::{CsiKind, Originating, TdpRow, VmscTerminating};
 use camel_criteria::{CriteriaEntry, Refusal, is_among};
 use std::fmt;
 use std::marker::{Model, PhantomData};

@@ -16,15 +16,12 @@ pub(crate) mod records;
 pub(crate) mod stored_csi;
 pub(crate) mod update;
 
-use crate::csi::criteria_set::{OCriteriaSet, TCriteriaSet};
-use crate::csi::kind::{Originating, VmscTerminating};
-use crate::csi::tdp_row::TdpRow;
-use crate::csi::{OCsi, VtCsi};
-use crate::subscriber::boxed::Boxed;
-use crate::subscriber::csis_present::{CsisPresent, check_insert, check_update};
-use crate::subscriber::lent::Lent;
+use crate::subscriber::csis_present::{check_insert, check_update};
 use crate::subscriber::stored_csi::StoredCsi;
-use crate::subscriber::update::{Update, Withdrawal};
+use crate::{
+    Boxed, CsisPresent, Lent, OCriteriaSet, OCsi, Originating, TCriteriaSet, TdpRow, Update,
+    VmscTerminating, VtCsi, Withdrawal,
+};
 use camel_criteria::{OCriteria, Refusal, TCriteria, is_o_detection_point, is_vt_detection_point};
 use camel_tbcd::Imsi;
 use std::alloc::{AllocError, Global};

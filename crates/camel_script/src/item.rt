@@ -12,13 +12,11 @@ use crate::mistake::Expected::{
     BasicServices, Causes, DetectionPoint, GsmScfAddress, ItemCallType, ItemName, NumberCriterion,
     ServiceKey,
 };
-use crate::mistake::{Expected, Mistake, at_part, mistake_at, part_count, refused_at};
+use crate::mistake::{at_part, mistake_at, part_count, refused_at};
 use crate::text::lists::{parse_basic_services, parse_small_decimals};
 use crate::text::parts::{ITEM_SEPARATOR, count_parts, cut_part};
-use crate::text::record_fault::RecordFault;
-use crate::text::{
-    make_isdn_address, parse_call_type, parse_decimal, parse_octets, parse_small_decimal,
-};
+use crate::text::{make_isdn_address, parse_call_type, parse_octets};
+use crate::{Expected, Mistake, RecordFault, parse_decimal, parse_small_decimal};
 use camel_criteria::{BasicService, Handling, MAX_BASIC_SERVICES, OCriteria, TCriteria};
 use camel_rows::TdpRow;
 use std::alloc::Global;

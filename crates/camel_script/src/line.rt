@@ -7,7 +7,8 @@ ghost use Rattle.hex.specs.Hex.{encode_lower};
 ghost use Rattle.camel_rows.specs.Decision.{action_of};
 ghost use Rattle.camel_script.specs.Line.{action_text, decided_text, line_text, reason_text, served_text};
 
-use crate::append::{append_character, append_decimal, append_text};
+use crate::append::append_character;
+use crate::{append_decimal, append_text};
 use camel_criteria::{Handling, Refusal};
 use camel_rows::{Answer, CallAction, Outcome, Reason, on_failure};
 use camel_tbcd::{IsdnAddress, MAX_ISDN_ADDRESS_LENGTH};

@@ -6,9 +6,7 @@ ghost use Rattle.camel_script.specs.Fields.{at_field, at_part, expected_behind, 
 ghost use Rattle.camel_script.specs.Fields.{record_fault_of};
 ghost use Rattle.camel_script.specs.Record.{refused_or_fault};
 
-use crate::record::Record;
-use crate::script_fault::ScriptFault;
-use crate::text::record_fault::RecordFault;
+use crate::{Record, RecordFault, ScriptFault};
 use camel_criteria::Refusal;
 use csv::ByteRecord;
 use std::alloc::{AllocError, AllocFailed};

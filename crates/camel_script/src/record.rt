@@ -14,14 +14,13 @@ pub(crate) mod field;
 pub(crate) mod insert;
 pub(crate) mod refused_item;
 
-use crate::mistake::{Expected, Mistake, at_field, check_fields};
+use crate::mistake::{at_field, check_fields};
 use crate::record::call::parse_call;
 use crate::record::delete::parse_delete;
 use crate::record::field::field;
 use crate::record::insert::parse_insert;
-use crate::script_fault::ScriptFault;
 use crate::text::parse_imsi;
-use crate::text::record_fault::RecordFault;
+use crate::{Expected, Mistake, RecordFault, ScriptFault};
 use camel_criteria::Refusal;
 use camel_rows::{Boxed, CallEvent, Update};
 use camel_tbcd::Imsi;

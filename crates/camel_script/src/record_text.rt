@@ -3,9 +3,9 @@
 
 pub(crate) mod lists;
 
-use crate::append::{append_decimal, append_text};
 use crate::line::append_address;
 use crate::record_text::lists::{append_decimals, append_number, append_services};
+use crate::{append_decimal, append_text};
 use camel_criteria::{CallType, CriteriaEntry, Handling, OCriteria, TCriteria};
 use camel_rows::{CriteriaSet, Csi, TdpRow, Update, Withdrawal};
 use camel_tbcd::Imsi;

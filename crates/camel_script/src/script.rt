@@ -4,8 +4,7 @@ ghost use Rattle.csv.specs.Reading.{error_kind, is_io};
 ghost use Rattle.camel_script.specs.Script.{IsMemoryOrIo, Ended, Failed, FaultsAs, Gives, IsMemoryOrReadFault, Unread};
 ghost use Rattle.camel_script.specs.Script.{read_if, records_left, script, still_gives};
 
-use crate::record::{Record, parse_record};
-use crate::script_fault::ScriptFault;
+use crate::{Record, ScriptFault, parse_record};
 use camel_criteria::Refusal;
 use csv::{ByteRecord, ErrorKind, Reader, ReaderBuilder};
 use std::alloc::Global;

@@ -4,9 +4,7 @@ ghost use Rattle.std.specs.Prelude.{◌≡◌, IfOk, All, Some, map};
 
 use crate::base::publisher::Publisher;
 use crate::base::seat::Seat;
-use crate::receipt::Receipt;
-use crate::session::Session;
-use crate::writer::Vlr;
+use crate::{Receipt, Session, Vlr};
 use std::alloc::{AllocError, Global};
 use std::marker::{Brand, PhantomData};
 

@@ -21,12 +21,11 @@ pub(crate) mod wait_free;
 
 use crate::base::left_right_writer::LeftRightWriter;
 use crate::base::publisher::{Publisher, Publishes};
-use crate::receipt::Receipt;
-use crate::session::Session;
-use crate::writer::group::{Rejected, accept_all};
+use crate::writer::group::accept_all;
 use crate::writer::publication::{extend_history, hand_over, make_room};
 use crate::writer::state::State;
 use crate::writer::submission::accept;
+use crate::{Receipt, Rejected, Session};
 use camel_criteria::Refusal;
 use camel_rows::Update;
 use camel_tbcd::Profile;

@@ -7,15 +7,12 @@ ghost use Rattle.two_copies.specs.WriterEnd.{IsOneMore, IsFreeAt, IsNextAt, Show
 ghost use Rattle.two_copies.specs.Reader.{place_of, seen_by};
 ghost use Rattle.two_copies.specs.declared.copies.TheConstants.{MAX_READERS};
 
-use crate::apply::Apply;
-use crate::ending::Ending;
 use crate::log::Log;
 use crate::place::writer_end::WriterEnd;
 use crate::places::{
     Places, close_all, next_place, prepare_all, put, reclaim_all, reclaim_each, show_all,
 };
-use crate::reader::Reader;
-use crate::rule::CopyRule;
+use crate::{Apply, CopyRule, Ending, Reader};
 use std::alloc::{AllocError, Global};
 use std::collections::VecDeque;
 use std::mem;

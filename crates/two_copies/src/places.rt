@@ -6,10 +6,9 @@ ghost use Rattle.two_copies.specs.WriterEnd.{IsPut, IsClosedAt, IsFreeAt, IsNext
 ghost use Rattle.two_copies.specs.declared.copies.NoReader.TheVariants.{NoPlace};
 ghost use Rattle.two_copies.specs.declared.copies.TheConstants.{MAX_READERS};
 
-use crate::copies::{MAX_READERS, NoReader};
 use crate::place::Board;
 use crate::place::writer_end::WriterEnd;
-use crate::rule::CopyRule;
+use crate::{CopyRule, MAX_READERS, NoReader};
 use std::alloc::{AllocError, Global};
 use std::sync::Arc;
 

@@ -4,9 +4,8 @@ ghost use Rattle.camel_rows.specs.Store.{IsAdmissionOf, admission_refusal, no_ad
 ghost use Rattle.camel_rows.specs.Store.{IsDirectoryOf};
 ghost use Rattle.camel_rows.specs.Update.{value_of, with_value, csis_after, update_imsi};
 
-use crate::subscriber::csis_present::{CsisChange, CsisPresent, check_update, csis_after};
-use crate::subscriber::records::Records;
-use crate::subscriber::update::Update;
+use crate::subscriber::csis_present::{check_update, csis_after};
+use crate::{CsisChange, CsisPresent, Records, Update};
 use camel_criteria::Refusal;
 use camel_table::{Seed, Table};
 use camel_tbcd::Imsi;

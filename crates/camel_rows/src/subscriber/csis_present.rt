@@ -1,9 +1,7 @@
 ghost use Rattle.std.specs.Prelude.{◌≡◌, Some, None, IfErr, OnOk};
 ghost use Rattle.camel_rows.specs.Update.{csis_after, csis_refusal, insert_refusal, lacks_csi};
 
-use crate::csi::criteria_set::{CriteriaSet, OCriteriaSet, TCriteriaSet};
-use crate::csi::{Csi, OCsi, VtCsi};
-use crate::subscriber::update::Update;
+use crate::{CriteriaSet, Csi, OCriteriaSet, OCsi, TCriteriaSet, Update, VtCsi};
 use camel_criteria::{CriteriaEntry, Refusal};
 
 /// Which CSIs are stored in the record of a subscriber.

@@ -7,11 +7,8 @@ ghost use Rattle.camel_rows.specs.Update.{value_of, with_value, csis_after, csis
 ghost use Rattle.camel_rows.specs.Update.{is_insert, records_after, record_with_insert, record_without, refusal};
 ghost use Rattle.camel_rows.specs.Update.{update_imsi};
 
-use crate::csi::criteria_set::{OCriteriaSet, TCriteriaSet};
-use crate::csi::{OCsi, VtCsi};
-use crate::subscriber::Subscriber;
-use crate::subscriber::csis_present::{CsisPresent, check_update, csis_after};
-use crate::subscriber::update::{Update, Withdrawal};
+use crate::subscriber::csis_present::{check_update, csis_after};
+use crate::{CsisPresent, OCriteriaSet, OCsi, Subscriber, TCriteriaSet, Update, VtCsi, Withdrawal};
 use camel_criteria::Refusal;
 use camel_table::{Seed, Table};
 use camel_tbcd::Imsi;

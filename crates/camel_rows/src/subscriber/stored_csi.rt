@@ -3,9 +3,8 @@ ghost use Rattle.std.specs.Option.{option_and_then, option_copied, option_map};
 ghost use Rattle.camel_rows.specs.Subscriber.{stored_in, entry_of, rows_of};
 ghost use Rattle.camel_rows.specs.Update.{csi_after};
 
-use crate::csi::Csi;
-use crate::csi::criteria_set::CriteriaSet;
 use crate::csi::entries::{Entries, find_entry};
+use crate::{CriteriaSet, Csi};
 use camel_criteria::CriteriaEntry;
 use std::alloc::AllocError;
 

@@ -1,8 +1,7 @@
 ghost use Rattle.std.specs.Prelude.{◌≡◌, IfErr, IfOk};
 ghost use Rattle.camel_rows.specs.Update.{removes_o, removes_vt, leaves_record, update_imsi};
 
-use crate::csi::criteria_set::{OCriteriaSet, TCriteriaSet};
-use crate::csi::{OCsi, VtCsi};
+use crate::{OCriteriaSet, OCsi, TCriteriaSet, VtCsi};
 use camel_criteria::Refusal;
 use camel_tbcd::Imsi;
 use std::alloc::AllocError;

@@ -8,12 +8,9 @@ ghost use Rattle.camel_rows.specs.Decision.{event_basic, event_data, event_dp, e
 ghost use Rattle.camel_rows.specs.Update.{RecordsData};
 ghost use Rattle.camel_rows.specs.Subscriber.{stored_in, EntryData, O, T, entry_data, item_among};
 
-use crate::csi::tdp_row::TdpRow;
-use crate::subscriber::Subscriber;
-use crate::subscriber::lent::Lent;
-use crate::subscriber::records::Records;
 use crate::subscriber::stored_csi::StoredCsi;
-use crate::trigger::event::{Event, Shown};
+use crate::trigger::event::Shown;
+use crate::{Event, Lent, Records, Subscriber, TdpRow};
 use camel_criteria::{
     BasicService, CriteriaEntry, OCriteria, OEvent, TCriteria, TEvent, o_met, t_met,
 };

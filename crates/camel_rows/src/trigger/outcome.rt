@@ -1,9 +1,7 @@
 ghost use Rattle.std.specs.Prelude.{◌≡◌};
 ghost use Rattle.camel_rows.specs.Decision.{decision, decision_data, action_of, outcome_of};
 
-use crate::subscriber::records::Records;
-use crate::trigger::decision::{Decision, Reason, decide_in};
-use crate::trigger::event::CallEvent;
+use crate::{CallEvent, Decision, Reason, Records, decide_in};
 use camel_criteria::Handling;
 use camel_tbcd::{IsdnAddress, Profile};
 

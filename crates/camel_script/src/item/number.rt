@@ -2,10 +2,10 @@ ghost use Rattle.camel_reading.specs.Reading.{ReadsAs};
 ghost use Rattle.camel_script.specs.Item.{number_criterion_from, number_texts_of, number_texts_of_parts};
 ghost use Rattle.camel_script.specs.Fields.{IsMemory};
 
+use crate::text::Octets;
 use crate::text::lists::{make_isdn_addresses, parse_octets_list, parse_small_decimals};
 use crate::text::parts::{NUMBER_SEPARATOR, count_parts, cut_part};
-use crate::text::record_fault::RecordFault;
-use crate::text::{Octets, parse_match_type};
+use crate::{RecordFault, parse_match_type};
 use camel_criteria::{MatchType, NumberCriterion};
 use std::alloc::Global;
 use std::marker::Model;

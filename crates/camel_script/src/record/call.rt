@@ -6,14 +6,10 @@ ghost use Rattle.camel_script.specs.Record.{route_select_failure_of, route_selec
 ghost use Rattle.camel_script.specs.Record.{terminating_attempt_of, terminating_attempt_texts};
 ghost use Rattle.camel_script.specs.Fields.{with_fields, IsMemoryMistake};
 
-use crate::mistake::{Expected, Mistake, at_field, check_fields, field_count, mistake_at};
-use crate::record::Record;
+use crate::mistake::{at_field, check_fields, field_count, mistake_at};
 use crate::record::field::field;
-use crate::text::record_fault::RecordFault;
-use crate::text::{
-    make_call_address, make_cause, parse_basic_service, parse_forwarded, parse_imsi, parse_octets,
-    parse_small_decimal,
-};
+use crate::text::{make_call_address, make_cause, parse_forwarded, parse_imsi, parse_octets};
+use crate::{Expected, Mistake, Record, RecordFault, parse_basic_service, parse_small_decimal};
 use camel_criteria::{BasicService, Cause};
 use camel_rows::CallEvent;
 use camel_tbcd::Imsi;

@@ -4,10 +4,10 @@ ghost use Rattle.camel_reading.specs.Reading.{ReadsInto};
 ghost use Rattle.camel_script.specs.Fields.{IsMemoryMistake, in_turn, numbered};
 ghost use Rattle.camel_script.specs.Record.{delete_of, no_withdrawal, withdrawal_with};
 
-use crate::mistake::{Expected, Mistake, field_count, mistake_at};
+use crate::mistake::{field_count, mistake_at};
 use crate::record::field::field;
-use crate::record::{Record, read_imsi};
-use crate::text::record_fault::RecordFault;
+use crate::record::read_imsi;
+use crate::{Expected, Mistake, Record, RecordFault};
 use camel_rows::{Boxed, Update, Withdrawal};
 use csv::ByteRecord;
 use std::alloc::Global;

@@ -6,10 +6,11 @@ ghost use Rattle.camel_script.specs.Fields.{IsMemoryMistake};
 ghost use Rattle.camel_script.specs.Record.{insert_of, insert_of_items, list_or_mistake};
 
 use crate::item::Items;
-use crate::mistake::{Mistake, field_count};
+use crate::mistake::field_count;
 use crate::record::field::field;
 use crate::record::refused_item::refused_item;
-use crate::record::{Record, WORD_AND_IMSI, read_imsi};
+use crate::record::{WORD_AND_IMSI, read_imsi};
+use crate::{Mistake, Record};
 use camel_criteria::{O_DETECTION_POINTS, Refusal, VT_DETECTION_POINTS};
 use camel_rows::{Boxed, OCriteriaSet, OCsi, TCriteriaSet, Update, VtCsi};
 use camel_tbcd::Imsi;

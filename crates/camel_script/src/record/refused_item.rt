@@ -4,10 +4,10 @@ ghost use Rattle.csv.specs.Records.{fields_of};
 ghost use Rattle.camel_script.specs.Item.{item_dp, refused_item};
 ghost use Rattle.camel_script.specs.Fields.{numbered, record_fault_of};
 
-use crate::mistake::{Expected, Mistake, mistake_at};
+use crate::mistake::mistake_at;
 use crate::record::field::field;
-use crate::text::parse_small_decimal;
 use crate::text::parts::{ITEM_SEPARATOR, cut_part};
+use crate::{Expected, Mistake, parse_small_decimal};
 use camel_criteria::{Refusal, is_among};
 use camel_rows::MAX_TDP_DATA;
 use csv::ByteRecord;

@@ -1,7 +1,7 @@
 //! The numbers, codes and octets of a record.
 
-use crate::append::{append_decimal, append_text};
 use crate::line::append_address;
+use crate::{append_decimal, append_text};
 use camel_criteria::{BasicService, MatchType, NumberCriterion};
 use std::alloc::AllocError;
 

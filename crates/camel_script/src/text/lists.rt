@@ -5,10 +5,8 @@ ghost use Rattle.camel_script.specs.Fields.{IsMemory, elements_as, basic_service
 ghost use Rattle.camel_script.specs.Fields.{octets_of};
 
 use crate::text::parts::{ELEMENT_SEPARATOR, split_part};
-use crate::text::record_fault::RecordFault;
-use crate::text::{
-    Octets, make_isdn_address, parse_basic_service, parse_octets, parse_small_decimal,
-};
+use crate::text::{Octets, make_isdn_address, parse_octets};
+use crate::{RecordFault, parse_basic_service, parse_small_decimal};
 use camel_criteria::BasicService;
 use camel_reading::read_each;
 use camel_tbcd::IsdnAddress;

@@ -7,8 +7,7 @@ ghost use Rattle.camel_rows.specs.declared.trigger.outcome.Answer.{Answer};
 ghost use Rattle.camel_vlr.specs.Store.{Answers, LeavesLook};
 
 use crate::base::seat::Seat;
-use crate::session::Session;
-use crate::session::look::NoLook;
+use crate::{NoLook, Session};
 use camel_criteria::Refusal;
 use camel_rows::{Answer, CallEvent, Event, Outcome};
 

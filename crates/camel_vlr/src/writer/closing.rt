@@ -2,8 +2,7 @@ ghost use Rattle.std.specs.Prelude.{◌≡◌, ◌⊎◌, [], ◌∷◌, ◌++�
 ghost use Rattle.camel_rows.specs.Update.{Extends, records_of};
 ghost use Rattle.camel_vlr.specs.Store.{ExtendsAll};
 
-use crate::session::Session;
-use crate::writer::Vlr;
+use crate::{Session, Vlr};
 use camel_criteria::Refusal;
 use camel_rows::Records;
 use std::sync::Wait;

@@ -6,12 +6,12 @@ ghost use Rattle.two_copies.specs.Place.{looking, RefusesLooks, writing};
 ghost use Rattle.two_copies.specs.Slot.{IsSeated, Follows, Holds};
 ghost use Rattle.two_copies.specs.declared.place.Part.TheVariants.{Idle, Leaving, Whole};
 
+use crate::CopyRule;
 use crate::place::board::{CLOSED, FIRST_SLOT, LOOKING, RETURNED, WORD};
 use crate::place::{
     Board, CloseWithNone, CloseWithOther, Divide, Enter, Leave, PlaceSeat, Reclaim, Settle, Show,
     Slot,
 };
-use crate::rule::CopyRule;
 use std::alloc::Global;
 use std::sync::Arc;
 
