@@ -5,68 +5,68 @@ use camel_rows::{CsisPresent, Update};
 
 /// A CSI that has criteria.
 #[derive(Clone, Copy)]
-pub(crate) enum CsiKind {
+pub(crate) enum CsiName {
     O,
     Vt,
 }
 
 /// Each CSI, in the order of the sentences that name several.
-pub(crate) const CSIS: [CsiKind; 2] = [CsiKind::O, CsiKind::Vt];
+pub(crate) const CSIS: [CsiName; 2] = [CsiName::O, CsiName::Vt];
 
-impl CsiKind {
+impl CsiName {
     /// The CSI of the detection point of a call.
-    pub(crate) fn of_call(dp: u8) -> CsiKind {
-        if CsiKind::O.counts(dp) {
-            CsiKind::O
+    pub(crate) fn of_call(dp: u8) -> CsiName {
+        if CsiName::O.counts(dp) {
+            CsiName::O
         } else {
-            CsiKind::Vt
+            CsiName::Vt
         }
     }
 
     /// The CSI of an item of this name.
-    pub(crate) fn of_item(name: &[u8]) -> CsiKind {
+    pub(crate) fn of_item(name: &[u8]) -> CsiName {
         match name {
-            b"o" | b"oc" => CsiKind::O,
-            _ => CsiKind::Vt,
+            b"o" | b"oc" => CsiName::O,
+            _ => CsiName::Vt,
         }
     }
 
     pub(crate) fn name(self) -> &'static str {
         match self {
-            CsiKind::O => "O-CSI",
-            CsiKind::Vt => "VT-CSI",
+            CsiName::O => "O-CSI",
+            CsiName::Vt => "VT-CSI",
         }
     }
 
     /// What stands before the name of one CSI of this kind.
     pub(crate) fn article(self) -> &'static str {
         match self {
-            CsiKind::O => "an",
-            CsiKind::Vt => "a",
+            CsiName::O => "an",
+            CsiName::Vt => "a",
         }
     }
 
     /// The name of an item that is a row.
     pub(crate) fn row_item(self) -> &'static str {
         match self {
-            CsiKind::O => "o",
-            CsiKind::Vt => "t",
+            CsiName::O => "o",
+            CsiName::Vt => "t",
         }
     }
 
     /// The name of an item that is an entry of its criteria.
     pub(crate) fn entry_item(self) -> &'static str {
         match self {
-            CsiKind::O => "oc",
-            CsiKind::Vt => "tc",
+            CsiName::O => "oc",
+            CsiName::Vt => "tc",
         }
     }
 
     /// The detection points of its rows and of its criteria.
     pub(crate) fn points(self) -> &'static [u8] {
         match self {
-            CsiKind::O => &O_DETECTION_POINTS,
-            CsiKind::Vt => &VT_DETECTION_POINTS,
+            CsiName::O => &O_DETECTION_POINTS,
+            CsiName::Vt => &VT_DETECTION_POINTS,
         }
     }
 
@@ -78,24 +78,24 @@ impl CsiKind {
     /// Whether it is stored in the record of a subscriber.
     pub(crate) fn is_in(self, stored: CsisPresent) -> bool {
         match self {
-            CsiKind::O => stored.o,
-            CsiKind::Vt => stored.vt,
+            CsiName::O => stored.o,
+            CsiName::Vt => stored.vt,
         }
     }
 
     /// Whether an update of its subscriber leaves an entry of a detection point; None if it leaves the entry as it is.
     pub(crate) fn entry_after(self, update: &Update, dp: u8) -> Option<bool> {
         let (comes, entry) = match (self, update) {
-            (CsiKind::O, Update::Insert { o, o_criteria, .. }) => (
+            (CsiName::O, Update::Insert { o, o_criteria, .. }) => (
                 o.is_some(),
                 o_criteria.as_ref().map(|set| set.entry(dp).is_some()),
             ),
-            (CsiKind::Vt, Update::Insert { vt, t_criteria, .. }) => (
+            (CsiName::Vt, Update::Insert { vt, t_criteria, .. }) => (
                 vt.is_some(),
                 t_criteria.as_ref().map(|set| set.entry(dp).is_some()),
             ),
-            (CsiKind::O, Update::Delete { what, .. }) => (what.o || what.everything, None),
-            (CsiKind::Vt, Update::Delete { what, .. }) => (what.vt || what.everything, None),
+            (CsiName::O, Update::Delete { what, .. }) => (what.o || what.everything, None),
+            (CsiName::Vt, Update::Delete { what, .. }) => (what.vt || what.everything, None),
             _ => (true, None),
         };
         match entry {

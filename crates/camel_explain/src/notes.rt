@@ -2,7 +2,7 @@
 
 mod dropped;
 
-use crate::csi::CsiKind;
+use crate::csi::CsiName;
 use crate::mistakes::{ADDRESS_FORM, is_like_digits};
 use crate::notes::dropped::note_what_is_dropped;
 use crate::shown::Shown;
@@ -70,7 +70,7 @@ fn note_item(out: &mut String, number: usize, item: &[u8]) -> Result<(), AllocEr
 /// Appends that an item is ignored, if its detection point is none of its CSI.
 fn note_ignored(out: &mut String, number: usize, name: &[u8], dp: &[u8]) -> Result<(), AllocError> {
     let point = parse_small_decimal(dp).unwrap_or(0);
-    let csi = CsiKind::of_item(name);
+    let csi = CsiName::of_item(name);
     if csi.counts(point) {
         return Ok(());
     }

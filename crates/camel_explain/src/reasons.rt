@@ -1,7 +1,7 @@
 //! Why a call triggers no service.
 
 use crate::criteria::say_unmet;
-use crate::csi::CsiKind;
+use crate::csi::CsiName;
 use crate::shown::ShownImsi;
 use camel_rows::{CallEvent, Csi, CsisPresent, Reason, Subscriber};
 use camel_script_replay::Store;
@@ -48,7 +48,7 @@ fn say_no_csi(
     call: &CallEvent,
     accepted: Option<CsisPresent>,
 ) -> Result<(), AllocError> {
-    let csi = CsiKind::of_call(call.dp());
+    let csi = CsiName::of_call(call.dp());
     let imsi = call.imsi();
     write!(
         out,
@@ -60,9 +60,9 @@ fn say_no_csi(
 }
 
 fn say_not_armed(out: &mut String, subscriber: &Subscriber, dp: u8) -> Result<(), AllocError> {
-    match CsiKind::of_call(dp) {
-        CsiKind::O => say_rows(out, subscriber.o(), dp),
-        CsiKind::Vt => say_rows(out, subscriber.vt(), dp),
+    match CsiName::of_call(dp) {
+        CsiName::O => say_rows(out, subscriber.o(), dp),
+        CsiName::Vt => say_rows(out, subscriber.vt(), dp),
     }
 }
 
@@ -72,7 +72,7 @@ fn say_rows<K: Copy, const MOST: usize>(
     csi: Option<&Csi<K, MOST>>,
     dp: u8,
 ) -> Result<(), AllocError> {
-    let name = CsiKind::of_call(dp).name();
+    let name = CsiName::of_call(dp).name();
     let rows = match csi {
         Some(csi) => csi.as_slice(),
         None => &[],

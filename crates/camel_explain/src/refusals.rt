@@ -1,6 +1,6 @@
 //! Why the store refuses an update whose data can be read.
 
-use crate::csi::{CSIS, CsiKind};
+use crate::csi::{CSIS, CsiName};
 use crate::shown::{Shown, ShownImsi};
 use camel_script_replay::Store;
 use camel_tbcd::Imsi;
@@ -51,7 +51,7 @@ fn say_lacking(out: &mut String, store: &Store, fields: &ByteRecord) -> Result<(
 }
 
 /// Appends that criteria of this CSI come without it.
-fn say_lacking_rows(out: &mut String, csi: CsiKind, imsi: &Imsi) -> Result<(), AllocError> {
+fn say_lacking_rows(out: &mut String, csi: CsiName, imsi: &Imsi) -> Result<(), AllocError> {
     let (name, row, entry) = (csi.name(), csi.row_item(), csi.entry_item());
     let imsi = ShownImsi(imsi);
     write!(

@@ -1,6 +1,6 @@
 //! Notes on what an update removes besides what it names.
 
-use crate::csi::{CSIS, CsiKind};
+use crate::csi::{CSIS, CsiName};
 use crate::notes::NOTE;
 use crate::shown::ShownImsi;
 use crate::stored::INDENT;
@@ -65,7 +65,7 @@ const LOOKED_BACK: usize = 1000;
 
 /// Whether an entry of a detection point is stored, by the last pending update that leaves one or none, or else by what
 /// is published.
-fn has_entry(store: &Store, imsi: &Imsi, csi: CsiKind, dp: u8) -> bool {
+fn has_entry(store: &Store, imsi: &Imsi, csi: CsiName, dp: u8) -> bool {
     let mut left = LOOKED_BACK;
     for update in store.pending().iter().rev() {
         if left == 0 {
@@ -90,7 +90,7 @@ fn note_entries(
     store: &Store,
     imsi: &Imsi,
     update: &Update,
-    csi: CsiKind,
+    csi: CsiName,
 ) -> Result<(), AllocError> {
     for dp in csi.points() {
         if csi.entry_after(update, *dp) == Some(false) && has_entry(store, imsi, csi, *dp) {
