@@ -228,8 +228,8 @@ none_valued number out digits is its =
 -- A slot has an IMSI exactly if it has its number, since that of an IMSI is not 0.
 
 some_number : (imsi : List ℕ) → IsImsi imsi → imsi_number imsi ≡ 0 → ⊥
-some_number imsi is zero =
-    let none : [] ≡ imsi = sym (ap digits_of_number zero) ∙ digits_of_imsi imsi is in
+some_number imsi is same =
+    let none : [] ≡ imsi = sym (ap digits_of_number same) ∙ digits_of_imsi imsi is in
     let least = subst (λ digits. 5 ≤ length digits) (sym none) is.least in
     omega (arith, least)
 
