@@ -39,8 +39,8 @@ module _ {X : Type 0} where
   -- a seat that fills a slot and then gives it back has empty ones, if it had such
   pub gives_full_slot : (me filled after : SeatData X) (slot : ℕ × Option X) (view : Part (Option X)) → AreEmpty me.1
       → filled ≡ (me.0, slot ∷ rest me.1) → after ≡ (view, rest filled.1) → AreEmpty after.1
-  gives_full_slot me filled after slot view empty fills gives =
-      subst (λ (m : SeatData X). AreEmpty m.1) (sym (gives ∙ (λ j. (view, rest (fills j).1)))) (AreEmpty-rest me.1 empty)
+  gives_full_slot me filled after slot view empty fills given =
+      subst (λ (m : SeatData X). AreEmpty m.1) (sym (given ∙ (λ j. (view, rest (fills j).1)))) (AreEmpty-rest me.1 empty)
 
 -- The views of the seats at a place, and the slot that a seat took last.
 
