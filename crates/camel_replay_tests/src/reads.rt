@@ -35,7 +35,7 @@ fn reads_to_the_end_or_a_fault(rt: HostRuntime) {
 fn first_without_record<R: Read>(script: &mut Script<R>) -> Option<Given> {
     for _ in 0..5u8 {
         match next(script) {
-            Given::Register | Given::Insert | Given::Publish | Given::Call => {}
+            Given::Update | Given::Publish | Given::Call => {}
             given => return Some(given),
         }
     }
