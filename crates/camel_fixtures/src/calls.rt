@@ -3,7 +3,6 @@
 use camel_criteria::{BasicService, Refusal};
 use camel_rows::CallEvent;
 use camel_tbcd::{AddressFault, CallAddress, Imsi, ImsiFault, IsdnAddress};
-use std::alloc::Global;
 
 /// The destination of a call: the international number 1 2 3 4.
 pub const DESTINATION: [u8; 3] = [0x91, 0x21, 0x43];
@@ -28,15 +27,6 @@ pub fn number_of(octets: &[u8]) -> Result<IsdnAddress, Refusal> {
         Ok(number) => Ok(number),
         Err(_) => Err(Refusal::UnexpectedDataValue),
     }
-}
-
-/// Numbers of these octets.
-pub fn numbers_of(alloc: Global, listed: &[&[u8]]) -> Result<Vec<IsdnAddress>, Refusal> {
-    let mut numbers = Vec::new(alloc);
-    for octets in listed {
-        numbers.push(number_of(octets)?)?;
-    }
-    Ok(numbers)
 }
 
 /// A call of a subscriber to `DESTINATION`, at detection point 2.

@@ -6,9 +6,9 @@ mod calls;
 mod summaries;
 mod updates;
 
-pub use calls::{DESTINATION, TELEPHONY, call_of, imsi_of, number_of, numbers_of};
+pub use calls::{DESTINATION, TELEPHONY, call_of, imsi_of, number_of};
 pub use summaries::{
     ARMED, EntrySummary, LISTED, ListedNumbers, RowSummary, StoredSummary, entry_summary,
-    first_octet, row_summary, stored_summary,
+    row_summary, stored_summary,
 };
 pub use updates::{O_ALONE, SCF, criteria_update, row_of, row_update, triggered};

@@ -52,7 +52,7 @@ pub fn entry_summary(entry: Option<Lent>) -> Option<EntrySummary> {
 }
 
 /// The octet of the first code.
-pub fn first_octet(codes: &[BasicService]) -> Option<u8> {
+fn first_octet(codes: &[BasicService]) -> Option<u8> {
     match codes.first()? {
         BasicService::Tele(octet) | BasicService::Bearer(octet) => Some(*octet),
     }

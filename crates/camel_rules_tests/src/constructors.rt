@@ -1,6 +1,5 @@
 //! Criteria and their copies.
 
-use crate::limits::UNEXPECTED;
 use camel_criteria::{
     BasicService, CallType, MatchType, NumberCriterion, OCriteria, Refusal, TCriteria,
 };
@@ -102,13 +101,4 @@ fn is_t_entry_and_its_copy(entry: &TCriteria) -> bool {
 fn reads_and_copies_an_entry_of_the_vt_csi(rt: HostRuntime) {
     let made = TCriteria::new(13, &CODES, &[18, 17]);
     assert!(rt; made.is_ok_and(|entry| is_t_entry_and_its_copy(&entry)));
-}
-
-/// At detection point 2 of an originating call and 12 of a terminating one no call is released yet.
-#[test]
-fn takes_a_cause_where_a_call_is_released(rt: HostRuntime) {
-    assert!(rt; OCriteria::new(rt.alloc(), 4, None, &[], None, &[17]).is_ok());
-    assert!(rt; OCriteria::new(rt.alloc(), 2, None, &[], None, &[17]).err() == UNEXPECTED);
-    assert!(rt; TCriteria::new(13, &[], &[17]).is_ok());
-    assert!(rt; TCriteria::new(12, &[], &[17]).err() == UNEXPECTED);
 }

@@ -1,21 +1,16 @@
-use crate::limits::UNEXPECTED;
 use camel_criteria::{CriteriaEntry, Handling, OCriteria, Refusal, TCriteria};
 use camel_fixtures::{SCF, row_of};
 use camel_rows::{CriteriaSet, Csi, OCriteriaSet, OCsi, TCriteriaSet, TdpRow, VtCsi};
 use std::alloc::Global;
-
-const MISSING: Option<Refusal> = Some(Refusal::DataMissing);
 
 fn shows_its_values(row: &TdpRow) -> bool {
     (row.dp(), row.key(), row.handling()) == (4, 2_147_483_647, Handling::Release)
         && row.scf().bytes() == SCF.as_slice()
 }
 
-/// By TS 29.002 a ServiceKey has 31 bits.
 #[test]
 fn a_row_shows_its_four_values(rt: HostRuntime) {
     assert!(rt; row_of(4, 2_147_483_647, 1).is_ok_and(|row| shows_its_values(&row)));
-    assert!(rt; row_of(4, 2_147_483_648, 1).err() == UNEXPECTED);
 }
 
 /// By TS 23.078 rows of other detection points are ignored; each row here has its place as its service key.
@@ -33,9 +28,8 @@ fn o_csi(count: usize) -> Result<OCsi, Refusal> {
     OCsi::new(mixed_rows()?.get(..count).unwrap_or(&[]))
 }
 
-/// A VT-CSI of the first so many of the rows.
-fn vt_csi(count: usize) -> Result<VtCsi, Refusal> {
-    VtCsi::new(mixed_rows()?.get(..count).unwrap_or(&[]))
+fn vt_csi() -> Result<VtCsi, Refusal> {
+    VtCsi::new(&mixed_rows()?)
 }
 
 /// Whether there are so many rows, and these are the service keys of the first two and of the row of a detection point.
@@ -53,24 +47,24 @@ fn has_rows<K: Copy, const MOST: usize>(
 #[test]
 fn a_csi_keeps_its_rows_in_order(rt: HostRuntime) {
     assert!(rt; o_csi(4).is_ok_and(|csi| has_rows(&csi, 2, 2, [Some(1), Some(3), Some(3)])));
-    assert!(rt; vt_csi(4).is_ok_and(|csi| has_rows(&csi, 2, 12, [Some(0), Some(2), Some(2)])));
+    assert!(rt; vt_csi().is_ok_and(|csi| has_rows(&csi, 2, 12, [Some(0), Some(2), Some(2)])));
     assert!(rt; o_csi(1).is_ok_and(|csi| has_rows(&csi, 0, 14, [None; 3])));
-    assert!(rt; o_csi(0).err() == MISSING);
-    assert!(rt; vt_csi(0).err() == MISSING);
 }
 
-fn o_set(alloc: Global, points: &[u8]) -> Result<OCriteriaSet, Refusal> {
+const POINTS: [u8; 4] = [14, 4, 12, 2];
+
+fn o_set(alloc: Global) -> Result<OCriteriaSet, Refusal> {
     let mut entries = Vec::new(alloc);
-    for dp in points {
-        entries.push(OCriteria::new(alloc, *dp, None, &[], None, &[])?)?;
+    for dp in POINTS {
+        entries.push(OCriteria::new(alloc, dp, None, &[], None, &[])?)?;
     }
     OCriteriaSet::new(entries)
 }
 
-fn t_set(alloc: Global, points: &[u8]) -> Result<TCriteriaSet, Refusal> {
+fn t_set(alloc: Global) -> Result<TCriteriaSet, Refusal> {
     let mut entries = Vec::new(alloc);
-    for dp in points {
-        entries.push(TCriteria::new(*dp, &[], &[])?)?;
+    for dp in POINTS {
+        entries.push(TCriteria::new(dp, &[], &[])?)?;
     }
     TCriteriaSet::new(entries)
 }
@@ -86,9 +80,6 @@ fn has_entries<E: CriteriaEntry>(set: &CriteriaSet<E>, first: u8, second: u8) ->
 
 #[test]
 fn a_set_of_criteria_keeps_its_entries_in_order(rt: HostRuntime) {
-    let points = [14, 4, 12, 2];
-    assert!(rt; o_set(rt.alloc(), &points).is_ok_and(|set| has_entries(&set, 4, 2)));
-    assert!(rt; t_set(rt.alloc(), &points).is_ok_and(|set| has_entries(&set, 14, 12)));
-    assert!(rt; o_set(rt.alloc(), &[]).err() == MISSING);
-    assert!(rt; t_set(rt.alloc(), &[]).err() == MISSING);
+    assert!(rt; o_set(rt.alloc()).is_ok_and(|set| has_entries(&set, 4, 2)));
+    assert!(rt; t_set(rt.alloc()).is_ok_and(|set| has_entries(&set, 14, 12)));
 }

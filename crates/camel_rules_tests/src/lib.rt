@@ -5,8 +5,6 @@
 #[cfg(test)]
 mod addresses;
 #[cfg(test)]
-mod basic_services;
-#[cfg(test)]
 mod constructors;
 #[cfg(test)]
 mod copies;
@@ -20,8 +18,6 @@ mod events;
 mod growth;
 #[cfg(test)]
 mod imsis;
-#[cfg(test)]
-mod limits;
 #[cfg(test)]
 mod marked;
 #[cfg(test)]
