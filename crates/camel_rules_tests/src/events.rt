@@ -5,13 +5,12 @@ use camel_tbcd::CallAddress;
 
 const FACSIMILE: BasicService = BasicService::Tele(0x62);
 
-const BEARER: BasicService = BasicService::Bearer(0x11);
+/// What an event shows: its detection point, basic service and cause, and whether the call is forwarded, if it has that
+/// and a destination.
+type Shown = (u8, BasicService, Option<u8>, Option<bool>);
 
-/// What an event shows: its detection point, basic service and cause.
-type Shown = (u8, BasicService, Option<u8>);
-
-/// Whether the destination of a call is `DESTINATION`, and whether it is forwarded, if the event has them.
-fn destination_of(event: &Event) -> Option<(bool, bool)> {
+/// Whether a call to `DESTINATION` is forwarded.
+fn is_forwarded(event: &Event) -> Option<bool> {
     match event {
         Event::CollectedInfo {
             destination,
@@ -22,78 +21,57 @@ fn destination_of(event: &Event) -> Option<(bool, bool)> {
             destination,
             forwarded,
             ..
-        } => Some((destination.bytes() == DESTINATION.as_slice(), *forwarded)),
+        } => (destination.bytes() == DESTINATION.as_slice()).then_some(*forwarded),
         _ => None,
     }
 }
 
-/// Whether a call of the subscriber 1 shows this, and `DESTINATION` if it shows whether it is forwarded.
-fn shows(call: &CallEvent, wanted: Shown, forwarded: Option<bool>) -> Option<bool> {
+/// Whether a call of the subscriber 1 shows this.
+fn shows(call: &CallEvent, wanted: Shown) -> bool {
     let event = call.lend();
     let cause = event.cause().map(|cause| cause.value());
-    Some(
-        (event.dp(), event.basic(), cause) == wanted
-            && event.imsi() == imsi_of(1).ok()?
-            && destination_of(&event) == forwarded.map(|forwarded| (true, forwarded)),
-    )
+    imsi_of(1).is_ok_and(|imsi| event.imsi() == imsi)
+        && (event.dp(), event.basic(), cause, is_forwarded(&event)) == wanted
 }
 
-fn shows_collected_info() -> Option<bool> {
-    let call = CallEvent::CollectedInfo {
-        imsi: imsi_of(1).ok()?,
-        destination: CallAddress::from_bytes(&DESTINATION).ok()?,
+fn originating_calls_show_all() -> Option<bool> {
+    let (imsi, destination) = (
+        imsi_of(1).ok()?,
+        CallAddress::from_bytes(&DESTINATION).ok()?,
+    );
+    let collected = CallEvent::CollectedInfo {
+        imsi,
+        destination,
         basic: TELEPHONY,
         forwarded: false,
     };
-    shows(&call, (2, TELEPHONY, None), Some(false))
-}
-
-fn shows_a_route_failure() -> Option<bool> {
-    let call = CallEvent::RouteSelectFailure {
-        imsi: imsi_of(1).ok()?,
-        destination: CallAddress::from_bytes(&DESTINATION).ok()?,
+    let failed = CallEvent::RouteSelectFailure {
+        imsi,
+        destination,
         basic: FACSIMILE,
         forwarded: true,
         cause: Cause::new(3)?,
     };
-    shows(&call, (4, FACSIMILE, Some(3)), Some(true))
+    Some(
+        shows(&collected, (2, TELEPHONY, None, Some(false)))
+            && shows(&failed, (4, FACSIMILE, Some(3), Some(true))),
+    )
+}
+
+fn terminating_calls_show_all() -> Option<bool> {
+    let (imsi, basic, cause) = (imsi_of(1).ok()?, FACSIMILE, Cause::new(127)?);
+    let attempt = CallEvent::TerminatingAttempt { imsi, basic };
+    let busy = CallEvent::Busy { imsi, basic, cause };
+    let unanswered = CallEvent::NoAnswer { imsi, basic, cause };
+    Some(
+        shows(&attempt, (12, FACSIMILE, None, None))
+            && shows(&busy, (13, FACSIMILE, Some(127), None))
+            && shows(&unanswered, (14, FACSIMILE, Some(127), None)),
+    )
 }
 
 #[test]
-fn an_originating_call_shows_what_it_was_made_of(rt: HostRuntime) {
-    assert!(rt; shows_collected_info() == Some(true));
-    assert!(rt; shows_a_route_failure() == Some(true));
-}
-
-fn shows_an_attempt() -> Option<bool> {
-    let call = CallEvent::TerminatingAttempt {
-        imsi: imsi_of(1).ok()?,
-        basic: TELEPHONY,
-    };
-    shows(&call, (12, TELEPHONY, None), None)
-}
-
-fn shows_that_it_is_busy() -> Option<bool> {
-    let call = CallEvent::Busy {
-        imsi: imsi_of(1).ok()?,
-        basic: FACSIMILE,
-        cause: Cause::new(17)?,
-    };
-    shows(&call, (13, FACSIMILE, Some(17)), None)
-}
-
-fn shows_that_nobody_answers() -> Option<bool> {
-    let call = CallEvent::NoAnswer {
-        imsi: imsi_of(1).ok()?,
-        basic: BEARER,
-        cause: Cause::new(127)?,
-    };
-    shows(&call, (14, BEARER, Some(127)), None)
-}
-
-#[test]
-fn a_call_to_a_subscriber_shows_what_it_was_made_of(rt: HostRuntime) {
-    assert!(rt; shows_an_attempt() == Some(true));
-    assert!(rt; shows_that_it_is_busy() == Some(true));
-    assert!(rt; shows_that_nobody_answers() == Some(true));
+fn a_call_shows_what_it_was_made_of(rt: HostRuntime) {
+    assert!(rt; originating_calls_show_all() == Some(true));
+    assert!(rt; terminating_calls_show_all() == Some(true));
 }

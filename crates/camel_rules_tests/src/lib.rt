@@ -1,5 +1,7 @@
 //! The tests of `camel_tbcd`, `camel_table`, `camel_criteria` and `camel_rows`, which call them from outside, as their
-//! users do. A plain function compares and gives a bool, which is cheaper to prove than a test that prints both sides.
+//! users do. The cases of a rule are vectors in `conformance/` or scripts in `tests/`, beside the crates; here is what
+//! none of these can show, and that a call with right data gives a value. A plain function compares and gives a bool,
+//! which is cheaper to prove than a test that prints both sides.
 #![tactic(auto)]
 
 #[cfg(test)]
@@ -18,8 +20,6 @@ mod events;
 mod growth;
 #[cfg(test)]
 mod imsis;
-#[cfg(test)]
-mod marked;
 #[cfg(test)]
 mod met;
 #[cfg(test)]

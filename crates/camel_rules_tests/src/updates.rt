@@ -1,17 +1,33 @@
-//! What scripts can't show of updates: an entry that has no effect, a Delete that names nothing, and the Insert of a
-//! record.
+//! The Insert of a record. Vectors and scripts show what each update leaves.
 
-use crate::marked::{Stored, csis_in, marked_insert};
-use camel_fixtures::imsi_of;
-use camel_rows::{Records, Update, Withdrawal, inserted_csi_stands, updates_change_own_records};
+use camel_criteria::{BasicService, Handling, Refusal, TCriteria};
+use camel_fixtures::{
+    ARMED, EntrySummary, LISTED, StoredSummary, criteria_update, imsi_of, row_of, stored_summary,
+};
+use camel_rows::{
+    Records, TCriteriaSet, Update, VtCsi, inserted_csi_stands, updates_change_own_records,
+};
 use camel_table::Seed;
+use camel_tbcd::Imsi;
 use std::alloc::Global;
 
-const NEITHER_CSI: Withdrawal = Withdrawal {
-    o: false,
-    vt: false,
-    everything: false,
-};
+/// The Insert of a VT-CSI with its criteria.
+fn vt_update(alloc: Global, imsi: Imsi) -> Result<Update, Refusal> {
+    let mut entries = Vec::new(alloc);
+    entries.push(TCriteria::new(12, &[BasicService::Tele(0x60)], &[])?)?;
+    Ok(Update::Insert {
+        imsi,
+        o: None,
+        o_criteria: None,
+        vt: Some(VtCsi::new(&[row_of(12, 7, 1)?])?),
+        t_criteria: Some(TCriteriaSet::new(entries)?),
+    })
+}
+
+const STORED_VT: StoredSummary = (
+    Some((12, 7, true, Handling::Release)),
+    Some(EntrySummary::T(12, Some(0x60))),
+);
 
 /// Records of another seed, filled with those that are listed.
 fn refill(alloc: Global, records: &Records) -> Option<Records> {
@@ -28,46 +44,18 @@ fn fills_another_store(alloc: Global) -> Option<bool> {
     let imsi = imsi_of(1).ok()?;
     let mut records = Records::new(alloc);
     records.apply(&Update::Register { imsi }).ok()?;
-    let insert = marked_insert(alloc, imsi, [Some(1), Some(2), Some(3), Some(4)]).ok()?;
-    records.apply(&insert).ok()?;
-    let stored = csis_in(&refill(alloc, &records)?, &imsi);
-    Some(stored == Some((Some((Some(1), Some(2))), Some((Some(3), Some(4))))))
+    records.apply(&criteria_update(alloc, imsi).ok()?).ok()?;
+    records.apply(&vt_update(alloc, imsi).ok()?).ok()?;
+    let other = refill(alloc, &records)?;
+    Some(
+        stored_summary(&other, &imsi, 2) == Some((Some(ARMED), Some(LISTED)))
+            && stored_summary(&other, &imsi, 12) == Some(STORED_VT),
+    )
 }
 
 #[test]
 fn a_listed_record_fills_another_store(rt: HostRuntime) {
-    assert!(rt; fills_another_store(rt.alloc()) == Some(true));
-}
-
-/// A CSI with an entry and no row.
-fn mark(mark: u8) -> Stored {
-    Some((None, Some(mark)))
-}
-
-fn is_stored_and_stays(alloc: Global) -> Option<bool> {
-    let imsi = imsi_of(1).ok()?;
-    let mut records = Records::new(alloc);
-    records.apply(&Update::Register { imsi }).ok()?;
-    for brought in [
-        [Some(0), None, Some(0), None],
-        [None, Some(16), None, Some(17)],
-    ] {
-        let insert = marked_insert(alloc, imsi, brought).ok()?;
-        records.apply(&insert).ok()?;
-    }
-    let stored = csis_in(&records, &imsi);
-    let delete = Update::Delete {
-        imsi,
-        what: NEITHER_CSI,
-    };
-    let is_admitted = records.check(&delete).is_ok();
-    records.apply(&delete).ok()?;
-    Some(is_admitted && stored == Some((mark(16), mark(17))) && csis_in(&records, &imsi) == stored)
-}
-
-#[test]
-fn an_entry_without_a_row_is_stored_and_stays(rt: HostRuntime) {
     inserted_csi_stands();
     updates_change_own_records();
-    assert!(rt; is_stored_and_stays(rt.alloc()) == Some(true));
+    assert!(rt; fills_another_store(rt.alloc()) == Some(true));
 }
