@@ -17,93 +17,31 @@ fn keeps_5_to_15_digits(rt: HostRuntime) {
     assert!(rt; Imsi::from_digits(&[2, 6, 2, 10, 11]).err() == Some(ImsiFault::NotDigit { at: 3 }));
 }
 
-/// Whether these characters are read as just these digits.
-fn is_read_as(characters: &[u8], digits: &[u8]) -> bool {
-    has_digits(Imsi::from_ascii(characters), digits)
-        && Imsi::from_ascii(characters) == Imsi::from_digits(digits)
-}
-
-fn is_refused(characters: &[u8], fault: ImsiFault) -> bool {
-    Imsi::from_ascii(characters).err() == Some(fault)
-}
-
-/// By TS 23.003 an IMSI is written in decimal digits.
+/// `tests/explain/imsis.csv` has other characters.
 #[test]
 fn keeps_the_digits_of_characters(rt: HostRuntime) {
-    assert!(rt; is_read_as(b"26201", &[2, 6, 2, 0, 1]));
-    assert!(rt;
-        is_read_as(
-            b"001010123456789",
-            &[0, 0, 1, 0, 1, 0, 1, 2, 3, 4, 5, 6, 7, 8, 9]
-        )
-    );
-    assert!(rt; is_refused(b"2620", ImsiFault::Length));
-    assert!(rt; is_refused(b"0010101234567890", ImsiFault::Length));
-    assert!(rt; is_refused(b"262-01", ImsiFault::NotDigit { at: 3 }));
-    assert!(rt; is_refused(b"26201:/", ImsiFault::NotDigit { at: 5 }));
+    let digits = [0, 0, 1, 0, 1, 0, 1, 2, 3, 4, 5, 6, 7, 8, 9];
+    assert!(rt; has_digits(Imsi::from_ascii(b"001010123456789"), &digits));
+    assert!(rt; Imsi::from_ascii(b"2620").err() == Some(ImsiFault::Length));
+    assert!(rt; Imsi::from_ascii(b"26201:/").err() == Some(ImsiFault::NotDigit { at: 5 }));
 }
 
-/// Whether the IMSI of these characters has the number of this count of digits and this value, and is found by it.
-fn has_number(characters: &[u8], count: u64, value: u64) -> bool {
-    match Imsi::from_ascii(characters) {
-        Ok(imsi) => {
-            let number = count << 56 | value;
-            imsi.number() == number && Imsi::from_number(number) == Some(imsi)
-        }
-        Err(_) => false,
-    }
-}
-
-/// The number has the count of digits in its highest octet, and their decimal value below.
+/// The number has the count of digits in its highest octet, and their decimal value below. `tests/library/imsis.c` has
+/// those of each count, and numbers that no IMSI has.
 #[test]
 fn has_the_number_of_its_digits(rt: HostRuntime) {
-    assert!(rt; has_number(b"262010000000001", 15, 262_010_000_000_001));
-    assert!(rt; has_number(b"001010123456789", 15, 1_010_123_456_789));
-    assert!(rt; has_number(b"999999999999999", 15, 999_999_999_999_999));
-    assert!(rt; has_number(b"00101", 5, 101));
-    assert!(rt; has_number(b"001010", 6, 1_010));
-    assert!(rt;
-        Imsi::from_ascii(b"262010000000001").is_ok_and(|imsi| imsi.number()
-            == 1_081_125_920_568_919_041)
-    );
-}
-
-/// Whether no IMSI has the number of this count of digits and this value.
-fn is_no_number(count: u64, value: u64) -> bool {
-    Imsi::from_number(count << 56 | value).is_none()
-}
-
-#[test]
-fn has_no_other_number(rt: HostRuntime) {
-    assert!(rt; is_no_number(0, 0));
-    assert!(rt; is_no_number(0, 262_010_000_000_001));
-    assert!(rt; is_no_number(4, 9_999));
-    assert!(rt; is_no_number(5, 100_000));
-    assert!(rt; is_no_number(14, 262_010_000_000_001));
-    assert!(rt; is_no_number(15, 1_000_000_000_000_000));
-    assert!(rt; is_no_number(16, 262_010_000_000_001));
-    assert!(rt; is_no_number(255, 0));
+    let imsi = Imsi::from_ascii(b"262010000000001");
+    assert!(rt; imsi.is_ok_and(|imsi| imsi.number() == 1_081_125_920_568_919_041));
+    assert!(rt; Imsi::from_number(1_081_125_920_568_919_041) == imsi.ok());
+    assert!(rt; Imsi::from_number(15 << 56 | 1_000_000_000_000_000).is_none());
 }
 
 /// By TS 29.002 a TBCD-STRING has the first digit in the low nibble, and a filler only for an odd count.
 #[test]
 fn keeps_the_digits_of_tbcd_octets(rt: HostRuntime) {
-    assert!(rt;
-        has_digits(
-            Imsi::from_tbcd(&[0x62, 0x02, 0x01, 0x00, 0x00, 0x00, 0x00, 0xf1]),
-            &[2, 6, 2, 0, 1, 0, 0, 0, 0, 0, 0, 0, 0, 0, 1]
-        )
-    );
     assert!(rt; has_digits(Imsi::from_tbcd(&[0x21, 0x43, 0xf5]), &[1, 2, 3, 4, 5]));
-    assert!(rt; has_digits(Imsi::from_tbcd(&[0x21, 0x43, 0x65]), &[1, 2, 3, 4, 5, 6]));
-}
-
-#[test]
-fn refuses_tbcd_octets_of_no_imsi(rt: HostRuntime) {
-    assert!(rt; Imsi::from_tbcd(&[0x11; 2]).err() == Some(ImsiFault::Length));
     assert!(rt; Imsi::from_tbcd(&[0x11; 8]).err() == Some(ImsiFault::Length));
     assert!(rt; Imsi::from_tbcd(&[0x11, 0xa1, 0x11]).err() == Some(ImsiFault::NotDigit { at: 3 }));
-    assert!(rt; Imsi::from_tbcd(&[0xf1, 0x11, 0x11]).err() == Some(ImsiFault::NotDigit { at: 1 }));
 }
 
 /// Every comparison of two values, each through its own bound only.
