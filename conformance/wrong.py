@@ -313,8 +313,17 @@ class RegisterKeeps(Model):
         self.records.setdefault(imsi, {})
 
 
+class LaterRowsBehind(Model):
+    """lists-in-two-operations: rows that come again are behind the first ones"""
+
+    def join(self, earlier, later):
+        whole = super().join(earlier, later)
+        rows = {name: earlier.lists.get(name, []) + later.lists.get(name, []) for name in updates.CSIS}
+        return updates.Insert(earlier.imsi, whole.lists | {name: items for name, items in rows.items() if items})
+
+
 class LaterReplaces(Model):
-    """lists-in-two-operations: a list that comes again is in the place of the first one"""
+    """lists-in-two-operations: criteria that come again are in the place of the first ones"""
 
     def join(self, earlier, later):
         super().join(earlier, later)

@@ -525,11 +525,12 @@ CAMEL_INLINE camel_status camel_update_of_map(uint8_t operation, const camel_ims
     return camel_update_of_map_nonnull(operation, imsi, at, argument_octet_count, update, place);
 }
 
-/* Fills an empty handle with the join of two Inserts of one dialogue, over which an HLR has split the lists of a
- * subscriber: what one operation brings that has the lists of both, with the items of `next` behind those of `one`. Of
- * a camelCapabilityHandling in both, that of `next` stands. The two are different handles, and stay as they are.
+/* Fills an empty handle with the join of two Inserts of one dialogue, over which an HLR has split the data of a
+ * subscriber: what one operation brings that has the lists of both. Of the rows of a CSI in both, those of `next` stand;
+ * the criteria of `next` are behind those of `one`. Of a camelCapabilityHandling in both, that of `next` stands. The two
+ * are different handles, and stay as they are.
  * CAMEL_WRONG_HANDLE: one of them holds no update. CAMEL_FULL_HANDLE. CAMEL_NO_INSERT, CAMEL_OTHER_SUBSCRIBER.
- * CAMEL_UNEXPECTED_DATA_VALUE: a list has more than 10 items then, or two of a detection point of the CSI.
+ * CAMEL_UNEXPECTED_DATA_VALUE: criteria have more than 10 entries then, or two of a detection point of the CSI.
  * CAMEL_OUT_OF_MEMORY. */
 CAMEL_CALL
 camel_status camel_update_join(const camel_update *one, const camel_update *next, camel_update *joined);

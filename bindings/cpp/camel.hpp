@@ -351,8 +351,8 @@ public:
     }
 
     /* The join of this Insert and the next one of its dialogue, which is another object: what one operation brings
-     * that has the lists of both. CAMEL_NO_INSERT, CAMEL_OTHER_SUBSCRIBER, CAMEL_UNEXPECTED_DATA_VALUE,
-     * CAMEL_OUT_OF_MEMORY. */
+     * that has the lists of both. Of rows in both, those of the next one stand; its criteria are behind those of this
+     * one. CAMEL_NO_INSERT, CAMEL_OTHER_SUBSCRIBER, CAMEL_UNEXPECTED_DATA_VALUE, CAMEL_OUT_OF_MEMORY. */
     Result<Update> join(const Update &next) const noexcept
     {
         return made(camel_update_join, handle_.at(), next.handle_.at());

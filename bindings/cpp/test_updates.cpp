@@ -54,7 +54,7 @@ static void updates_are_refused()
     CHECK(camel::Store().submit(Update()).status() == CAMEL_WRONG_HANDLE);
 }
 
-/* Lists that the HLR splits over two operations are one Insert, as if one operation had brought them. */
+/* What the HLR splits over two operations is one Insert. Criteria that come again are more, and rows replace. */
 static void inserts_are_joined()
 {
     using camel::Update;
@@ -62,6 +62,7 @@ static void inserts_are_joined()
     Update update = get(inserted(imsi(), ROWS).join(inserted(imsi(), CRITERIA)));
     camel_update_parts parts = get(update.parts());
     CHECK(parts.o_rows == 1 && parts.o_criteria == 1 && parts.has_o_capability && parts.o_capability == 3);
+    CHECK(get(get(update.join(inserted(imsi(), ROWS))).parts()).o_rows == 1);
     CHECK(update.join(inserted(imsi(), CRITERIA)).status() == CAMEL_UNEXPECTED_DATA_VALUE);
     CHECK(update.join(inserted(other, CRITERIA)).status() == CAMEL_OTHER_SUBSCRIBER);
     CHECK(update.join(get(Update::of_cancel(imsi()))).status() == CAMEL_NO_INSERT);

@@ -154,8 +154,8 @@ static void test_location_updates(void)
 	calls(&FIRST, NOT_LISTED);
 	step("of the second operation the data are refused, and the first one stands");
 	location_update_begins(&FIRST);
-	inserts(&FIRST, OTHER_DATA);
-	insert_refused(&FIRST, argument_of(OTHER_DATA), "02015f");
+	inserts(&FIRST, OTHER_DATA O_CRITERIA);
+	insert_refused(&FIRST, argument_of(O_CRITERIA), "02015f");
 	inserts(&FIRST, CALLED_RELEASE);
 	location_update_ends(&FIRST, "06", RES_ACCEPT);
 	calls(&FIRST, LISTED);

@@ -12,8 +12,9 @@ from checking import Difference
 
 from .programs import CHECK, answers_of
 
-# What stands for the items of a list of which all are ignored.
-IGNORED_ROW, IGNORED_ENTRY = updates.Row(255, 0, bytes(1), 0), updates.Entry(255)
+# The item that stands for those of a list of which all are ignored: of a detection point of the other CSI.
+IGNORED = {"o": updates.Row(12, 0, bytes(1), 0), "oc": updates.Entry(12),
+           "t": updates.Row(2, 0, bytes(1), 0), "tc": updates.Entry(2)}
 
 
 def sent_number(number):
@@ -31,7 +32,7 @@ def sent_item(item):
 
 def sent_items(name, items):
     kept = [sent_item(item) for item in items if item.point in updates.points_of(name)]
-    return kept or [IGNORED_ENTRY if name.endswith("c") else IGNORED_ROW]
+    return kept or [IGNORED[name]]
 
 
 def sent_update(update):

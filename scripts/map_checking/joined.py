@@ -1,4 +1,4 @@
-"""Inserts whose lists are split over two operations of a dialogue, joined again."""
+"""Inserts that are split over two operations of a dialogue, joined again."""
 
 import random
 from typing import NamedTuple
@@ -30,10 +30,16 @@ class Pair(NamedTuple):
         return f"{self.first},{self.second.octets.hex()}"
 
 
+def rest_of(name, items, place):
+    """What the second insert has of a list of which the first has the items before a place."""
+    return items if name in updates.CSIS and place < len(items) else items[place:]
+
+
 def split(source, insert, places):
-    """The insert as two, of which the first has so many items of each list."""
+    """The insert as two, of which the first has so many items of each list. If these are not all rows of a CSI, the
+    second has it whole."""
     halves = ({name: items[:places[name]] for name, items in insert.lists.items()},
-              {name: items[places[name]:] for name, items in insert.lists.items()})
+              {name: rest_of(name, items, places[name]) for name, items in insert.lists.items()})
     lists = [{name: items for name, items in half.items() if items} for half in halves]
     # What comes with a CSI comes with a part of it that is there.
     first, second = ({name: phase for name, phase in insert.capabilities.items() if name in half} for half in lists)

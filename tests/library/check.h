@@ -106,6 +106,20 @@ static inline camel_status update_of_insert(const camel_imsi *imsi, const camel_
     return camel_update_of(&(camel_change){ .kind = CAMEL_UPDATE_INSERT, .imsi = *imsi, .insert = *sent }, update);
 }
 
+/* An Insert of entries of the O-CSI, with these detection points. */
+static inline camel_update criteria_in(const uint8_t *dps, size_t count)
+{
+    camel_criteria entries[10] = { { .dp = 0 } };
+    camel_insert sent = { .o = { .criteria = entries, .criteria_count = count } };
+    camel_update update = CAMEL_EMPTY;
+    camel_imsi imsi = imsi_of(1);
+
+    for (size_t at = 0; at < count; at++)
+        entries[at].dp = dps[at];
+    RETURNS(CAMEL_OK, update_of_insert(&imsi, &sent, &update));
+    return update;
+}
+
 static inline camel_status update_of_delete(const camel_imsi *imsi, const camel_withdrawal *what, camel_update *update)
 {
     camel_change change = delete_of(imsi, what);

@@ -105,7 +105,7 @@ static void f_update_parts_of(void)
     IS(are_written == holds_update(slot) && (!are_written || is_same_parts(parts, &slots[slot].parts)));
 }
 
-/* The status of a join, but that two items may be of one detection point. */
+/* The status of a join, but that two entries may be of one detection point. */
 static camel_status status_of_join(unsigned first, unsigned from, bool was_full)
 {
     camel_update_parts *one = &slots[first].parts, *next = &slots[from].parts;
@@ -117,16 +117,20 @@ static camel_status status_of_join(unsigned first, unsigned from, bool was_full)
         return CAMEL_NO_INSERT;
     if (one->imsi.number != next->imsi.number)
         return CAMEL_OTHER_SUBSCRIBER;
-    for (unsigned list = 0; list < LISTS; list++)
-        if (counts_in(one)[list] + counts_in(next)[list] > 10)
+    for (unsigned criteria = 1; criteria < LISTS; criteria += 2)
+        if (counts_in(one)[criteria] + counts_in(next)[criteria] > 10)
             return CAMEL_UNEXPECTED_DATA_VALUE;
     return CAMEL_OK;
 }
 
+/* Rows that came later stand, and criteria are behind the earlier ones. */
 static void note_join(camel_update_parts *one, camel_update_parts *next)
 {
-    for (unsigned list = 0; list < LISTS; list++)
-        counts_in(one)[list] += counts_in(next)[list];
+    for (unsigned rows = 0; rows < LISTS; rows += 2) {
+        if (counts_in(next)[rows])
+            counts_in(one)[rows] = counts_in(next)[rows];
+        counts_in(one)[rows + 1] += counts_in(next)[rows + 1];
+    }
     if (next->has_o_capability)
         one->has_o_capability = true, one->o_capability = next->o_capability;
     if (next->has_vt_capability)

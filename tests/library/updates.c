@@ -179,7 +179,7 @@ static void refused_joins(void)
 {
     static const uint8_t one[] = { 2 }, same[] = { 2 }, many[] = { 3, 3, 3, 3, 3, 3, 3, 3, 3, 3 };
     camel_imsi imsi = imsi_of(1);
-    camel_update update = rows_in(1, one, 1, 3), twice = rows_in(1, same, 1, 3), eleven = rows_in(1, many, 10, 3);
+    camel_update update = criteria_in(one, 1), twice = criteria_in(same, 1), eleven = criteria_in(many, 10);
     camel_update other = rows_in(2, many, 1, 3), cancel = CAMEL_EMPTY, empty = CAMEL_EMPTY, joined = CAMEL_EMPTY;
     camel_update_parts before = parts_of(&update), after;
 
@@ -196,7 +196,7 @@ static void refused_joins(void)
     RETURNS(CAMEL_FULL_HANDLE, camel_update_join(&cancel, &other, &update));
     after = parts_of(&update);
     IS(is_same_parts(&before, &after) && !empty.is_full && !joined.is_full);
-    IS(parts_of(&cancel).kind == CAMEL_UPDATE_CANCEL && parts_of(&eleven).o_rows == 10);
+    IS(parts_of(&cancel).kind == CAMEL_UPDATE_CANCEL && parts_of(&eleven).o_criteria == 10);
     camel_free(&update), camel_free(&twice), camel_free(&eleven), camel_free(&other), camel_free(&cancel);
 }
 
@@ -213,34 +213,30 @@ static camel_answer decided(camel_store *store, camel_session *session, uint8_t 
     return answer;
 }
 
-/* Two Inserts are one: without a join the rows of the second would take the place of the first ones. */
+/* Two Inserts are one: the rows of the second stand, and its criteria are behind the first ones. */
 static void joined_updates(camel_store *store, camel_session *session)
 {
     static const uint8_t first[] = { 2, 3 }, second[] = { 4 };
-    camel_update one = rows_in(1, first, 2, 2), next = rows_in(1, second, 1, 3), criteria = CAMEL_EMPTY;
-    camel_update rows = CAMEL_EMPTY, update = CAMEL_EMPTY;
-    camel_imsi imsi = imsi_of(1);
-    camel_criteria entry = { .dp = 4 };
-    camel_insert sent = { .o = { .criteria = &entry, .criteria_count = 1 } };
+    camel_update one = rows_in(1, first, 2, 2), next = rows_in(1, second, 1, 3), rows = CAMEL_EMPTY;
+    camel_update criteria = criteria_in(second, 1), more = criteria_in(first, 2), some = CAMEL_EMPTY;
+    camel_update update = CAMEL_EMPTY;
     camel_update_parts parts;
 
     RETURNS(CAMEL_OK, camel_update_join(&one, &next, &rows));
     parts = parts_of(&rows);
-    IS(parts.o_rows == 3 && parts.has_o_capability && parts.o_capability == 3);
+    IS(parts.o_rows == 1 && parts.has_o_capability && parts.o_capability == 3);
     IS(parts_of(&one).o_rows == 2 && parts_of(&one).o_capability == 2 && parts_of(&next).o_rows == 1);
-    RETURNS(CAMEL_OK, update_of_insert(&imsi, &sent, &criteria));
-    RETURNS(CAMEL_OK, camel_update_join(&rows, &criteria, &update));
+    RETURNS(CAMEL_OK, camel_update_join(&rows, &criteria, &some));
+    RETURNS(CAMEL_OK, camel_update_join(&some, &more, &update));
     parts = parts_of(&update);
-    IS(parts.o_rows == 3 && parts.o_criteria == 1 && parts.has_o_capability && parts.o_capability == 3);
-    IS(!parts_of(&criteria).has_o_capability);
-    camel_free(&criteria);
+    IS(parts.o_rows == 1 && parts.o_criteria == 3 && parts.has_o_capability && parts.o_capability == 3);
+    IS(parts_of(&some).o_criteria == 1 && !parts_of(&criteria).has_o_capability);
+    camel_free(&criteria), camel_free(&more), camel_free(&rows), camel_free(&some);
+    RETURNS(CAMEL_OK, camel_submit(store, &one));
+    IS(decided(store, session, 2).is_trigger && !decided(store, session, 4).is_trigger);
     RETURNS(CAMEL_OK, camel_submit(store, &update));
-    IS(decided(store, session, 2).is_trigger && decided(store, session, 4).is_trigger);
-    RETURNS(CAMEL_OK, camel_submit(store, &next));
     IS(!decided(store, session, 2).is_trigger && decided(store, session, 4).is_trigger);
-    RETURNS(CAMEL_OK, camel_submit(store, &update));
-    IS(decided(store, session, 2).is_trigger);
-    camel_free(&update), camel_free(&next);
+    camel_free(&update), camel_free(&one), camel_free(&next);
 }
 
 /* One update at a time. */

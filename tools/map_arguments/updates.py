@@ -147,6 +147,8 @@ def text_of(update):
 
 
 def joined(earlier, later):
-    """One insert with the lists of two, those of the later one behind those of the other."""
-    lists = {name: earlier.lists.get(name, []) + later.lists.get(name, []) for name in (*earlier.lists, *later.lists)}
+    """One insert with the lists of two: the later one's rows stand, and its criteria are behind those of the other."""
+    lists = earlier.lists | later.lists
+    for name in lists.keys() & {"oc", "tc"}:
+        lists[name] = earlier.lists.get(name, []) + later.lists.get(name, [])
     return Insert(earlier.imsi, lists, earlier.shows_imsi, earlier.capabilities | later.capabilities)

@@ -3,7 +3,7 @@
 //! A [`Store`] has the CSIs of each subscriber ([`Csis`]), with their criteria, as the HLR sends them. Its one writer
 //! submits an [`Update`] of each operation, or the octets of its argument, and publishes them; each call-control thread
 //! has a [`Session`], and asks at trigger detection points 2, 4, 12, 13 and 14 whether a service is invoked. No call
-//! takes a lock of its own, waits or yields. A [`PreparedUpdate`] is made before it is submitted: so lists that an HLR
+//! takes a lock of its own, waits or yields. A [`PreparedUpdate`] is made before it is submitted: so data that an HLR
 //! splits over operations are joined, and the updates of a location update are accepted together, or none of them is. A
 //! switch with one event loop submits and publishes them by one call, [`Store::commit`], which shows all or nothing.
 //!

@@ -74,14 +74,15 @@ impl PreparedUpdate {
         Ok(made)
     }
 
-    /// The join of this Insert and the next one of the same dialogue. An HLR may split the lists of a subscriber over
-    /// several operations: it is what one operation brings that has the lists of both, with the items of the next one
-    /// behind those of this one. Of a camelCapabilityHandling that came in both, that of the next one stands.
+    /// The join of this Insert and the next one of the same dialogue: what one operation brings that has the lists of
+    /// both. Of the rows of a CSI that came in both, those of the next one stand. An HLR may split criteria over several
+    /// operations: those of the next one are behind those of this one. Of a camelCapabilityHandling that came in both,
+    /// that of the next one stands.
     ///
     /// # Errors
     /// [`Error::NoInsert`]: one of the two is no Insert. [`Error::OtherSubscriber`]: they are of
-    /// different subscribers. [`Error::UnexpectedDataValue`]: a list has more than 10 items then, or two of a detection
-    /// point of the CSI. [`Error::OutOfMemory`]: try again.
+    /// different subscribers. [`Error::UnexpectedDataValue`]: criteria have more than 10 entries then, or two of a
+    /// detection point of the CSI. [`Error::OutOfMemory`]: try again.
     pub fn join(&self, next: &PreparedUpdate) -> Result<PreparedUpdate, Error> {
         let joined = PreparedUpdate::empty();
         // SAFETY: the handles are fit for a call that reads them, as `Owned` says, and the one to be filled is apart

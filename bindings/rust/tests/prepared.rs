@@ -123,6 +123,8 @@ fn inserts_of_a_dialogue_are_joined() {
     let insert = rows.join(&inserted(imsi(), CRITERIA)).unwrap();
     assert_eq!(rows.parts(), Ok(parts_of_dialogue(0)));
     assert_eq!(insert.parts(), Ok(parts_of_dialogue(1)));
+    let again = insert.join(&inserted(imsi(), ROWS)).unwrap();
+    assert_eq!(again.parts(), Ok(parts_of_dialogue(1)));
     store.submit_all(&[register(imsi()), insert]).unwrap();
     assert_eq!(
         published(&mut store, &mut session, false),
@@ -142,7 +144,7 @@ fn what_is_not_joined_stays() {
         Err(Error::OtherSubscriber)
     );
     assert_eq!(
-        refused(&insert, &inserted(imsi(), ROWS)),
+        refused(&inserted(imsi(), CRITERIA), &inserted(imsi(), CRITERIA)),
         Err(Error::UnexpectedDataValue)
     );
     assert_eq!(insert.parts(), Ok(parts_of_dialogue(0)));

@@ -10,14 +10,14 @@ use crate::{CamelHandle, Failure};
 use camel_map::Arrival;
 use std::alloc::Global;
 
-/// Fills an empty handle with the join of an Insert and the next one of its dialogue, which stay: an HLR may split the
-/// lists of a subscriber over several operations (TS 29.002). A list that comes in both is the first one with the items
-/// of the next one behind it, and all rules of received lists hold for the whole. Of a camelCapabilityHandling that
-/// came in both, the one of the next stands.
+/// Fills an empty handle with the join of an Insert and the next one of its dialogue, which stay. A CSI that comes in
+/// both is that of the next one (TS 29.002). An HLR may split criteria over several operations: those that come in both
+/// are the first ones with those of the next one behind them, and all rules of received lists hold for the whole. Of a
+/// camelCapabilityHandling that came in both, the one of the next stands.
 ///
 /// It fails with 503 if one of the first two handles holds no update, with 504 if the one to be filled is not empty,
-/// with 408 if one of the two is no Insert, with 409 if they are of different subscribers, with 36 for a list of more
-/// than 10 items or of two of one detection point, and with 102 if memory was refused. Then the handle is as before.
+/// with 408 if one of the two is no Insert, with 409 if they are of different subscribers, with 36 for criteria of more
+/// than 10 entries or of two of one detection point, and with 102 if memory was refused. Then the handle is as before.
 #[unsafe(no_mangle)]
 pub extern "C" fn camel_update_join(
     alloc: Global,

@@ -65,8 +65,9 @@ insert_of imsi o vt =
     insert_with imsi (rows_in o.csi) o.criteria (rows_in vt.csi) vt.criteria
     (record { o = capability_in o.csi; vt = capability_in vt.csi })
 
--- The lists of an Insert as they are received, and what comes of lists that an HLR splits over the operations of a
--- dialogue: all rules of received lists hold for the whole.
+-- The lists of an Insert as they are received, and what comes of those of the Inserts of a dialogue. TS 29.002 says that
+-- a CSI shall not be segmented, so one that comes again stands in place of the earlier one. Lists of criteria may be
+-- split: all rules of received lists hold for the whole.
 
 -- the lists of an Insert with all of their items, each if it came
 pub record Lists : Type 0 where
@@ -107,12 +108,12 @@ joined None later = later
 joined (Some list) None = Some list
 joined (Some list) (Some later) = Some (list ++ later)
 
--- the lists of two operations in one
+-- the lists of two operations in one: the rows of a CSI are those that came last
 abbrev pub as_one : Lists → Lists → Lists
 as_one earlier later = record {
-  o = joined earlier.o later.o;
+  o = option_or later.o earlier.o;
   o_criteria = joined earlier.o_criteria later.o_criteria;
-  vt = joined earlier.vt later.vt;
+  vt = option_or later.vt earlier.vt;
   t_criteria = joined earlier.t_criteria later.t_criteria;
 }
 
@@ -131,53 +132,41 @@ join_fault (update.Insert imsi o o_criteria vt t_criteria) (update.Insert next n
     if bytes_eq imsi next then None else Some OtherSubscriber
 join_fault one other = Some NoInsert
 
--- whatever lists the two Inserts had, what is joined is what one operation brings that has them all
+-- whatever lists the two Inserts had, what is joined is what one operation brings that has those of both
 abbrev pub IsJoin : Arrival → Arrival → Result Arrival JoinFault → Type 0
 IsJoin one other result = (imsi : List ℕ) (earlier later : Lists)
     → insert_of_lists imsi earlier one.capabilities ≡ Ok one
     → insert_of_lists imsi later other.capabilities ≡ Ok other
     → JoinsAs result (insert_of_lists imsi (as_one earlier later) (latest one.capabilities other.capabilities))
 
--- What is made of two lists by the functions that join them. These are for the proof: the contract of a join is
+-- What the functions make that join the lists of two Inserts. These are for the proof: the contract of a join is
 -- `IsJoin`.
 
--- what a list of either kind holds, of which so many items came
-abbrev pub part_of : {L A : Type 0} → (L → List A) → Option L → ℕ → Option (ReceivedList (List A))
-part_of items None count = None
-part_of items (Some list) count = Some (record { kept = items list; count = count })
+-- a list, of which so many items came
+abbrev pub part_of : {Kept : Type 0} → Option Kept → ℕ → Option (ReceivedList Kept)
+part_of list count = option_map (λ kept. record { kept = kept; count = count }) list
 
--- a list that came, by what it holds
-abbrev pub seen_as : {L A : Type 0} → (L → List A) → Option (ReceivedList L) → Option (ReceivedList (List A))
-seen_as items None = None
-seen_as items (Some list) = Some (record { kept = items list.kept; count = list.count })
-
--- what is made of lists holds what is meant, or memory ran out
-abbrev pub MadeLists : {L A : Type 0} → (L → List A) → Result (Option (ReceivedList L)) Refusal
-    → Result (Option (ReceivedList (List A))) Refusal → Type 0
-MadeLists items (Ok list) meant = meant ≡ Ok (seen_as items list)
-MadeLists items (Err why) meant = (why ≡ OutOfMemory) ⊎ (meant ≡ Err why)
-
--- a list is made that holds what is meant, or has the refusal of that
-abbrev pub Keeps : {L A : Type 0} → (L → List A) → Result L Refusal → Result (List A) Refusal → Type 0
-Keeps items (Ok list) meant = meant ≡ Ok (items list)
-Keeps items (Err why) meant = meant ≡ Err why
+-- what is made of lists is what is meant, or memory ran out
+abbrev pub MadeLists : {Item : Type 0} → Result (Option (ReceivedList (List Item))) Refusal
+    → Result (Option (ReceivedList (List Item))) Refusal → Type 0
+MadeLists (Ok list) meant = meant ≡ Ok list
+MadeLists (Err why) meant = (why ≡ OutOfMemory) ⊎ (meant ≡ Err why)
 
 -- what is made of two lists that came
-abbrev pub MadeTwo : {L A : Type 0} → (L → List A) → List A → Result (ReceivedList L) Refusal → Result (List A) Refusal → Type 0
-MadeTwo items all (Ok list) meant = (meant ≡ Ok (items list.kept)) × (list.count ≡ length all)
-MadeTwo items all (Err why) meant = (why ≡ OutOfMemory) ⊎ (meant ≡ Err why)
+abbrev pub MadeTwo : {Item : Type 0} → List Item → Result (ReceivedList (List Item)) Refusal → Result (List Item) Refusal → Type 0
+MadeTwo all (Ok list) meant = (meant ≡ Ok list.kept) × (list.count ≡ length all)
+MadeTwo all (Err why) meant = (why ≡ OutOfMemory) ⊎ (meant ≡ Err why)
 
 -- what is made of two lists is what is kept of one that has the items of both, whatever those were
-abbrev pub JoinsTwo : {L A : Type 0} → (L → List A) → (List A → Result (List A) Refusal) → L → ℕ → L → ℕ
-    → Result (ReceivedList L) Refusal → Type 0
-JoinsTwo {L} {A} items kept_of one count other more result = (earlier later : List A)
-    → kept_of earlier ≡ Ok (items one) → length earlier ≡ count
-    → kept_of later ≡ Ok (items other) → length later ≡ more
-    → MadeTwo items (earlier ++ later) result (kept_of (earlier ++ later))
+abbrev pub JoinsTwo : {Item : Type 0} → (List Item → Result (List Item) Refusal) → List Item → ℕ → List Item → ℕ
+    → Result (ReceivedList (List Item)) Refusal → Type 0
+JoinsTwo {Item} kept_of one count other more result = (earlier later : List Item)
+    → kept_of earlier ≡ Ok one → length earlier ≡ count → kept_of later ≡ Ok other → length later ≡ more
+    → MadeTwo (earlier ++ later) result (kept_of (earlier ++ later))
 
 -- so for two lists each of which may not have come
-abbrev pub JoinsLists : {L A : Type 0} → (L → List A) → (List A → Result (List A) Refusal) → Option L → ℕ → Option L → ℕ
-    → Result (Option (ReceivedList L)) Refusal → Type 0
-JoinsLists {L} {A} items kept_of one count other more result = (earlier later : Option (List A))
-    → list_of kept_of earlier ≡ Ok (part_of items one count) → list_of kept_of later ≡ Ok (part_of items other more)
-    → MadeLists items result (list_of kept_of (joined earlier later))
+abbrev pub JoinsLists : {Item : Type 0} → (List Item → Result (List Item) Refusal) → Option (List Item) → ℕ
+    → Option (List Item) → ℕ → Result (Option (ReceivedList (List Item))) Refusal → Type 0
+JoinsLists {Item} kept_of one count other more result = (earlier later : Option (List Item))
+    → list_of kept_of earlier ≡ Ok (part_of one count) → list_of kept_of later ≡ Ok (part_of other more)
+    → MadeLists result (list_of kept_of (joined earlier later))

@@ -92,6 +92,14 @@ abbrev pub sent : {A : Type 0} → A → List A → List A
 sent ignored [] = ignored ∷ []
 sent ignored (first ∷ more) = first ∷ more
 
+-- The detection point of that item is one of the other CSI: termAttemptAuthorized in an O-CSI, and collectedInfo in a
+-- VT-CSI. TS 29.002 lists neither for the CSI that it is sent in, and both of its ENUMERATED types may be extended.
+abbrev pub ignored_in_o : ℕ
+ignored_in_o = 12
+
+abbrev pub ignored_in_vt : ℕ
+ignored_in_vt = 2
+
 -- an item that is a SEQUENCE of its fields
 abbrev pub item_element : {A : Type 0} → (A → List ElementData) → A → ElementData
 item_element fields_of item = parent sequence (fields_of item)
@@ -109,12 +117,13 @@ row_fields row =
     ∷ leaf (primitive 1) (handling_number row.handling ∷ [])
     ∷ []
 
-abbrev pub ignored_row : TdpRowData
-ignored_row = record { dp = 255; key = 0; scf = 0 ∷ []; handling = Continue }
+-- the row that is sent for none: of a detection point that its CSI has not
+abbrev pub ignored_row : ℕ → TdpRowData
+ignored_row dp = record { dp = dp; key = 0; scf = 0 ∷ []; handling = Continue }
 
--- O-CSI and T-CSI
-abbrev pub csi_element : ℕ → List TdpRowData → ElementData
-csi_element identifier rows = parent identifier (list_element row_fields ignored_row sequence rows ∷ [])
+-- O-CSI and T-CSI, with the row that is sent for none
+abbrev pub csi_element : TdpRowData → ℕ → List TdpRowData → ElementData
+csi_element ignored identifier rows = parent identifier (list_element row_fields ignored sequence rows ∷ [])
 
 -- MatchType
 abbrev pub match_type_number : MatchType → ℕ
@@ -160,18 +169,18 @@ t_entry_fields entry =
     ++ if_some (constructed 1) cause_element entry.causes
 
 abbrev pub ignored_o_entry : OCriteriaData
-ignored_o_entry = record { dp = 255; number = None; basic = []; call_type = None; causes = [] }
+ignored_o_entry = record { dp = ignored_in_o; number = None; basic = []; call_type = None; causes = [] }
 
 abbrev pub ignored_t_entry : TCriteriaData
-ignored_t_entry = record { dp = 255; basic = []; causes = [] }
+ignored_t_entry = record { dp = ignored_in_vt; basic = []; causes = [] }
 
 -- the fields of VlrCamelSubscriptionInfo
 abbrev pub camel_parts : Option (List TdpRowData) → Option (List OCriteriaData) → Option (List TdpRowData)
     → Option (List TCriteriaData) → List ElementData
 camel_parts o o_criteria vt t_criteria =
-    if_any (csi_element (constructed 0)) o
+    if_any (csi_element (ignored_row ignored_in_o) (constructed 0)) o
     ++ if_any (list_element o_entry_fields ignored_o_entry (constructed 4)) o_criteria
-    ++ if_any (csi_element (constructed 7)) vt
+    ++ if_any (csi_element (ignored_row ignored_in_vt) (constructed 7)) vt
     ++ if_any (list_element t_entry_fields ignored_t_entry (constructed 8)) t_criteria
 
 -- the specificCSI-Withdraw of the CSIs that a Delete names, if it names any

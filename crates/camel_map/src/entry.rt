@@ -20,18 +20,13 @@ use camel_ber::Element;
 use camel_criteria::{BasicService, CallType, NumberCriterion, OCriteria, TCriteria};
 use std::alloc::{AllocError, Global};
 
-/// The entry that is sent for none, with the detection point 255, which is in no CSI.
-const IGNORED_ENTRY: [u8; 6] = [0x30, 4, 0x0a, 2, 0, 255];
-
 impl MapItem for OCriteria {
     ghost use Rattle.camel_map.specs.Csi.{o_entry_of_fields};
-    ghost use Rattle.camel_map.specs.Encoding.{ignored_o_entry, o_entry_fields};
+    ghost use Rattle.camel_map.specs.Encoding.{o_entry_fields};
 
     ghost of_fields = { o_entry_of_fields };
 
     ghost fields_of = { o_entry_fields };
-
-    ghost ignored = { ignored_o_entry };
 
     #[tactic(auto, unfolding(crate::specs::Csi::o_entry_of_fields))]
     fn read_fields(
@@ -65,11 +60,6 @@ impl MapItem for OCriteria {
         put_any::<NumberField, NumberCriterion>(writer, self.number())?;
         put_number_leaf(writer, ENUMERATED, u32::from(self.dp()))
     }
-
-    #[tactic(auto, unfolding(crate::specs::Encoding::encodings))]
-    fn put_ignored(writer: &mut Writer) -> Result<(), TooLong> {
-        writer.put_all(&IGNORED_ENTRY)
-    }
 }
 
 /// The fields of an entry that stand behind its number criterion.
@@ -87,13 +77,11 @@ fn put_behind_number(writer: &mut Writer, entry: &OCriteria) -> Result<(), TooLo
 
 impl MapItem for TCriteria {
     ghost use Rattle.camel_map.specs.Csi.{t_entry_of_fields};
-    ghost use Rattle.camel_map.specs.Encoding.{ignored_t_entry, t_entry_fields};
+    ghost use Rattle.camel_map.specs.Encoding.{t_entry_fields};
 
     ghost of_fields = { t_entry_of_fields };
 
     ghost fields_of = { t_entry_fields };
-
-    ghost ignored = { ignored_t_entry };
 
     #[tactic(auto, unfolding(crate::specs::Csi::t_entry_of_fields))]
     fn read_fields(
@@ -116,10 +104,5 @@ impl MapItem for TCriteria {
         put_some::<Cause, u8>(writer, CONSTRUCTED + 1, self.causes())?;
         put_some::<Service, BasicService>(writer, CONSTRUCTED, self.basic())?;
         put_number_leaf(writer, ENUMERATED, u32::from(self.dp()))
-    }
-
-    #[tactic(auto, unfolding(crate::specs::Encoding::encodings))]
-    fn put_ignored(writer: &mut Writer) -> Result<(), TooLong> {
-        writer.put_all(&IGNORED_ENTRY)
     }
 }

@@ -1,6 +1,6 @@
 //! An item of a list of a CSI: a TDP row, or an entry of its criteria.
 
-ghost use Rattle.std.specs.Prelude.{◌≡◌, [], ◌∷◌, IfOk, OnOk};
+ghost use Rattle.std.specs.Prelude.{◌≡◌, IfOk, OnOk};
 ghost use Rattle.camel_ber.specs.Elements.{view, views};
 ghost use Rattle.camel_map.specs.Encoding.{encoding, item_element, before};
 ghost use Rattle.camel_map.specs.Reading.{item_in, IsMemory};
@@ -28,9 +28,6 @@ pub(crate) trait MapItem: Drop + Sized {
     /// The fields that an item is encoded as.
     ghost fields_of: { Self → List ElementData };
 
-    /// The item that is sent for none.
-    ghost ignored: { Self };
-
     /// The item of its fields.
     fn read_fields(
         alloc: Global,
@@ -46,10 +43,6 @@ pub(crate) trait MapItem: Drop + Sized {
     /// Writes its fields.
     fn put_fields(&self, writer: &mut Writer) -> Result<(), TooLong>
         ensures { OnOk result (writer.new ≡ before (fields_of self.now) writer.old) };
-
-    /// Writes the item that is sent for none.
-    fn put_ignored(writer: &mut Writer) -> Result<(), TooLong>
-        ensures { OnOk result (writer.new ≡ before (item_element fields_of ignored ∷ []) writer.old) };
 }
 
 /// An item with its fields.

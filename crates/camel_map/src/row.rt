@@ -40,20 +40,13 @@ pub(crate) struct ReceivedLists<C, L> {
     pub criteria: Option<ReceivedList<L>>,
 }
 
-/// The row that is sent for none, with the detection point 255, which is in no CSI.
-const IGNORED_ROW: [u8; 15] = [
-    0x30, 13, 0x0a, 2, 0, 255, 0x02, 1, 0, 0x80, 1, 0, 0x81, 1, 0,
-];
-
 impl MapItem for TdpRow {
-    ghost use Rattle.camel_map.specs.Encoding.{ignored_row, row_fields};
+    ghost use Rattle.camel_map.specs.Encoding.{row_fields};
     ghost use Rattle.camel_map.specs.Csi.{row_of_fields};
 
     ghost of_fields = { row_of_fields };
 
     ghost fields_of = { row_fields };
-
-    ghost ignored = { ignored_row };
 
     #[tactic(auto, unfolding(crate::specs::Csi::row_of_fields))]
     fn read_fields(
@@ -78,11 +71,6 @@ impl MapItem for TdpRow {
         put_leaf(writer, PRIMITIVE, self.scf().bytes())?;
         put_number_leaf(writer, INTEGER, self.key())?;
         put_number_leaf(writer, ENUMERATED, u32::from(self.dp()))
-    }
-
-    #[tactic(auto, unfolding(crate::specs::Encoding::encodings))]
-    fn put_ignored(writer: &mut Writer) -> Result<(), TooLong> {
-        writer.put_all(&IGNORED_ROW)
     }
 }
 

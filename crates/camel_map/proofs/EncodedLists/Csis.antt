@@ -1,5 +1,5 @@
 -- An encoded CSI is read as its rows.
-use Rattle.std.proofs.Common.{◌≡◌, ◌<◌, ◌≤◌, true, leb, List, [], ◌∷◌, Ok, refl, ap, arith, ℕ, length, map, All, Result}
+use Rattle.std.proofs.Common.{◌≡◌, ◌<◌, ◌≤◌, ℕ, true, leb, List, [], ◌∷◌, Ok, refl, ap, arith, length, map, All, Result}
 use Rattle.std.proofs.Common.{inl, inr, None}
 use Rattle.std.proofs.lemmas.Bool.{le-leb}
 use Rattle.std.proofs.lemmas.List.Elements.{All-cons, All-nil, All-weaker}
@@ -59,8 +59,8 @@ fields_read row is item fields read =
 pub row_read : (row : TdpRowData) → IsRow row → Decodes (item_in row_of_fields) (item_element row_fields row) row
 row_read row is = item_read row_of_fields row_fields row (row_identified row) (fields_read row is)
 
-pub is_ignored_row : IsRow ignored_row
-is_ignored_row = record { dp = omega arith; key = omega arith; scf = record { some = omega arith; few = omega arith } }
+pub is_ignored_row : (dp : ℕ) → dp ≤ 255 → IsRow (ignored_row dp)
+is_ignored_row dp few = record { dp = few; key = omega arith; scf = record { some = omega arith; few = omega arith } }
 
 -- An encoded list is read as the items that its constructor keeps.
 
@@ -93,21 +93,21 @@ module _ {Item : Type 0} (of_fields : PlacedData → List PlacedData → Result 
 -- An encoded CSI is read as its rows.
 
 -- a CSI that was sent, without camelCapabilityHandling
-abbrev pub csi_came : List TdpRowData → ReceivedCsi (List TdpRowData)
-csi_came rows = record { rows = came ignored_row rows; capability = None }
+abbrev pub csi_came : TdpRowData → List TdpRowData → ReceivedCsi (List TdpRowData)
+csi_came ignored rows = record { rows = came ignored rows; capability = None }
 
 -- a CSI is read as its rows
-pub csi_read : (kept_of : List TdpRowData → Result (List TdpRowData) Refusal) → kept_of (ignored_row ∷ []) ≡ Ok []
-    → (octet : ℕ) (rows : List TdpRowData) → IsKeptList IsRow kept_of rows
-    → Decodes (csi_in kept_of) (csi_element octet rows) (csi_came rows)
+pub csi_read : (kept_of : List TdpRowData → Result (List TdpRowData) Refusal) (ignored : TdpRowData) → IsRow ignored
+    → kept_of (ignored ∷ []) ≡ Ok [] → (octet : ℕ) (rows : List TdpRowData) → IsKeptList IsRow kept_of rows
+    → Decodes (csi_in kept_of) (csi_element ignored octet rows) (csi_came ignored rows)
 unfolding csi_in
-csi_read kept_of none octet rows kept short place end =
-    let list = list_element row_fields ignored_row sequence rows in
-    let csi = at (csi_element octet rows) place end in
+csi_read kept_of ignored is none octet rows kept short place end =
+    let list = list_element row_fields ignored sequence rows in
+    let csi = at (csi_element ignored octet rows) place end in
     let parts = parts_read octet (list ∷ []) place end (a_sequence, tt) short in
     let first = first_read csi parts.0 list [] parts.2 in
     let there : first_of csi parts.0 ≡ Ok (at list first.0 first.1) = first.2 in
-    let read = sent_read row_of_fields row_fields IsRow kept_of row_read ignored_row is_ignored_row none sequence rows kept first.3
+    let read = sent_read row_of_fields row_fields IsRow kept_of row_read ignored is none sequence rows kept first.3
     first.0 first.1 in
     let no_capability = field_absent (primitive 0) parts.0 (list ∷ []) parts.2 refl in
     rw (parts.1, there, read, no_capability) refl

@@ -3,9 +3,9 @@ use Rattle.std.proofs.Common.{ℕ, Bool, true, false, [], ◌∷◌, arith, List
 use Rattle.std.proofs.Common.{Some, None, subst}
 use Rattle.std.proofs.lemmas.Option.{IfSome_then}
 use Rattle.camel_map.specs.Encoding.{everything_parts, leaf, specific_parts, argument_of, camel_parts, csi_element}
-use Rattle.camel_map.specs.Encoding.{ignored_o_entry, ignored_t_entry, list_element, o_entry_fields, parent}
-use Rattle.camel_map.specs.Encoding.{t_entry_fields, tbcd_octets, IsKept, IsOEntry, IsTEntry, Argument, encoding}
-use Rattle.camel_map.specs.Encoding.{argument_octets, octets_of_update}
+use Rattle.camel_map.specs.Encoding.{ignored_o_entry, ignored_t_entry, ignored_in_o, ignored_in_vt, ignored_row}
+use Rattle.camel_map.specs.Encoding.{list_element, o_entry_fields, parent, t_entry_fields, tbcd_octets, IsKept}
+use Rattle.camel_map.specs.Encoding.{IsOEntry, IsTEntry, Argument, encoding, argument_octets, octets_of_update}
 use Rattle.camel_map.specs.Reading.{primitive, constructed, octet_string, sequence}
 use Rattle.camel_map.proofs.EncodedSizes.Bounds.{AreMost, leaf_most, more_most, none_most, within, IsMost, parent_most}
 use Rattle.camel_map.proofs.EncodedSizes.Bounds.{any_most, append_most}
@@ -13,6 +13,7 @@ use Rattle.camel_criteria.specs.DetectionPoint.{o_detection_points, vt_detection
 use Rattle.camel_rows.specs.declared.subscriber.update.Update.{Update}
 use Rattle.camel_tbcd.specs.Imsi.{IsImsi}
 use Rattle.camel_map.proofs.EncodedLists.Entries.{is_ignored_o_entry, is_ignored_t_entry}
+use Rattle.camel_map.proofs.EncodedLists.Csis.{is_ignored_row}
 use Rattle.camel_map.proofs.Encoded.Imsis.{octets_few as imsi_octets_few}
 use Rattle.camel_map.proofs.EncodedSizes.Lists.{o_entry_most, t_entry_most, csi_most, list_most}
 use Rattle.camel_rows.specs.declared.subscriber.update.Update.TheVariants as update
@@ -45,13 +46,13 @@ pub argument_most : (update : Update) → IsKept update
     → IfSome (argument_of update) (λ argument. IsMost 1198 argument.element)
 argument_most (update.Insert imsi o o_criteria vt t_criteria) kept =
     let own = imsi_most (primitive 0) imsi kept.0 in
-    let the_o = any_most (csi_element (constructed 0)) 108 o
-    (IfSome_then o kept.1 (csi_most (constructed 0) o_detection_points (omega arith))) in
+    let the_o = any_most (csi_element (ignored_row ignored_in_o) (constructed 0)) 108 o
+    (IfSome_then o kept.1 (csi_most (ignored_row ignored_in_o) (is_ignored_row ignored_in_o (omega arith)) (constructed 0) o_detection_points (omega arith))) in
     let the_o_criteria = any_most (list_element o_entry_fields ignored_o_entry (constructed 4)) 608 o_criteria
     (IfSome_then o_criteria kept.2 (list_most o_entry_fields 301 IsOEntry o_entry_most ignored_o_entry is_ignored_o_entry
     (λ entry. entry.dp) o_detection_points (omega arith) (constructed 4))) in
-    let the_vt = any_most (csi_element (constructed 7)) 156 vt
-    (IfSome_then vt kept.3 (csi_most (constructed 7) vt_detection_points (omega arith))) in
+    let the_vt = any_most (csi_element (ignored_row ignored_in_vt) (constructed 7)) 156 vt
+    (IfSome_then vt kept.3 (csi_most (ignored_row ignored_in_vt) (is_ignored_row ignored_in_vt (omega arith)) (constructed 7) vt_detection_points (omega arith))) in
     let the_t_criteria = any_most (list_element t_entry_fields ignored_t_entry (constructed 8)) 300 t_criteria
     (IfSome_then t_criteria kept.4 (list_most t_entry_fields 98 IsTEntry t_entry_most ignored_t_entry is_ignored_t_entry
     (λ entry. entry.dp) vt_detection_points (omega arith) (constructed 8))) in

@@ -10,7 +10,7 @@ use Rattle.camel_tbcd.specs.AddressString.{IsAddress, max_isdn_address_length}
 use Rattle.camel_map.specs.Encoding.{handling_number, item_element, leaf, match_type_number, number_element}
 use Rattle.camel_map.specs.Encoding.{number_octets, row_fields, IsNumberCriterion, IsRow, call_type_number}
 use Rattle.camel_map.specs.Encoding.{cause_element, if_some, service_element, o_entry_fields, t_entry_fields, IsOEntry}
-use Rattle.camel_map.specs.Encoding.{IsTEntry, csi_element, ignored_row, list_element, sent, IsKeptList}
+use Rattle.camel_map.specs.Encoding.{IsTEntry, csi_element, list_element, sent, IsKeptList}
 use Rattle.camel_map.specs.Reading.{constructed, enumerated, integer, octet_string, primitive, sequence}
 use Rattle.camel_map.proofs.EncodedSizes.Bounds.{IsMost, leaf_most, more_most, none_most, number_most, octet_most}
 use Rattle.camel_map.proofs.EncodedSizes.Bounds.{parent_most, append_most, some_most, within, AreMost, any_most}
@@ -21,7 +21,6 @@ use Rattle.camel_criteria.specs.declared.basic_service.BasicService.{BasicServic
 use Rattle.camel_criteria.specs.declared.basic_service.BasicService.TheVariants.{Bearer, Tele}
 use Rattle.camel_ber.specs.Elements.{ElementData}
 use Rattle.camel_rows.proofs.RowLemmas.{few-from_taken}
-use Rattle.camel_map.proofs.EncodedLists.Csis.{is_ignored_row}
 use Rattle.camel_map.proofs.Joined.Refusals.{unless_kept}
 
 -- How long the encodings of a row and of a destination number criterion are at most.
@@ -136,13 +135,13 @@ module _ {Item : Type 0} (fields_of : Item → List ElementData) (most : ℕ) (I
   list_most octet items kept =
       parent_most octet (map (item_element fields_of) (sent ignored items)) (length points * most) (sent_most items kept)
 
-pub csi_most : (octet : ℕ) (points : List ℕ) (some : 1 ≤ length points) (rows : List TdpRowData)
+pub csi_most : (ignored : TdpRowData) → IsRow ignored → (octet : ℕ) (points : List ℕ) (some : 1 ≤ length points) (rows : List TdpRowData)
     → IsKeptList IsRow (λ items. kept_of points (λ row. row.dp) items) rows
-    → IsMost (length points * 48 + 12) (csi_element octet rows)
-csi_most octet points some rows kept =
+    → IsMost (length points * 48 + 12) (csi_element ignored octet rows)
+csi_most ignored is octet points some rows kept =
     let most = length points * 48 + 6 in
-    let list = list_element row_fields ignored_row sequence rows in
-    let all = list_most row_fields 48 IsRow row_most ignored_row is_ignored_row (λ row. row.dp) points some sequence rows kept in
+    let list = list_element row_fields ignored sequence rows in
+    let all = list_most row_fields 48 IsRow row_most ignored is (λ row. row.dp) points some sequence rows kept in
     let few = parent_most octet (list ∷ []) most
     (within _ (most + 0) most (more_most list [] most 0 all none_most) (omega arith)) in
     omega (arith, few)

@@ -3,7 +3,8 @@ use Rattle.std.proofs.Common.{◌≡◌, ℕ, List, [], ◌∷◌, refl}
 use Rattle.camel_ber.specs.Elements.{ElementData}
 use Rattle.camel_rows.specs.declared.subscriber.update.Update.{Update}
 use Rattle.camel_rows.specs.declared.subscriber.update.Update.TheVariants as update
-use Rattle.camel_map.specs.Encoding.{camel_parts, csi_element, ignored_o_entry, ignored_t_entry, list_element, o_entry_fields, t_entry_fields}
+use Rattle.camel_map.specs.Encoding.{camel_parts, csi_element, ignored_in_o, ignored_in_vt, ignored_o_entry}
+use Rattle.camel_map.specs.Encoding.{ignored_row, ignored_t_entry, list_element, o_entry_fields, t_entry_fields}
 use Rattle.camel_map.specs.Reading.{constructed}
 use Rattle.camel_map.specs.Arrival.{Lists}
 use Rattle.camel_map.proofs.Encoded.Parts.{Part, any_part, found, identified, joined, parts_of}
@@ -16,9 +17,9 @@ insert_of imsi lists = update.Insert imsi lists.o lists.o_criteria lists.vt list
 module _ (lists : Lists) where
   abbrev pub camel_fields : List Part
   camel_fields =
-      any_part (constructed 0) (csi_element (constructed 0)) lists.o (λ x. refl) (refl, refl)
+      any_part (constructed 0) (csi_element (ignored_row ignored_in_o) (constructed 0)) lists.o (λ x. refl) (refl, refl)
       ∷ any_part (constructed 4) (list_element o_entry_fields ignored_o_entry (constructed 4)) lists.o_criteria (λ x. refl) (refl, refl)
-      ∷ any_part (constructed 7) (csi_element (constructed 7)) lists.vt (λ x. refl) (refl, refl)
+      ∷ any_part (constructed 7) (csi_element (ignored_row ignored_in_vt) (constructed 7)) lists.vt (λ x. refl) (refl, refl)
       ∷ any_part (constructed 8) (list_element t_entry_fields ignored_t_entry (constructed 8)) lists.t_criteria (λ x. refl) (refl, refl)
       ∷ []
 

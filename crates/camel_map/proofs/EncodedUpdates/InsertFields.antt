@@ -1,26 +1,32 @@
 -- The encoded fields of VlrCamelSubscriptionInfo are read as the lists of their Insert.
-use Rattle.std.proofs.Common.{◌≡◌, ℕ, List, Option, Some, None, Ok, refl}
+use Rattle.std.proofs.Common.{◌≡◌, ℕ, List, Option, Some, None, Ok, refl, arith}
 use Rattle.std.proofs.lemmas.Option.{IfSome_then}
 use Rattle.std.specs.Option.{option_map}
 use Rattle.camel_ber.specs.Elements.{PlacedData}
 use Rattle.camel_rows.specs.TdpRow.{o_criteria_set_of, o_csi_of, t_criteria_set_of, vt_csi_of, TdpRowData}
 use Rattle.camel_map.specs.Arrival.{insert_of, kept_in, rows_in, Lists}
 use Rattle.camel_map.specs.Csi.{o_entry_of_fields, t_entry_of_fields, csi_in, lists_of_fields}
-use Rattle.camel_map.specs.Encoding.{csi_element, ignored_o_entry, ignored_t_entry, o_entry_fields, t_entry_fields}
-use Rattle.camel_map.specs.Encoding.{IsKept, IsOEntry, IsTEntry}
+use Rattle.camel_map.specs.Encoding.{csi_element, ignored_in_o, ignored_in_vt, ignored_o_entry, ignored_row}
+use Rattle.camel_map.specs.Encoding.{ignored_t_entry, o_entry_fields, t_entry_fields, IsKept, IsOEntry, IsTEntry}
 use Rattle.camel_map.specs.Reading.{constructed, item_in, received_as}
 use Rattle.camel_map.specs.Update.{insert_of_fields}
 use Rattle.camel_map.specs.declared.arrival.Arrival.{Arrival}
 use Rattle.camel_map.proofs.EncodedUpdates.CamelFields.{info, the_fields}
 use Rattle.camel_map.proofs.EncodedUpdates.CamelFields as sent
 use Rattle.camel_map.proofs.Encoded.Series.{came_read, AreRead}
-use Rattle.camel_map.proofs.EncodedLists.Csis.{csi_came, csi_read, came, sent_read}
+use Rattle.camel_map.proofs.EncodedLists.Csis.{csi_came, csi_read, came, sent_read, is_ignored_row}
 use Rattle.camel_map.proofs.EncodedLists.Entries.{is_ignored_o_entry, o_entry_read, is_ignored_t_entry, t_entry_read}
 
 -- the items of a list that came are those that were sent
-rows_kept : (o : Option (List TdpRowData)) → kept_in (rows_in (option_map csi_came o)) ≡ o
-rows_kept None = refl
-rows_kept (Some rows) = refl
+rows_kept : (ignored : TdpRowData) (o : Option (List TdpRowData)) → kept_in (rows_in (option_map (csi_came ignored) o)) ≡ o
+rows_kept ignored None = refl
+rows_kept ignored (Some rows) = refl
+
+abbrev o_ignored : TdpRowData
+o_ignored = ignored_row ignored_in_o
+
+abbrev vt_ignored : TdpRowData
+vt_ignored = ignored_row ignored_in_vt
 
 items_kept : {Item : Type 0} (ignored : Item) (o : Option (List Item))
     → kept_in (option_map (came ignored) o) ≡ o
@@ -31,8 +37,8 @@ module _ (imsi : List ℕ) (lists : Lists) where
   -- what its argument brings
   abbrev pub came_insert : Arrival
   came_insert =
-      insert_of imsi (record { csi = option_map csi_came lists.o; criteria = option_map (came ignored_o_entry) lists.o_criteria })
-      (record { csi = option_map csi_came lists.vt; criteria = option_map (came ignored_t_entry) lists.t_criteria })
+      insert_of imsi (record { csi = option_map (csi_came o_ignored) lists.o; criteria = option_map (came ignored_o_entry) lists.o_criteria })
+      (record { csi = option_map (csi_came vt_ignored) lists.vt; criteria = option_map (came ignored_t_entry) lists.t_criteria })
 
   -- its fields are read as what it brings
   pub fields_read : IsKept (sent.insert_of imsi lists) → (fields : List PlacedData) → AreRead fields (info lists)
@@ -41,14 +47,16 @@ module _ (imsi : List ℕ) (lists : Lists) where
   fields_read kept fields read =
       let all = info lists in
       let the = the_fields lists in
-      let rows = came_read (csi_in o_csi_of) (constructed 0) fields all (csi_element (constructed 0)) csi_came lists.o (λ x. refl) read
-      (the (constructed 0)) (IfSome_then lists.o kept.1 (csi_read o_csi_of refl (constructed 0))) in
+      let rows = came_read (csi_in o_csi_of) (constructed 0) fields all (csi_element o_ignored (constructed 0))
+      (csi_came o_ignored) lists.o (λ x. refl) read (the (constructed 0)) (IfSome_then lists.o kept.1
+      (csi_read o_csi_of o_ignored (is_ignored_row ignored_in_o (omega arith)) refl (constructed 0))) in
       let entries = came_read (received_as (item_in o_entry_of_fields) o_criteria_set_of) (constructed 4) fields all _
       (came ignored_o_entry) lists.o_criteria (λ x. refl) read (the (constructed 4)) (IfSome_then lists.o_criteria
       kept.2 (sent_read o_entry_of_fields o_entry_fields IsOEntry o_criteria_set_of o_entry_read ignored_o_entry is_ignored_o_entry
       refl (constructed 4))) in
-      let vt_rows = came_read (csi_in vt_csi_of) (constructed 7) fields all (csi_element (constructed 7)) csi_came lists.vt
-      (λ x. refl) read (the (constructed 7)) (IfSome_then lists.vt kept.3 (csi_read vt_csi_of refl (constructed 7))) in
+      let vt_rows = came_read (csi_in vt_csi_of) (constructed 7) fields all (csi_element vt_ignored (constructed 7))
+      (csi_came vt_ignored) lists.vt (λ x. refl) read (the (constructed 7)) (IfSome_then lists.vt kept.3
+      (csi_read vt_csi_of vt_ignored (is_ignored_row ignored_in_vt (omega arith)) refl (constructed 7))) in
       let vt_entries = came_read (received_as (item_in t_entry_of_fields) t_criteria_set_of) (constructed 8) fields all _
       (came ignored_t_entry) lists.t_criteria (λ x. refl) read (the (constructed 8)) (IfSome_then lists.t_criteria
       kept.4 (sent_read t_entry_of_fields t_entry_fields IsTEntry t_criteria_set_of t_entry_read ignored_t_entry is_ignored_t_entry
@@ -58,5 +66,5 @@ module _ (imsi : List ℕ) (lists : Lists) where
   -- its update is the one that was sent
   pub came_says : came_insert.update ≡ sent.insert_of imsi lists
   came_says =
-      rw (rows_kept lists.o, items_kept ignored_o_entry lists.o_criteria, rows_kept lists.vt, items_kept ignored_t_entry lists.t_criteria)
-      refl
+      let entries = (items_kept ignored_o_entry lists.o_criteria, items_kept ignored_t_entry lists.t_criteria) in
+      rw (rows_kept o_ignored lists.o, entries.0, rows_kept vt_ignored lists.vt, entries.1) refl

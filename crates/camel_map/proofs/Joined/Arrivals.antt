@@ -1,22 +1,25 @@
--- What is joined is an Insert of lists, and the first list that is refused ends a join.
-use Rattle.std.proofs.Common.{◌≡◌, ◌∙◌, ◌⊎◌, Some, None, true, Result, Ok, Err, inl, inr, refl, ap}
+-- What is joined is an Insert of lists, and the first list that is refused ends the join.
+use Rattle.std.proofs.Common.{◌≡◌, ◌∙◌, ◌⊎◌, List, length, Option, Some, None, true, Result, Ok, Err, inl, inr, refl, ap}
+use Rattle.std.specs.Option.{option_or}
 use Rattle.camel_criteria.specs.declared.refusal.Refusal.{Refusal}
 use Rattle.camel_criteria.specs.declared.refusal.Refusal.TheVariants.{OutOfMemory}
 use Rattle.camel_rows.specs.Update.{is_insert}
-use Rattle.camel_map.specs.Arrival.{seen_as, IsOfLists, IsReceived, JoinsAs}
+use Rattle.camel_map.specs.Arrival.{IsOfLists, IsReceived, JoinsAs, list_of}
 use Rattle.camel_map.specs.declared.arrival.Arrival.{Arrival}
 use Rattle.camel_map.specs.declared.join.JoinFault.{JoinFault}
 use Rattle.camel_map.specs.declared.join.JoinFault.TheVariants.{Refused}
 use Rattle.camel_map.proofs.Joined.Parts.{Came}
+use Rattle.camel_map.proofs.Received.Updates.{step}
 
-seen_back : {Item : Type 0} (list : Came Item) → seen_as (λ items. items) list ≡ list
-seen_back None = refl
-seen_back (Some list) = refl
-
--- a list that was made is the one that is meant
-pub made_as : {Item : Type 0} (reading : Result (Came Item) Refusal) (list : Came Item)
-    → reading ≡ Ok (seen_as (λ items. items) list) → reading ≡ Ok list
-made_as reading list is = is ∙ ap Ok (seen_back list)
+-- the CSI that came last is read as it was
+pub later_read : {Item : Type 0} (kept_of : List Item → Result (List Item) Refusal) (earlier later : Option (List Item))
+    (one other : Came Item) → list_of kept_of earlier ≡ Ok one → list_of kept_of later ≡ Ok other
+    → list_of kept_of (option_or later earlier) ≡ Ok (option_or other one)
+later_read kept_of earlier None one other read none = let same : other ≡ None = cc in rw same read
+later_read kept_of earlier (Some items) one other read is =
+    let made = step (kept_of items) _ other is in let came = made.2 in
+    let same : other ≡ Some (record { kept = made.0; count = length items }) = cc in
+    rw (made.1, same) refl
 
 -- an Insert that is received is of lists
 pub received_lists : (arrival : Arrival) → is_insert arrival.update ≡ true → IsReceived arrival → IsOfLists arrival

@@ -14,11 +14,7 @@ use Rattle.camel_map.proofs.Received.Updates.{step}
 abbrev pub Came : Type 0 → Type 0
 Came Item = Option (ReceivedList (List Item))
 
--- the items of a list, as they are
-abbrev same : {Item : Type 0} → List Item → List Item
-same items = items
-
-part_back : {Item : Type 0} (list : Came Item) → part_of same (kept_in list) (count_of list) ≡ list
+part_back : {Item : Type 0} (list : Came Item) → part_of (kept_in list) (count_of list) ≡ list
 part_back None = refl
 part_back (Some list) = refl
 
@@ -27,16 +23,16 @@ pub record Parts (imsi : List ℕ) (lists : Lists) (arrival : Arrival) (own : Li
     (o_criteria : Option (List OCriteriaData)) (vt : Option (List TdpRowData))
     (t_criteria : Option (List TCriteriaData)) : Type 0 where
   pub imsi_is : imsi ≡ own
-  pub o_is : list_of o_csi_of lists.o ≡ Ok (part_of (λ items. items) o arrival.counts.o)
+  pub o_is : list_of o_csi_of lists.o ≡ Ok (part_of o arrival.counts.o)
   pub o_criteria_is : list_of o_criteria_set_of lists.o_criteria
-      ≡ Ok (part_of (λ items. items) o_criteria arrival.counts.o_criteria)
-  pub vt_is : list_of vt_csi_of lists.vt ≡ Ok (part_of (λ items. items) vt arrival.counts.vt)
+      ≡ Ok (part_of o_criteria arrival.counts.o_criteria)
+  pub vt_is : list_of vt_csi_of lists.vt ≡ Ok (part_of vt arrival.counts.vt)
   pub t_criteria_is : list_of t_criteria_set_of lists.t_criteria
-      ≡ Ok (part_of (λ items. items) t_criteria arrival.counts.t_criteria)
+      ≡ Ok (part_of t_criteria arrival.counts.t_criteria)
 
 parted : {Item : Type 0} (reading : Result (Came Item) Refusal) (list : Came Item) (kept : Option (List Item)) (count : ℕ)
     → reading ≡ Ok list → kept_in list ≡ kept → count_of list ≡ count
-    → reading ≡ Ok (part_of (λ items. items) kept count)
+    → reading ≡ Ok (part_of kept count)
 parted reading list kept count is same_items same_count = rw (is, ← same_items, ← same_count, part_back list) refl
 
 pub parts : (imsi : List ℕ) (lists : Lists) (arrival : Arrival) (own : List ℕ) (o : Option (List TdpRowData))

@@ -12,7 +12,10 @@ use crate::encoding::imsi::put_imsi;
 use crate::encoding::writer::{TooLong, Writer};
 use crate::identifier::{CONSTRUCTED, OCTET_STRING, PRIMITIVE, SEQUENCE};
 use crate::operation::Operation;
-use camel_rows::{OCriteriaSet, OCsi, TCriteriaSet, Update, VtCsi, Withdrawal};
+use camel_criteria::{OCriteria, TCriteria};
+use camel_rows::{
+    OCriteriaSet, OCsi, Originating, TCriteriaSet, Update, VmscTerminating, VtCsi, Withdrawal,
+};
 use camel_tbcd::Imsi;
 
 /// The fields of VlrCamelSubscriptionInfo.
@@ -27,9 +30,9 @@ fn put_camel_fields(
     ensures { OnOk result (writer.new ≡ before (camel_parts (option_copied o.entry) (option_copied o_criteria.entry)
         (option_copied vt.entry) (option_copied t_criteria.entry)) writer.old) }
 {
-    put_csi_criteria(writer, CONSTRUCTED + 8, t_criteria)?;
+    put_csi_criteria::<VmscTerminating, TCriteria>(writer, CONSTRUCTED + 8, t_criteria)?;
     put_csi(writer, CONSTRUCTED + 7, vt)?;
-    put_csi_criteria(writer, CONSTRUCTED + 4, o_criteria)?;
+    put_csi_criteria::<Originating, OCriteria>(writer, CONSTRUCTED + 4, o_criteria)?;
     put_csi(writer, CONSTRUCTED, o)
 }
 

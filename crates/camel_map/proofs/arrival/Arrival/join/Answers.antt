@@ -1,11 +1,12 @@
 use Rattle.std.proofs.Common.{◌≡◌, ◌∙◌, ℕ, List, Bool, true, false, not, Ok, bytes_eq, ap, subst, sym, refl}
 use Rattle.std.proofs.lemmas.Result.{err_from_is_err_and}
 use Rattle.std.proofs.lemmas.Slice.Eq.{bytes_eq-Decides}
+use Rattle.camel_rows.specs.TdpRow.{o_csi_of, vt_csi_of}
 use Rattle.camel_rows.specs.Update.{is_insert}
 use Rattle.camel_map.specs.Arrival.{as_one, insert_of_lists, latest}
 use Rattle.camel_map.specs.declared.arrival.CapabilityHandling.{CapabilityHandling}
 use Rattle.camel_map.proofs.Joined.Parts.{brings_insert, parts}
-use Rattle.camel_map.proofs.Joined.Arrivals.{ends, made_as, received_lists}
+use Rattle.camel_map.proofs.Joined.Arrivals.{ends, later_read, received_lists}
 use Rattle.camel_map.proofs.arrival.Arrival.join.Goals as goal
 
 not_other : (imsi other : List ℕ) → false ≡ not (bytes_eq imsi other) → imsi ≡ other
@@ -42,9 +43,10 @@ returns-in_err-join_lists-clause-joined c =
     λ imsi earlier later one other.
     let first = parts imsi earlier c.args.self.now _ _ _ _ _ one c.in-Insert.is in
     let second = parts imsi later c.args.next.now _ _ _ _ _ other c.in-Insert-update.is in
-    let ended = c.in_err-join_lists.ensures earlier.o later.o first.o_is second.o_is in
+    let o = later_read o_csi_of earlier.o later.o _ _ first.o_is second.o_is in
+    let ended = c.in_err-join_lists.ensures earlier.o_criteria later.o_criteria first.o_criteria_is second.o_criteria_is in
     let returned = err_from_is_err_and c.from_residual.result c.from_residual.ensures.1 in
-    rw returned.1 (ends _ _ _ _ returned.2 ended (λ refused. rw (refused) refl))
+    rw returned.1 (ends _ _ _ _ returned.2 ended (λ refused. rw (o, refused) refl))
 
 pub returns-in_err-join_lists-2-clause-joined : goal.returns-in_err-join_lists-2-clause-joined
 unfolding insert_of_lists
@@ -52,34 +54,11 @@ returns-in_err-join_lists-2-clause-joined c =
     λ imsi earlier later one other.
     let first = parts imsi earlier c.args.self.now _ _ _ _ _ one c.in-Insert.is in
     let second = parts imsi later c.args.next.now _ _ _ _ _ other c.in-Insert-update.is in
-    let o = made_as _ _ (c.in_ok-join_lists.ensures earlier.o later.o first.o_is second.o_is) in
-    let ended = c.in_err-join_lists-2.ensures earlier.o_criteria later.o_criteria first.o_criteria_is second.o_criteria_is in
+    let o = later_read o_csi_of earlier.o later.o _ _ first.o_is second.o_is in
+    let o_criteria = c.in_ok-join_lists.ensures earlier.o_criteria later.o_criteria first.o_criteria_is second.o_criteria_is in
+    let vt = later_read vt_csi_of earlier.vt later.vt _ _ first.vt_is second.vt_is in
+    let ended = c.in_err-join_lists-2.ensures earlier.t_criteria later.t_criteria first.t_criteria_is second.t_criteria_is in
     let returned = err_from_is_err_and c.from_residual-in_err-join_lists-2.result c.from_residual-in_err-join_lists-2.ensures.1 in
-    rw returned.1 (ends _ _ _ _ returned.2 ended (λ refused. rw (o, refused) refl))
-
-pub returns-in_err-join_lists-3-clause-joined : goal.returns-in_err-join_lists-3-clause-joined
-unfolding insert_of_lists
-returns-in_err-join_lists-3-clause-joined c =
-    λ imsi earlier later one other.
-    let first = parts imsi earlier c.args.self.now _ _ _ _ _ one c.in-Insert.is in
-    let second = parts imsi later c.args.next.now _ _ _ _ _ other c.in-Insert-update.is in
-    let o = made_as _ _ (c.in_ok-join_lists.ensures earlier.o later.o first.o_is second.o_is) in
-    let o_criteria = made_as _ _ (c.in_ok-join_lists-2.ensures earlier.o_criteria later.o_criteria first.o_criteria_is second.o_criteria_is) in
-    let ended = c.in_err-join_lists-3.ensures earlier.vt later.vt first.vt_is second.vt_is in
-    let returned = err_from_is_err_and c.from_residual-in_err-join_lists-3.result c.from_residual-in_err-join_lists-3.ensures.1 in
-    rw returned.1 (ends _ _ _ _ returned.2 ended (λ refused. rw (o, o_criteria, refused) refl))
-
-pub returns-in_err-join_lists-4-clause-joined : goal.returns-in_err-join_lists-4-clause-joined
-unfolding insert_of_lists
-returns-in_err-join_lists-4-clause-joined c =
-    λ imsi earlier later one other.
-    let first = parts imsi earlier c.args.self.now _ _ _ _ _ one c.in-Insert.is in
-    let second = parts imsi later c.args.next.now _ _ _ _ _ other c.in-Insert-update.is in
-    let o = made_as _ _ (c.in_ok-join_lists.ensures earlier.o later.o first.o_is second.o_is) in
-    let o_criteria = made_as _ _ (c.in_ok-join_lists-2.ensures earlier.o_criteria later.o_criteria first.o_criteria_is second.o_criteria_is) in
-    let vt = made_as _ _ (c.in_ok-join_lists-3.ensures earlier.vt later.vt first.vt_is second.vt_is) in
-    let ended = c.in_err-join_lists-4.ensures earlier.t_criteria later.t_criteria first.t_criteria_is second.t_criteria_is in
-    let returned = err_from_is_err_and c.from_residual-in_err-join_lists-4.result c.from_residual-in_err-join_lists-4.ensures.1 in
     rw returned.1 (ends _ _ _ _ returned.2 ended (λ refused. rw (o, o_criteria, vt, refused) refl))
 
 pub returns-clause-joined : goal.returns-clause-joined
@@ -88,11 +67,12 @@ returns-clause-joined c =
     λ imsi earlier later one other.
     let first = parts imsi earlier c.args.self.now _ _ _ _ _ one c.in-Insert.is in
     let second = parts imsi later c.args.next.now _ _ _ _ _ other c.in-Insert-update.is in
-    let o = made_as _ _ (c.in_ok-join_lists.ensures earlier.o later.o first.o_is second.o_is) in
-    let o_criteria = made_as _ _ (c.in_ok-join_lists-2.ensures earlier.o_criteria later.o_criteria first.o_criteria_is second.o_criteria_is) in
-    let vt = made_as _ _ (c.in_ok-join_lists-3.ensures earlier.vt later.vt first.vt_is second.vt_is) in
-    let t_criteria = made_as _ _ (c.in_ok-join_lists-4.ensures earlier.t_criteria later.t_criteria first.t_criteria_is second.t_criteria_is) in
-    rw (o, o_criteria, vt, t_criteria, first.imsi_is, c.insert.ensures, c.or.ensures, c.or-2.ensures) refl
+    let o = later_read o_csi_of earlier.o later.o _ _ first.o_is second.o_is in
+    let o_criteria = c.in_ok-join_lists.ensures earlier.o_criteria later.o_criteria first.o_criteria_is second.o_criteria_is in
+    let vt = later_read vt_csi_of earlier.vt later.vt _ _ first.vt_is second.vt_is in
+    let t_criteria = c.in_ok-join_lists-2.ensures earlier.t_criteria later.t_criteria first.t_criteria_is second.t_criteria_is in
+    let csis = (c.later_csi.ensures, c.later_csi-2.ensures) in
+    rw (o, o_criteria, vt, t_criteria, first.imsi_is, c.insert.ensures, csis.0, csis.1, c.or.ensures, c.or-2.ensures) refl
 
 pub returns-clause-received : goal.returns-clause-received
 returns-clause-received c =

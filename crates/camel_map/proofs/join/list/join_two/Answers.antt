@@ -10,10 +10,10 @@ use Rattle.camel_map.proofs.join.list.join_two.Goals as goal
 pub returns-in_err-kept-2 : goal.returns-in_err-kept-2
 returns-in_err-kept-2 g c =
     λ earlier later kept same kept_too same_too.
-    let dp_of = g.L.KeptItems.dp_of in let points = g.L.KeptItems.points in
-    let one = g.L.KeptItems.items c.args.one.now in let other = g.L.KeptItems.items c.args.other.now in
+    let dp_of = g.E.AtDetectionPoint.dp_of in let points = g.E.CriteriaEntry.points in
+    let one = c.args.one.now in let other = c.args.other.now in
     let received : c.in_ok-received.received.items ≡ one ++ other =
-    rw (c.in_ok-received.ensures, c.as_items.ensures, c.as_items-2.ensures) refl in
+    rw (c.in_ok-received.ensures, c.as_slice.ensures, c.as_slice-2.ensures) refl in
     let sum = sum_few (c.args.count + c.args.more) _ c.saturating_add-count.ensures c.if-count-gt-MAX_TDP_DATA.false in
     let few : length earlier + length later ≤ 10 = omega (arith, same, same_too, sum.0) in
     let some_there = some_length _ c.if-is_empty.ensures in
@@ -26,10 +26,10 @@ returns-in_err-kept-2 g c =
 pub returns : goal.returns
 returns g c =
     λ earlier later kept same kept_too same_too.
-    let dp_of = g.L.KeptItems.dp_of in let points = g.L.KeptItems.points in
-    let one = g.L.KeptItems.items c.args.one.now in let other = g.L.KeptItems.items c.args.other.now in
+    let dp_of = g.E.AtDetectionPoint.dp_of in let points = g.E.CriteriaEntry.points in
+    let one = c.args.one.now in let other = c.args.other.now in
     let received : c.in_ok-received.received.items ≡ one ++ other =
-    rw (c.in_ok-received.ensures, c.as_items.ensures, c.as_items-2.ensures) refl in
+    rw (c.in_ok-received.ensures, c.as_slice.ensures, c.as_slice-2.ensures) refl in
     let sum = sum_few (c.args.count + c.args.more) _ c.saturating_add-count.ensures c.if-count-gt-MAX_TDP_DATA.false in
     let few : length earlier + length later ≤ 10 = omega (arith, same, same_too, sum.0) in
     let count : c.saturating_add-count.result ≡ length (earlier ++ later) =
