@@ -54,8 +54,8 @@ impl Arrival {
     /// This Insert and the next one of its dialogue, as one. A CSI of the next one stands in place of this one's, as an
     /// HLR does not split it over operations (TS 29.002); if the next one has none, this one's stays. An HLR may split
     /// lists of criteria: one that comes in both is the first one with the entries of the next one behind it, and all
-    /// rules of received lists hold for the whole, as if one operation had brought it. Of a camelCapabilityHandling that
-    /// came in both, the one of the next stands.
+    /// rules of received lists hold for the whole, as if one operation had brought it. Of a camelCapabilityHandling
+    /// that came in both, the one of the next stands.
     ///
     /// Both are as before, and the criteria are copied: it takes memory for them.
     ///
