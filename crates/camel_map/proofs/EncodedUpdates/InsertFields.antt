@@ -66,5 +66,5 @@ module _ (imsi : List ℕ) (lists : Lists) where
   -- its update is the one that was sent
   pub came_says : came_insert.update ≡ sent.insert_of imsi lists
   came_says =
-      let entries = (items_kept ignored_o_entry lists.o_criteria, items_kept ignored_t_entry lists.t_criteria) in
-      rw (rows_kept o_ignored lists.o, entries.0, rows_kept vt_ignored lists.vt, entries.1) refl
+      rw (rows_kept o_ignored lists.o, items_kept ignored_o_entry lists.o_criteria, rows_kept vt_ignored lists.vt, items_kept ignored_t_entry lists.t_criteria)
+      refl

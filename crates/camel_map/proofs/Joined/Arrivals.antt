@@ -11,6 +11,10 @@ use Rattle.camel_map.specs.declared.join.JoinFault.TheVariants.{Refused}
 use Rattle.camel_map.proofs.Joined.Parts.{Came}
 use Rattle.camel_map.proofs.Received.Updates.{step}
 
+-- what came stands in place of what came before
+stands : {A : Type 0} (x : A) (one other : Option A) → other ≡ Some x → other ≡ option_or other one
+stands x one other is = rw is refl
+
 -- the CSI that came last is read as it was
 pub later_read : {Item : Type 0} (kept_of : List Item → Result (List Item) Refusal) (earlier later : Option (List Item))
     (one other : Came Item) → list_of kept_of earlier ≡ Ok one → list_of kept_of later ≡ Ok other
@@ -19,7 +23,7 @@ later_read kept_of earlier None one other read none = let same : other ≡ None 
 later_read kept_of earlier (Some items) one other read is =
     let made = step (kept_of items) _ other is in let came = made.2 in
     let same : other ≡ Some (record { kept = made.0; count = length items }) = cc in
-    rw (made.1, same) refl
+    is ∙ ap Ok (stands _ one other same)
 
 -- an Insert that is received is of lists
 pub received_lists : (arrival : Arrival) → is_insert arrival.update ≡ true → IsReceived arrival → IsOfLists arrival

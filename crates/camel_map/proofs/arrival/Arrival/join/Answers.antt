@@ -71,8 +71,8 @@ returns-clause-joined c =
     let o_criteria = c.in_ok-join_lists.ensures earlier.o_criteria later.o_criteria first.o_criteria_is second.o_criteria_is in
     let vt = later_read vt_csi_of earlier.vt later.vt _ _ first.vt_is second.vt_is in
     let t_criteria = c.in_ok-join_lists-2.ensures earlier.t_criteria later.t_criteria first.t_criteria_is second.t_criteria_is in
-    let csis = (c.later_csi.ensures, c.later_csi-2.ensures) in
-    rw (o, o_criteria, vt, t_criteria, first.imsi_is, c.insert.ensures, csis.0, csis.1, c.or.ensures, c.or-2.ensures) refl
+    rw (o, o_criteria, vt, t_criteria, first.imsi_is, c.insert.ensures, c.later_csi.ensures, c.later_csi-2.ensures, c.or.ensures, c.or-2.ensures)
+    refl
 
 pub returns-clause-received : goal.returns-clause-received
 returns-clause-received c =

@@ -21,7 +21,7 @@ returns-in_err-kept-2 g c =
     let returned = err_from_is_err_and c.from_residual-in_err-kept-2.result c.from_residual-in_err-kept-2.ensures.1 in
     rw (returned.1, returned.2)
     (inr (some_kept dp_of points earlier later one other kept kept_too few some
-    ∙ (ap (kept_of points dp_of) (sym received) ∙ c.in_err-kept-2.ensures)))
+    ∙ (ap (kept_of points dp_of) (sym received) ∙ sym c.in_err-kept-2.ensures)))
 
 pub returns : goal.returns
 returns g c =
@@ -38,13 +38,14 @@ returns g c =
       | then-is_empty+in_ok-kept w ↦
           let none = no_items c.in_ok-received.received.items _ c.in_ok-received.received.ok.0 w.if-is_empty.ensures in
           let empty : one ++ other ≡ [] = sym received ∙ none in
-          rw (w.kept-is, w.in_ok-kept.ensures) (none_kept dp_of points earlier later one other kept kept_too few empty, count)
+          let copied : w.in_ok-kept.kept ≡ one = w.in_ok-kept.ensures.cases in
+          rw (w.kept-is, copied) (none_kept dp_of points earlier later one other kept kept_too few empty, count)
       | else-is_empty+in_ok-kept-2 w ↦
           let some_there = some_length _ w.if-is_empty.ensures in
           let some : 1 ≤ length (one ++ other) = rw (← received) (omega (arith, some_there, c.in_ok-received.received.ok.0)) in
           rw w.kept-is (
             some_kept dp_of points earlier later one other kept kept_too few some
-                ∙ (ap (kept_of points dp_of) (sym received) ∙ w.in_ok-kept-2.ensures),
+                ∙ (ap (kept_of points dp_of) (sym received) ∙ sym w.in_ok-kept-2.ensures),
             count,
           )
     ]
