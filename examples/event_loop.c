@@ -1,7 +1,8 @@
 /* A switch with one event loop, over libwenqolo.a: writer and session are in one thread, and each handler leaves the
  * store published. It keeps what a dialogue with the HLR has brought, and holds the calls of the subscriber until the
  * dialogue ends. It prints what the HLR is answered and what is decided, and exits with 1 at the first call that does
- * not do what is expected of it. event_loop.cpp and bindings/rust/examples/event_loop.rs do and print the same. */
+ * not do what is expected of it. event_loop.cpp and bindings/rust/examples/event_loop.rs are the same switch, and print
+ * the same; they print the status of an update as it is, and try none again. */
 #include "camel.h"
 
 #include <stdio.h>
@@ -88,7 +89,8 @@ static camel_status join(const struct dialogue *dialogue, const uint8_t *argumen
     return status;
 }
 
-/* An InsertSubscriberData: the HLR is answered by the status. In a location update a Register goes before it. */
+/* An InsertSubscriberData: `camel_map_error_of` says what the HLR is answered about the status. In a location update a
+ * Register goes before it. */
 static camel_status on_insert(struct loop *loop, struct dialogue *dialogue, const uint8_t *argument, size_t count)
 {
     camel_change change = { .kind = CAMEL_UPDATE_REGISTER, .imsi = dialogue->subscriber->imsi };
@@ -249,16 +251,31 @@ static const uint8_t CAUSES[] = {
     0xa3, 0x03, 0x04, 0x01, 0x03                    /* o-CauseValueCriteria [3] */
 };
 
-/* What the HLR is answered, or what a location update ends with. */
+/* What the HLR is answered: that it is done, a user error of MAP, or a reject with the problem of an invoke. Of the end
+ * of a location update the same number says why that failed. */
 static void print(const char *what, camel_status status)
 {
-    if (status)
-        printf("%s: refused %u\n", what, status);
+    unsigned error = camel_map_error_of(status);
+    if (error >= CAMEL_MAP_REJECT)
+        printf("%s: rejected %u\n", what, error & 0xff);
+    else if (error)
+        printf("%s: refused %u\n", what, error);
     else
         printf("%s: done\n", what);
 }
 
-#define INSERT(loop, dialogue, argument) print("insert", on_insert(loop, dialogue, argument, sizeof argument))
+/* The invoke of an InsertSubscriberData, and its answer. If memory is refused, nothing of it is shown, and the same
+ * octets are handed in once more: a switch does so by a timer, and answers the HLR if that fails too. CAMEL_HELD does
+ * not come here, since each handler leaves its look. */
+static void insert(struct loop *loop, struct dialogue *dialogue, const uint8_t *argument, size_t count)
+{
+    camel_status status = on_insert(loop, dialogue, argument, count);
+    if (status == CAMEL_OUT_OF_MEMORY)
+        status = on_insert(loop, dialogue, argument, count);
+    print("insert", status);
+}
+
+#define INSERT(loop, dialogue, argument) insert(loop, dialogue, argument, sizeof argument)
 
 static void end(struct loop *loop, struct dialogue *dialogue, enum end end)
 {

@@ -7,7 +7,6 @@
 #include <pthread.h>
 #include <stdio.h>
 #include <stdlib.h>
-#include <string.h>
 
 enum { THREADS = 2, CALLS = 10000, ROOM = 8 };
 
@@ -289,8 +288,7 @@ int main(void)
            camel_submit_map(&store, CAMEL_INSERT_SUBSCRIBER_DATA, &other, ROWS, sizeof ROWS, &place),
            CAMEL_UNIDENTIFIED_SUBSCRIBER);
     for (int thread = 0; thread < THREADS; thread++) {
-        memcpy(&callers[thread].session, &sessions[thread], sizeof sessions[thread]);
-        memset(&sessions[thread], 0, sizeof sessions[thread]);
+        OK(camel_move(&callers[thread].session, &sessions[thread]));
         pthread_mutex_init(&callers[thread].queue.lock, NULL);
         callers[thread].event = event_of(&imsi, 2);
     }
