@@ -1,14 +1,21 @@
-/* camel.h: when a VMSC/VLR hands a call to an intelligent network service (3GPP TS 23.078, CAMEL phase 3).
+/* camel.h: when a VMSC/VLR hands a telephone call to an intelligent network service (3GPP TS 23.078, CAMEL phase 3).
  *
  * A store has the O-CSI and VT-CSI of each subscriber, with their criteria, as the HLR sends them. One writer submits
  * updates and publishes them; each call-control thread has a session, and asks at trigger detection points 2, 4, 12, 13
  * and 14. C11 and C++17, and later. The library is libwenqolo.a, or libwenqolo.so.0 as a shared one, for Linux on
  * x86-64-v2, and needs the C library only.
  *
+ * Words. A call is one of a function below; that of a subscriber is a telephone call. An accepted update is pending
+ * until a publication publishes all pending ones at once. A front is the first so many accepted updates, over whose
+ * data an event is decided; a session never goes back to an earlier one. A look is the time in which a session reads
+ * one front: during one call, or from camel_look to camel_leave. A receipt says up to which update a store has
+ * published. A row is what is invoked at a detection point, an entry the criteria there, a record all that a store has
+ * of a subscriber.
+ *
  * Handles. A handle is some words of the caller's memory, empty if its fields are 0 (CAMEL_EMPTY). The library fills
- * it, and camel_free or camel_close empties it. Never write its fields, and never copy a full one: camel_move moves it.
- * Each full one is freed by itself, a session's also after the end of its store. All else is plain data, which may be
- * copied.
+ * it, and camel_free or camel_close empties it. Never write its fields, and never copy a full one: camel_move moves it,
+ * and so may realloc with an array of them, since nothing points to a handle. Each full one is freed by itself, a
+ * session's also after the end of its store. All else is plain data, which may be copied.
  *
  * Statuses. A call that fails has done nothing, but what is said of it. It tells the first fault, in this order:
  *   1. the version, of camel_open only (CAMEL_OTHER_VERSION);
@@ -17,23 +24,29 @@
  *   4. the handle that it is to fill (CAMEL_FULL_HANDLE);
  *   5. whether a look has begun (CAMEL_HELD);
  *   6. all else.
- * CAMEL_OUT_OF_MEMORY may come before 3 and 4 of a call that reads the lists of an Insert or the octets of an argument,
- * and before the store's handle of camel_submit and camel_submit_all, which copy updates.
+ * CAMEL_OUT_OF_MEMORY may come before 3 and 4 of a call that reads the lists of an Insert or the octets of a MAP
+ * argument, and before the store's handle of camel_submit and camel_submit_all, which copy updates.
  *
  * Threads. The store's handle is the writer's, and each session's handle that of one thread. A handle moves to another
  * thread by a lock, by a thread's start or join, or by an atomic that one stores with release and the other loads with
- * acquire. It is in one call at a time, but a handle that a call takes as const may be in several such calls; different
- * handles may be in calls at the same time. No call takes a lock of its own, waits or yields, but malloc may take one,
- * and camel_random_seed may wait early in boot.
+ * acquire, a session's also while it looks. It is in one call at a time, but a handle that a call takes as const may be
+ * in several such calls; different handles may be in calls at the same time. No call takes a lock of its own, waits or
+ * yields, but malloc may take one, and camel_random_seed may wait early in boot.
  *
  * Memory. The library calls malloc, realloc and free. A call that is refused memory returns CAMEL_OUT_OF_MEMORY, and
- * may be made again. It has changed nothing, except camel_commit (see there), but that a session which looks may have
+ * may be made again. It has changed nothing; of camel_commit see there. A session that looks in such a call may have
  * seen a later front. Only camel_open, camel_update_of, camel_update_of_map and camel_update_join, camel_submit and
  * camel_submit_*, camel_publish, camel_publish_to, camel_commit, camel_drop_pending, camel_keep, camel_set_up,
  * camel_imsis_of and camel_encode_record ask for any, and a publication that returns CAMEL_HELD for none.
+ * Nothing else is asked of the system, but getrandom by camel_random_seed: the library has no descriptor, timer,
+ * thread, callback, signal handler or exit handler, and prints nothing. errno is as these functions leave it.
  *
- * Octets and lists. A pointer that is passed with a count may be NULL with a count of 0. With another count nothing is
- * read of it: it is no octets, and of handles CAMEL_WRONG_HANDLE, or CAMEL_MALFORMED of camel_open.
+ * Octets and lists. What is passed is read during the call, and nothing of it is kept: octets, lists and structures may
+ * be freed once it returns. A pointer that is passed with a count may be NULL with a count of 0. With another count
+ * nothing is read of NULL, which is
+ *   - of octets and digits: none;
+ *   - of a list of an Insert: one without items (CAMEL_DATA_MISSING);
+ *   - of updates and sessions: CAMEL_WRONG_HANDLE, but CAMEL_MALFORMED of camel_open.
  *
  * What nothing checks. A handle is empty or as the library left it; a pointer without a count is not null, and one with
  * a count points to as many; what is passed does not overlap; stores whose receipts are told apart have different
@@ -57,13 +70,13 @@ extern "C" {
 #define CAMEL_VERSION_NUMBER 0x000700 /* an octet for each of its numbers */
 #define CAMEL_ABI_VERSION 4
 
-/* The most sessions that a store has, the most updates that it takes in its life, and the most octets of an argument
+/* The most sessions that a store has, the most updates that it takes in its life, and the most octets of a MAP argument
  * that camel_encode_record writes. */
 #define CAMEL_MAX_SESSIONS 64
 #define CAMEL_MAX_UPDATES UINT64_C(0x7fffffffffffffff)
 #define CAMEL_MAX_ARGUMENT 1198
 
-/* What is written as the place of a fault where no octet of the argument is at fault. */
+/* What is written as the place of a fault where no octet of the MAP argument is at fault. */
 #define CAMEL_NO_OCTET UINT64_MAX
 
 /* What a call returns is to be looked at. Pass no NULL to a call marked CAMEL_CALL: a compiler takes its pointers as
@@ -92,22 +105,22 @@ enum {
     CAMEL_UNEXPECTED_DATA_VALUE = 36,  /* TS 29.002 */
     CAMEL_HISTORY_FULL = 101,          /* the store has accepted as many updates as its limit */
     CAMEL_OUT_OF_MEMORY = 102,
-    CAMEL_NO_PLACE = 103,              /* a session got no place: not expected, but no proof excludes it */
-    CAMEL_NO_LOOK = 104,               /* the store has ended */
-    CAMEL_MALFORMED_OCTETS = 401,      /* from here to 407 of an argument: the octets are no elements (ITU-T X.690) */
+    CAMEL_NO_PLACE = 103,              /* not expected, but no proof excludes it: no store was made; open again */
+    CAMEL_NO_LOOK = 104,               /* of a session's call: its store has ended */
+    CAMEL_MALFORMED_OCTETS = 401,      /* from here to 407 of a MAP argument: octets are no elements (ITU-T X.690) */
     CAMEL_MISSING_FIELD = 402,         /* a field that must be there is missing */
     CAMEL_FIELD_TWICE = 403,           /* a field comes twice */
     CAMEL_WRONG_TAG = 404,             /* an element is none of the type that must be there */
     CAMEL_WRONG_LENGTH = 405,          /* contents have a wrong length for their type, or octets follow the argument */
-    CAMEL_NO_IMSI = 406,               /* neither the argument nor the dialogue has an IMSI */
-    CAMEL_OTHER_IMSI = 407,            /* the argument has another IMSI than the dialogue */
+    CAMEL_NO_IMSI = 406,               /* neither the MAP argument nor the dialogue has an IMSI */
+    CAMEL_OTHER_IMSI = 407,            /* the MAP argument has another IMSI than the dialogue */
     CAMEL_NO_INSERT = 408,             /* an update that is to be joined is no Insert */
     CAMEL_OTHER_SUBSCRIBER = 409,      /* the updates that are to be joined are of different subscribers */
-    CAMEL_HELD = 501,                  /* a look is held: try again once it is left */
+    CAMEL_HELD = 501,                  /* the session's own look: leave it first; or another look: try again later */
     CAMEL_MALFORMED = 502,             /* no valid IMSI, address, event or operation, too long a list, out of range */
-    CAMEL_WRONG_HANDLE = 503,          /* the handle is empty, or of another kind, or the store has ended */
+    CAMEL_WRONG_HANDLE = 503,          /* the handle is empty or of another kind, or the writer's store has ended */
     CAMEL_FULL_HANDLE = 504,           /* the handle that is to be filled is not empty */
-    CAMEL_OTHER_STORE = 505,           /* the receipt is of another store, or of more updates than are published */
+    CAMEL_OTHER_STORE = 505,           /* receipt or session of another store, or receipt of more than is published */
     CAMEL_OTHER_VERSION = 506          /* the library has another CAMEL_ABI_VERSION than this header */
 };
 
@@ -127,12 +140,13 @@ typedef struct camel_receipt { uint64_t store; uint64_t front; } camel_receipt;
  * 15ULL << 56 | 262010000000001. Two are equal if their numbers are. The number 0 is none. */
 typedef struct camel_imsi { uint64_t number; } camel_imsi;
 
-/* An AddressString of TS 29.002, as the destination of a call: the first `length` octets, 1 to 20. */
+/* An AddressString of TS 29.002, as the destination of a telephone call: the first `length` octets, 1 to 20. Octet 1
+ * has nature and numbering plan, and those behind it two digits each, the first in the low bits. */
 typedef struct camel_address { uint8_t length; uint8_t octets[20]; } camel_address;
 
 /* An ISDN-AddressString, as a gsmSCF address or a number of a criterion: the first `length` octets, 1 to 9. What is
- * behind these of an address is not looked at, and may be any octets when the library writes one: compare so many
- * octets. */
+ * behind these of an address is not looked at, and may be any octets when the library writes one. So compare the first
+ * `length` octets only: memcmp of two structures is wrong. */
 typedef struct camel_isdn_address { uint8_t length; uint8_t octets[9]; } camel_isdn_address;
 
 /* In all data a bool is false if it is 0, and true if it is any other octet. */
@@ -202,8 +216,8 @@ enum {
     CAMEL_UPDATE_CLEAR_ALL = 5
 };
 
-/* A change of subscriber data, as `{ .kind = CAMEL_UPDATE_REGISTER, .imsi = imsi }`. What is not of its kind is not
- * looked at. */
+/* A change of subscriber data, as `{ .kind = CAMEL_UPDATE_REGISTER, .imsi = imsi }`, which sets all else to 0. What is
+ * not of its kind has no effect, but each call reads the pointers and counts of the lists: never leave them unset. */
 typedef struct camel_change {
     uint8_t kind;                /* CAMEL_UPDATE_REGISTER to CAMEL_UPDATE_CLEAR_ALL */
     camel_imsi imsi;             /* of all but a ClearAll */
@@ -211,8 +225,8 @@ typedef struct camel_change {
     camel_insert insert;         /* of an Insert */
 } camel_change;
 
-/* A call event. The destination and is_forwarded are read at detection points 2 and 4, the cause (0 to 127) at 4, 13
- * and 14. */
+/* An event of a telephone call. The destination and is_forwarded are read at detection points 2 and 4, the cause (0 to
+ * 127) at 4, 13 and 14. */
 typedef struct camel_event {
     camel_imsi imsi;
     camel_address destination;
@@ -222,8 +236,7 @@ typedef struct camel_event {
     uint8_t cause;
 } camel_event;
 
-/* The detection points at which calls are asked (TS 23.078), and the profiles, of which the second also compares the
- * numbering plans of listed numbers and destinations. */
+/* The detection points at which a session is asked (TS 23.078). */
 enum {
     CAMEL_DP_COLLECTED_INFO = 2,
     CAMEL_DP_ROUTE_SELECT_FAILURE = 4,
@@ -231,6 +244,9 @@ enum {
     CAMEL_DP_T_BUSY = 13,
     CAMEL_DP_T_NO_ANSWER = 14
 };
+
+/* Take profile 1, unless your text of TS 23.078 compares the numbering plans of listed numbers and destinations:
+ * profile 2 does. */
 enum { CAMEL_PROFILE_1 = 1, CAMEL_PROFILE_2 = 2 };
 
 /* Why no service is invoked. */
@@ -239,7 +255,7 @@ enum {
     CAMEL_REASON_UNKNOWN = 1,   /* there is no record of the IMSI */
     CAMEL_REASON_NO_CSI = 2,    /* the CSI is not stored */
     CAMEL_REASON_NOT_ARMED = 3, /* the CSI has no row of the detection point */
-    CAMEL_REASON_EMERGENCY = 4, /* the call is an emergency call */
+    CAMEL_REASON_EMERGENCY = 4, /* it is an emergency call */
     CAMEL_REASON_CRITERIA = 5,  /* the criteria are not met */
     CAMEL_REASONS = 6
 };
@@ -261,7 +277,7 @@ typedef struct camel_counts {
     uint64_t subscribers; /* who have a record in what is published */
     uint64_t published;   /* updates */
     uint64_t pending;     /* updates */
-    uint64_t held;        /* publications refused because of a held look, modulo 2^64, but not a told session's */
+    uint64_t held;        /* publications that a look held up, modulo 2^64, but not that of a session to tell */
 } camel_counts;
 
 /* How many events a session has decided, by camel_decide, camel_set_up and camel_decide_kept, at each detection point
@@ -384,7 +400,8 @@ CAMEL_INLINE const camel_update *camel_updates_at(const camel_update *updates, s
     return &none;
 }
 
-/* Data, made once per call. CAMEL_MALFORMED: the octets or digits are not valid ones, and nothing is written. */
+/* Data, which are made once for each telephone call. CAMEL_MALFORMED: the octets or digits are not valid ones, and
+ * nothing is written. */
 CAMEL_RESULT
 CAMEL_INLINE camel_status camel_imsi_of_tbcd(const uint8_t *octets, size_t octet_count, camel_imsi *imsi)
 {
@@ -481,11 +498,11 @@ CAMEL_INLINE camel_status camel_open(camel_store *store, camel_session *sessions
                               seed);
 }
 
-/* The writer. No call sees an update before it is published. */
+/* The writer. No session shows an update before it is published. */
 
-/* Submits a change. CAMEL_MALFORMED, CAMEL_UNEXPECTED_DATA_VALUE or CAMEL_DATA_MISSING: of its data, which are looked
- * at first. CAMEL_UNIDENTIFIED_SUBSCRIBER, CAMEL_DATA_MISSING, CAMEL_HISTORY_FULL or CAMEL_OUT_OF_MEMORY: the store
- * rejects it. */
+/* Submits a change; its lists are copied. CAMEL_MALFORMED, CAMEL_UNEXPECTED_DATA_VALUE or CAMEL_DATA_MISSING: of its
+ * data, which are looked at first. CAMEL_UNIDENTIFIED_SUBSCRIBER, CAMEL_DATA_MISSING, CAMEL_HISTORY_FULL or
+ * CAMEL_OUT_OF_MEMORY: the store rejects it. */
 CAMEL_CALL
 CAMEL_INLINE camel_status camel_submit_change(camel_store *store, const camel_change *change)
 {
@@ -508,8 +525,9 @@ CAMEL_INLINE camel_status camel_submit_map(camel_store *store, uint8_t operation
 }
 
 /* Updates in handles, which are of no store: fills an empty handle with the update that camel_submit_change or
- * camel_submit_map submits, and returns the same statuses for its data, then CAMEL_FULL_HANDLE or CAMEL_OUT_OF_MEMORY.
- * After a status other than CAMEL_OK the handle is as before. The place is that of camel_submit_map. */
+ * camel_submit_map submits, a copy of what is passed. Returns the same statuses for its data, then CAMEL_FULL_HANDLE or
+ * CAMEL_OUT_OF_MEMORY. After a status other than CAMEL_OK the handle is as before. The place is that of
+ * camel_submit_map. */
 CAMEL_CALL
 CAMEL_INLINE camel_status camel_update_of(const camel_change *change, camel_update *update)
 {
@@ -526,9 +544,9 @@ CAMEL_INLINE camel_status camel_update_of_map(uint8_t operation, const camel_ims
 }
 
 /* Fills an empty handle with the join of two Inserts of one dialogue, over which an HLR has split the data of a
- * subscriber: what one operation brings that has the lists of both. Of the rows of a CSI in both, those of `next` stand;
- * the criteria of `next` are behind those of `one`. Of a camelCapabilityHandling in both, that of `next` stands. The two
- * are different handles, and stay as they are.
+ * subscriber: what one operation brings that has the lists of both. Of the rows of a CSI in both, those of `next`
+ * stand; the criteria of `next` are behind those of `one`. Of a camelCapabilityHandling in both, that of `next` stands.
+ * The two are different handles, and stay as they are.
  * CAMEL_WRONG_HANDLE: one of them holds no update. CAMEL_FULL_HANDLE. CAMEL_NO_INSERT, CAMEL_OTHER_SUBSCRIBER.
  * CAMEL_UNEXPECTED_DATA_VALUE: criteria have more than 10 entries then, or two of a detection point of the CSI.
  * CAMEL_OUT_OF_MEMORY. */
@@ -573,7 +591,8 @@ CAMEL_INLINE camel_status camel_submit(camel_store *store, const camel_update *u
  *   CAMEL_OTHER_STORE: that session is of another store.
  *   CAMEL_OUT_OF_MEMORY.
  * After each of these all is pending as before. CAMEL_NO_LOOK, and CAMEL_OTHER_STORE though each session is of the
- * store, are not expected, but no proof excludes them: then all is published, and a session does not show it. */
+ * store, are not expected, but no proof excludes them. Then all is published, `published` of camel_counts has grown if
+ * anything was pending, and a session does not show it. */
 CAMEL_RESULT
 CAMEL_INLINE camel_status camel_publish_to(camel_store *store, camel_session *sessions, size_t session_count)
 {
@@ -592,16 +611,17 @@ CAMEL_INLINE camel_status camel_publish(camel_store *store)
 }
 
 /* What a switch with one event loop does with the updates of an operation: submits copies of them, as camel_submit_all
- * does, publishes them, and has these sessions learn it, as camel_publish_to does. After any status below none of it is
- * shown, so the HLR may be answered with an error. What was pending before the call is dropped: a switch that commits
- * submits nothing else. `rejected` is that of camel_submit_all.
+ * does, publishes them, and has these sessions learn it, as camel_publish_to does. After each status below but the
+ * last, none of it is shown, so the HLR may be answered with an error. What was pending before the call is dropped: a
+ * switch that commits submits nothing else. `rejected` is that of camel_submit_all.
  *   CAMEL_MALFORMED, CAMEL_WRONG_HANDLE, CAMEL_OTHER_STORE: as of both calls. All is as before.
- *   CAMEL_HELD: if `held` of camel_counts has grown, a look held the publication up, and nothing is pending. Else the
- *     first session that cannot learn has begun a look, and all is as before.
+ *   CAMEL_HELD: the first session that cannot learn has begun a look, and all is as before; or a look holds the
+ *     publication up, and nothing is pending. Only then `held` of camel_counts is more than before the call.
  *   CAMEL_UNIDENTIFIED_SUBSCRIBER, CAMEL_DATA_MISSING, CAMEL_UNEXPECTED_DATA_VALUE, CAMEL_HISTORY_FULL: of an update,
  *     which `rejected` names. Nothing is pending.
  *   CAMEL_OUT_OF_MEMORY: some may be pending, which the next camel_commit drops.
- * What is not expected of camel_publish_to is not expected here, and leaves the same. */
+ *   CAMEL_NO_LOOK, or CAMEL_OTHER_STORE with more updates published than before: not expected, as of camel_publish_to.
+ *     All of it is published, and a session does not show it. */
 CAMEL_RESULT
 CAMEL_INLINE camel_status camel_commit(camel_store *store, const camel_update *updates, size_t update_count,
                                        camel_session *sessions, size_t session_count, size_t *rejected)
@@ -633,12 +653,15 @@ camel_status camel_holders(camel_store *store, uint64_t *sessions);
 CAMEL_CALL
 camel_status camel_counts_of(const camel_store *store, camel_counts *counts);
 
-/* Writes a receipt of all that is published. A session that learns it makes a look of its own, and sees at least as
- * many updates from then on. CAMEL_HELD: a look has begun. CAMEL_OTHER_STORE: the receipt is of another store, also
- * after the end of the session's own. CAMEL_NO_LOOK: its own store has ended. CAMEL_OTHER_STORE also comes of a receipt
- * of more updates than the session's store has published; only then the session has made its look. */
+/* Writes a receipt of all that is published. */
 CAMEL_CALL
 camel_status camel_receipt_of(const camel_store *store, camel_receipt *receipt);
+
+/* Has a session learn a receipt: it makes a look of its own, and sees at least as many updates from then on.
+ *   CAMEL_HELD: its look has begun. Nothing is changed.
+ *   CAMEL_NO_LOOK: its store has ended. Nothing is changed.
+ *   CAMEL_OTHER_STORE: the receipt is of another store, also if the session's own has ended. Nothing is changed. Or it
+ *     is of more updates than the session's store has published, and the session has made its look. */
 CAMEL_CALL
 camel_status camel_learn(camel_session *session, const camel_receipt *receipt);
 
@@ -671,10 +694,10 @@ CAMEL_CALL
 camel_status camel_criteria_at(camel_session *session, const camel_imsi *imsi, uint8_t dp, camel_criteria *criteria,
                                bool *is_there);
 
-/* Fills a handle with a copy of the record of a subscriber, which a call keeps from its set-up to its later detection
- * points; is_there tells whether there is a record, and if there is none, the handle stays empty. What is decided by it
- * has the front of the copy. The IMSI of an event is not compared: events are those of the same subscriber. If memory
- * is refused, the session may have seen a later front. */
+/* Fills a handle with a copy of the record of a subscriber, which a switch keeps from the set-up of a telephone call to
+ * its later detection points; is_there tells whether there is a record, and if there is none, the handle stays empty.
+ * What is decided by it has the front of the copy. The IMSI of an event is not compared: events are those of the same
+ * subscriber. If memory is refused, the session may have seen a later front. */
 CAMEL_CALL
 camel_status camel_keep(camel_session *session, const camel_imsi *imsi, camel_subscriber *subscriber, bool *is_there);
 
@@ -688,9 +711,9 @@ camel_status camel_decide_kept(camel_session *session, const camel_subscriber *s
 CAMEL_CALL
 camel_status camel_kept_row_at(const camel_subscriber *subscriber, uint8_t dp, camel_row *row, bool *is_there);
 
-/* The set-up of a call: decides the event, as camel_decide does, and keeps the record of its subscriber, as camel_keep
- * does, over one front. Set-ups are at detection points 2 and 12; an event of another one is decided and kept likewise.
- * If memory is refused, nothing is decided, and the session may have seen a later front. */
+/* The set-up of a telephone call: decides the event, as camel_decide does, and keeps the record of its subscriber, as
+ * camel_keep does, over one front. Set-ups are at detection points 2 and 12; an event of another one is decided and
+ * kept likewise. If memory is refused, nothing is decided, and the session may have seen a later front. */
 CAMEL_CALL
 camel_status camel_set_up(camel_session *session, const camel_event *event, camel_answer *answer,
                           camel_subscriber *subscriber, bool *is_there);
@@ -709,8 +732,8 @@ camel_status camel_next_imsi(camel_imsis *imsis, camel_imsi *imsi, bool *is_ther
 /* Writes the argument of the InsertSubscriberData that makes the record of a subscriber where the subscriber has just
  * registered, over the look that has begun, or else by a look of its own: what camel_submit_map or camel_update_of_map
  * makes the record of again, as after a restart. is_there tells whether there is a record; if not, the argument is as
- * before. It has the IMSI in itself. A CSI without rows is written as one row of the detection point 255. TS 29.002 has
- * no such value, so another decoder may refuse the argument. Without a CSI, vlrCamelSubscriptionInfo has no fields. */
+ * before. It has the IMSI in itself. A CSI without rows is written as one row of a detection point of the other CSI, 12
+ * in the O-CSI and 2 in the VT-CSI, which is ignored. Without a CSI, vlrCamelSubscriptionInfo has no fields. */
 CAMEL_CALL
 camel_status camel_encode_record(camel_session *session, const camel_imsi *imsi, camel_argument *argument,
                                  bool *is_there);
@@ -718,7 +741,8 @@ camel_status camel_encode_record(camel_session *session, const camel_imsi *imsi,
 /* Ends the store and empties its handle; what is pending is dropped. Each look that is held goes on until it is left,
  * and no session begins another: CAMEL_NO_LOOK. CAMEL_HELD: a look is held. Then the store has ended all the same, but
  * its handle stays full: it is to be closed again, or freed, and the writer's other calls return CAMEL_WRONG_HANDLE.
- * To learn who would hold the end up, call camel_publish and then camel_holders before camel_close. */
+ * To learn who would hold the end up, call camel_publish and then camel_holders before camel_close. A switch that need
+ * not know whether a look is held calls camel_free instead. */
 CAMEL_CALL
 camel_status camel_close(camel_store *store);
 
@@ -756,8 +780,8 @@ CAMEL_INLINE uint16_t camel_map_error_of(camel_status status)
     }
 }
 
-/* The basic service of a call, by the contents of its bearer capability from octet 3 on (TS 24.008 10.5.4.5). With
- * none, as with one of speech, it is telephony. */
+/* The basic service of a telephone call, by the contents of its bearer capability from octet 3 on (TS 24.008 10.5.4.5).
+ * With none, as with one of speech, it is telephony. */
 CAMEL_INLINE camel_basic_service camel_basic_service_of(const uint8_t *octets, size_t octet_count)
 {
     camel_basic_service service = { false, 0x11 };
@@ -776,8 +800,7 @@ CAMEL_INLINE camel_basic_service camel_basic_service_of(const uint8_t *octets, s
     return service;
 }
 
-/* The same of a call with two bearer capabilities: facsimile group 3 and alternate speech, or else that of the
- * first. */
+/* The same with two bearer capabilities: facsimile group 3 and alternate speech, or else that of the first. */
 CAMEL_INLINE camel_basic_service camel_basic_service_of_two(const uint8_t *octets, size_t octet_count,
                                                             const uint8_t *other, size_t other_octet_count)
 {
@@ -844,8 +867,8 @@ CAMEL_INLINE const char *camel_reason_name(uint8_t reason)
 #endif
 
 /* camel_free(handle) frees what a handle holds, and empties it; an empty one stays so, and so does NULL (in C++
- * nullptr). A session leaves its look, and no other takes its place. A store ends as by camel_close, and its data are
- * freed when the last look that is held is left.
+ * nullptr). A session leaves its look, and no other takes its place. A store ends as by camel_close, but nothing says
+ * whether a look is held: its data are freed when the last one is left.
  *
  * camel_move(to, from) moves what a handle holds into another one of its kind, and empties it. CAMEL_FULL_HANDLE: the
  * other one is not empty, and both are as before. */
