@@ -34,10 +34,10 @@
  * yields, but malloc may take one, and camel_random_seed may wait early in boot.
  *
  * Memory. The library calls malloc, realloc and free. A call that is refused memory returns CAMEL_OUT_OF_MEMORY, and
- * may be made again. It has changed nothing; of camel_commit see there. A session that looks in such a call may have
- * seen a later front. Only camel_open, camel_update_of, camel_update_of_map and camel_update_join, camel_submit and
- * camel_submit_*, camel_publish, camel_publish_to, camel_commit, camel_drop_pending, camel_keep, camel_set_up,
- * camel_imsis_of and camel_encode_record ask for any, and a publication that returns CAMEL_HELD for none.
+ * may be made again. It has changed nothing, but camel_commit says what it leaves. A session that looks in such a call
+ * may have seen a later front. Only camel_open, camel_update_of, camel_update_of_map and camel_update_join,
+ * camel_submit and camel_submit_*, camel_publish, camel_publish_to, camel_commit, camel_drop_pending, camel_keep,
+ * camel_set_up, camel_imsis_of and camel_encode_record ask for any, and a publication that returns CAMEL_HELD for none.
  * Nothing else is asked of the system, but getrandom by camel_random_seed: the library has no descriptor, timer,
  * thread, callback, signal handler or exit handler, and prints nothing. errno is as these functions leave it.
  *
@@ -277,7 +277,7 @@ typedef struct camel_counts {
     uint64_t subscribers; /* who have a record in what is published */
     uint64_t published;   /* updates */
     uint64_t pending;     /* updates */
-    uint64_t held;        /* publications that a look held up, modulo 2^64, but not that of a session to tell */
+    uint64_t held;        /* publications that a look held up, modulo 2^64; that of a session to tell is not counted */
 } camel_counts;
 
 /* How many events a session has decided, by camel_decide, camel_set_up and camel_decide_kept, at each detection point
