@@ -9,6 +9,8 @@ VERDICT = re.compile(r"(?m)^(?:fn|impl|struct|enum|trait) (\S+): (proved(?=(?:, 
 # What the prover says of a text that it cannot read, and of one that rests on what is refused or gone.
 UNREAD = re.compile(r"is not in scope|has no field|is no name|operand is missing|expected the end|cannot continue")
 SECOND_HAND = re.compile(UNREAD.pattern + r"|has no `|was not admitted")
+# Of a declaration that is only not looked at, since it rests on one that is refused.
+DEPENDENT = re.compile(r"error: \d+ declarations? that depends? on ")
 PROVED = "proved"
 
 
@@ -48,7 +50,8 @@ def refusal_of_whole(ended, texts):
         return None, "NOT REFUSED: the crate is proved with it"
     places = PLACE.findall(ended.stdout)
     is_stated = lambda path: path in texts or path.startswith(("src/", "specs/"))
-    unread = [": ".join(it) for it in places if is_stated(it[0]) and not is_refusal(it[2], UNREAD)]
+    unread = [": ".join(it) for it in places
+              if is_stated(it[0]) and not is_refusal(it[2], UNREAD) and not DEPENDENT.match(it[2])]
     if ended.returncode != 1 or unread or not re.search("(?m)^logic=not-proved", ended.stdout):
         return None, f"NOT TRIED: {[*unread, ended.stdout[-300:]][0]}"
     refusals = [said for _, _, said in places if is_refusal(said, SECOND_HAND)]
