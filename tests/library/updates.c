@@ -236,6 +236,8 @@ static void joined_updates(camel_store *store, camel_session *session)
     IS(decided(store, session, 2).is_trigger && !decided(store, session, 4).is_trigger);
     RETURNS(CAMEL_OK, camel_submit(store, &update));
     IS(!decided(store, session, 2).is_trigger && decided(store, session, 4).is_trigger);
+    RETURNS(CAMEL_OK, camel_submit(store, &one));
+    IS(decided(store, session, 2).is_trigger && !decided(store, session, 4).is_trigger);
     camel_free(&update), camel_free(&one), camel_free(&next);
 }
 
