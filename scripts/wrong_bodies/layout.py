@@ -7,7 +7,8 @@ HEAD = re.compile(r'( *)(?:pub(?:\([\w ]+\))? )?(?:(?:const|unsafe|extern "C") )
 METHODS = re.compile(r"impl(?:<.*?>)? (\w+)(?!.* for )")
 # A comment, and advice to the tactics: neither changes what is stated.
 UNSTATED = re.compile(r"\s*(?://|--|#\[tactic\()")
-IMPORT = re.compile(r"(?m)^ *(?:pub(?:\(crate\))? )?(?:unfoldable )?(?:ghost )?use (\w+(?:::|\.))(?:(\w+\.(?:specs|proofs)\.)\w+\.)?([^{;\n]*(?:\{[^}]*\})?);?$")
+IMPORT = re.compile(r"(?m)^ *(?:pub(?:\(crate\))? )?(?:unfoldable )?(?:ghost )?use (\w+(?:::|\.))"
+                    r"(?:(\w+\.(?:specs|proofs)\.)\w+\.)?([^{;\n]*(?:\{[^}]*\})?);?$")
 
 
 class Function(NamedTuple):
