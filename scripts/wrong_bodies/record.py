@@ -8,6 +8,11 @@ from wrong_bodies.edit import edits_of
 from wrong_bodies.layout import stated
 
 DEFINITIONS = re.compile(r"\bRattle\.(\w+)\.specs\.")
+# A definition's name, an item that other crates see, and a word.
+DEFINED = re.compile(r"(?:abbrev|record|data) (?:pub )?([^\s:({]+)")
+PUBLIC = re.compile(r"(?m)^\s*pub (?!mod|use)\w")
+WORD = re.compile(r"[^\s(){}\[\],.;:&|]+")
+MODULES = re.compile(r"(?:pub )?mod ")
 REASON = 100
 
 
@@ -16,13 +21,11 @@ def file_of(crate):
 
 
 def definitions_of(crate):
-    """What the definitions of a crate state, whichever file each one is in, and the crates that they name."""
-    texts = [file.read_text() for file in Path("crates", crate, "specs").glob("**/*.antt")]
+    """What each definition of a crate states, whichever file it is in, and what these import of others."""
+    texts = [file.read_text() for file in sorted(Path("crates", crate, "specs").glob("**/*.antt"))]
     imports, words = zip(*map(stated, texts)) if texts else ((), ())
     below = {name for name in set().union(*imports) if not name.startswith(f"Rattle.{crate}.specs.")}
-    modules = re.compile(r"(?:pub )?mod ")
-    said = sorted(it for paragraphs in words for it in paragraphs if not modules.match(it))
-    return "\n".join([*sorted(below), *said]), crates_in("\n".join(below))
+    return {it for paragraphs in words for it in paragraphs if not MODULES.match(it)}, below
 
 
 def crates_in(text):
@@ -30,21 +33,39 @@ def crates_in(text):
     return {crate for crate in DEFINITIONS.findall(text) if Path("crates", crate, "specs").is_dir()}
 
 
+def statements_of(crate, only_public=False):
+    """What the files of a crate state, or those that have a public item, and what they import."""
+    for file in sorted(Path("crates", crate).glob("src/**/*.rt")):
+        text = file.read_text()
+        if not only_public or PUBLIC.search(text):
+            imports, words = stated(text)
+            yield "\n".join([str(file), *sorted(imports), *words])
+
+
 def statements_sum(crate):
     """A checksum of what a refusal rests on beside the edit: the contracts and signatures of the crate, its
-    definitions, and those of the crates whose definitions these name."""
-    texts, left, seen = [], {crate}, set()
-    for file in sorted(Path("crates", crate).glob("src/**/*.rt")):
-        imports, words = stated(file.read_text())
-        texts.append("\n".join([str(file), *sorted(imports), *words]))
-        left |= crates_in("\n".join(imports))
-    while left - seen:
-        name = min(left - seen)
-        seen.add(name)
-        definitions, below = definitions_of(name)
-        left |= below
-        texts.append(f"{name}\n{definitions}")
-    return sum_of(*sorted(texts))
+    definitions, and of the crates whose definitions these name those definitions that they, or a public item there,
+    rest on."""
+    own = list(statements_of(crate))
+    definitions, left = {}, {crate, *crates_in("\n".join(own))}
+    while left - definitions.keys():
+        name = min(left - definitions.keys())
+        definitions[name] = definitions_of(name)
+        left |= crates_in("\n".join(definitions[name][1]))
+    taken, rest = definitions.pop(crate)
+    below = {(name, it) for name, (said, _) in definitions.items() for it in said}
+    public = [text for name in sorted(definitions) for text in statements_of(name, only_public=True)]
+    reached = words_of(*own, *public, *taken)
+    while new := {(name, it) for name, it in below if not (names := {*DEFINED.findall(it)}) or names & reached}:
+        below -= new
+        taken |= {f"{name} {it}" for name, it in new}
+        reached |= words_of(*(it for _, it in new))
+    imports = rest.union(*(names for _, names in definitions.values()))
+    return sum_of(*own, *sorted(taken), *sorted(it for it in imports if words_of(it.rpartition(".")[2]) & reached))
+
+
+def words_of(*texts):
+    return {word for text in texts for word in WORD.findall(text)}
 
 
 def sum_of(*texts):
