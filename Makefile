@@ -25,7 +25,7 @@ EXPLAIN := crates/camel_explain/out/camel_explain
 
 # The shell reads these, and not make, so that a name may have spaces.
 export SCRIPT LIMIT THREADS PROFILE PROGRAM CAPTURE CRATE PREFIX DESTDIR LIBDIR PARTS SANITIZE JOBS LIBRARY SUITE \
-	MIRROR
+	MIRROR SIZES TURNS
 OPTIONS = --limit "$$LIMIT" $(if $(THREADS),--threads "$$THREADS") $(if $(PROFILE),--profile "$$PROFILE")
 # As in the options of programs, `-` is standard input.
 READ_SCRIPT := [ "$$SCRIPT" = - ] || exec < "$$SCRIPT";
@@ -49,7 +49,7 @@ endef
 	proofs edits must-not-compile examples scripts streams coprocess conformance refusals fuzz map-check map-program \
 	library install library-test library-c library-cpp library-as-shipped library-installed library-deb library-rust \
 	library-conformance tools deb deb-check deb-root osmo-check osmo-source standard-check soak fuzz-c bench \
-	bench-program bench-peers bench-loop bench-map count-vlr test
+	bench-program bench-peers bench-table bench-loop bench-map count-vlr test
 # In order, so that what is missing is said before anything is built.
 .NOTPARALLEL:
 .SECONDEXPANSION:
@@ -281,6 +281,11 @@ bench-program: $(BENCH)
 ## Measures the store beside others in Rust and C: about a quarter of an hour, once program and library are built.
 bench-peers: begin-$$@ $(BENCH) library
 	@bench/run-peers
+
+# It builds its two programs by itself. SIZES=1000,100000 and TURNS=1 narrow a run.
+## Measures the table and the records with no store over them, beside tables in Rust: some minutes, once they are built.
+bench-table: begin-$$@
+	@bench/run-table
 
 ## Times the handlers of a switch with one event loop, at three sizes: half a minute, once the library is built.
 bench-loop: begin-$$@ library

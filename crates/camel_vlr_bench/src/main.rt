@@ -7,7 +7,6 @@ mod arguments;
 mod harness;
 mod protocol;
 mod publications;
-mod workload;
 
 use crate::protocol::Request;
 use crate::publications::Publications;

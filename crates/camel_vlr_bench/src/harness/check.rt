@@ -1,10 +1,10 @@
 use crate::harness::store::{decide, open, publish};
 use crate::protocol::Check;
-use crate::workload::calls::{Call, calls_of};
-use crate::workload::changes::Changes;
-use crate::workload::sums::{Kinds, full, weighed};
 use anyhow::{Context, Result, anyhow};
 use camel_vlr::{Session, Vlr};
+use camel_workload::calls::{Call, calls_of};
+use camel_workload::changes::Changes;
+use camel_workload::sums::{Kinds, full, weighed};
 use std::sync::Wait;
 
 /// Prints the sum of all outcomes so far before each publication and in the end, and then the counts of outcomes.

@@ -1,10 +1,10 @@
 use crate::harness::signals::Signals;
 use crate::harness::store::decide;
-use crate::workload::CHUNK;
-use crate::workload::calls::{Call, probe, probed};
-use crate::workload::sums::{full, stable, weighed};
 use anyhow::{Context, Result};
 use camel_vlr::{NoLook, Session};
+use camel_workload::CHUNK;
+use camel_workload::calls::{Call, probe, probed};
+use camel_workload::sums::{full, stable, weighed};
 use std::alloc::Global;
 use std::sync::Wait;
 

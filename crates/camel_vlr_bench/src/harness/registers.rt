@@ -1,9 +1,9 @@
 use crate::harness::store::open;
 use crate::harness::writer::nanoseconds_since;
-use crate::workload::subscribers::imsi_of;
 use anyhow::Result;
 use camel_rows::Update;
 use camel_vlr::Vlr;
+use camel_workload::subscribers::imsi_of;
 use std::alloc::Global;
 use std::rt::Clock;
 use std::sync::Wait;

@@ -1,11 +1,11 @@
-use crate::workload::calls::Call;
-use crate::workload::records::insert_of;
-use crate::workload::subscribers::imsi_of;
 use anyhow::{Result, ensure};
 use camel_rows::{Decision, Update};
 use camel_table::Seed;
 use camel_tbcd::Profile;
 use camel_vlr::{MAX_PLACES, MAX_UPDATES, NoLook, Session, Vlr};
+use camel_workload::calls::Call;
+use camel_workload::records::insert_of;
+use camel_workload::subscribers::imsi_of;
 use std::alloc::Global;
 use std::sync::Wait;
 

@@ -1,9 +1,9 @@
 use crate::harness::signals::Signals;
 use crate::harness::store::publish;
 use crate::protocol::Measurement;
-use crate::workload::changes::Changes;
 use anyhow::Result;
 use camel_vlr::Vlr;
+use camel_workload::changes::Changes;
 use std::rt::Clock;
 use std::sync::Wait;
 use std::time::{Duration, Instant};

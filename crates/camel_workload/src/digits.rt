@@ -5,10 +5,10 @@ ghost use Rattle.std.specs.Prelude.{◌≤◌};
 use camel_tbcd::{AddressFault, IsdnAddress};
 
 /// The octet of an international number in the numbering plan E.164.
-pub(crate) const INTERNATIONAL: u8 = 0x91;
+pub const INTERNATIONAL: u8 = 0x91;
 
 /// The octet of a national significant number in the numbering plan E.164.
-pub(crate) const NATIONAL: u8 = 0xA1;
+pub const NATIONAL: u8 = 0xA1;
 
 /// The most digits of a number.
 const MOST: usize = 16;
@@ -18,7 +18,7 @@ const FILLER: u8 = 15;
 
 /// A number of up to 16 digits, behind an octet with its nature of address and its numbering plan.
 #[derive(Clone, Copy)]
-pub(crate) struct Number {
+pub struct Number {
     first_octet: u8,
     /// Fillers from the count on.
     digits: [u8; MOST],
@@ -28,7 +28,7 @@ pub(crate) struct Number {
 
 impl Number {
     /// So many digits, at most 16, of which the first are 4 and 9 and the others those of a number.
-    pub(crate) fn of(first_octet: u8, number: u64, count: usize) -> Number {
+    pub fn of(first_octet: u8, number: u64, count: usize) -> Number {
         let count = count.min(MOST);
         let mut digits = [FILLER; MOST];
         let mut left = number;
@@ -45,12 +45,12 @@ impl Number {
         }
     }
 
-    pub(crate) fn count(&self) -> usize {
+    pub fn count(&self) -> usize {
         self.count
     }
 
     /// As many digits, which begin with a shorter number, of the nature of that number.
-    pub(crate) fn beginning_with(&self, front: &Number) -> Number {
+    pub fn beginning_with(&self, front: &Number) -> Number {
         let mut digits = self.digits;
         digits[..front.count].copy_from_slice(&front.digits[..front.count]);
         Number {
@@ -60,12 +60,12 @@ impl Number {
         }
     }
 
-    pub(crate) fn to_isdn(&self) -> Result<IsdnAddress, AddressFault> {
+    pub fn to_isdn(&self) -> Result<IsdnAddress, AddressFault> {
         IsdnAddress::from_bytes(&self.octets()[..self.length()])
     }
 
     /// The address with this octet in the place of the last one.
-    pub(crate) fn to_isdn_ending_in(&self, last: u8) -> Result<IsdnAddress, AddressFault> {
+    pub fn to_isdn_ending_in(&self, last: u8) -> Result<IsdnAddress, AddressFault> {
         let mut octets = self.octets();
         let length = self.length();
         octets[length - 1] = last;

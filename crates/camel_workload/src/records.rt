@@ -1,8 +1,8 @@
 //! The data of a subscriber at a version, in the form that the store takes.
 
-use crate::workload::digits::{INTERNATIONAL, Number};
-use crate::workload::numbers::mix;
-use crate::workload::subscribers::{imsi_of, listed_by, traits_of};
+use crate::digits::{INTERNATIONAL, Number};
+use crate::numbers::mix;
+use crate::subscribers::{imsi_of, listed_by, traits_of};
 use anyhow::Result;
 use camel_criteria::{
     BUSY, COLLECTED_INFO, Handling, MatchType, NumberCriterion, OCriteria, ROUTE_SELECT_FAILURE,
@@ -14,7 +14,7 @@ use std::alloc::Global;
 
 /// The Insert by which the record of a subscriber becomes that of a version from 0 to 2047, if there is a record. Which
 /// CSIs a subscriber has does not depend on the version.
-pub(crate) fn insert_of(alloc: Global, subscriber: u64, version: u32) -> Result<Update> {
+pub fn insert_of(alloc: Global, subscriber: u64, version: u32) -> Result<Update> {
     let traits = traits_of(subscriber);
     let rows = Rows::of(traits, version)?;
     let o = o_csi(traits, &rows)?;

@@ -1,13 +1,14 @@
 //! The workload of the protocol in `bench/peers`: subscribers, events and updates that are made by integer arithmetic
 //! only. So each program makes the same ones, and their answers can be compared.
+#![tactic(auto)]
 
-pub(crate) mod calls;
-pub(crate) mod changes;
-pub(crate) mod digits;
-pub(crate) mod numbers;
-pub(crate) mod records;
-pub(crate) mod subscribers;
-pub(crate) mod sums;
+pub mod calls;
+pub mod changes;
+pub mod digits;
+pub mod numbers;
+pub mod records;
+pub mod subscribers;
+pub mod sums;
 
 /// A reader looks whether it is to stop after so many events.
-pub(crate) const CHUNK: usize = 256;
+pub const CHUNK: usize = 256;

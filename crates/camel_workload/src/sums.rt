@@ -6,7 +6,7 @@ use camel_criteria::Handling;
 use camel_rows::{Decision, Reason, TdpRow};
 
 /// All that a decision says.
-pub(crate) fn full(decision: &Decision) -> u64 {
+pub fn full(decision: &Decision) -> u64 {
     match decision {
         Decision::NoTrigger(reason) => of_reason(*reason),
         Decision::Trigger { row, .. } => {
@@ -18,7 +18,7 @@ pub(crate) fn full(decision: &Decision) -> u64 {
 
 /// What no update changes of a decision, and whether its service key and its gsmSCF address are of one version. So the
 /// sum of a run does not depend on how decisions and publications mingle.
-pub(crate) fn stable(decision: &Decision) -> u64 {
+pub fn stable(decision: &Decision) -> u64 {
     match decision {
         Decision::NoTrigger(reason) => of_reason(*reason),
         Decision::Trigger { row, .. } => {
@@ -31,7 +31,7 @@ pub(crate) fn stable(decision: &Decision) -> u64 {
 }
 
 /// What the decision at a place of a list adds to the sum of the list.
-pub(crate) fn weighed(decision: u64, place: u64) -> u64 {
+pub fn weighed(decision: u64, place: u64) -> u64 {
     decision.wrapping_mul(place.wrapping_mul(2).wrapping_add(1))
 }
 
@@ -115,16 +115,16 @@ fn number_in(octets: &[u8]) -> u64
 
 /// How many decisions there were of each reason, in the order in which reasons are looked at, and then of rows.
 #[derive(Clone, Copy)]
-pub(crate) struct Kinds {
-    pub(crate) counts: [u64; 6],
+pub struct Kinds {
+    pub counts: [u64; 6],
 }
 
 impl Kinds {
-    pub(crate) fn none() -> Kinds {
+    pub fn none() -> Kinds {
         Kinds { counts: [0; 6] }
     }
 
-    pub(crate) fn count(&mut self, decision: &Decision) {
+    pub fn count(&mut self, decision: &Decision) {
         let kind = match decision {
             Decision::NoTrigger(reason) => kind_of(*reason),
             Decision::Trigger { .. } => 5,

@@ -2,8 +2,8 @@
 
 ghost use Rattle.std.specs.Prelude.{◌≤◌, ◌^◌};
 
-use crate::workload::digits::{INTERNATIONAL, NATIONAL, Number};
-use crate::workload::numbers::Generator;
+use crate::digits::{INTERNATIONAL, NATIONAL, Number};
+use crate::numbers::Generator;
 use camel_tbcd::{Imsi, ImsiFault};
 use std::ops::Range;
 
@@ -12,34 +12,34 @@ const FIRST_COMER: u64 = 1 << 24;
 const FIRST_NEVER_THERE: u64 = 1 << 25;
 
 /// One of so many known subscribers.
-pub(crate) fn known_one(choice: u64, known: u64) -> u64 {
+pub fn known_one(choice: u64, known: u64) -> u64 {
     (choice >> 8) % known.max(1)
 }
 
 /// One of those that are never there, beside so many known subscribers.
-pub(crate) fn never_there(choice: u64, known: u64) -> u64 {
+pub fn never_there(choice: u64, known: u64) -> u64 {
     known_one(choice, known).wrapping_add(FIRST_NEVER_THERE)
 }
 
 /// How many subscribers come and go beside so many known ones. No event is of them.
-pub(crate) fn comer_count(known: u64) -> u64
+pub fn comer_count(known: u64) -> u64
     ensures { (1 ≤ result) × (result ≤ 2 ^ 61) }
 {
     known / 16 + 1
 }
 
 /// The subscriber with this number among those that come and go.
-pub(crate) fn comer(place: u64) -> u64 {
+pub fn comer(place: u64) -> u64 {
     place.wrapping_add(FIRST_COMER)
 }
 
 /// The subscribers that come and go beside so many known ones.
-pub(crate) fn comers(known: u64) -> Range<u64> {
+pub fn comers(known: u64) -> Range<u64> {
     FIRST_COMER..FIRST_COMER + comer_count(known)
 }
 
 /// 13 to 15 digits: the network, and a number in which neighbours are far apart.
-pub(crate) fn imsi_of(subscriber: u64) -> Result<Imsi, ImsiFault> {
+pub fn imsi_of(subscriber: u64) -> Result<Imsi, ImsiFault> {
     let count = match subscriber % 16 {
         3 => 14,
         7 => 13,
@@ -55,13 +55,13 @@ pub(crate) fn imsi_of(subscriber: u64) -> Result<Imsi, ImsiFault> {
 }
 
 /// The bits that decide which data a subscriber has.
-pub(crate) fn traits_of(subscriber: u64) -> u64 {
+pub fn traits_of(subscriber: u64) -> u64 {
     Generator::new(subscriber.wrapping_mul(4)).draw()
 }
 
 /// The three numbers that the criteria of a subscriber list, if it has criteria. The first one is always shorter than a
 /// destination.
-pub(crate) fn listed_by(subscriber: u64) -> Option<[Number; 3]> {
+pub fn listed_by(subscriber: u64) -> Option<[Number; 3]> {
     if traits_of(subscriber) >> 43 & 3 == 0 {
         return None;
     }

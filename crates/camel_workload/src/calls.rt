@@ -1,8 +1,8 @@
 //! The calls whose events a reader decides, again and again in their order.
 
-use crate::workload::digits::{INTERNATIONAL, Number};
-use crate::workload::numbers::{Generator, mix};
-use crate::workload::subscribers::{comers, imsi_of, known_one, listed_by, never_there};
+use crate::digits::{INTERNATIONAL, Number};
+use crate::numbers::{Generator, mix};
+use crate::subscribers::{comers, imsi_of, known_one, listed_by, never_there};
 use anyhow::Result;
 use camel_criteria::{BasicService, EMERGENCY_CALLS};
 use camel_rows::Event;
@@ -16,7 +16,7 @@ const MOST_CALLS: u64 = 1 << 20;
 /// What is known of a call at detection point 2. Its destination has at most nine octets, so that it takes little room
 /// in a list of calls.
 #[derive(Clone, Copy)]
-pub(crate) struct Call {
+pub struct Call {
     imsi: Imsi,
     destination: IsdnAddress,
     basic: BasicService,
@@ -25,7 +25,7 @@ pub(crate) struct Call {
 
 impl Call {
     /// Its event, with the destination borrowed.
-    pub(crate) fn event(&self) -> Event<'_> {
+    pub fn event(&self) -> Event<'_> {
         Event::CollectedInfo {
             imsi: self.imsi,
             destination: self.destination.lend(),
@@ -36,7 +36,7 @@ impl Call {
 }
 
 /// The calls of a reader: nine of ten of known subscribers.
-pub(crate) fn calls_of(alloc: Global, reader: u64, known: u64) -> Result<Vec<Call>> {
+pub fn calls_of(alloc: Global, reader: u64, known: u64) -> Result<Vec<Call>> {
     let count = known.clamp(FEWEST_CALLS, MOST_CALLS).next_power_of_two();
     let mut generator = Generator::new(reader.wrapping_add(0x5EED_0000));
     let mut calls = Vec::new(alloc);
@@ -61,12 +61,12 @@ fn drawn_call(generator: &mut Generator, known: u64) -> Result<Call> {
 }
 
 /// The call by which the data of a subscriber are looked at in the end.
-pub(crate) fn probe(subscriber: u64) -> Result<Call> {
+pub fn probe(subscriber: u64) -> Result<Call> {
     call_of(subscriber, 0x7F, mix(subscriber), true)
 }
 
 /// The subscribers whose data are looked at in the end: up to 100,000 known ones, and all that come and go.
-pub(crate) fn probed(alloc: Global, known: u64) -> Result<Vec<u64>, AllocError> {
+pub fn probed(alloc: Global, known: u64) -> Result<Vec<u64>, AllocError> {
     let step = if known > 100_000 { 10 } else { 1 };
     let mut subscribers = Vec::new(alloc);
     for subscriber in (0..known).step_by(step).chain(comers(known)) {

@@ -1,8 +1,8 @@
 //! The updates that a writer publishes, without an end.
 
-use crate::workload::numbers::Generator;
-use crate::workload::records::insert_of;
-use crate::workload::subscribers::{comer, comer_count, imsi_of, known_one};
+use crate::numbers::Generator;
+use crate::records::insert_of;
+use crate::subscribers::{comer, comer_count, imsi_of, known_one};
 use anyhow::Result;
 use camel_rows::Update;
 use std::alloc::{AllocError, Global};
@@ -20,7 +20,7 @@ enum Change {
 
 /// The changes from the first one on, as updates in the form that the store takes.
 #[derive(Drop)]
-pub(crate) struct Changes {
+pub struct Changes {
     alloc: Global,
     generator: Generator,
     known: u64,
@@ -30,7 +30,7 @@ pub(crate) struct Changes {
 }
 
 impl Changes {
-    pub(crate) fn new(alloc: Global, known: u64) -> Result<Changes, AllocError> {
+    pub fn new(alloc: Global, known: u64) -> Result<Changes, AllocError> {
         let mut are_there = Vec::new(alloc);
         for _ in 0..comer_count(known) {
             are_there.push(false)?;
@@ -45,7 +45,7 @@ impl Changes {
     }
 
     /// Puts the updates of so many changes behind a batch.
-    pub(crate) fn add_to(&mut self, batch: &mut Vec<Update>, count: u64) -> Result<()> {
+    pub fn add_to(&mut self, batch: &mut Vec<Update>, count: u64) -> Result<()> {
         for _ in 0..count {
             self.add_next_to(batch)?;
         }
