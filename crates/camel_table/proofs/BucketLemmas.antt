@@ -1,27 +1,19 @@
 -- The finite map of the entries of a bucket, after each change of them.
-use Rattle.std.proofs.Common.{◌≡◌, ◌∙◌, ℕ, zero, suc, ◌+◌, ◌<◌, ◌≤◌, Bool, true, false, not, cond, T, List, [], ◌∷◌, ◌++◌, Option, Some, None, Bor, length, filter}
-use Rattle.std.proofs.Common.{inl, inr, true≢false, position, slice_index_or, slice_set, refl, sym, ap, ap₂, subst, arith}
-use Rattle.std.specs.Prelude.{find}
-use Rattle.std.specs.Cmp.{eq_by_cmp_equiv}
+use Rattle.std.proofs.Common.{◌≡◌, ◌∙◌, ℕ, zero, suc, ◌+◌, ◌<◌, ◌≤◌, Bool, true, false, not, cond, T, List, [], ◌∷◌, ◌++◌, Option, Some, None, length, filter}
+use Rattle.std.proofs.Common.{inl, inr, true≢false, position, slice_index_or, slice_set, refl, sym, ap, subst, arith}
 use Rattle.std.specs.Cmp.Lexicographic.{slice_cmp, nat_list_cmp_total}
 use Rattle.std.specs.FinMap as map
 use Rattle.std.specs.FinMap.Entries as entries
 use Rattle.std.specs.List.{position_or_len}
-use Rattle.std.specs.Option.{option_copied, option_map, option_or, is_some}
+use Rattle.std.specs.Option.{option_or, is_some}
 use Rattle.std.specs.Ordering.{is_eq, nat_cmp}
 use Rattle.std.specs.declared.cmp.Ordering.{Ordering}
 use Rattle.std.specs.declared.cmp.Ordering.TheVariants.{Less, Equal, Greater}
 use Rattle.std.proofs.lemmas.Bool.{cases_lt, lt-ltb}
-use Rattle.std.proofs.lemmas.List.Elements.{filter-append}
 use Rattle.std.proofs.lemmas.List.Quantifiers.{position-Some}
 use Rattle.std.proofs.lemmas.Map.Lookups.{exact_bytes}
 use Rattle.camel_table.specs.ByImsi.{ByImsi, is_same, map_of}
 use Rattle.camel_table.specs.Lending.{with_value_of}
-
--- whether there is a value that a look-up lends
-pub lent_some : {A : Type 0} (o : Option (Bor A)) {value : Option A} {some b : Bool} → option_copied o ≡ value → some ≡ is_some o → some ≡ b → is_some value ≡ b
-lent_some None is said tested = ap is_some (sym is) ∙ sym said ∙ tested
-lent_some (Some value) is said tested = ap is_some (sym is) ∙ sym said ∙ tested
 
 equal : (r : Ordering) → is_eq r ≡ true → r ≡ Equal
 equal Less p = absurd (subst T (sym p) tt)
@@ -54,24 +46,11 @@ module _ {V : Type 0} where
   found key es = map.find (slice_cmp nat_cmp) key es
 
   -- two lists of entries that find the same make the same map
-  same_when : (es : Entries V) (m : ByImsi V) → ((q : List ℕ) → found q es ≡ map.get m q) → map_of es ≡ m
+  pub same_when : (es : Entries V) (m : ByImsi V) → ((q : List ℕ) → found q es ≡ map.get m q) → map_of es ≡ m
   same_when es m finds = map.same_map nat_list_cmp_total exact_bytes _ _ (λ q. map.get-from_entries nat_list_cmp_total es q ∙ finds q)
 
   pub get-is : (es : Entries V) (key : List ℕ) → map.get (map_of es) key ≡ found key es
   get-is es key = map.get-from_entries nat_list_cmp_total es key
-
-  -- what a search of the entries gives
-  found-find : (key : List ℕ) (es : Entries V) → option_map (λ e. e.1) (find (λ e. is_same key e.0) es) ≡ found key es
-  found-find key [] = refl
-  found-find key (e ∷ es) =
-      elim (is_same key e.0) as
-      (λ b. option_map (λ (x : List ℕ × V). x.1) (cond b (Some e) (find (λ x. is_same key x.0) es)) ≡ cond b (Some e.1) (found key es)) [
-        | true ↦ refl
-        | false ↦ found-find key es
-      ]
-
-  pub get-find : (key : List ℕ) (es : Entries V) → option_map (λ e. e.1) (find (λ e. is_same key e.0) es) ≡ map.get (map_of es) key
-  get-find key es = found-find key es ∙ sym (get-is es key)
 
   -- at this place is the first entry of a key
   abbrev IsFirst : List ℕ → ℕ → Entries V → List ℕ × V → Type 0
@@ -99,6 +78,14 @@ module _ {V : Type 0} where
     | inr le ↦ absurd (true≢false (sym some ∙ ap is_some (get-is es key ∙ none_at key es le)))
   ]
 
+  pub none_position : (key : List ℕ) (es : Entries V) → position (λ e. is_same key e.0) es ≡ None → map.get (map_of es) key ≡ None
+  none_position key es none = elim (cases_lt (place key es) (length es)) [
+    | inl lt ↦
+        let some : position (λ e. is_same key e.0) es ≡ Some (place key es) = rw (lt-ltb _ _ lt) refl in
+        absurd (subst (λ (o : Option ℕ). T (is_some o)) (sym some ∙ none) tt)
+    | inr le ↦ get-is es key ∙ none_at key es le
+  ]
+
   found-first : (key : List ℕ) (es : Entries V) (at : ℕ) (d : List ℕ × V) → IsFirst key at es d → found key es ≡ Some (slice_index_or es at d).1
   found-first key [] at d first = absurd (omega (arith, first.0))
   found-first key (e ∷ es) zero d first = ap (λ b. cond b (Some e.1) (found key es)) first.1
@@ -119,24 +106,20 @@ module _ {V : Type 0} where
       ∙ ap (λ o. cond (test q) o None) (sym (get-is es q))
       ∙ sym (map.get-retain_keys (map_of es) test q alike))
 
-  -- the entries of some keys in two lists
-  pub kept_in_both : (test : List ℕ → Bool) (xs ys : Entries V) {m : ByImsi V} → map_of (xs ++ ys) ≡ m → {es : Entries V}
-      → es ≡ filter (λ e. test e.0) xs ++ filter (λ e. test e.0) ys → map_of es ≡ map.retain_keys m test
-  kept_in_both test xs ys view is =
-      ap map_of (is ∙ sym (filter-append (λ e. test e.0) xs ys)) ∙ kept test (xs ++ ys) ∙ ap (λ m. map.retain_keys m test) view
+  pub kept_in : (test : List ℕ → Bool) (es : Entries V) {m : ByImsi V} → map_of es ≡ m → {after : Entries V} → after ≡ filter (λ e. test e.0) es
+      → map_of after ≡ map.retain_keys m test
+  kept_in test es view is = ap map_of is ∙ kept test es ∙ ap (λ m. map.retain_keys m test) view
 
-  without : (b : Bool) (o : Option V) → cond (not b) o None ≡ cond b None o
-  without true o = refl
-  without false o = refl
-
-  pub removed : (key : List ℕ) (xs ys : Entries V) {m : ByImsi V} → map_of (xs ++ ys) ≡ m → {es : Entries V}
-      → es ≡ filter (λ e. not (is_same key e.0)) xs ++ filter (λ e. not (is_same key e.0)) ys → map_of es ≡ map.remove m key
-  removed key xs ys {m} view is =
-      let test = λ (other : List ℕ). not (is_same key other) in
-      kept_in_both test xs ys view is
-      ∙ map.same_map nat_list_cmp_total exact_bytes _ _ (λ q.
-      map.get-retain_keys m test q (λ x tied. ap test (sym (exact_bytes q x tied))) ∙ without (is_same key q) (map.get m q)
-      ∙ ap (λ b. cond b None (map.get m q)) ((eq_by_cmp_equiv nat_list_cmp_total).symm key q) ∙ sym (map.get-remove nat_list_cmp_total m key q))
+  -- a key that has no value, taken out
+  pub not_there : (key : List ℕ) (m : ByImsi V) → map.get m key ≡ None → m ≡ map.remove m key
+  not_there key m none =
+      map.same_map nat_list_cmp_total exact_bytes m (map.remove m key) (λ q. unchanged q ∙ sym (map.get-remove nat_list_cmp_total m key q))
+    where
+      unchanged : (q : List ℕ) → map.get m q ≡ cond (is_same q key) None (map.get m q)
+      unchanged q = elim (is_same q key) as (λ b. is_same q key ≡ b → map.get m q ≡ cond b None (map.get m q)) [
+        | true ↦ λ same. ap (map.get m) (same_are_equal q key same) ∙ none
+        | false ↦ λ unlike. refl
+      ] refl
 
   -- entries in two lists, of which one is searched after the other
   pub found-append : (q : List ℕ) (xs ys : Entries V) → found q (xs ++ ys) ≡ option_or (found q xs) (found q ys)
@@ -146,15 +129,6 @@ module _ {V : Type 0} where
         | true ↦ refl
         | false ↦ found-append q es ys
       ]
-
-  pub get-append : (q : List ℕ) (xs ys : Entries V) → map.get (map_of (xs ++ ys)) q ≡ option_or (map.get (map_of xs) q) (map.get (map_of ys) q)
-  get-append q xs ys = get-is (xs ++ ys) q ∙ found-append q xs ys ∙ ap₂ option_or (sym (get-is xs q)) (sym (get-is ys q))
-
-  pub get-one : (q key : List ℕ) (value : V) → map.get (map_of ((key, value) ∷ [])) q ≡ cond (is_same q key) (Some value) None
-  get-one q key value = get-is ((key, value) ∷ []) q
-
-  pub get-none : (q : List ℕ) → map.get (map_of {V = V} []) q ≡ None
-  get-none q = get-is [] q
 
   inserted : (key : List ℕ) (value : V) (before after : Entries V) → ((q : List ℕ) → found q after ≡ cond (is_same q key) (Some value) (found q before))
       → map_of after ≡ map.insert (map_of before) key value
@@ -199,31 +173,6 @@ module _ {V : Type 0} where
     with_value : (es : Entries V) → is_some (map.get (map_of es) key) ≡ true → map_of (with_value_of key value es) ≡ map.insert (map_of es) key value
     with_value es some = inserted key value es (with_value_of key value es) (λ q. found-with q es (ap is_some (sym (get-is es key)) ∙ some))
 
-    within-first : (xs ys : Entries V) → is_some (found key xs) ≡ true → with_value_of key value (xs ++ ys) ≡ with_value_of key value xs ++ ys
-    within-first [] ys some = absurd (subst T (sym some) tt)
-    within-first (e ∷ es) ys some =
-        elim (is_same key e.0) as (λ b. is_some (cond b (Some e.1) (found key es)) ≡ true
-        → cond b ((e.0, value) ∷ (es ++ ys)) (e ∷ with_value_of key value (es ++ ys)) ≡ cond b ((e.0, value) ∷ es) (e ∷ with_value_of key value es) ++ ys) [
-          | true ↦ λ some. refl
-          | false ↦ λ some. ap (λ rest. e ∷ rest) (within-first es ys some)
-        ] some
-
-    within-second : (xs ys : Entries V) → is_some (found key xs) ≡ false → with_value_of key value (xs ++ ys) ≡ xs ++ with_value_of key value ys
-    within-second [] ys none = refl
-    within-second (e ∷ es) ys none =
-        elim (is_same key e.0) as (λ b. is_some (cond b (Some e.1) (found key es)) ≡ false
-        → cond b ((e.0, value) ∷ (es ++ ys)) (e ∷ with_value_of key value (es ++ ys)) ≡ e ∷ (es ++ with_value_of key value ys)) [
-          | true ↦ λ none. absurd (subst T none tt)
-          | false ↦ λ none. ap (λ rest. e ∷ rest) (within-second es ys none)
-        ] none
-
-    -- of two lists, the value is in the first one if that has the key, and else in the second
-    pub with_first : (xs ys : Entries V) → is_some (map.get (map_of xs) key) ≡ true → with_value_of key value (xs ++ ys) ≡ with_value_of key value xs ++ ys
-    with_first xs ys some = within-first xs ys (ap is_some (sym (get-is xs key)) ∙ some)
-
-    pub with_second : (xs ys : Entries V) → is_some (map.get (map_of xs) key) ≡ false → with_value_of key value (xs ++ ys) ≡ xs ++ with_value_of key value ys
-    with_second xs ys none = within-second xs ys (ap is_some (sym (get-is xs key)) ∙ none)
-
     set_first : (es : Entries V) (at : ℕ) (d : List ℕ × V) → IsFirst key at es d
         → slice_set es at ((slice_index_or es at d).0, value) ≡ with_value_of key value es
     set_first [] at d first = absurd (omega (arith, first.0))
@@ -232,26 +181,15 @@ module _ {V : Type 0} where
         let rest = in_rest key at e es d first in
         ap (λ others. e ∷ others) (set_first es at d rest.1) ∙ sym (ap (λ b. cond b ((e.0, value) ∷ es) (e ∷ with_value_of key value es)) rest.0)
 
-  -- in the second of two lists the value is that at the place that a search finds
-  pub with_second_set : (key : List ℕ) (value : V) (xs ys : Entries V) → is_some (map.get (map_of xs) key) ≡ false → {at : ℕ}
-      → position (λ e. is_same key e.0) ys ≡ Some at → {e : List ℕ × V} → e ≡ slice_index_or ys at e
-      → xs ++ slice_set ys at (e.0, value) ≡ with_value_of key value (xs ++ ys)
-  with_second_set key value xs ys none {at} is {e} own =
-      ap (λ (x : List ℕ × V). xs ++ slice_set ys at (x.0, value)) own
-      ∙ ap (λ es. xs ++ es) (set_first key value ys at e (position-Some (λ (x : List ℕ × V). is_same key x.0) ys at e is)) ∙ sym (with_second key value xs ys none)
+  -- the value at the place that a search finds
+  pub with_set : (key : List ℕ) (value : V) (es : Entries V) {at : ℕ} → position (λ e. is_same key e.0) es ≡ Some at → {e : List ℕ × V}
+      → e ≡ slice_index_or es at e → slice_set es at (e.0, value) ≡ with_value_of key value es
+  with_set key value es {at} is {e} own =
+      ap (λ (x : List ℕ × V). slice_set es at (x.0, value)) own
+      ∙ set_first key value es at e (position-Some (λ (x : List ℕ × V). is_same key x.0) es at e is)
 
   -- the map of entries into which another value of a key is written
   pub written : (key : List ℕ) (value : V) (es : Entries V) {after : Entries V} {m : ByImsi V} → after ≡ with_value_of key value es → map_of es ≡ m
       → is_some (map.get m key) ≡ true → map_of after ≡ map.insert m key value
   written key value es is view there =
       ap map_of is ∙ with_value key value es (ap (λ m. is_some (map.get m key)) view ∙ there) ∙ ap (λ m. map.insert m key value) view
-
-  pub get_of_first : (key : List ℕ) (xs ys : Entries V) (v : V) → Some v ≡ map.get (map_of xs) key → Some v ≡ map.get (map_of (xs ++ ys)) key
-  get_of_first key xs ys v is = ap (λ o. option_or o (map.get (map_of ys) key)) is ∙ sym (get-append key xs ys)
-
-  none_before : (a b : Option V) → is_some a ≡ false → option_or a b ≡ b
-  none_before None b none = refl
-  none_before (Some v) b none = absurd (subst T none tt)
-
-  pub get_of_second : (key : List ℕ) (xs ys : Entries V) → is_some (map.get (map_of xs) key) ≡ false → map.get (map_of (xs ++ ys)) key ≡ map.get (map_of ys) key
-  get_of_second key xs ys none = get-append key xs ys ∙ none_before (map.get (map_of xs) key) (map.get (map_of ys) key) none

@@ -1,7 +1,8 @@
 pub mod AddressingLemmas
 pub mod BucketLemmas
 pub mod BucketsLemmas
-pub mod InlineLemmas
 pub mod OnceLemmas
+pub mod OrderLemmas
 pub mod SegmentsLemmas
 pub mod TableLemmas
+pub mod TagsLemmas

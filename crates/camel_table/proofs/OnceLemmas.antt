@@ -1,11 +1,10 @@
 -- Entries of which no IMSI has two: what keeps them so, and what a clone keeps of them.
-use Rattle.std.proofs.Common.{◌≡◌, ◌∙◌, ℕ, ◌+◌, ◌≤◌, Bool, true, false, not, cond, List, [], ◌∷◌, ◌++◌, Option, Some}
+use Rattle.std.proofs.Common.{◌≡◌, ◌∙◌, ℕ, ◌+◌, ◌≤◌, Bool, true, false, not, cond, List, [], ◌∷◌, ◌++◌, Some}
 use Rattle.std.proofs.Common.{None, filter, map, refl, sym, ap, subst, arith, zero, suc, length, ap₂}
 use Rattle.std.specs.FinMap.{get, contains_key-keys, entries, entries-insert, keys, len, len-entries}
 use Rattle.std.specs.List.{sum_by, AllZip, flat_map, list_any}
 use Rattle.std.specs.Option.{is_some}
 use Rattle.std.proofs.Math.Nat.{zero-add}
-use Rattle.std.proofs.lemmas.List.Elements.{filter-append}
 use Rattle.std.proofs.lemmas.List.Filters.{sum_by-filter_both}
 use Rattle.std.proofs.lemmas.List.Sums.{sum_by-append, sum_by-cons}
 use Rattle.std.specs.Cmp.Lexicographic.{slice_cmp, nat_list_cmp_total}
@@ -15,10 +14,10 @@ use Rattle.std.specs.Ordering.{nat_cmp}
 use Rattle.std.specs.declared.cmp.Ordering.TheVariants.{Less, Equal, Greater}
 use Rattle.std.proofs.lemmas.List.{length-map, map-append}
 use Rattle.std.proofs.lemmas.Slice.Zip.{AllZip-long}
-use Rattle.camel_table.specs.ByImsi.{ByImsi, HasEachOnce, ListsEachOnceMore, is_same, map_of, times_listed}
+use Rattle.camel_table.specs.ByImsi.{ByImsi, HasEachOnce, ListsEachOnceMore, is_same, keys_of, map_of, times_listed}
 use Rattle.camel_table.specs.Lending.{with_value_of}
 use Rattle.camel_table.proofs.BucketLemmas.{Entries, found, get-is, same_are_equal}
-use Rattle.camel_table.specs.Buckets.{IsTable, table_map, AreFull, joined, in_slot}
+use Rattle.camel_table.specs.Buckets.{IsTable, table_map, AreFull, joined}
 use Rattle.camel_table.proofs.BucketsLemmas.{bucket_at, entries-empty}
 use Rattle.camel_table.proofs.TableLemmas.{whole_after}
 
@@ -30,9 +29,6 @@ module _ {V : Type 0} where
 
   abbrev times : List ℕ → Entries V → ℕ
   times q es = sum_by (once q) es
-
-  abbrev pub keys_of : Entries V → List (List ℕ)
-  keys_of es = map (λ e. e.0) es
 
   -- an IMSI with one entry at most has one if it is found
   counted : (q : List ℕ) (es : Entries V) → times q es ≤ 1 → times q es ≡ cond (is_some (found q es)) 1 0
@@ -60,12 +56,11 @@ module _ {V : Type 0} where
         | false ↦ λ unlike. let no : once q (key, value) ≡ 0 = ap (λ b. cond b 1 0) unlike in omega (arith, old, new, more, few, no)
       ] refl
 
-  pub kept_once : (test : List ℕ → Bool) (xs ys : Entries V) {es : Entries V} → es ≡ filter (λ e. test e.0) xs ++ filter (λ e. test e.0) ys
-      → HasEachOnce (xs ++ ys) → HasEachOnce es
-  kept_once test xs ys is each q =
+  pub kept_once : (test : List ℕ → Bool) (es : Entries V) {after : Entries V} → after ≡ filter (λ e. test e.0) es → HasEachOnce es → HasEachOnce after
+  kept_once test es is each q =
       let few = each q in
-      let kept = ap (times q) (is ∙ sym (filter-append (λ e. test e.0) xs ys)) in
-      let both = sum_by-filter_both (λ (e : List ℕ × V). test e.0) (λ e. not (test e.0)) (λ _. refl) (once q) (xs ++ ys) in
+      let kept = ap (times q) is in
+      let both = sum_by-filter_both (λ (e : List ℕ × V). test e.0) (λ e. not (test e.0)) (λ _. refl) (once q) es in
       omega (arith, few, kept, both)
 
   of_keys : (q : List ℕ) (es : Entries V) → times_listed q (keys_of es) ≡ times q es
@@ -75,15 +70,16 @@ module _ {V : Type 0} where
   pub same_once : (es fs : Entries V) → keys_of fs ≡ keys_of es → HasEachOnce es → HasEachOnce fs
   same_once es fs same each q = subst (λ n. n ≤ 1) (sym (of_keys q es) ∙ ap (times_listed q) (sym same) ∙ of_keys q fs) (each q)
 
-  pub valued_once : (key : List ℕ) (value : V) (es : Entries V) {after : Entries V} → after ≡ with_value_of key value es → HasEachOnce es → HasEachOnce after
-  valued_once key value es is = same_once es _ (ap keys_of is ∙ same es)
-    where
-      same : (es : Entries V) → keys_of (with_value_of key value es) ≡ keys_of es
-      same [] = refl
-      same (e ∷ es) = elim (is_same key e.0) as (λ b. keys_of (cond b ((e.0, value) ∷ es) (e ∷ with_value_of key value es)) ≡ keys_of (e ∷ es)) [
+  pub valued_keys : (key : List ℕ) (value : V) (es : Entries V) → keys_of (with_value_of key value es) ≡ keys_of es
+  valued_keys key value [] = refl
+  valued_keys key value (e ∷ es) =
+      elim (is_same key e.0) as (λ b. keys_of (cond b ((e.0, value) ∷ es) (e ∷ with_value_of key value es)) ≡ keys_of (e ∷ es)) [
         | true ↦ refl
-        | false ↦ ap (λ keys. e.0 ∷ keys) (same es)
+        | false ↦ ap (λ keys. e.0 ∷ keys) (valued_keys key value es)
       ]
+
+  pub valued_once : (key : List ℕ) (value : V) (es : Entries V) {after : Entries V} → after ≡ with_value_of key value es → HasEachOnce es → HasEachOnce after
+  valued_once key value es is = same_once es _ (ap keys_of is ∙ valued_keys key value es)
 
   -- a list that has the IMSI of each entry more
   pub entries_listed : (before : List (List ℕ)) {imsis : List (List ℕ)} (es : Entries V) → imsis ≡ before ++ keys_of es → HasEachOnce es
@@ -99,15 +95,6 @@ both_lists R [] [] more others all rest = rest
 both_lists R [] (y ∷ ys) more others all rest = absurd all
 both_lists R (x ∷ xs) [] more others all rest = absurd all
 both_lists R (x ∷ xs) (y ∷ ys) more others all rest = (all.0, both_lists R xs ys more others all.1 rest)
-
--- a slot with the same key, and a clone of its value
-pub slot_clone : {V : Type 0} (C : V → V → Type 0) {key copied : Option (List ℕ)} {x y : V} → copied ≡ key → C x y
-    → AllZip (λ e f. (f.0 ≡ e.0) × C e.1 f.1) (in_slot key x) (in_slot copied y)
-slot_clone C {key} {copied} {x} {y} is same = subst (λ k. AllZip (λ e f. (f.0 ≡ e.0) × C e.1 f.1) (in_slot key x) (in_slot k y)) (sym is) (of_key key)
-  where
-    of_key : (k : Option (List ℕ)) → AllZip (λ e f. (f.0 ≡ e.0) × C e.1 f.1) (in_slot k x) (in_slot k y)
-    of_key None = tt
-    of_key (Some imsi) = ((refl, same), tt)
 
 module _ {A : Type 0} (R : A → A → Type 0) (C : Vec A → Vec A → Type 0) (items : (v w : Vec A) → C v w → AllZip R v.items w.items) where
   pub full_clone : (segments clones : List (Vec A)) → AllZip C segments clones → AreFull segments → AreFull clones

@@ -1,10 +1,9 @@
 -- The buckets of a table: which of them a hash chooses, how they are kept, and their map.
 use Rattle.std.specs.Prelude.{ℕ, ◌+◌, ◌%◌, ◌^◌, ◌==◌, nat_lt, Bool, List, if◌then◌else◌, ◌≡◌, ◌⊎◌, ◌≤◌, IsSome, length}
-use Rattle.std.specs.Prelude.{slice_index_or, ◌<◌, [], ◌∷◌, ◌++◌, Option, option_to_list}
+use Rattle.std.specs.Prelude.{slice_index_or, ◌<◌, [], ◌∷◌, ◌++◌}
 use Rattle.std.specs.List.{fold, flat_map}
 use Rattle.std.specs.FinMap.{empty, entries, get, len}
 use Rattle.std.specs.Global.{Vec}
-use Rattle.std.specs.Option.{option_map}
 use Rattle.camel_tbcd.specs.Imsi.{imsi_number}
 use Rattle.camel_table.specs.declared.addressing.Addressing.{Addressing}
 use Rattle.camel_table.specs.ByImsi.{ByImsi, map_of}
@@ -74,8 +73,12 @@ module _ {A : Type 0} where
   HasRoom (last ∷ []) = length last.items < segment
   HasRoom (first ∷ next ∷ rest) = HasRoom (next ∷ rest)
 
--- The entry in a slot, which may be free.
+-- The tags of entries.
 
--- the entry in a slot with this key and this value, or none
-abbrev pub in_slot : {V : Type 0} → Option (List ℕ) → V → List (List ℕ × V)
-in_slot key value = option_to_list (option_map (λ imsi. (imsi, value)) key)
+-- the tag of an IMSI: the lowest octet of its number
+abbrev pub tag_of : List ℕ → ℕ
+tag_of imsi = imsi_number imsi % 256
+
+-- each key that has a tag has its own
+abbrev pub AreTagged : List ℕ → List (List ℕ) → Type 0
+AreTagged tags keys = (at : ℕ) → at < length tags → at < length keys → slice_index_or tags at 0 ≡ tag_of (slice_index_or keys at [])

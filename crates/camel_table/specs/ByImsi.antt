@@ -1,5 +1,5 @@
 -- Finite maps from IMSIs, each the list of its digits.
-use Rattle.std.specs.Prelude.{◌≡◌, ℕ, ◌+◌, ◌≤◌, Bool, List, count_by, if◌then◌else◌}
+use Rattle.std.specs.Prelude.{◌≡◌, ℕ, ◌+◌, ◌≤◌, Bool, List, count_by, map, if◌then◌else◌}
 use Rattle.std.specs.Cmp.Lexicographic.{slice_cmp}
 use Rattle.std.specs.FinMap.{FinMap, from_entries, get}
 use Rattle.std.specs.Option.{is_some}
@@ -15,6 +15,10 @@ map_of entries = from_entries entries
 -- whether two IMSIs are the same
 abbrev pub is_same : List ℕ → List ℕ → Bool
 is_same imsi other = eq_by_cmp (slice_cmp nat_cmp) imsi other
+
+-- the IMSIs of entries, in their order
+abbrev pub keys_of : {V : Type 0} → List (List ℕ × V) → List (List ℕ)
+keys_of entries = map (λ entry. entry.0) entries
 
 -- no IMSI has two entries
 abbrev pub HasEachOnce : {V : Type 0} → List (List ℕ × V) → Type 0

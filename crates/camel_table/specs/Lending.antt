@@ -5,7 +5,6 @@ use Rattle.std.specs.FinMap as map
 use Rattle.camel_table.specs.ByImsi.{ByImsi, is_same}
 use Rattle.camel_table.specs.contracts.segments.Segments.{the_row}
 use Rattle.camel_table.specs.contracts.entry.Entry as entry
-use Rattle.camel_table.specs.contracts.inline_entries.InlineEntries as inline
 use Rattle.camel_table.specs.contracts.bucket.Bucket as bucket
 
 -- the list has what is written into the lent item in that item's place, and its other items as before
@@ -20,10 +19,6 @@ lends_entry V its value = Lends (entry.the_row V) V its value (λ new. (its.now.
 abbrev pub with_value_of : {V : Type 0} → List ℕ → V → List (List ℕ × V) → List (List ℕ × V)
 with_value_of imsi value [] = []
 with_value_of imsi value (entry ∷ entries) = if is_same imsi entry.0 then (entry.0, value) ∷ entries else entry ∷ with_value_of imsi value entries
-
--- the entries have what is written into the lent value as that of the IMSI
-abbrev pub lends_inline : (V : RattleType) → MutBor (List (List ℕ × V.Denot)) → List ℕ → MutBor V.Denot → Fml
-lends_inline V entries imsi value = Lends (inline.the_row V) V entries value (λ new. with_value_of imsi new entries.now)
 
 -- the map has what is written into the lent value as that of the IMSI
 abbrev pub lends_value : (V : RattleType) → MutBor (ByImsi V.Denot) → List ℕ → MutBor V.Denot → Fml

@@ -1,63 +1,63 @@
-ghost use Rattle.std.specs.Prelude.{◌≡◌, ◌≤◌, ◌++◌, [], not, filter, find, vec_capacity, vec_len, IfOk, position};
+ghost use Rattle.std.specs.Prelude.{◌≡◌, ◌≤◌, ◌<◌, [], ◌∷◌, not, filter, vec_capacity, vec_len, IfOk, position, length};
 ghost use Rattle.std.specs.Prelude.{OnErr, OnOk, IsSome, None, Some};
 ghost use Rattle.std.specs.Borrow.{sem};
 ghost use Rattle.std.specs.FinMap as map;
-ghost use Rattle.std.specs.Option.{is_some, option_copied, option_map};
-ghost use Rattle.camel_table.specs.ByImsi.{ListsEachOnceMore, is_same, map_of};
-ghost use Rattle.camel_table.specs.Buckets.{is_at};
+ghost use Rattle.std.specs.Option.{is_some, option_copied};
+ghost use Rattle.camel_table.specs.ByImsi.{ListsEachOnceMore, is_same, keys_of};
+ghost use Rattle.camel_table.specs.Buckets.{AreTagged, is_at};
 ghost use Rattle.camel_table.specs.Lending.{lends_value};
 
 use crate::addressing::Addressing;
 use crate::entry::Entry;
-use crate::inline_entries::InlineEntries;
+use crate::tags::{Tags, tag_of};
 use camel_tbcd::Imsi;
 use std::alloc::{AllocError, Global};
 use std::hash::BuildHasher;
 use std::marker::Model;
 use std::mem;
 
+/// A bucket that has no room asks for room for so many entries: fewer would have it moved more often, and more would
+/// leave more room unused.
+const MORE_AT_ONCE: usize = 3;
+
 /// The entries of the keys that have one bucket of a table.
 ///
 /// Contracts see it as a finite map from the lists of their digits.
 #[derive(Debug, Drop)]
 pub(crate) struct Bucket<V> {
-    // The further entries. There may be some while there is room for more of the first ones. The list stands before
-    // those, so that mostly one cache line says where all entries lie.
-    more: Vec<Entry<V>>,
-    // The first entries. They lie in the bucket itself, so that most look-ups wait for no further block of memory.
-    inline: InlineEntries<V>,
+    // They lie in one block. The buckets themselves are small, so that those of many subscribers stay in a cache.
+    entries: Vec<Entry<V>>,
+    tags: Tags,
 }
 
 impl<V> Model for Bucket<V> {
-    ghost use Rattle.std.specs.Prelude.{◌++◌};
     ghost use Rattle.std.specs.FinMap as map;
     ghost use Rattle.std.specs.Coded.{coded_ℕ, coded_list};
-    ghost use Rattle.camel_table.specs.ByImsi.{ByImsi, HasEachOnce, map_of};
+    ghost use Rattle.camel_table.specs.Buckets.{AreTagged};
+    ghost use Rattle.camel_table.specs.ByImsi.{ByImsi, HasEachOnce, keys_of, map_of};
 
     ghost Value = { ByImsi V };
 
     ghost coded = { map.code (coded_list coded_ℕ) V.code };
 
-    ghost view = { λ a. map_of (a.inline ++ a.more.items) };
+    ghost view = { λ a. map_of a.entries.items };
 
-    ghost invariant = { λ a. HasEachOnce (a.inline ++ a.more.items) };
+    ghost invariant = { λ a. HasEachOnce a.entries.items × AreTagged a.tags (keys_of a.entries.items) };
 }
 
 impl<V> Bucket<V> {
     /// How many entries there are.
     pub(crate) fn len(&self) -> usize {
-        self.inline.len() + self.more.len()
+        self.entries.len()
     }
 
     /// The value of an IMSI, if there is one.
+    #[inline(always)]
     pub(crate) fn get(&self, imsi: &Imsi) -> Option<&V>
         ensures { option_copied result ≡ map.get self.now imsi.now }
     {
-        let value = self.inline.get(imsi);
-        if value.is_some() {
-            return value;
-        }
-        find_value(&self.more, imsi)
+        let at = place(&self.tags, &self.entries, imsi)?;
+        Some(self.entries[at].value())
     }
 
     /// The value that an IMSI has, to be changed in its place.
@@ -66,23 +66,17 @@ impl<V> Bucket<V> {
         ensures* writes_back { sem 𝓛 (lends_value V.row self.entry imsi.now result) }
         ensures value { Some result.now ≡ map.get self.old imsi.now }
     {
-        if self.inline.get(imsi).is_some() {
-            let inline = &mut self.inline;
-            inline.value_mut(imsi)
-        } else {
-            let at = position(&self.more, imsi).unwrap();
-            let entry = &mut self.more[at];
-            entry.lend()
-        }
+        let at = place(&self.tags, &self.entries, imsi).unwrap();
+        let entry = &mut self.entries[at];
+        entry.lend()
     }
 
     /// Lists each IMSI that has a value, after those that are listed. Fails with `AllocError` if memory is refused.
     pub(crate) fn push_imsis(&self, imsis: &mut Vec<Imsi>) -> Result<(), AllocError>
         ensures { OnOk result (ListsEachOnceMore imsis.old.items imsis.new.items self.now) }
     {
-        self.inline.push_imsis(imsis)?;
-        for at in 0..self.more.len() {
-            imsis.push(self.more[at].imsi())?;
+        for at in 0..self.entries.len() {
+            imsis.push(self.entries[at].imsi())?;
         }
         Ok(())
     }
@@ -94,8 +88,8 @@ impl<V: Default + Drop> Bucket<V> {
         ensures { result ≡ map.empty }
     {
         Bucket {
-            inline: InlineEntries::new(),
-            more: Vec::new(alloc),
+            entries: Vec::new(alloc),
+            tags: Tags::none(),
         }
     }
 
@@ -121,14 +115,10 @@ impl<V: Default + Drop> Bucket<V> {
         ensures added { OnOk result (self.new ≡ map.insert self.old imsi.now value) }
         ensures unchanged { OnErr result (self.new ≡ self.old) }
     {
-        let key = *imsi;
-        if self.inline.has_room() {
-            self.inline.push(Entry { key, value });
-            return Ok(());
-        }
-        // Most buckets have few further entries, so that room for one more and no other saves memory.
-        self.more.reserve_exact(1)?;
-        self.more.push(Entry { key, value })?;
+        make_room(&mut self.entries)?;
+        let at = self.entries.len();
+        self.entries.push(Entry { key: *imsi, value })?;
+        self.tags.set(at, tag_of(imsi));
         Ok(())
     }
 
@@ -137,10 +127,16 @@ impl<V: Default + Drop> Bucket<V> {
         ensures removed { self.new ≡ map.remove self.old imsi.now }
         ensures was { result ≡ is_some (map.get self.old imsi.now) }
     {
-        let was = self.get(imsi).is_some();
-        self.inline.remove(imsi);
-        self.more.retain(|entry| !entry.is(imsi));
-        was
+        let Some(at) = place(&self.tags, &self.entries, imsi) else {
+            return false;
+        };
+        self.entries.swap_remove(at);
+        // The last entry has come into its place.
+        if at < self.entries.len() {
+            let key = self.entries[at].imsi();
+            self.tags.set(at, tag_of(&key));
+        }
+        true
     }
 
     /// Splits the entries: those with this bucket stay, and the others are returned. Fails with `AllocError` if memory
@@ -158,17 +154,17 @@ impl<V: Default + Drop> Bucket<V> {
             not (is_at S.Hasher.finish S.Hasher.write S.build_hasher addressing.now at key))) }
         ensures unchanged { OnErr result (self.new ≡ self.old) }
     {
-        let mut stay = Vec::with_capacity(alloc, self.more.len())?;
-        let mut leave = Vec::with_capacity(alloc, self.more.len())?;
-        let mut others = self.inline.split(addressing, at);
-        let more = mem::replace(&mut self.more, Vec::new(alloc));
-        split(more, addressing, at, &mut stay, &mut leave);
-        fill(&mut self.inline, &mut stay);
-        self.more = stay;
-        fill(&mut others, &mut leave);
+        let mut stay = Vec::with_capacity(alloc, self.entries.len())?;
+        let mut leave = Vec::with_capacity(alloc, self.entries.len())?;
+        let entries = mem::replace(&mut self.entries, Vec::new(alloc));
+        split(entries, addressing, at, &mut stay, &mut leave);
+        stay.shrink_to_fit();
+        leave.shrink_to_fit();
+        self.tags = tags_of(&stay);
+        self.entries = stay;
         Ok(Bucket {
-            inline: others,
-            more: leave,
+            tags: tags_of(&leave),
+            entries: leave,
         })
     }
 }
@@ -182,20 +178,47 @@ impl<V: Clone> Clone for Bucket<V> {
 
     fn clone(&self) -> Result<Bucket<V>, AllocError> {
         Ok(Bucket {
-            inline: self.inline.clone()?,
-            more: self.more.clone()?,
+            entries: self.entries.clone()?,
+            tags: self.tags.copy(),
         })
     }
 }
 
-/// Moves the first ones of further entries to inline slots, as many as there are free.
-fn fill<V: Default + Drop>(inline: &mut InlineEntries<V>, more: &mut Vec<Entry<V>>)
-    ensures { inline.new ++ more.new.items ≡ inline.old ++ more.old.items }
+/// Makes room for an entry more. Fails with `AllocError` if memory is refused; either way the entries stay.
+fn make_room<V: Drop>(entries: &mut Vec<Entry<V>>) -> Result<(), AllocError>
+    ensures { entries.new.items ≡ entries.old.items }
 {
-    while inline.has_room() && !more.is_empty() {
-        inline.push(more.remove(0));
+    if entries.len() == entries.capacity() {
+        entries.reserve_exact(MORE_AT_ONCE)?;
     }
-    more.shrink_to_fit();
+    Ok(())
+}
+
+/// The place of the entry of an IMSI, if there is one. If the entry with its tag is of another IMSI, all are searched.
+#[inline(always)]
+fn place<V>(tags: &Tags, entries: &[Entry<V>], imsi: &Imsi) -> Option<usize>
+    requires { AreTagged tags.now (keys_of entries.now) }
+    ensures { result ≡ position (λ entry. is_same imsi.now entry.0) entries.now }
+{
+    let at = tags.first(tag_of(imsi));
+    if at >= entries.len() {
+        return None;
+    }
+    if entries[at].is(imsi) {
+        return Some(at);
+    }
+    position(entries, imsi)
+}
+
+/// The tags of entries.
+fn tags_of<V>(entries: &[Entry<V>]) -> Tags
+    ensures { AreTagged result (keys_of entries.now) }
+{
+    let mut tags = Tags::none();
+    for at in 0..entries.len() {
+        tags.set(at, tag_of(&entries[at].imsi()));
+    }
+    tags
 }
 
 /// Moves the entries with a bucket to one list, and the others to another, each in its order.
@@ -223,14 +246,7 @@ fn split<V: Drop, S: BuildHasher>(
     }
 }
 
-fn find_value<'a, V>(entries: &'a [Entry<V>], imsi: &Imsi) -> Option<&'a V>
-    ensures { option_copied result
-        ≡ option_map (λ entry. entry.1) (find (λ entry. is_same imsi.now entry.0) entries.now) }
-{
-    let entry = entries.iter().find(|entry| entry.is(imsi))?;
-    Some(entry.value())
-}
-
+#[inline(never)]
 fn position<V>(entries: &[Entry<V>], imsi: &Imsi) -> Option<usize>
     ensures { result ≡ position (λ entry. is_same imsi.now entry.0) entries.now }
 {

@@ -4,11 +4,10 @@
 mod addressing;
 mod bucket;
 mod entry;
-mod inline_entries;
 mod seed;
 mod segments;
-mod slot;
 mod table;
+mod tags;
 
 pub use seed::Seed;
 pub use table::Table;

@@ -13,9 +13,8 @@ use std::alloc::{AllocError, Global};
 use std::hash::BuildHasher;
 use std::marker::Model;
 
-/// A bucket that gets more entries than this asks for a bucket more. Three lie in the bucket itself. Fewer would leave
-/// fewer to be sought in a list, but more room unused.
-const MOST_IN_BUCKET: usize = 5;
+/// A bucket that gets more entries than this asks for a bucket more. It has tags of 16.
+const MOST_IN_BUCKET: usize = 15;
 
 /// There are never more buckets than this. Further entries make the buckets longer.
 const MOST_BUCKETS: usize = 1 << 32;
