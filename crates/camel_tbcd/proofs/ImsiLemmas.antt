@@ -1,14 +1,14 @@
 -- The number of an IMSI and its digits, each by the other.
 use Rattle.std.proofs.Common.{◌≡◌, ◌∙◌, ℕ, zero, suc, ◌+◌, ◌*◌, ◌/◌, ◌%◌, ◌<◌, ◌≤◌, ◌^◌, List, [], ◌∷◌, All, length}
 use Rattle.std.proofs.Common.{refl, sym, ap, ap₂, arith, ◌-◌, true, false, not, get_or, nat_le, nat_lt, take}
-use Rattle.std.proofs.Common.{true≢false, ◌++◌, drop, slice_set, nat_eq, cond, Some, None, IfSome, subst}
+use Rattle.std.proofs.Common.{true≢false, ◌++◌, drop, slice_set, nat_eq}
 use Rattle.std.proofs.Math.Arith.{mod-mul}
 use Rattle.std.proofs.Math.Nat.{add-mul, div-div-eq-div-mul, div-one, mul-le-mul_right, mul_assoc, one-le-pow, pow-suc}
 use Rattle.std.proofs.Math.Nat.{pow-succ', pow-le-pow_right, mod-eq_of_lt}
 use Rattle.std.proofs.lemmas.List.Elements.{All-cons, All-head, All-nil, All-tail, All-map, All-weaker}
 use Rattle.std.proofs.lemmas.Nat.{div-mul-add, mod-mul-add}
 use Rattle.std.proofs.lemmas.Bool.Decides.{nat_tests, Decides-eqb, same_from_decides}
-use Rattle.std.proofs.lemmas.Bool.{true_from_ne_false, eqb-true}
+use Rattle.std.proofs.lemmas.Bool.{true_from_ne_false}
 use Rattle.std.proofs.lemmas.Grind.{common_steps}
 use Rattle.std.proofs.lemmas.List.{get_or-take, length-map, length-take-le, append_assoc, drop-set}
 use Rattle.std.proofs.lemmas.List.Folds.{list_all_at}
@@ -20,7 +20,7 @@ use Rattle.std.proofs.lemmas.Slice.Eq.{slice_eq-Decides}
 use Rattle.std.specs.Cmp.Lexicographic.{pointwise, slice_cmp, texts_ties}
 use Rattle.std.specs.Ordering.{eq_by_cmp, nat_cmp}
 use Rattle.camel_tbcd.specs.Imsi.{last_digits, with_digits, IsImsi, digit_values, imsi_of_ascii, digits_of_number}
-use Rattle.camel_tbcd.specs.Imsi.{imsi_number, IsNumberOfNone, imsi_of_number, is_in_slot}
+use Rattle.camel_tbcd.specs.Imsi.{imsi_number, IsNumberOfNone}
 use Rattle.camel_tbcd.specs.declared.imsi.ImsiFault.TheVariants.{NotDigit}
 
 -- Decimal digits back from their value, and their value from the digits.
@@ -224,27 +224,3 @@ none_valued number out digits is its =
     let value : number % 2 ^ 56 ≡ with_digits 0 digits = ap (λ n. n % 2 ^ 56) (sym its) ∙ value_of digits is in
     let power : 10 ^ (number / 2 ^ 56) ≡ 10 ^ length digits = ap (λ n. 10 ^ n) count in
     absurd (omega (arith, out, value, power, bounds digits is))
-
--- A slot has an IMSI exactly if it has its number, since that of an IMSI is not 0.
-
-some_number : (imsi : List ℕ) → IsImsi imsi → imsi_number imsi ≡ 0 → ⊥
-some_number imsi is same =
-    let none : [] ≡ imsi = sym (ap digits_of_number same) ∙ digits_of_imsi imsi is in
-    let least = subst (λ digits. 5 ≤ length digits) (sym none) is.least in
-    omega (arith, least)
-
-pub in_slot : (imsi : List ℕ) (own number : ℕ) → own ≡ imsi_number imsi → IsImsi imsi
-    → IfSome (imsi_of_number number) (λ digits. IsImsi digits × (number ≡ imsi_number digits))
-    → nat_eq own number ≡ is_in_slot imsi (imsi_of_number number)
-in_slot imsi own number its is slot =
-    elim (nat_eq number 0) as
-    (λ b. nat_eq number 0 ≡ b → IfSome (cond b None (Some (digits_of_number number))) (λ digits. IsImsi digits × (number ≡ imsi_number digits))
-    → nat_eq own number ≡ is_in_slot imsi (cond b None (Some (digits_of_number number)))) [
-      | true ↦ λ none free.
-          let zero = eqb-true number 0 none in
-          elim (nat_eq own number) as (λ b. nat_eq own number ≡ b → b ≡ false) [
-            | true ↦ λ same. absurd (some_number imsi is (sym its ∙ eqb-true own number same ∙ zero))
-            | false ↦ λ differ. refl
-          ] refl
-      | false ↦ λ some held. ap₂ nat_eq its held.1 ∙ same_by_order imsi (digits_of_number number) is held.0
-    ] refl slot

@@ -1,10 +1,8 @@
 -- IMSIs: the lists of digits that they are, and the numbers that they are kept as.
 use Rattle.std.specs.Prelude.{ℕ, ◌≤◌, ◌-◌, ◌==◌, ◌&&◌, not, nat_le, nat_lt, List, length, map, position, slice_index}
 use Rattle.std.specs.Prelude.{take, All, Option, Some, None, Result, Ok, Err, if◌then◌else◌, ◌≢◌, zero, suc, ◌+◌, ◌*◌}
-use Rattle.std.specs.Prelude.{◌/◌, ◌%◌, ◌^◌, [], ◌∷◌, nat_eq, Bool, false}
+use Rattle.std.specs.Prelude.{◌/◌, ◌%◌, ◌^◌, [], ◌∷◌}
 use Rattle.std.specs.Char.{is_ascii_digit}
-use Rattle.std.specs.Cmp.Lexicographic.{slice_cmp}
-use Rattle.std.specs.Ordering.{eq_by_cmp, nat_cmp}
 use Rattle.camel_tbcd.specs.AddressString.{filler, nibbles}
 use Rattle.camel_tbcd.specs.declared.imsi.ImsiFault.{ImsiFault}
 use Rattle.camel_tbcd.specs.declared.imsi.ImsiFault.TheVariants.{Length, NotDigit}
@@ -85,14 +83,3 @@ last_digits (suc count) value = value / 10 ^ count % 10 ∷ last_digits count va
 -- the digits of which a number is the number
 abbrev pub digits_of_number : ℕ → List ℕ
 digits_of_number number = last_digits (number / 2 ^ 56) (number % 2 ^ 56)
-
--- An IMSI or none, by one number, which is 0 if there is none.
-
--- the IMSI of a number
-abbrev pub imsi_of_number : ℕ → Option (List ℕ)
-imsi_of_number number = if nat_eq number 0 then None else Some (digits_of_number number)
-
--- whether a slot has this IMSI
-abbrev pub is_in_slot : List ℕ → Option (List ℕ) → Bool
-is_in_slot imsi None = false
-is_in_slot imsi (Some digits) = eq_by_cmp (slice_cmp nat_cmp) imsi digits

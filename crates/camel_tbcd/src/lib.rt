@@ -1,8 +1,8 @@
 //! Addresses and IMSIs in the encodings of 3GPP TS 29.002.
 //!
 //! An address is borrowed as an [`Address`] or kept as an [`IsdnAddress`] or a [`CallAddress`]. An [`Imsi`] is kept as
-//! one number, which gives its [`ImsiDigits`], or as an [`ImsiSlot`] if there may be none. A [`Profile`] says whether
-//! the numbering plans of two addresses are compared. No call of this crate takes memory.
+//! one number, which gives its [`ImsiDigits`]. A [`Profile`] says whether the numbering plans of two addresses are
+//! compared. No call of this crate takes memory.
 #![tactic(auto)]
 
 mod address;
@@ -11,7 +11,6 @@ mod digits;
 mod first_digits;
 mod imsi;
 mod imsi_digits;
-mod imsi_slot;
 mod isdn_address;
 mod profile;
 mod short_list;
@@ -23,6 +22,5 @@ pub use imsi::{
     Imsi, ImsiFault, MAX_IMSI_DIGITS, MAX_IMSI_OCTETS, MIN_IMSI_DIGITS, MIN_IMSI_OCTETS,
 };
 pub use imsi_digits::ImsiDigits;
-pub use imsi_slot::ImsiSlot;
 pub use isdn_address::{IsdnAddress, MAX_ISDN_ADDRESS_LENGTH};
 pub use profile::Profile;
