@@ -178,8 +178,8 @@ impl CriterionLists {
                 let is_enabling = matches!(self, CriterionLists::FewEnabling(_));
                 numbers.has_front_of(destination, profile) == is_enabling
             }
-            CriterionLists::Short(lists) => lists.is_met_by(*destination, profile),
-            CriterionLists::Apart(lists) => lists.is_met_by(*destination, profile),
+            CriterionLists::Short(lists) => lists.is_met_by(destination.remake(), profile),
+            CriterionLists::Apart(lists) => lists.is_met_by(destination.remake(), profile),
         }
     }
 

@@ -94,6 +94,17 @@ impl<'a> Address<'a> {
         Address { digits }
     }
 
+    /// The same address, made of its parts. A copy that a call takes by value is this one's own memory to the compiler,
+    /// so that this one is written there before, whether the call is made or not; of one that is made anew it is not.
+    #[inline(always)]
+    pub fn remake(&self) -> Address<'a>
+        ensures { octets result ≡ octets self.now }
+    {
+        Address {
+            digits: self.digits.remake(),
+        }
+    }
+
     /// The nature of address, 0 to 7: bits 765 of octet 1. TS 29.002 names 0 unknown, 1 international,
     /// 2 national significant, 3 network specific, 4 subscriber and 6 abbreviated.
     pub fn nature(&self) -> u8

@@ -55,6 +55,17 @@ impl<'a> Digits<'a> {
         }
     }
 
+    // The same digits, made of their parts.
+    #[inline(always)]
+    pub(crate) fn remake(&self) -> Digits<'a>
+        ensures { result.bytes.now ≡ self.now.bytes.now }
+    {
+        Digits {
+            bytes: self.bytes,
+            number: self.number,
+        }
+    }
+
     // The octets of the address that has these digits.
     pub(crate) fn bytes(&self) -> &'a [u8]
         ensures { result.now ≡ self.now.bytes.now }

@@ -122,7 +122,7 @@ fn decide_by<'r, K: Copy + Drop, const MOST: usize, E: CriteriaEntry, S: ShownTo
             entry: [entry],
             ..
         } => decide_in_place(row, *has_entry, entry, dp, shown, profile),
-        _ => decide_by_entry(row, stored.entry(dp), *shown, profile),
+        _ => decide_by_entry(row, stored.entry(dp), shown, profile),
     }
 }
 
@@ -159,29 +159,37 @@ fn decide_in_place<'r, E: CriteriaEntry, S: ShownTo<E>>(
     }
 }
 
-/// Decides an event whose row is armed by the entry of its detection point, if there is one. Few CSIs have several
-/// entries: this is a call of its own, and takes what is shown by value, so that most decisions write none to memory.
-#[inline(never)]
+/// Decides an event whose row is armed by the entry of its detection point, if there is one.
+#[inline(always)]
 fn decide_by_entry<'r, E: CriteriaEntry, S: ShownTo<E>>(
     row: &'r TdpRow,
     entry: Option<&'r E>,
-    shown: S,
+    shown: &S,
     profile: Profile,
 ) -> Decision<'r>
     ensures { decision_data result
-        ≡ by_entry E.dp_of (S.is_met profile shown) S.entry_as row.now (option_copied entry.entry) }
+        ≡ by_entry E.dp_of (S.is_met profile shown.now) S.entry_as row.now (option_copied entry.entry) }
 {
     match entry {
         None => Decision::Trigger {
             row,
             criteria: None,
         },
-        Some(entry) if shown.meets(entry, profile) => Decision::Trigger {
+        Some(entry) if meets_apart(entry, shown.remake(), profile) => Decision::Trigger {
             row,
             criteria: Some(S::lend(entry)),
         },
         Some(_) => Decision::NoTrigger(Reason::Criteria),
     }
+}
+
+/// Whether what is shown meets an entry. Few CSIs have several entries: this is a call of its own, and takes what is
+/// shown by value, so that most decisions write none to memory.
+#[inline(never)]
+fn meets_apart<E, S: ShownTo<E>>(entry: &E, shown: S, profile: Profile) -> bool
+    ensures { result ≡ S.is_met profile shown entry.now }
+{
+    shown.meets(entry, profile)
 }
 
 /// What an event shows to the entries of one CSI.
@@ -196,6 +204,12 @@ trait ShownTo<E>: Copy {
 
     fn lend<'r>(entry: &'r E) -> Lent<'r>
         ensures { entry_data result ≡ entry_as entry.now };
+
+    /// The same, made of its parts: a copy would have each event written to memory (see [`Address::remake`]).
+    ///
+    /// [`Address::remake`]: camel_tbcd::Address::remake
+    fn remake(&self) -> Self
+        ensures { (profile : Profile) (entry : E) → is_met profile result entry ≡ is_met profile self.now entry };
 }
 
 impl ShownTo<OCriteria> for OEvent<'_> {
@@ -213,6 +227,16 @@ impl ShownTo<OCriteria> for OEvent<'_> {
     {
         Lent::O(entry)
     }
+
+    #[inline(always)]
+    fn remake(&self) -> Self {
+        OEvent {
+            destination: self.destination.remake(),
+            basic: self.basic,
+            forwarded: self.forwarded,
+            cause: self.cause,
+        }
+    }
 }
 
 impl ShownTo<TCriteria> for TEvent {
@@ -226,5 +250,13 @@ impl ShownTo<TCriteria> for TEvent {
 
     fn lend<'r>(entry: &'r TCriteria) -> Lent<'r> {
         Lent::T(entry)
+    }
+
+    #[inline(always)]
+    fn remake(&self) -> Self {
+        TEvent {
+            basic: self.basic,
+            cause: self.cause,
+        }
     }
 }
