@@ -255,6 +255,8 @@ impl Subscriber {
     }
 
     /// Stores what an Insert brings, with a block for the VT-CSI if there is to be one. It takes no memory.
+    // It is put into its callers, so that what it takes by value is moved from where it lies.
+    #[inline(always)]
     fn put(
         &mut self,
         room: Option<Boxed<StoredVtCsi>>,

@@ -26,6 +26,8 @@ pub(crate) enum StoredCsi<K, const MOST: usize, E> {
 
 impl<K: Copy + Drop, const MOST: usize, E: CriteriaEntry> StoredCsi<K, MOST, E> {
     /// Stores what an Insert brings of the CSI and its criteria, if it brings any. It takes no memory.
+    // It is put into its callers, so that the criteria are moved from where they lie.
+    #[inline(always)]
     pub(crate) fn insert(&mut self, csi: &Option<Csi<K, MOST>>, criteria: Option<CriteriaSet<E>>)
         ensures { stored_in self.new ≡ csi_after (stored_in self.old) csi.now criteria }
     {

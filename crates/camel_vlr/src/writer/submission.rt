@@ -10,6 +10,8 @@ use std::collections::VecDeque;
 
 /// Puts an update behind what is pending, and accepts it with the change that it makes of the CSIs in the record of its
 /// IMSI. If memory is refused, both are as before.
+// It is put into its callers, so that an update is moved into its box from where it lies.
+#[inline(always)]
 pub(crate) fn accept(
     pending: &mut VecDeque<Operation, Global>,
     admission: &mut Admission,
