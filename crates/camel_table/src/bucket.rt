@@ -18,7 +18,7 @@ use std::mem;
 
 /// A bucket that has no room asks for room for so many entries: fewer would have it moved more often, and more would
 /// leave more room unused.
-const MORE_AT_ONCE: usize = 3;
+const MORE_AT_ONCE: usize = 2;
 
 /// The entries of the keys that have one bucket of a table.
 ///
