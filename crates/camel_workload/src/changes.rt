@@ -6,6 +6,7 @@ use crate::subscribers::{comer, comer_count, imsi_of, known_one};
 use anyhow::Result;
 use camel_rows::Update;
 use std::alloc::{AllocError, Global};
+use std::collections::VecDeque;
 use std::mem;
 
 /// What happens to the record of a subscriber.
@@ -45,32 +46,32 @@ impl Changes {
     }
 
     /// Puts the updates of so many changes behind a batch.
-    pub fn add_to(&mut self, batch: &mut Vec<Update>, count: u64) -> Result<()> {
+    pub fn add_to(&mut self, batch: &mut VecDeque<Update>, count: u64) -> Result<()> {
         for _ in 0..count {
             self.add_next_to(batch)?;
         }
         Ok(())
     }
 
-    fn add_next_to(&mut self, batch: &mut Vec<Update>) -> Result<()> {
+    fn add_next_to(&mut self, batch: &mut VecDeque<Update>) -> Result<()> {
         match self.draw() {
             Change::Replace {
                 subscriber,
                 version,
-            } => batch.push(insert_of(self.alloc, subscriber, version)?)?,
+            } => batch.push_back(insert_of(self.alloc, subscriber, version)?)?,
             Change::Come { place, version } => {
                 let subscriber = comer(place);
                 // An Insert is of a record that is there.
                 if !self.was_there(place, true) {
                     let imsi = imsi_of(subscriber)?;
-                    batch.push(Update::Register { imsi })?;
+                    batch.push_back(Update::Register { imsi })?;
                 }
-                batch.push(insert_of(self.alloc, subscriber, version)?)?;
+                batch.push_back(insert_of(self.alloc, subscriber, version)?)?;
             }
             Change::Go { place } => {
                 self.was_there(place, false);
                 let imsi = imsi_of(comer(place))?;
-                batch.push(Update::Cancel { imsi })?;
+                batch.push_back(Update::Cancel { imsi })?;
             }
         }
         Ok(())

@@ -5,6 +5,7 @@ use camel_vlr::{Session, Vlr};
 use camel_workload::calls::{Call, calls_of};
 use camel_workload::changes::Changes;
 use camel_workload::sums::{Kinds, full, weighed};
+use std::collections::VecDeque;
 use std::sync::Wait;
 
 /// Prints the sum of all outcomes so far before each publication and in the end, and then the counts of outcomes.
@@ -26,7 +27,7 @@ fn check_session<R: AllocGlobal + Print + Wait>(
 ) -> Result<()> {
     let calls = calls_of(rt.alloc(), 0, asked.known)?;
     let mut changes = Changes::new(rt.alloc(), asked.known)?;
-    let mut batch = Vec::new(rt.alloc());
+    let mut batch = VecDeque::new(rt.alloc());
     let mut sum: u64 = 0;
     let mut kinds = Kinds::none();
     for place in 0..asked.events {

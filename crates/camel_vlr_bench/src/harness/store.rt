@@ -7,6 +7,7 @@ use camel_workload::calls::Call;
 use camel_workload::records::insert_of;
 use camel_workload::subscribers::imsi_of;
 use std::alloc::Global;
+use std::collections::VecDeque;
 use std::sync::Wait;
 
 /// A store is filled in publications of so many subscribers, as by a switch that is restored. The memory for the list
@@ -58,8 +59,12 @@ fn fill<R: Wait>(rt: &R, alloc: Global, store: &mut Vlr, known: u64) -> Result<(
 }
 
 /// Publishes a batch of updates, and leaves it empty. Each decision that begins afterwards is made over them all.
-pub(super) fn publish<R: Wait>(rt: &R, store: &mut Vlr, batch: &mut Vec<Update>) -> Result<()> {
-    for update in batch.drain(..) {
+pub(super) fn publish<R: Wait>(
+    rt: &R,
+    store: &mut Vlr,
+    batch: &mut VecDeque<Update>,
+) -> Result<()> {
+    while let Some(update) = batch.pop_front() {
         store.submit(update)?;
     }
     store.publish(rt)?;

@@ -4,6 +4,7 @@ use crate::protocol::Measurement;
 use anyhow::Result;
 use camel_vlr::Vlr;
 use camel_workload::changes::Changes;
+use std::collections::VecDeque;
 use std::rt::Clock;
 use std::sync::Wait;
 use std::time::{Duration, Instant};
@@ -34,7 +35,7 @@ pub(super) fn publish_until<R: AllocGlobal + Clock + Wait>(
     signals.wait_for_start(rt);
     let start = Instant::now(rt)?;
     let mut published = Published::default();
-    let mut batch = Vec::new(rt.alloc());
+    let mut batch = VecDeque::new(rt.alloc());
     for _ in rt.forever() {
         if signals.is_over() {
             break;
