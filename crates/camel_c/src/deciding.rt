@@ -40,7 +40,9 @@ pub extern "C" fn camel_decide(
 }
 
 impl ThreadSession {
-    #[inline]
+    // As a call of its own: put into its caller, the event would be moved in the pieces of its kinds, and a processor
+    // waits when it reads a field that was written in pieces.
+    #[inline(never)]
     fn decide(&mut self, event: &Event, answer: &mut CamelAnswer) -> u32
         ensures decided { result ≡ 0 → (given : Answer) × (shown : SessionData) × ShowsAnswer given answer.new
             × Decides (event_data event.now) given self.old shown self.new }

@@ -72,7 +72,9 @@ impl FewNumbers {
         &self.room[..usize::from(self.len)]
     }
 
-    // Whether a destination begins with one of the numbers, under a profile.
+    // Whether a destination begins with one of the numbers, under a profile. It is put into its callers, so that no
+    // destination is written to memory for it.
+    #[inline(always)]
     pub(crate) fn has_front_of(&self, destination: &Address, profile: Profile) -> bool
         ensures { result ≡ list_any (λ listed. number_matches profile listed (octets destination.now)) self.now }
     {

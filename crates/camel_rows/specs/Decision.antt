@@ -5,10 +5,10 @@ use Rattle.std.specs.Prelude.{IfSome, [], unwrap_or}
 use Rattle.std.specs.Option.{option_map}
 use Rattle.camel_criteria.specs.Met.{OEventData, o_event_data, o_met, t_met, OMet, TMet}
 use Rattle.camel_criteria.specs.declared.basic_service.BasicService.{BasicService}
+use Rattle.camel_criteria.specs.declared.event.OEvent.{OEvent}
 use Rattle.camel_criteria.specs.declared.event.TEvent.{TEvent}
 use Rattle.camel_tbcd.specs.Address.{octets}
 use Rattle.camel_tbcd.specs.declared.address.Address.{Address}
-use Rattle.camel_rows.specs.declared.trigger.event.Shown.{Shown}
 use Rattle.camel_rows.specs.declared.trigger.event.TdpEvent.{TdpEvent}
 use Rattle.camel_rows.specs.declared.trigger.event.TdpEvent.TheVariants.{CollectedInfo, RouteSelectFailure}
 use Rattle.camel_rows.specs.declared.trigger.event.TdpEvent.TheVariants.{TerminatingAttempt, Busy, NoAnswer}
@@ -28,7 +28,6 @@ use Rattle.camel_rows.specs.declared.trigger.outcome.Outcome.TheVariants.{Trigge
 use Rattle.camel_rows.specs.declared.subscriber.update.Update.{Update}
 use Rattle.camel_rows.specs.declared.trigger.outcome.Answer.{Answer}
 use Rattle.camel_criteria.specs.Criteria.{OCriteriaData, TCriteriaData}
-use Rattle.camel_rows.specs.declared.trigger.event.Shown.TheVariants as shown
 use Rattle.std.specs.FinMap as map
 use Rattle.camel_rows.specs.declared.trigger.decision.Decision.TheVariants as lent
 use Rattle.camel_criteria.specs.declared.handling.Handling.TheVariants as handling
@@ -87,10 +86,14 @@ pub data ShownData : Type 0 where
   ToO : OEventData → ShownData
   ToVt : TEvent → ShownData
 
--- what is shown with a borrowed destination
-abbrev pub shown_data : Shown → ShownData
-shown_data (shown.O event) = ToO (o_event_data event)
-shown_data (shown.T event) = ToVt event
+-- what an event shows to the criteria of the VT-CSI, if it is tested against these
+abbrev pub vt_event : EventData → TEvent
+vt_event event = record { basic = event_basic event; cause = event_cause event }
+
+-- what is shown to the criteria of the O-CSI, with a borrowed destination, or else to those of the VT-CSI
+abbrev pub shown_as : Option OEvent → TEvent → ShownData
+shown_as (Some event) other = ToO (o_event_data event)
+shown_as None event = ToVt event
 
 -- what an event shows to the criteria that it is tested against
 abbrev pub shown_of : EventData → ShownData

@@ -9,7 +9,6 @@ ghost use Rattle.camel_rows.specs.Update.{RecordsData};
 ghost use Rattle.camel_rows.specs.Subscriber.{stored_in, EntryData, O, T, entry_data, item_among};
 
 use crate::subscriber::stored_csi::StoredCsi;
-use crate::trigger::event::Shown;
 use crate::{Event, Lent, Records, Subscriber, TdpRow};
 use camel_criteria::{
     BasicService, CriteriaEntry, OCriteria, OEvent, TCriteria, TEvent, o_met, t_met,
@@ -69,15 +68,9 @@ impl Subscriber {
         ensures held { (m : RecordsData) → map.get m (event_imsi (event_data event.now)) ≡ Some self.now
             → decision_data result ≡ decision profile m (event_data event.now) }
     {
-        match event.show() {
-            Shown::O(shown) => decide_by(
-                self.stored_o(),
-                event.dp(),
-                event.basic(),
-                &shown,
-                profile,
-            ),
-            Shown::T(shown) => self.decide_by_vt(event.dp(), shown, profile),
+        match event.show_o() {
+            Some(shown) => decide_by(self.stored_o(), event.dp(), event.basic(), &shown, profile),
+            None => self.decide_by_vt(event.dp(), event.show_vt(), profile),
         }
     }
 

@@ -1,6 +1,6 @@
 ghost use Rattle.std.specs.Prelude.{◌≡◌};
-ghost use Rattle.camel_rows.specs.Decision.{event_basic, event_cause, event_data, event_dp, event_imsi, shown_data};
-ghost use Rattle.camel_rows.specs.Decision.{shown_of};
+ghost use Rattle.camel_rows.specs.Decision.{event_basic, event_cause, event_data, event_dp, event_imsi, shown_as};
+ghost use Rattle.camel_rows.specs.Decision.{shown_of, vt_event};
 
 use camel_criteria::{
     BUSY, BasicService, COLLECTED_INFO, Cause, NO_ANSWER, OEvent, ROUTE_SELECT_FAILURE,
@@ -107,20 +107,14 @@ impl<A> TdpEvent<A> {
     }
 }
 
-/// What an event shows to the criteria that it is tested against.
-pub(crate) enum Shown<'a> {
-    /// What an event shows to the criteria of the O-CSI.
-    O(OEvent<'a>),
-    /// What an event shows to the criteria of the VT-CSI.
-    T(TEvent),
-}
-
 impl<'a> TdpEvent<Address<'a>> {
-    /// What it shows to the criteria that it is tested against.
-    pub(crate) fn show(&self) -> Shown<'a>
-        ensures { shown_data result ≡ shown_of (event_data self.now) }
+    /// What it shows to the criteria of the O-CSI, if it is tested against these.
+    // Not an enum with what it shows to those of the VT-CSI: a processor would wait for fields of one kind that were
+    // written in the pieces of the other.
+    pub(crate) fn show_o(&self) -> Option<OEvent<'a>>
+        ensures { shown_as result (vt_event (event_data self.now)) ≡ shown_of (event_data self.now) }
     {
-        match *self {
+        match self {
             TdpEvent::CollectedInfo {
                 destination,
                 basic,
@@ -132,18 +126,25 @@ impl<'a> TdpEvent<Address<'a>> {
                 basic,
                 forwarded,
                 ..
-            } => Shown::O(OEvent {
-                destination,
-                basic,
-                forwarded,
+            } => Some(OEvent {
+                destination: *destination,
+                basic: *basic,
+                forwarded: *forwarded,
                 cause: self.cause(),
             }),
-            TdpEvent::TerminatingAttempt { basic, .. }
-            | TdpEvent::Busy { basic, .. }
-            | TdpEvent::NoAnswer { basic, .. } => Shown::T(TEvent {
-                basic,
-                cause: self.cause(),
-            }),
+            TdpEvent::TerminatingAttempt { .. }
+            | TdpEvent::Busy { .. }
+            | TdpEvent::NoAnswer { .. } => None,
+        }
+    }
+
+    /// What it shows to the criteria of the VT-CSI, if it is tested against these.
+    pub(crate) fn show_vt(&self) -> TEvent
+        ensures { result ≡ vt_event (event_data self.now) }
+    {
+        TEvent {
+            basic: self.basic(),
+            cause: self.cause(),
         }
     }
 }
