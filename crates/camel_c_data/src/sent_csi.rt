@@ -34,6 +34,8 @@ impl CamelSentCsi<'_> {
     ///
     /// Fails with `UnexpectedDataValue` (36) for more than 10 rows, then as the first row that fails to read, and then
     /// as [`Csi::of_received`].
+    // As a call of its own: put into its caller, the list would be moved in pieces.
+    #[inline(never)]
     #[tactic(auto, unfolding(crate::specs::Update::rows_in))]
     pub(crate) fn read_rows<K: CsiKind, const MOST: usize>(
         &self,
@@ -54,6 +56,8 @@ impl CamelSentCsi<'_> {
     ///
     /// Fails with `UnexpectedDataValue` (36) for more than 10 entries, then as the first entry that fails to read, then
     /// as [`CriteriaSet::new`], and with `OutOfMemory` (102) if memory is refused. Nothing was made then.
+    // As a call of its own: put into its caller, the list would be moved in pieces.
+    #[inline(never)]
     #[tactic(auto, unfolding(crate::specs::Update::entries_in))]
     pub(crate) fn read_criteria<E: SentEntry>(
         &self,
