@@ -5,8 +5,8 @@ from typing import NamedTuple
 
 HEAD = re.compile(r'( *)(?:pub(?:\([\w ]+\))? )?(?:(?:const|unsafe|extern "C") )*fn (\w+)')
 METHODS = re.compile(r"impl(?:<.*?>)? (\w+)(?!.* for )")
-# A comment, and advice to the tactics: neither changes what is stated.
-UNSTATED = re.compile(r"\s*(?://|--|#\[tactic\()")
+# A comment, and advice to the tactics and to the compiler: none changes what is stated.
+UNSTATED = re.compile(r"\s*(?://|--|#\[(?:tactic\(|inline))")
 IMPORT = re.compile(r"(?m)^ *(?:pub(?:\(crate\))? )?(?:unfoldable )?(?:ghost )?use (\w+(?:::|\.))"
                     r"(?:(\w+\.(?:specs|proofs)\.)\w+\.)?([^{;\n]*(?:\{[^}]*\})?);?$")
 
@@ -55,14 +55,14 @@ def imported(text):
 
 
 def stated(text):
-    """What the text of a file states: its words but for bodies, comments and advice to the tactics, paragraph by
-    paragraph, and what it imports."""
+    """What the text of a file states: its words but for bodies, comments and advice, paragraph by paragraph, and what
+    it imports."""
     paragraphs = re.split(r"\n\s*\n", IMPORT.sub("", without_bodies(text)))
     return {*imported(text)}, [words for words in map(" ".join, map(str.split, paragraphs)) if words]
 
 
 def without_bodies(text):
-    """A file but for bodies, comments and advice to the tactics."""
+    """A file but for bodies, comments and advice."""
     lines = text.split("\n")
     inside = {line for _, _, brace, last in bodies_in(lines) for line in range(brace + 1, last)}
     return "\n".join(line for at, line in enumerate(lines) if at not in inside and not UNSTATED.match(line))

@@ -5,12 +5,16 @@ import re
 from pathlib import Path
 
 from wrong_bodies.edit import edits_of
-from wrong_bodies.layout import stated
+from wrong_bodies.layout import stated, without_bodies
 
 DEFINITIONS = re.compile(r"\bRattle\.(\w+)\.specs\.")
-# A definition's name, an item that other crates see, and a word.
+# A definition's name; an item of a file, whether other crates see one, its name or that of its type, and one that they
+# do not see, perhaps the first of its block; and a word.
 DEFINED = re.compile(r"(?:abbrev|record|data) (?:pub )?([^\s:({]+)")
+ITEM = re.compile(r"(?m)^(?=(?:pub |#\[|impl|const|trait|fn))")
 PUBLIC = re.compile(r"(?m)^\s*pub (?!mod|use)\w")
+NAME = re.compile(r"(?:impl(?:<.*?>)? (?:.* for )?&?|(?:fn|struct|enum|trait|type|const|union) )(\w+)")
+OWN = re.compile(r"(?:(?:impl|trait)\b[^{]*\{ )?(?:#\[[^\]]*\] )*pub\(\w+\) ")
 WORD = re.compile(r"[^\s(){}\[\],.;:&|]+")
 MODULES = re.compile(r"(?:pub )?mod ")
 REASON = 100
@@ -33,19 +37,29 @@ def crates_in(text):
     return {crate for crate in DEFINITIONS.findall(text) if Path("crates", crate, "specs").is_dir()}
 
 
-def statements_of(crate, only_public=False):
-    """What the files of a crate state, or those that have a public item, and what they import."""
-    for file in sorted(Path("crates", crate).glob("src/**/*.rt")):
-        text = file.read_text()
-        if not only_public or PUBLIC.search(text):
-            imports, words = stated(text)
-            yield "\n".join([str(file), *sorted(imports), *words])
+def statements_of(crate):
+    """What each file of a crate states, and what it imports."""
+    for file in sources_of(crate):
+        imports, words = stated(file.read_text())
+        yield "\n".join([str(file), *sorted(imports), *words])
+
+
+def sources_of(crate):
+    return sorted(Path("crates", crate).glob("src/**/*.rt"))
+
+
+def items_of(crate):
+    """The names of the items in files that other crates see something of, each with what the item states to them."""
+    for text in (file.read_text() for file in sources_of(crate)):
+        for item in ITEM.split(without_bodies(text)) if PUBLIC.search(text) else ():
+            if name := NAME.search(item):
+                yield name[1], "\n".join(it for it in stated(item)[1] if not OWN.match(it))
 
 
 def statements_sum(crate):
     """A checksum of what a refusal rests on beside the edit: the contracts and signatures of the crate, its
-    definitions, and of the crates whose definitions these name those definitions that they, or a public item there,
-    rest on."""
+    definitions, and of the crates whose definitions these name those definitions that they rest on, or an item there
+    which the crate uses; and what these import of others."""
     own = list(statements_of(crate))
     definitions, left = {}, {crate, *crates_in("\n".join(own))}
     while left - definitions.keys():
@@ -53,14 +67,15 @@ def statements_sum(crate):
         definitions[name] = definitions_of(name)
         left |= crates_in("\n".join(definitions[name][1]))
     taken, rest = definitions.pop(crate)
-    below = {(name, it) for name, (said, _) in definitions.items() for it in said}
-    public = [text for name in sorted(definitions) for text in statements_of(name, only_public=True)]
-    reached = words_of(*own, *public, *taken)
-    while new := {(name, it) for name, it in below if not (names := {*DEFINED.findall(it)}) or names & reached}:
+    below = {(frozenset(DEFINED.findall(it)), f"{name} {it}", True)
+             for name in definitions for it in definitions[name][0]}
+    below |= {(frozenset({item}), it, False) for name in definitions for item, it in items_of(name)}
+    reached = words_of(*own, *taken, *(file.read_text() for file in sources_of(crate)))
+    while new := {it for it in below if not it[0] or it[0] & reached}:
         below -= new
-        taken |= {f"{name} {it}" for name, it in new}
-        reached |= words_of(*(it for _, it in new))
-    imports = rest.union(*(names for _, names in definitions.values()))
+        taken |= {it for _, it, is_definition in new if is_definition}
+        reached |= words_of(*(it for _, it, _ in new))
+    imports = {it for it in rest.union(*(names for _, names in definitions.values())) if not crates_in(it)}
     return sum_of(*own, *sorted(taken), *sorted(it for it in imports if words_of(it.rpartition(".")[2]) & reached))
 
 
