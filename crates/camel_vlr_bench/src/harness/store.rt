@@ -64,8 +64,10 @@ pub(super) fn publish<R: Wait>(
     store: &mut Vlr,
     batch: &mut VecDeque<Update>,
 ) -> Result<()> {
-    while let Some(update) = batch.pop_front() {
-        store.submit(update)?;
+    for _ in 0..batch.len() {
+        if let Some(update) = batch.pop_front() {
+            store.submit(update)?;
+        }
     }
     store.publish(rt)?;
     Ok(())
