@@ -198,7 +198,7 @@ trait ShownTo<E>: Copy {
     fn lend<'r>(entry: &'r E) -> Lent<'r>
         ensures { entry_data result ≡ entry_as entry.now };
 
-    /// The same, made of its parts: a copy would have each event written to memory (see [`Address::remake`]).
+    /// This one, made of its parts: a copy would have each event written to memory (see [`Address::remake`]).
     ///
     /// [`Address::remake`]: camel_tbcd::Address::remake
     fn remake(&self) -> Self
