@@ -131,7 +131,7 @@ impl<S: Seat> Session<S> {
     ///
     /// If it returns false, [`Session::look`] says why. A look that has begun before is left first. It takes no lock,
     /// does not wait, and takes no memory.
-    #[inline]
+    #[inline(always)]
     pub fn enter(&mut self) -> bool
         ensures looks { self.new.looks ≡ result }
         ensures yes { result ≡ true → Sees self.old self.new }
