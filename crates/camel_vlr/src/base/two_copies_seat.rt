@@ -40,6 +40,7 @@ impl Seat for TwoCopiesSeat {
 
     ghost copy_of = { copy_of };
 
+    #[inline(always)]
     fn enter(&mut self) -> bool {
         replace_with(self, (), TwoCopiesSeat::take_copy)
     }
@@ -55,6 +56,7 @@ impl Seat for TwoCopiesSeat {
         }
     }
 
+    #[inline(always)]
     fn leave(&mut self) {
         replace_with(self, (), TwoCopiesSeat::give_back);
     }
@@ -76,18 +78,30 @@ impl TwoCopiesSeat {
     fn give_back(self, _nothing: ()) -> (TwoCopiesSeat, ())
         ensures { (copy_of result.0 ≡ None) × (seen_at result.0 ≡ seen_at self) }
     {
-        (TwoCopiesSeat::Idle(self.into_reader()), ())
+        let reader = match self {
+            TwoCopiesSeat::Idle(reader) => reader,
+            TwoCopiesSeat::Looking(look) => look.leave(),
+        };
+        (TwoCopiesSeat::Idle(reader), ())
     }
 
-    /// Gives the copy back, if there is one.
+    /// Gives the copy back, if there is one, for a look that begins over another one, as few do.
     fn into_reader(self) -> Reader<PublishedCopy, FrontsGrow>
         ensures { seen_at (TwoCopiesSeat.Idle result) ≡ seen_at self }
     {
         match self {
             TwoCopiesSeat::Idle(reader) => reader,
-            TwoCopiesSeat::Looking(look) => look.leave(),
+            TwoCopiesSeat::Looking(look) => leave_first(look),
         }
     }
+}
+
+// In a call of its own, so that what all looks do is short enough to be in their callers.
+#[inline(never)]
+fn leave_first(look: Look<PublishedCopy, FrontsGrow>) -> Reader<PublishedCopy, FrontsGrow>
+    ensures { seen_at (TwoCopiesSeat.Idle result) ≡ seen_at (TwoCopiesSeat.Looking look) }
+{
+    look.leave()
 }
 
 impl Drop for TwoCopiesSeat {

@@ -101,12 +101,18 @@ pub(crate) fn leave<T: Drop, F: CopyRule<T>>(
     let None = emptied else { unreachable!() };
     let found = board.shared.fetch_sub::<Leave>(seat, WORD, LOOKING);
     if found >= CLOSED {
-        drop(board.shared.exchange(seat, slot, None));
+        drop_copy(board.shared.exchange(seat, slot, None));
         return;
     }
     if !is_newest(slot, found) {
         report(board, seat);
     }
+}
+
+// In a call of its own, since few looks end at a closed place, and all have their end in their callers.
+#[inline(never)]
+fn drop_copy<T: Drop>(copy: Slot<T>) {
+    drop(copy);
 }
 
 /// The reader says that it gave back a slot which is no longer the newest.
