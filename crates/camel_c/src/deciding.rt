@@ -30,13 +30,15 @@ pub extern "C" fn camel_decide(
         result session.old.value session.new.value }
     ensures unwritten { result ≢ 0 → answer.new ≡ answer.old }
 {
-    let Ok(asked) = event.lend() else {
+    let mut room = None;
+    event.lend(&mut room);
+    let Some(asked) = &room else {
         return Failure::Malformed.code();
     };
     let Some(own) = session.lend::<ThreadSession>() else {
         return Failure::WrongHandle.code();
     };
-    own.decide(&asked, answer)
+    own.decide(asked, answer)
 }
 
 impl ThreadSession {

@@ -39,7 +39,9 @@ pub extern "C" fn camel_decide_kept(
     ensures session { HoldsAnySession session.old.value ⊎ (IsErr (event_in event.now) ⊎ (result ≡ 503)) }
     ensures wrong { HoldsKept subscriber.old.value ⊎ (IsErr (event_in event.now) ⊎ (result ≡ 503)) }
 {
-    let Ok(asked) = event.lend() else {
+    let mut room = None;
+    event.lend(&mut room);
+    let Some(asked) = &room else {
         return Failure::Malformed.code();
     };
     let Some(own) = session.lend::<ThreadSession>() else {
@@ -48,8 +50,8 @@ pub extern "C" fn camel_decide_kept(
     let Some(kept) = subscriber.lend::<KeptSubscriber>() else {
         return Failure::WrongHandle.code();
     };
-    kept.decide(&asked, answer);
-    own.decisions.count(&asked, answer.reason);
+    kept.decide(asked, answer);
+    own.decisions.count(asked, answer.reason);
     0
 }
 

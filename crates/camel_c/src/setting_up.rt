@@ -37,7 +37,9 @@ pub extern "C" fn camel_set_up(
     ensures unwritten { result ≢ 0 → (answer.new ≡ answer.old)
         × (subscriber.new.value ≡ subscriber.old.value) × (is_there.new ≡ is_there.old) }
 {
-    let Ok(asked) = event.lend() else {
+    let mut room = None;
+    event.lend(&mut room);
+    let Some(asked) = &room else {
         return Failure::Malformed.code();
     };
     let Some(own) = session.lend::<ThreadSession>() else {
@@ -46,7 +48,7 @@ pub extern "C" fn camel_set_up(
     if subscriber.is_full() {
         return Failure::FullHandle.code();
     }
-    own.set_up(alloc, &asked, answer, subscriber, is_there)
+    own.set_up(alloc, asked, answer, subscriber, is_there)
 }
 
 impl ThreadSession {

@@ -20,7 +20,7 @@ pub struct ThreadSession {
 impl ThreadSession {
     /// Begins a look, unless one has begun. Returns whether one had begun; None if the store has ended, and then
     /// nothing is changed.
-    #[inline]
+    #[inline(always)]
     pub(crate) fn begin(&mut self) -> Option<bool>
         ensures same { self.new ≡ with_session self.old self.new.session }
         ensures looks { IfSome result

@@ -1,4 +1,5 @@
-ghost use Rattle.std.specs.Prelude.{◌≡◌, Ok, Err, IfErr, IfOk};
+ghost use Rattle.std.specs.Prelude.{◌≡◌, Ok, Err, None, IfSome};
+ghost use Rattle.camel_c_data.specs.declared.data_fault.DataFault.TheVariants.{Malformed};
 ghost use Rattle.camel_rows.specs.Decision.{event_data};
 ghost use Rattle.camel_c_data.specs.Event.{busy_in, cause_in, collected_info_in, event_in, no_answer_in};
 ghost use Rattle.camel_c_data.specs.Event.{route_select_failure_in, terminating_attempt_in};
@@ -34,88 +35,116 @@ pub struct CamelEvent {
 const _: () = prove!(size_of::<CamelEvent>() == 40);
 
 impl CamelEvent {
-    /// The event that the fields are, with its destination borrowed where it lies.
+    /// Makes the event that the fields are in a room of the caller's, with its destination borrowed where it lies: as a
+    /// value that is returned, it would be moved.
     ///
-    /// Fails with `Malformed` (502) if the detection point is none of these, and if a field that is read is no IMSI, no
-    /// address or no cause.
+    /// The room is `None` if the event is malformed (502): if the detection point is none of these, or if a field that is
+    /// read is no IMSI, no address or no cause.
     #[inline]
     #[tactic(auto, unfolding(crate::specs::Event::event_in))]
-    pub fn lend(&self) -> Result<Event<'_>, DataFault>
-        ensures lent { IfOk result (λ event. event_in self.now ≡ Ok (event_data event)) }
-        ensures malformed { IfErr result (λ fault. event_in self.now ≡ Err fault) }
+    pub fn lend<'a>(&'a self, room: &mut Option<Event<'a>>)
+        ensures lent { IfSome room.new (λ event. event_in self.now ≡ Ok (event_data event)) }
+        ensures malformed { room.new ≡ None → event_in self.now ≡ Err Malformed }
     {
+        *room = None;
         match self.dp {
-            COLLECTED_INFO => self.collected_info(),
-            ROUTE_SELECT_FAILURE => self.route_select_failure(),
-            TERMINATING_ATTEMPT => self.terminating_attempt(),
-            BUSY => self.busy(),
-            NO_ANSWER => self.no_answer(),
-            _ => Err(DataFault::Malformed),
+            COLLECTED_INFO => self.collected_info(room),
+            ROUTE_SELECT_FAILURE => self.route_select_failure(room),
+            TERMINATING_ATTEMPT => self.terminating_attempt(room),
+            BUSY => self.busy(room),
+            NO_ANSWER => self.no_answer(room),
+            _ => {}
         }
     }
 
     // Each kind of event is made by a call of its own. Put into one function, the fields of all kinds would be written
     // in the pieces of each other, and a processor waits when it reads a field that was written in pieces.
     #[inline(never)]
-    fn collected_info(&self) -> Result<Event<'_>, DataFault>
-        ensures lent { IfOk result (λ event. collected_info_in self.now ≡ Ok (event_data event)) }
-        ensures malformed { IfErr result (λ fault. collected_info_in self.now ≡ Err fault) }
+    #[tactic(auto, unfolding(crate::specs::Fields::call_address_in))]
+    fn collected_info<'a>(&'a self, room: &mut Option<Event<'a>>)
+        requires { room.old ≡ None }
+        ensures lent { IfSome room.new (λ event. collected_info_in self.now ≡ Ok (event_data event)) }
+        ensures malformed { room.new ≡ None → collected_info_in self.now ≡ Err Malformed }
     {
-        Ok(TdpEvent::CollectedInfo {
-            imsi: self.imsi.read()?,
-            destination: self.destination.lend()?,
+        let (Ok(imsi), Ok(destination)) = (self.imsi.read(), self.destination.lend()) else {
+            return;
+        };
+        *room = Some(TdpEvent::CollectedInfo {
+            imsi,
+            destination,
             basic: self.basic.read(),
             forwarded: self.is_forwarded != 0,
-        })
+        });
     }
 
     #[inline(never)]
-    fn route_select_failure(&self) -> Result<Event<'_>, DataFault>
-        ensures lent { IfOk result (λ event. route_select_failure_in self.now ≡ Ok (event_data event)) }
-        ensures malformed { IfErr result (λ fault. route_select_failure_in self.now ≡ Err fault) }
+    #[tactic(auto, unfolding(crate::specs::Fields::call_address_in))]
+    fn route_select_failure<'a>(&'a self, room: &mut Option<Event<'a>>)
+        requires { room.old ≡ None }
+        ensures lent { IfSome room.new (λ event. route_select_failure_in self.now ≡ Ok (event_data event)) }
+        ensures malformed { room.new ≡ None → route_select_failure_in self.now ≡ Err Malformed }
     {
-        Ok(TdpEvent::RouteSelectFailure {
-            imsi: self.imsi.read()?,
-            destination: self.destination.lend()?,
+        let (Ok(imsi), Ok(destination), Ok(cause)) = (
+            self.imsi.read(),
+            self.destination.lend(),
+            read_cause(self.cause),
+        ) else {
+            return;
+        };
+        *room = Some(TdpEvent::RouteSelectFailure {
+            imsi,
+            destination,
             basic: self.basic.read(),
             forwarded: self.is_forwarded != 0,
-            cause: read_cause(self.cause)?,
-        })
+            cause,
+        });
     }
 
     #[inline(never)]
-    fn terminating_attempt(&self) -> Result<Event<'_>, DataFault>
-        ensures lent { IfOk result (λ event. terminating_attempt_in self.now ≡ Ok (event_data event)) }
-        ensures malformed { IfErr result (λ fault. terminating_attempt_in self.now ≡ Err fault) }
+    fn terminating_attempt<'a>(&'a self, room: &mut Option<Event<'a>>)
+        requires { room.old ≡ None }
+        ensures lent { IfSome room.new (λ event. terminating_attempt_in self.now ≡ Ok (event_data event)) }
+        ensures malformed { room.new ≡ None → terminating_attempt_in self.now ≡ Err Malformed }
     {
-        Ok(TdpEvent::TerminatingAttempt {
-            imsi: self.imsi.read()?,
+        let Ok(imsi) = self.imsi.read() else {
+            return;
+        };
+        *room = Some(TdpEvent::TerminatingAttempt {
+            imsi,
             basic: self.basic.read(),
-        })
+        });
     }
 
     #[inline(never)]
-    fn busy(&self) -> Result<Event<'_>, DataFault>
-        ensures lent { IfOk result (λ event. busy_in self.now ≡ Ok (event_data event)) }
-        ensures malformed { IfErr result (λ fault. busy_in self.now ≡ Err fault) }
+    fn busy<'a>(&'a self, room: &mut Option<Event<'a>>)
+        requires { room.old ≡ None }
+        ensures lent { IfSome room.new (λ event. busy_in self.now ≡ Ok (event_data event)) }
+        ensures malformed { room.new ≡ None → busy_in self.now ≡ Err Malformed }
     {
-        Ok(TdpEvent::Busy {
-            imsi: self.imsi.read()?,
+        let (Ok(imsi), Ok(cause)) = (self.imsi.read(), read_cause(self.cause)) else {
+            return;
+        };
+        *room = Some(TdpEvent::Busy {
+            imsi,
             basic: self.basic.read(),
-            cause: read_cause(self.cause)?,
-        })
+            cause,
+        });
     }
 
     #[inline(never)]
-    fn no_answer(&self) -> Result<Event<'_>, DataFault>
-        ensures lent { IfOk result (λ event. no_answer_in self.now ≡ Ok (event_data event)) }
-        ensures malformed { IfErr result (λ fault. no_answer_in self.now ≡ Err fault) }
+    fn no_answer<'a>(&'a self, room: &mut Option<Event<'a>>)
+        requires { room.old ≡ None }
+        ensures lent { IfSome room.new (λ event. no_answer_in self.now ≡ Ok (event_data event)) }
+        ensures malformed { room.new ≡ None → no_answer_in self.now ≡ Err Malformed }
     {
-        Ok(TdpEvent::NoAnswer {
-            imsi: self.imsi.read()?,
+        let (Ok(imsi), Ok(cause)) = (self.imsi.read(), read_cause(self.cause)) else {
+            return;
+        };
+        *room = Some(TdpEvent::NoAnswer {
+            imsi,
             basic: self.basic.read(),
-            cause: read_cause(self.cause)?,
-        })
+            cause,
+        });
     }
 }
 
