@@ -63,6 +63,7 @@ class Trial:
 
     def fill_room(self):
         """Copies the crates below, as they are built, and what was kept of the crate."""
+        self.room.mkdir(parents=True)
         for name in self.below:
             for part in PARTS:
                 copy_tree(Path("crates", name, part), self.room / "crates" / name / part)
