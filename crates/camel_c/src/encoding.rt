@@ -1,18 +1,20 @@
 //! Encoding the record of a subscriber.
 
-ghost use Rattle.std.specs.Prelude.{◌≡◌, ◌≢◌, ◌⊎◌, Ok, IsErr, List, ℕ, true};
+ghost use Rattle.std.specs.Prelude.{◌≡◌, ◌≢◌, ◌⊎◌, Ok, IfOk, IsErr, List, ℕ, true};
+ghost use Rattle.camel_map.specs.Encoding.{insert_of_record, octets_of_update};
 ghost use Rattle.camel_vlr.specs.Store.{SessionData};
 ghost use Rattle.camel_c_data.specs.Fields.{imsi_in};
-ghost use Rattle.camel_c.specs.Object.{MakesRecord};
-ghost use Rattle.camel_c.specs.Session.{Fetches, record_shown, Shows, ShowsWritten};
+ghost use Rattle.camel_c.specs.Object.{HasOctets, MakesRecord};
+ghost use Rattle.camel_c.specs.Session.{Fetches, Finds, record_shown, Shows, ShowsWritten};
 
-use crate::showing::write;
 use crate::thread_session::ThreadSession;
 use crate::{CamelArgument, CamelHandle, Failure};
 use camel_c_data::CamelImsi;
 use camel_criteria::Refusal;
+use camel_map::encode_record;
 use camel_tbcd::Imsi;
-use std::alloc::Global;
+use camel_vlr::WaitFreeSession;
+use std::alloc::{AllocError, Global};
 
 /// Tells whether a subscriber has a record, over the look that has begun, or else by a look of its own, and writes the
 /// argument of the InsertSubscriberData that makes it where the subscriber has just registered (TS 29.002): the
@@ -63,14 +65,52 @@ impl ThreadSession {
         let Some(had_begun) = self.begin() else {
             return Failure::Refused(Refusal::NoGuard).code();
         };
-        let found = CamelArgument::shown_by(&self.session, alloc, imsi);
+        let found = octets_shown(&self.session, alloc, imsi);
         self.end(had_begun);
         match found {
-            Ok(found) => {
-                write(found, argument, is_there);
-                0
-            }
+            Ok(found) => write_octets(found, argument, is_there),
             Err(_) => Failure::Refused(Refusal::OutOfMemory).code(),
         }
+    }
+}
+
+/// The octets of the Insert that makes the record which the look of a session shows, if there is one.
+///
+/// Fails if memory is refused.
+fn octets_shown(
+    session: &WaitFreeSession,
+    alloc: Global,
+    imsi: &Imsi,
+) -> Result<Option<Vec<u8>>, AllocError>
+    requires { session.now.looks ≡ true }
+    ensures { IfOk result (Finds (λ stored octets. octets.items ≡ octets_of_update (insert_of_record imsi.now stored))
+        (record_shown session.now imsi.now)) }
+{
+    let Some(stored) = session.records().get(imsi) else {
+        return Ok(None);
+    };
+    let mut octets = Vec::new(alloc);
+    encode_record(imsi, stored, &mut octets)?;
+    Ok(Some(octets))
+}
+
+/// Writes the octets that are found, in the place of an argument, and tells whether there are any. It fails with 102 if
+/// there is no room for them, which no record meets: then nothing is written.
+fn write_octets(found: Option<Vec<u8>>, argument: &mut CamelArgument, is_there: &mut u8) -> u32
+    ensures written { result ≡ 0
+        → ShowsWritten (λ octets. HasOctets octets.items) found argument.old argument.new is_there.new }
+    ensures unwritten { result ≢ 0 → (argument.new ≡ argument.old) × (is_there.new ≡ is_there.old) }
+    ensures only { (result ≡ 0) ⊎ (result ≡ 102) }
+{
+    let Some(octets) = found else {
+        *is_there = 0;
+        return 0;
+    };
+    match argument.set(&octets) {
+        Ok(()) => {
+            *is_there = 1;
+            0
+        }
+        Err(_) => Failure::Refused(Refusal::OutOfMemory).code(),
     }
 }

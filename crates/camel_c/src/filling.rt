@@ -51,6 +51,7 @@ pub(crate) fn put(alloc: Global, handle: &mut CamelHandle, object: Object) -> u3
 ///
 /// A store that was not closed ends too: each look that is held goes on until it is left, and no session begins
 /// another. Its data are freed when the last of them is left.
+#[inline(never)]
 #[unsafe(no_mangle)]
 pub extern "C" fn camel_empty(alloc: Global, handle: &mut CamelHandle)
     ensures { handle.new.value ≡ None }

@@ -1,6 +1,6 @@
 //! Opening a store with its sessions.
 
-ghost use Rattle.std.specs.Prelude.{◌≡◌, ◌≢◌, ◌≤◌, ◌⊎◌, Some, None, All, IfErr, OnErr, OnOk, length, true, vec_len};
+ghost use Rattle.std.specs.Prelude.{◌≡◌, ◌≢◌, ◌≤◌, ◌⊎◌, Some, None, All, IfErr, OnErr, OnOk, length, suc, true, vec_len};
 ghost use Rattle.camel_vlr.specs.Store.{SessionData};
 ghost use Rattle.camel_c_data.specs.Event.{no_decisions};
 ghost use Rattle.camel_c.specs.Object.{live_store, AllEmpty, AllHold, CanOpen, HoldAsBefore, IsNew, Opens, new_session};
@@ -151,22 +151,46 @@ fn fill_all(
     let Some((last, others)) = handles.split_last_mut() else {
         return Ok(());
     };
+    fill_last(alloc, number, sessions, last)?;
+    match fill_all(alloc, number, others, sessions) {
+        Ok(()) => Ok(()),
+        Err(why) => {
+            camel_empty(alloc, last);
+            Err(why)
+        }
+    }
+}
+
+/// Puts the last session into a handle.
+// The object is in the frame of this call and of no other, so that a small stack has room for the calls for 64 handles.
+#[inline(never)]
+fn fill_last(
+    alloc: Global,
+    number: u64,
+    sessions: &mut Vec<WaitFreeSession>,
+    handle: &mut CamelHandle,
+) -> Result<(), Refusal>
+    requires one { 1 ≤ vec_len sessions.old }
+    ensures filled { (fresh : SessionData) → All (λ session. session ≡ fresh) sessions.old.items
+        → OnOk result (handle.new.value
+        ≡ Some (object.Session (record { session = fresh; store = number; decisions = no_decisions }))) }
+    ensures others { (fresh : SessionData) → All (λ session. session ≡ fresh) sessions.old.items
+        → All (λ session. session ≡ fresh) sessions.new.items }
+    ensures count { vec_len sessions.old ≡ suc (vec_len sessions.new) }
+    ensures empty { OnOk result (handle.old.value ≡ None) }
+    ensures unchanged { OnErr result (handle.new.value ≡ handle.old.value) }
+    ensures only { IfErr result (λ why. why ≡ Refusal.OutOfMemory) }
+{
     let Some(session) = sessions.pop() else {
-        return Ok(());
+        return Err(Refusal::OutOfMemory);
     };
     let made = Object::Session(ThreadSession {
         session,
         store: number,
         decisions: CamelDecisions::none(),
     });
-    match replace_with(last, (alloc, made), fill) {
-        Ok(()) => match fill_all(alloc, number, others, sessions) {
-            Ok(()) => Ok(()),
-            Err(why) => {
-                camel_empty(alloc, last);
-                Err(why)
-            }
-        },
+    match replace_with(handle, (alloc, made), fill) {
+        Ok(()) => Ok(()),
         Err(_) => Err(Refusal::OutOfMemory),
     }
 }

@@ -34,6 +34,8 @@ pub extern "C" fn camel_submit_map_nonnull(
     submit_read(store, read, place)
 }
 
+// A call of its own, so that the stack of the reading is given back before.
+#[inline(never)]
 fn submit_read(store: &mut CamelHandle, read: Result<Arrival, OctetsFault>, place: &mut u64) -> u32
     ensures { SubmitsOctets (update_read read) result place.new store.old.value store.new.value }
 {

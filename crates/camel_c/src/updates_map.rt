@@ -37,6 +37,8 @@ pub extern "C" fn camel_update_of_map_nonnull(
     keep_read(alloc, update, read, place)
 }
 
+// A call of its own, so that the stack of the reading is given back before.
+#[inline(never)]
 fn keep_read(
     alloc: Global,
     handle: &mut CamelHandle,

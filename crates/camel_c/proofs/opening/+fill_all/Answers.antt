@@ -1,20 +1,14 @@
-use Rattle.std.proofs.Common.{◌≡◌, ◌∙◌, ap, subst}
-use Rattle.std.proofs.lemmas.List.Elements.{All-pop, All-push}
-use Rattle.std.specs.Prelude.{Option, Some, IfSome}
-use Rattle.camel_vlr.specs.Store.{SessionData}
+use Rattle.std.proofs.Common.{◌≡◌}
+use Rattle.std.proofs.lemmas.List.Elements.{All-push}
+use Rattle.std.specs.Prelude.{Some}
 use Rattle.camel_c_data.specs.Event.{no_decisions}
 use Rattle.camel_c.specs.declared.handle.CamelHandle.{CamelHandle}
 use Rattle.camel_c.specs.declared.object.Object.TheVariants as object
 use Rattle.camel_c.proofs.opening.+fill_all.Goals as goal
 
-pub returns-in-Ok-fill_all-clause-filled : goal.returns-in-Ok-fill_all-clause-filled
-returns-in-Ok-fill_all-clause-filled t c = λ fresh all.
-    let parts = All-pop (λ (s : SessionData). s ≡ fresh) c.args.sessions.now.items c.pop.new.self.items c.pop.result c.pop.ensures.items all in
-    let last : c.in-Some-pop.session ≡ fresh =
-    subst (λ (r : Option SessionData). IfSome r (λ s. s ≡ fresh)) c.in-Some-pop.is parts.1 in
+pub returns-in-Ok-clause-filled : goal.returns-in-Ok-clause-filled
+returns-in-Ok-clause-filled t c = λ fresh all.
     let holds = λ (h : CamelHandle). h.value
     ≡ Some (object.Session (record { session = fresh; store = c.args.number; decisions = no_decisions })) in
-    let filled = c.in-Ok.ensures.0.1
-    ∙ ap (λ (s : SessionData). Some (object.Session (record { session = s; store = c.args.number; decisions = c.none.result }))) last
-    ∙ ap (λ d. Some (object.Session (record { session = fresh; store = c.args.number; decisions = d }))) c.none.ensures in
-    All-push holds c.fill_all.new.handles c.replace_with.new.dest (c.in-Ok-fill_all.ensures.filled fresh parts.0) filled
+    All-push holds c.fill_all.new.handles c.fill_last.new.handle (c.in-Ok.ensures.filled fresh (c.fill_last.ensures.others fresh all))
+    (c.in_ok-fill_last.ensures.filled fresh all)
