@@ -3,7 +3,12 @@ use camel_criteria::Refusal;
 use camel_rows::CallEvent;
 use camel_vlr::{Of, Receipt, Session, StoreName};
 use crossbeam_channel::{Receiver, Sender};
-use std::sync::Wait;
+use std::alloc::Global;
+use std::sync::{Arc, Mutex, Wait};
+
+/// The latest receipt on its way to a caller: the writer puts it there, and the caller takes it. It says all that the
+/// earlier ones say.
+pub(crate) type Latest<S> = Arc<Mutex<Option<Of<S, Receipt>>>, Global>;
 
 /// A call that is set up.
 #[derive(Drop)]
@@ -18,31 +23,29 @@ pub struct Call {
 #[derive(Drop)]
 pub(crate) struct Caller<S: StoreName> {
     pub(crate) session: Of<S, Session>,
-    pub(crate) receipts: Receiver<Of<S, Receipt>>,
+    pub(crate) receipt: Latest<S>,
     /// Callers share it.
     pub(crate) calls: Receiver<Call>,
 }
 
 impl<S: StoreName> Caller<S> {
-    /// Decides calls until nobody can send one any more. It takes no lock of the store, and does not wait for the
-    /// writer.
+    /// Decides calls until nobody can send one any more. It takes no lock of the store, and waits for the writer only
+    /// while that puts a receipt there.
     pub(crate) fn run<R: Wait>(&mut self, rt: &R) {
         for _ in rt.forever() {
             let Ok(Call { event, reply }) = self.calls.recv(rt) else {
                 return;
             };
-            self.learn_receipts(rt);
+            self.learn_receipt(rt);
             // Nobody waits for the call if its receiver is gone.
             let _ = reply.send(rt, SetUp::of(&mut self.session.value, &event));
         }
     }
 
-    /// Learns the receipts that have come. From here on each look extends their fronts.
-    fn learn_receipts<R: Wait>(&mut self, rt: &R) {
-        for _ in 0..self.receipts.len() {
-            let Ok(receipt) = self.receipts.try_recv(rt) else {
-                return;
-            };
+    /// Learns the receipt that has come, if there is one. From here on each look extends its front.
+    fn learn_receipt<R: Wait>(&mut self, rt: &R) {
+        let latest = self.receipt.lock(rt).take();
+        if let Some(receipt) = latest {
             self.session.value.learn(receipt.value);
         }
     }

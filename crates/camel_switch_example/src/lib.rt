@@ -5,10 +5,10 @@
 //! - `mapping.rt` makes an `Update` of a decoded InsertSubscriberData ([`update_of`]), and in a location update several
 //!   ([`location_update_of`]).
 //! - `writer.rt` takes the HLR's operations, publishes, hands receipts to the callers, and answers the HLR.
-//! - `caller.rt` learns receipts, and decides calls at their set-up. [`SetUp`] keeps what a later detection point
-//!   needs.
+//! - `caller.rt` learns the latest receipt, and decides calls at their set-up. [`SetUp`] keeps what a later detection
+//!   point needs.
 //!
-//! A receipt crosses its channel as an `Of<S, Receipt>`. So the condition of `learn`, that the receipt is of the
+//! A receipt crosses to its caller as an `Of<S, Receipt>`. So the condition of `learn`, that the receipt is of the
 //! session's store, is proved from the types, however many stores the program has.
 #![tactic(auto)]
 

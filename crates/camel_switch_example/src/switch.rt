@@ -6,11 +6,11 @@ use crate::switch_fault::SwitchFault;
 use crate::writer::{Operation, Writer};
 use camel_tbcd::Profile;
 use camel_vlr::{MAX_PLACES, MAX_UPDATES, Of, Session, StoreName, Vlr};
-use crossbeam_channel::{Receiver, unbounded};
+use crossbeam_channel::Receiver;
 use std::alloc::Global;
 use std::marker::Brand;
 use std::random::RandomSource;
-use std::sync::Wait;
+use std::sync::{Arc, Mutex, Wait};
 use std::thread;
 use std::thread::Threads;
 
@@ -65,11 +65,11 @@ fn run_sessions<S: StoreName, R: Threads + Wait + Sync>(
     let mut callers = Vec::new(alloc);
     let mut receipts = Vec::new(alloc);
     for session in sessions {
-        let (sender, receiver) = unbounded(alloc)?;
-        receipts.push(sender)?;
+        let receipt = Arc::new(alloc, Mutex::new(None))?;
+        receipts.push(Arc::try_clone(&receipt)?)?;
         callers.push(Caller {
             session,
-            receipts: receiver,
+            receipt,
             calls: calls.clone()?,
         })?;
     }

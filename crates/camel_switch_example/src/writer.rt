@@ -1,6 +1,7 @@
+use crate::caller::Latest;
 use crate::map_fault::MapFault;
 use camel_rows::Update;
-use camel_vlr::{Of, Receipt, StoreName, Vlr};
+use camel_vlr::{Of, StoreName, Vlr};
 use crossbeam_channel::{Receiver, Sender};
 use std::sync::Wait;
 
@@ -26,7 +27,7 @@ pub struct Operation {
 pub(crate) struct Writer<S: StoreName> {
     pub(crate) operations: Receiver<Operation>,
     /// One for each caller.
-    pub(crate) receipts: Vec<Sender<Of<S, Receipt>>>,
+    pub(crate) receipts: Vec<Latest<S>>,
 }
 
 impl<S: StoreName> Writer<S> {
@@ -43,8 +44,8 @@ impl<S: StoreName> Writer<S> {
         }
     }
 
-    /// Submits the change, publishes it, and hands the receipt to each caller. So a call that is set up after the HLR
-    /// was answered finds a caller who has learnt of the change, unless memory was refused for its receipt.
+    /// Submits the change, publishes it, and hands the receipt to each caller, which takes no memory. So a call that is
+    /// set up after the HLR was answered finds a caller who learns of the change before it decides.
     ///
     /// If memory is refused for the publication, the HLR is answered with a reject, and what is pending is dropped, so
     /// that no later publication shows it. Dropping fails if the store's base, `left_right`, was handed what is
@@ -65,9 +66,8 @@ impl<S: StoreName> Writer<S> {
             let _ = store.value.drop_pending();
             return Err(why.into());
         }
-        for caller in &self.receipts {
-            // A caller whose thread is gone learns nothing. One for whom there is no memory learns the next receipt.
-            let _ = caller.send(rt, Of::new(store.value.receipt()));
+        for latest in &self.receipts {
+            *latest.lock(rt) = Some(Of::new(store.value.receipt()));
         }
         Ok(())
     }
