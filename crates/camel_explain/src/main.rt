@@ -24,6 +24,7 @@ mod stored;
 
 use crate::options::{Options, command, options_of};
 use crate::session::explain;
+use crate::shown::Shown;
 use crate::stop::Stop;
 use clap::Error;
 use std::fs::File;
@@ -47,7 +48,8 @@ fn main(rt: HostRuntime) -> ExitCode {
     match run(&rt, &words) {
         Ok(status) => ExitCode::from(status),
         Err(error) => {
-            let _ = error.print(&rt);
+            // There is nowhere else to say it.
+            let _ = print_text(&rt, &error);
             ExitCode::from(error.exit_code() as u8)
         }
     }
@@ -56,6 +58,22 @@ fn main(rt: HostRuntime) -> ExitCode {
 // The words with which the program was started, its name first.
 fn words(rt: &HostRuntime) -> io::Result<Vec<String>> {
     Ok(std::env::args(rt)?.collect(rt.alloc())?)
+}
+
+// Prints the text of `clap`, which has words of the command line, to where it says.
+fn print_text(rt: &HostRuntime, error: &Error) -> io::Result<()> {
+    let Ok(text) = format!(in rt.alloc(); "{error}") else {
+        return error.print(rt);
+    };
+    for line in text.lines() {
+        let line = Shown(line.as_bytes());
+        if error.use_stderr() {
+            eprintln!(rt; "{line}")?;
+        } else {
+            println!(rt; "{line}")?;
+        }
+    }
+    Ok(())
 }
 
 // Explains what the command line names, and gives the status.
@@ -69,6 +87,7 @@ fn run(rt: &HostRuntime, words: &[String]) -> Result<u8, Error> {
         Some(path) => match File::open(rt, path) {
             Ok(file) => explain(rt, &options, file),
             Err(error) => {
+                let path = Shown(path.as_bytes());
                 let _ = eprintln!(rt; "camel_explain: {path} can't be opened: {error}");
                 return Ok(REJECTED_STATUS);
             }

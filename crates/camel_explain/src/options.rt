@@ -6,6 +6,9 @@ use clap::builder::ValueParser;
 use clap::{Arg, ArgAction, ArgMatches, Command, Error};
 use std::alloc::Global;
 
+/// The newest version of CHANGELOG.md, which `--version` prints.
+const VERSION: &str = "0.7.0";
+
 /// What the command line asks for.
 #[derive(Clone, Copy)]
 pub(crate) struct Options<'m> {
@@ -31,6 +34,7 @@ pub(crate) fn command<'a>(alloc: Global) -> Result<Command<'a>, Error> {
         Command::new(alloc, "camel_explain")
             .about(ABOUT)
             .after_help(AFTER_HELP)
+            .version(VERSION)
             .arg(
                 Arg::new(alloc, "FILE")
                     .value_name("FILE")

@@ -2,9 +2,10 @@
 
 use camel_tbcd::{Address, Imsi};
 use std::{fmt, str};
+use ucd_props::is_bidi_control;
 
-/// A text of the script. Control characters are printed as escapes, so that a terminal doesn't obey them, and so are
-/// octets if the text is no UTF-8.
+/// A text that somebody else wrote. Control characters, and those that put a text into another order, are printed as
+/// escapes, so that a terminal doesn't obey them. So are octets if the text is no UTF-8.
 #[derive(Clone, Copy)]
 pub(crate) struct Shown<'a>(pub(crate) &'a [u8]);
 
@@ -23,7 +24,9 @@ fn show_text<W: fmt::Write>(f: &mut fmt::Formatter<W>, text: &str) -> fmt::Resul
             '\n' => f.write_str("\\n")?,
             '\r' => f.write_str("\\r")?,
             '\t' => f.write_str("\\t")?,
-            control if control.is_control() => write!(f, "\\u{{{:x}}}", u32::from(control))?,
+            control if control.is_control() || is_bidi_control(control) => {
+                write!(f, "\\u{{{:x}}}", u32::from(control))?
+            }
             other => f.write_char(other)?,
         }
     }

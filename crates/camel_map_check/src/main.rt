@@ -1,6 +1,7 @@
 //! Prints the update that each MAP argument of standard input is, as a record of a script (docs/SCRIPT.md), with
 //! `--encode` the argument that the encoder makes of that update, or with `--lists` what came beside it. With
-//! `--restore` the input is the dump of a store, of which it prints a script that makes the same records.
+//! `--restore` the input is the dump of a store, of which it prints a script that makes the same records. With
+//! `--version` it prints its version, and reads nothing.
 //!
 //! An input line is `OPERATION,IMSI,HEX`: the operation by its name in TS 29.002, the IMSI of the dialogue or nothing,
 //! and the octets of the argument in hexadecimal. Behind them the arguments of further operations of the dialogue may
@@ -47,6 +48,9 @@ enum Stop {
     Write,
 }
 
+/// The newest version of CHANGELOG.md, which `--version` prints.
+const VERSION: &str = "0.7.0";
+
 /// The status if a line is no `OPERATION,IMSI,HEX`, or if one of a dump gives no Insert.
 const LINE_STATUS: u8 = 2;
 
@@ -77,16 +81,17 @@ enum Answer {
 }
 
 fn main(rt: HostRuntime) -> ExitCode {
-    let Ok(mode) = asked(&rt) else {
-        return report(&rt, Stop::Memory);
+    let answered = match asked(&rt) {
+        Ok(Some(mode)) => answer_all(
+            rt.alloc(),
+            mode,
+            rt.stdin(),
+            &mut rt.stdout(),
+            &mut rt.stderr(),
+        ),
+        Ok(None) => print_version(&rt),
+        Err(_) => Err(Stop::Memory),
     };
-    let answered = answer_all(
-        rt.alloc(),
-        mode,
-        rt.stdin(),
-        &mut rt.stdout(),
-        &mut rt.stderr(),
-    );
     match answered {
         Ok(true) => ExitCode::SUCCESS,
         Ok(false) => ExitCode::from(LINE_STATUS),
@@ -94,15 +99,24 @@ fn main(rt: HostRuntime) -> ExitCode {
     }
 }
 
-/// What the words of the command line ask for.
-fn asked(rt: &HostRuntime) -> io::Result<Mode> {
+/// What the words of the command line ask to print of the input; None if they ask for the version.
+fn asked(rt: &HostRuntime) -> io::Result<Option<Mode>> {
     let words = env::args(rt)?.collect::<Vec<String>>(rt.alloc())?;
     Ok(match words.get(1) {
-        Some(word) if word.as_str() == "--encode" => Mode::Answers(Answer::Argument),
-        Some(word) if word.as_str() == "--lists" => Mode::Answers(Answer::Lists),
-        Some(word) if word.as_str() == "--restore" => Mode::Script,
-        _ => Mode::Answers(Answer::Record),
+        Some(word) if word.as_str() == "--version" => None,
+        Some(word) if word.as_str() == "--encode" => Some(Mode::Answers(Answer::Argument)),
+        Some(word) if word.as_str() == "--lists" => Some(Mode::Answers(Answer::Lists)),
+        Some(word) if word.as_str() == "--restore" => Some(Mode::Script),
+        _ => Some(Mode::Answers(Answer::Record)),
     })
+}
+
+/// Prints the name of the program and its version.
+fn print_version(rt: &HostRuntime) -> Result<bool, Stop> {
+    match println!(rt; "camel_map_check {VERSION}") {
+        Ok(()) => Ok(true),
+        Err(_) => Err(Stop::Write),
+    }
 }
 
 /// Says on standard error why the program stops, and gives its status.

@@ -1,15 +1,15 @@
 -- What the matches of the command line hold is what its words say.
-use Rattle.std.proofs.Common.{◌≡◌, ◌≤◌, ◌∙◌, ◌⊎◌, ℕ, List, true, Option, Some, None, IfSome, refl, ap, subst, inl, inr, codes}
+use Rattle.std.proofs.Common.{◌≡◌, ◌≢◌, ◌≤◌, ◌∙◌, ◌⊎◌, ℕ, List, true, Option, Some, None, IfSome, refl, ap, subst, inl, inr, codes}
 use Rattle.camel_tbcd.specs.declared.profile.Profile.{Profile}
 use Rattle.clap.proofs.OnLiterals.{clap_on_literals}
 use Rattle.clap.proofs.WalkLemmas.{first_value-rows}
-use Rattle.clap.specs.Words.{App, HasKind, HasMatchesOf, IsAmong, Kinds, Text, fault_of, first_of, first_value}
+use Rattle.clap.specs.Words.{App, HasKind, HasMatchesOf, IsAmong, Text, fault_of, first_of, first_value}
 use Rattle.clap.specs.Words.{found_of, is_simple, is_simple_and_free, kind_of}
 use Rattle.clap.specs.declared.error.Error.{Error}
 use Rattle.clap.specs.declared.error.kind.ErrorKind.{ErrorKind}
-use Rattle.clap.specs.declared.error.kind.ErrorKind.TheVariants.{DisplayHelp, OutOfMemory}
+use Rattle.clap.specs.declared.error.kind.ErrorKind.TheVariants.{DisplayHelp, DisplayVersion, OutOfMemory}
 use Rattle.clap.specs.declared.parser.matches.ArgMatches.{ArgMatches}
-use Rattle.camel_replay_lib.specs.ProgramRun.{AsksForHelp, GivesNumber, HoldsLimit, HoldsProfile, HoldsThreads, LimitOf}
+use Rattle.camel_replay_lib.specs.ProgramRun.{AsksForHelp, AsksForVersion, GivesNumber, HoldsLimit, HoldsProfile, HoldsThreads, LimitOf}
 use Rattle.camel_replay_lib.specs.ProgramRun.{MayGiveNumber, ProfileOf, ThreadsOf, option_text, profile_number}
 use Rattle.camel_replay_lib.specs.ProgramRun.{the_program, max_profile, max_threads}
 use Rattle.camel_script_replay.specs.Output.{max_limit}
@@ -46,12 +46,19 @@ program_is_free : is_simple_and_free the_program ≡ true
 unfolding clap_on_literals
 program_is_free = refl
 
-help_is_among : (kind : ErrorKind) (kinds : Kinds) → (kind ≡ OutOfMemory) ⊎ IsAmong kind kinds → kind ≡ DisplayHelp → IsAmong DisplayHelp kinds
-help_is_among kind kinds (inl lacks_memory) help = absurd (cc)
-help_is_among kind kinds (inr among) help = subst (λ kind. IsAmong kind kinds) help among
+module _ (words : List Text) (app : App) (error : Error) (same : app ≡ the_program) (has : is_simple_and_free app ≡ true → HasKind (fault_of app words) error) where
+  -- an error of another kind than out of memory is among those that the words may give
+  answered : (kind : ErrorKind) → kind ≢ OutOfMemory → kind_of error ≡ kind → IsAmong kind (fault_of the_program words)
+  answered kind other is_kind =
+      let free : is_simple_and_free app ≡ true = rw same program_is_free in
+      subst (λ (app : App). IsAmong kind (fault_of app words)) same (among (has free))
+    where
+      among : (kind_of error ≡ OutOfMemory) ⊎ IsAmong (kind_of error) (fault_of app words) → IsAmong kind (fault_of app words)
+      among (inl lacks_memory) = absurd (other (cc (is_kind, lacks_memory)))
+      among (inr found) = subst (λ kind. IsAmong kind (fault_of app words)) is_kind found
 
-pub AsksForHelp-answered : (words : List Text) (app : App) (error : Error) → app ≡ the_program
-    → (is_simple_and_free app ≡ true → HasKind (fault_of app words) error) → kind_of error ≡ DisplayHelp → AsksForHelp words
-AsksForHelp-answered words app error same has help =
-    let free : is_simple_and_free app ≡ true = rw same program_is_free in
-    subst (λ (app : App). IsAmong DisplayHelp (fault_of app words)) same (help_is_among (kind_of error) (fault_of app words) (has free) help)
+  pub AsksForHelp-answered : kind_of error ≡ DisplayHelp → AsksForHelp words
+  AsksForHelp-answered = answered DisplayHelp (λ e. absurd (cc e))
+
+  pub AsksForVersion-answered : kind_of error ≡ DisplayVersion → AsksForVersion words
+  AsksForVersion-answered = answered DisplayVersion (λ e. absurd (cc e))

@@ -5,8 +5,9 @@ use Rattle.std.specs.Fmt.{decimal}
 use Rattle.camel_tbcd.specs.declared.profile.Profile.{Profile}
 use Rattle.clap.specs.Words.{App, IsAmong, Rule, Text, fault_of, first_of, first_value, found_of, matches_of, new_app}
 use Rattle.clap.specs.Words.{new_rule, with_rule}
+use Rattle.clap.specs.Simple.{on_top}
 use Rattle.clap.specs.declared.builder.value_parser.ValueParser.TheVariants.{Unsigned}
-use Rattle.clap.specs.declared.error.kind.ErrorKind.TheVariants.{DisplayHelp}
+use Rattle.clap.specs.declared.error.kind.ErrorKind.TheVariants.{DisplayHelp, DisplayVersion}
 use Rattle.clap.specs.declared.parser.matches.ArgMatches.{ArgMatches}
 use Rattle.camel_script_replay.specs.Output.{max_limit, max_records, is_replay_code, AppendsPart, Stops, WritesAll}
 use Rattle.camel_script_replay.specs.declared.script_replay.ReplayFault.{ReplayFault}
@@ -42,8 +43,12 @@ threads_rule = number_rule (codes "threads") [] max_threads
 abbrev pub profile_rule : Rule
 profile_rule = number_rule (codes "profile") (codes "1" ∷ []) max_profile
 
+-- A program that has a version, which `--version` prints.
+abbrev pub with_version : App → App
+with_version = on_top (λ shape. record shape { has_version = true })
+
 abbrev pub the_program : App
-the_program = with_rule (with_rule (with_rule (new_app (codes "camel_replay")) limit_rule) threads_rule) profile_rule
+the_program = with_rule (with_rule (with_rule (with_version (new_app (codes "camel_replay"))) limit_rule) threads_rule) profile_rule
 
 -- The text of an option that `clap` finds in these words, the name of the program first.
 abbrev pub option_text : Text → List Text → Option Text
@@ -85,6 +90,10 @@ ProfileOf words chosen = GivesNumber max_profile (option_text (codes "profile") 
 -- These words ask for the help text: `clap` returns it for them.
 abbrev pub AsksForHelp : List Text → Type 0
 AsksForHelp words = IsAmong DisplayHelp (fault_of the_program words)
+
+-- These words ask for the version: `clap` returns it for them.
+abbrev pub AsksForVersion : List Text → Type 0
+AsksForVersion words = IsAmong DisplayVersion (fault_of the_program words)
 
 -- The limit that matches hold.
 abbrev pub HoldsLimit : ArgMatches → ℕ → Type 0
@@ -172,7 +181,7 @@ pub record Replays (promise : Promise) (run : RunData) : Type 0 where
 abbrev pub Rejects : RunData → Type 0
 Rejects run = (run.status ≡ 2) × IsSilent run.out
 
--- The help text is written: status 0, and nothing is written to standard error.
+-- The help text or the version is written: status 0, and nothing is written to standard error.
 abbrev pub Helps : RunData → Type 0
 Helps run = (run.status ≡ 0) × IsSilent run.err
 
@@ -180,8 +189,8 @@ Helps run = (run.status ≡ 0) × IsSilent run.err
 abbrev pub LacksMemory : RunData → Type 0
 LacksMemory run = (run.status ≡ 1) × IsSilent run.out × ShowsPart run.err (fault_line_at None 102)
 
--- A run does one of four things.
+-- A run does one of five things.
 abbrev pub Runs : List (List ℕ) → RunData → Type 0
 Runs words run = ((threads : Option ℕ) × (profile : Profile) × (limit : ℕ) × ThreadsOf words threads × ProfileOf words profile × LimitOf words limit
     × Replays (promise_of threads profile limit) run)
-    ⊎ (Rejects run ⊎ ((AsksForHelp words × Helps run) ⊎ LacksMemory run))
+    ⊎ (Rejects run ⊎ ((AsksForHelp words × Helps run) ⊎ ((AsksForVersion words × Helps run) ⊎ LacksMemory run)))

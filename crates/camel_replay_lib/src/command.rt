@@ -2,7 +2,7 @@
 
 ghost use Rattle.std.specs.Prelude.{◌≡◌, ◌≤◌, ◌⊎◌, true, None, Some, IfErr, IfOk, IfSome, OnOk, map, string_bytes};
 ghost use Rattle.clap.specs.Words.{kind_of};
-ghost use Rattle.clap.specs.declared.error.kind.ErrorKind.TheVariants.{DisplayHelp, OutOfMemory};
+ghost use Rattle.clap.specs.declared.error.kind.ErrorKind.TheVariants.{DisplayHelp, DisplayVersion, OutOfMemory};
 ghost use Rattle.camel_replay_lib.specs.ProgramRun.{fault_line, fault_line_at, max_threads, Helps, LacksMemory};
 ghost use Rattle.camel_replay_lib.specs.ProgramRun.{Rejects, Replays, RunData, Runs, promise_of};
 ghost use Rattle.camel_script.specs.Script.{script};
@@ -45,11 +45,12 @@ pub const REJECTED_STATUS: u8 = 2;
 /// |---|---|---|---|
 /// | 0 | no fault | the script's output | nothing |
 /// | 0 | `--help` | the help text | nothing |
+/// | 0 | `--version` | `camel_replay`, and the version | nothing |
 /// | 1 | a fault | what [`replay`] or [`replay_threads`] says of it | the fault's line, or a part of it |
 /// | 1 | out of memory before the script was read | nothing | the line of `OutOfMemory` (102), or a part of it |
 /// | 2 | the command line was rejected | nothing | the text of `clap` |
 ///
-/// A failed write to `err`, or of the help text to `out`, is ignored. What is said of the output holds over a reader
+/// A failed write to `err`, or of such a text to `out`, is ignored. What is said of the output holds over a reader
 /// and a writer whose bytes a contract knows.
 ///
 /// It takes `Wait`, with and without `--threads`: what is said holds if it returns, and that it returns is not proved.
@@ -144,10 +145,11 @@ fn report<W: Write, E: Write>(alloc: Global, error: &clap::Error, out: &mut W, e
       status = result;
     } in
         Rejects run
-        ⊎ (((kind_of error.now ≡ DisplayHelp) × Helps run) ⊎ ((kind_of error.now ≡ OutOfMemory) × LacksMemory run)) }
+        ⊎ (((kind_of error.now ≡ DisplayHelp) × Helps run) ⊎ (((kind_of error.now ≡ DisplayVersion) × Helps run)
+        ⊎ ((kind_of error.now ≡ OutOfMemory) × LacksMemory run))) }
 {
     match error.kind() {
-        ErrorKind::DisplayHelp => {
+        ErrorKind::DisplayHelp | ErrorKind::DisplayVersion => {
             write_text(alloc, out, error);
             0
         }

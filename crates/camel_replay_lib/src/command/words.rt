@@ -1,7 +1,7 @@
 ghost use Rattle.std.specs.Prelude.{◌≡◌, false, IfErr, IfOk, IfSome, map, string_bytes};
 ghost use Rattle.clap.specs.Words.{app_of, kind_of, rule_of};
-ghost use Rattle.clap.specs.declared.error.kind.ErrorKind.TheVariants.{DisplayHelp, OutOfMemory};
-ghost use Rattle.camel_replay_lib.specs.ProgramRun.{AsksForHelp, HoldsLimit, HoldsProfile, HoldsThreads, IsNumberUpTo};
+ghost use Rattle.clap.specs.declared.error.kind.ErrorKind.TheVariants.{DisplayHelp, DisplayVersion, OutOfMemory};
+ghost use Rattle.camel_replay_lib.specs.ProgramRun.{AsksForHelp, AsksForVersion, HoldsLimit, HoldsProfile, HoldsThreads, IsNumberUpTo};
 ghost use Rattle.camel_replay_lib.specs.ProgramRun.{LimitOf, GivesNumber, ProfileOf, ThreadsOf, limit_rule};
 ghost use Rattle.camel_replay_lib.specs.ProgramRun.{profile_number, profile_rule, the_program, threads_rule};
 
@@ -13,6 +13,9 @@ use clap::error::ErrorKind;
 use clap::{Arg, ArgMatches, Command, Error};
 use std::alloc::Global;
 
+/// The newest version of CHANGELOG.md, which `--version` prints.
+const VERSION: &str = "0.7.0";
+
 /// The greatest number of threads that answer calls.
 pub const MAX_THREADS: u64 = 16;
 
@@ -21,13 +24,15 @@ const MAX_PROFILE: u64 = 2;
 
 /// The options of the words with which the program was started, its name first.
 ///
-/// The error is that of `clap`: a mistake in the words, a request for help, or out of memory.
+/// The error is that of `clap`: a mistake in the words, a request for help or for the version, or out of memory.
 pub fn options(alloc: Global, words: &[String]) -> Result<Options, Error>
     ensures threads { IfOk result (λ options. ThreadsOf (map string_bytes words.now) options.threads) }
     ensures limit { IfOk result (λ options. LimitOf (map string_bytes words.now) options.limit) }
     ensures profile { IfOk result (λ options. ProfileOf (map string_bytes words.now) options.profile) }
     ensures help { IfErr result (λ error.
         kind_of error ≡ DisplayHelp → AsksForHelp (map string_bytes words.now)) }
+    ensures version { IfErr result (λ error.
+        kind_of error ≡ DisplayVersion → AsksForVersion (map string_bytes words.now)) }
 {
     let mut command = command(alloc)?;
     let matches = command.try_get_matches_from_mut(words)?;
@@ -46,6 +51,7 @@ fn command<'a>(alloc: Global) -> Result<Command<'a>, Error>
     let command = Command::new(alloc, "camel_replay")
         .about(ABOUT)
         .after_help(AFTER_HELP)
+        .version(VERSION)
         .arg(limit_argument(alloc))?
         .arg(threads_argument(alloc))?
         .arg(profile_argument(alloc))?;
