@@ -1,5 +1,6 @@
 """Scripts that are far too long, and threads that do not start: the status, what is written, and the most memory."""
 
+import ctypes
 import itertools
 import os
 import resource
@@ -14,8 +15,11 @@ from .samples import FIRST_CALL, FIRST_CALL_LINES, MAX_RECORDS, SHORT, SHORT_LIN
 
 # The most memory of a run is BASE and MULTIPLE times the octets of the longest record. The kernel counts what the
 # process that starts the program had in memory, so BASE is more than the program needs, and that process holds little.
+# The system may give huge pages, most of which nobody uses, so the program is started without them.
 BASE = 32 * 2**20
 MULTIPLE = 28
+PR_SET_THP_DISABLE = 41
+LIBC = ctypes.CDLL(None)
 
 UPDATE_LINES, CALL_LINE = FIRST_CALL_LINES[:3], FIRST_CALL_LINES[3]
 REFUSED = b"refused 36\n"
@@ -53,11 +57,19 @@ def feed(pipe, pieces):
         pass
 
 
+def prepare(limits):
+    """Sets what holds for the program that this process becomes."""
+    LIBC.prctl(PR_SET_THP_DISABLE, 1, 0, 0, 0)
+    if limits:
+        limits()
+
+
 def replay(name, options, pieces, lines, fault, limits=None):
     """Runs the program over a script, and checks what it leaves. Returns its most memory in octets."""
     with tempfile.TemporaryFile() as out, tempfile.TemporaryFile() as err:
         command = [PROGRAM, *options]
-        child = subprocess.Popen(command, stdin=subprocess.PIPE, stdout=out, stderr=err, preexec_fn=limits)
+        child = subprocess.Popen(command, stdin=subprocess.PIPE, stdout=out, stderr=err,
+                                 preexec_fn=partial(prepare, limits))
         feed(child.stdin, pieces)
         _, status, usage = os.wait4(child.pid, 0)
         child.returncode = os.waitstatus_to_exitcode(status)

@@ -16,6 +16,7 @@ from map_arguments.updates import text_of
 from checking import Difference, side_by_side
 
 from . import dissection, scripts
+from .bad_captures import check_bad_captures
 from .classes import classes_of
 from .dumped import drawn_dump, kept_dump, restored_texts
 from .encoded import encoded_lines, sent_update
@@ -163,6 +164,7 @@ def main():
         differing += run_joins(given.seed, given.count)
         run_scripts(given.seed)
         print(f"{CAPTURE}: {check_capture()} messages, with the scripts that are kept")
+        check_bad_captures()
     except (Difference, TsharkFailed, OSError) as fault:
         sys.exit(f"map-check: {fault}")
     print(f"{differing} differences")

@@ -128,7 +128,7 @@ def read(lines):
     with tempfile.NamedTemporaryFile(suffix=".pcap") as file:
         file.write(packets.capture(packets.SCCP, [packet_of(*numbered) for numbered in enumerate(lines)]))
         file.flush()
-        trees = trees_of(file.name, "gsm_map _ws.malformed _ws.unreassembled")
+        trees = [*trees_of(file.name, "gsm_map _ws.malformed _ws.unreassembled")]
     if len(trees) != len(lines):
         raise TsharkFailed(f"tshark shows {len(trees)} packets of {len(lines)}")
     return [reading_of(line, packet) for line, packet in zip(lines, trees)]

@@ -232,10 +232,11 @@ def information(octets, parent):
 def insert(octets, whole, given):
     expect(whole, SEQUENCE, CONSTRUCTED)
     fields = Fields(octets, whole)
-    subscriber = agreed(octets, fields.optional(context(0), PRIMITIVE), given)
+    identity = fields.optional(context(0), PRIMITIVE)
+    subscriber = agreed(octets, identity, given)
     found = when_there(information, octets, fields.optional(context(13), CONSTRUCTED))
     lists, capabilities = found or ({}, {})
-    return updates.Insert(subscriber, lists, capabilities=capabilities)
+    return updates.Insert(subscriber, lists, identity is not None, capabilities)
 
 
 def null(octets, field):

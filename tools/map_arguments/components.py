@@ -11,10 +11,14 @@ OPERATIONS = {2: "updateLocation", 3: "cancelLocation", 7: "insertSubscriberData
 # In a location update the HLR sends the data. A request is one of the VLR, and its answer says what comes of it.
 LOCATION_UPDATES = ("updateLocation", "restoreData")
 REQUESTS = (*LOCATION_UPDATES, "purgeMS")
+# The errors of a location update by which the subscription is gone: unknownSubscriber, unknownEquipment and
+# roamingNotAllowed (TS 29.002). Any other says nothing of it, as systemFailure.
+UNKNOWN_SUBSCRIBER, UNKNOWN_EQUIPMENT, ROAMING_NOT_ALLOWED = GONE = (1, 7, 8)
 
-# Identifiers of TCAP: the components, a linked id, and an INTEGER, which an id and a local code are.
+# Identifiers of TCAP: the components, a linked id, an INTEGER, which an id and a local code are, and what stands for
+# an id that is not known.
 INVOKE, RESULT, ERROR, REJECT = 0xA1, 0xA2, 0xA3, 0xA4
-LINKED, INTEGER = 0x80, 0x02
+LINKED, INTEGER, NULL = 0x80, 0x02, 0x05
 # Identifiers of MAP: arguments, and an IMSI.
 SEQUENCE, PURGE_MS, UNTAGGED_IMSI, TAGGED_IMSI = 0x30, 0xA3, 0x04, 0x80
 END_OF_CONTENTS, INDEFINITE = b"\0\0", 0x80
@@ -31,8 +35,8 @@ class Invoke(NamedTuple):
 
 
 class Answer(NamedTuple):
-    """What answers an invoke: the octets of its id, and whether it is a result, an error or a reject. An error has its
-    code."""
+    """What answers an invoke: the octets of its id, which a reject may lack, and whether it is a result, an error or a
+    reject. An error has its code."""
 
     number: bytes
     kind: int
@@ -91,23 +95,25 @@ def imsi_of(operation, argument):
 
 
 def invoke_of(content):
-    """The invoke that the content of a component is, or None if its operation code is not a local one."""
+    """The invoke that the content of a component is, or None if it has no operation code. Only local codes count."""
     number = b""
     for place, (identifier, inner, after) in enumerate(elements(content)):
         # The first element is the id of the invoke, and the id of a linked one may come before the code.
         if not place:
             number = inner
         elif identifier != LINKED:
-            if identifier != INTEGER:
-                return None
-            operation, argument = OPERATIONS.get(int.from_bytes(inner, "big"), ""), content[after:]
+            code = int.from_bytes(inner, "big") if identifier == INTEGER else None
+            operation, argument = OPERATIONS.get(code, ""), content[after:]
             return Invoke(number, operation, imsi_of(operation, argument), argument)
     return None
 
 
 def answer_of(kind, content):
-    """The answer that the content of a component is, or None if it has no id."""
+    """The answer that the content of a component is, or None if it has no id. A reject of what can't be read has a NULL
+    for it."""
     inner = [*elements(content)]
+    if kind == REJECT and inner and inner[0][0] == NULL:
+        return Answer(b"", kind, 0)
     if not inner or inner[0][0] != INTEGER:
         return None
     is_local = kind == ERROR and len(inner) > 1 and inner[1][0] == INTEGER
@@ -115,12 +121,11 @@ def answer_of(kind, content):
 
 
 def components_of(octets):
-    """The invokes and the answers of a message, in its order."""
-    for identifier, content, _ in elements(octets):
-        found = None
+    """The invokes and the answers of a message, in its order, and whether all of it can be read."""
+    found, read = [], 0
+    for identifier, content, read in elements(octets):
         if identifier == INVOKE:
-            found = invoke_of(content)
+            found.append(invoke_of(content))
         elif identifier in (RESULT, ERROR, REJECT):
-            found = answer_of(identifier, content)
-        if found:
-            yield found
+            found.append(answer_of(identifier, content))
+    return [*filter(None, found)], octets[read : read + 2] in (b"", END_OF_CONTENTS)

@@ -1,6 +1,8 @@
-"""What a decoder's faults are called: by the names that the library's header has for their numbers."""
+"""What a decoder's faults are called: by the names that the library's header has for their numbers. The version is
+there too."""
 
 import re
+from functools import cache
 from pathlib import Path
 
 HEADER = Path(__file__).resolve().parents[2] / "include/camel.h"
@@ -10,11 +12,17 @@ DATA_MISSING, NO_IMSI = 35, 406
 STATUS = re.compile(r"^ +CAMEL_(\w+) = (\d+)", re.M)
 
 
+@cache
 def name_of(number):
     """The name of a number, in the form that TS 29.002 has for its errors."""
     statuses = STATUSES.search(HEADER.read_text())[1]
     first, *rest = next(name for name, other in STATUS.findall(statuses) if int(other) == number).lower().split("_")
     return first + "".join(word.capitalize() for word in rest)
+
+
+def version():
+    """The version of the product, which the header has."""
+    return re.search(r'^#define CAMEL_VERSION "(.*)"$', HEADER.read_text(), re.M)[1]
 
 
 def is_fault(answer):

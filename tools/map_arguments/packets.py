@@ -1,9 +1,12 @@
-"""Captures: files of packets, and the packets of M3UA (RFC 4666) over SCTP (RFC 9260) and IP."""
+"""Captures: files of packets, and the packets of M3UA (RFC 4666) and SUA (RFC 3868) over SCTP (RFC 9260) and IP."""
 
 import struct
 
+from . import transactions
+from .encoding import tbcd
+
 RAW_IP, SCCP = 101, 142
-SCTP, SCTP_M3UA, M3UA_PORT = 132, 3, 2905
+SCTP, SCTP_M3UA, M3UA_PORT, SCTP_SUA, SUA_PORT = 132, 3, 2905, 4, 14001
 SERVICE_SCCP, INTERNATIONAL = 3, 0
 
 
@@ -44,16 +47,51 @@ def ip(source, destination, number, data):
     return header(ones_sum(header(0))) + data
 
 
-def sctp(number, data):
-    """A packet of SCTP with one chunk of M3UA, whose transmission number is the packet's."""
-    chunk = struct.pack(">BBHIHHI", 0, 3, 16 + len(data), number, 0, number, SCTP_M3UA) + data
-    head = struct.pack(">HHI", M3UA_PORT, M3UA_PORT, 1)
+def sctp(number, data, port=M3UA_PORT, protocol=SCTP_M3UA):
+    """A packet of SCTP with one chunk, whose transmission number is the packet's."""
+    chunk = struct.pack(">BBHIHHI", 0, 3, 16 + len(data), number, 0, number, protocol) + data
+    head = struct.pack(">HHI", port, port, 1)
     checksum = crc32c(head + bytes(4) + padded(chunk))
     return head + struct.pack("<I", checksum) + padded(chunk)
+
+
+def parameter(tag, content):
+    """A parameter of M3UA and SUA."""
+    return padded(struct.pack(">HH", tag, 4 + len(content)) + content)
 
 
 def m3ua(origin, destination, data):
     """A DATA message of M3UA between two point codes."""
     label = struct.pack(">IIBBBB", origin, destination, SERVICE_SCCP, INTERNATIONAL, 0, 0)
-    parameter = padded(struct.pack(">HH", 0x0210, 4 + len(label) + len(data)) + label + data)
-    return struct.pack(">BBBBI", 1, 0, 1, 1, 8 + len(parameter)) + parameter
+    data = parameter(0x0210, label + data)
+    return struct.pack(">BBBBI", 1, 0, 1, 1, 8 + len(data)) + data
+
+
+def sua_address(subsystem, digits, code):
+    """The address in SUA of an international number of E.164, or without digits of a point code."""
+    named = parameter(0x8002, struct.pack(">I", code))
+    if digits:
+        named = parameter(0x8001, bytes([0, 0, 0, 4, len(digits), 0, 1, 4]) + tbcd(digits))
+    routing = struct.pack(">HH", 1 if digits else 2, 5 if digits else 3)
+    return routing + named + parameter(0x8003, bytes([0, 0, 0, subsystem]))
+
+
+def sua(source, destination, data):
+    """A connectionless data transfer (CLDT) of SUA."""
+    content = ((0x0006, bytes(4)), (0x0115, bytes(4)), (0x0102, source), (0x0103, destination), (0x0116, bytes(4)),
+               (0x010B, data))
+    octets = b"".join(parameter(*tagged) for tagged in content)
+    return struct.pack(">BBBBI", 1, 0, 7, 1, 8 + len(octets)) + octets
+
+
+def over_m3ua(number, sender, receiver, octets):
+    """A TCAP message from one node to another, over SCCP and M3UA."""
+    called, calling = (transactions.address(node.subsystem, node.number) for node in (receiver, sender))
+    carried = transactions.unitdata if len(octets) < 256 else transactions.long_unitdata
+    return sctp(number, m3ua(sender.code, receiver.code, carried(called, calling, octets)))
+
+
+def over_sua(number, sender, receiver, octets):
+    """A TCAP message from one node to another, over SUA."""
+    source, destination = (sua_address(node.subsystem, node.number, node.code) for node in (sender, receiver))
+    return sctp(number, sua(source, destination, octets), SUA_PORT, SCTP_SUA)

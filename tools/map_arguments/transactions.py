@@ -3,15 +3,19 @@
 from .ber import (APPLICATION, INTEGER, OBJECT_IDENTIFIER, SEQUENCE, Element, context, identifier_octets,
                   integer_octets, length_octets, minimal, universal)
 from .components import OPERATIONS
+from .encoding import tbcd
 
-CODES = {name: code for code, name in OPERATIONS.items()}
+CODES = {name: code for code, name in OPERATIONS.items()} | {"processUnstructuredSS-Request": 59}
 
 # The last arcs of the application contexts, which lie below 0.4.0.0.1.0.
 CONTEXTS = {"updateLocation": (1, 3), "cancelLocation": (2, 3), "insertSubscriberData": (16, 3),
-            "deleteSubscriberData": (16, 3), "restoreData": (1, 3), "purgeMS": (27, 3)}
+            "deleteSubscriberData": (16, 3), "restoreData": (1, 3), "purgeMS": (27, 3),
+            "processUnstructuredSS-Request": (19, 2)}
 CONTEXT_PREFIX = bytes.fromhex("0400000100")
 DIALOGUE_AS_STRUCTURED = bytes.fromhex("00118605010101")
 VERSION_1 = bytes.fromhex("0780")
+# The dialogue PDUs of MAP, and octet 1 of a number of E.212.
+MAP_DIALOGUE, LAND_MOBILE = bytes.fromhex("04000001010101"), b"\x96"
 
 BEGIN, END, CONTINUE, ABORT = 2, 4, 5, 7
 REQUEST, RESPONSE = 0, 1
@@ -45,8 +49,19 @@ def error(number, code, parameter=b""):
     return wrapped(context(3, []), head + parameter)
 
 
-def dialogue(kind, operation, version=None):
-    """The dialogue portion that asks for an application context, or accepts it."""
+def external(kind, element):
+    """What has this element by the name of its kind."""
+    return universal(8, [universal(OBJECT_IDENTIFIER, kind), context(0, [element])])
+
+
+def portion(unit):
+    """The dialogue portion with this unit."""
+    return minimal(Element(APPLICATION, 11, [external(DIALOGUE_AS_STRUCTURED, unit)]))
+
+
+def dialogue(kind, operation, version=None, imsi=""):
+    """The dialogue portion that asks for an application context, or accepts it. If an IMSI is given, it is the
+    destination reference."""
     context_id, greatest = CONTEXTS[operation]
     arcs = CONTEXT_PREFIX + bytes([context_id, version or greatest])
     named = context(1, [universal(OBJECT_IDENTIFIER, arcs)])
@@ -54,9 +69,10 @@ def dialogue(kind, operation, version=None):
     if kind == RESPONSE:
         accepted = universal(INTEGER, b"\0")
         elements += [context(2, [accepted]), context(3, [context(1, [accepted])])]
-    unit = Element(APPLICATION, kind, elements)
-    external = universal(8, [universal(OBJECT_IDENTIFIER, DIALOGUE_AS_STRUCTURED), context(0, [unit])])
-    return minimal(Element(APPLICATION, 11, [external]))
+    if imsi:
+        opened = context(0, [context(0, LAND_MOBILE + tbcd(imsi))])
+        elements.append(context(30, [external(MAP_DIALOGUE, opened)]))
+    return portion(Element(APPLICATION, kind, elements))
 
 
 def message(kind, origin, destination, portion, components):
@@ -71,14 +87,24 @@ def message(kind, origin, destination, portion, components):
     return wrapped(Element(APPLICATION, kind, []), content)
 
 
-def abort(destination, cause):
-    """The TCAP message by which a transaction ends for this cause of its provider."""
-    ids = [Element(APPLICATION, 9, destination.to_bytes(4, "big")), Element(APPLICATION, 10, bytes([cause]))]
-    return minimal(Element(APPLICATION, ABORT, ids))
+def abort(destination, cause=None):
+    """The TCAP message by which a transaction ends for this cause of its provider, or if there is none by its user."""
+    ids = minimal(Element(APPLICATION, 9, destination.to_bytes(4, "big")))
+    by_user = portion(Element(APPLICATION, 4, [context(0, b"\0")]))
+    why = by_user if cause is None else minimal(Element(APPLICATION, 10, bytes([cause])))
+    return wrapped(Element(APPLICATION, ABORT, []), ids + why)
+
+
+def unread_reject():
+    """The reject of a component that can't be read, so that it has no id: badlyStructuredComponent."""
+    return wrapped(context(4, []), minimal(universal(5, b"")) + minimal(context(0, b"\x02")))
 
 
 def address(subsystem, digits):
-    """An SCCP address that is routed on its global title, an international number of E.164."""
+    """An SCCP address that is routed on its global title, an international number of E.164, or without digits on its
+    subsystem."""
+    if not digits:
+        return bytes([0x42, subsystem])
     scheme = 1 if len(digits) % 2 else 2
     text = digits + "0" * (len(digits) % 2)
     swapped = "".join(text[at + 1] + text[at] for at in range(0, len(text), 2))
