@@ -7,7 +7,7 @@
     change.py mutate NAME FILE  writes its file of the glue with this mutation of the file `mutations` to FILE
 
 Both files have blocks of lines `key: value`, with an empty line between two blocks. Text is in the lines behind a key
-that begin with `|`. A comment begins with `#`.
+that begin with `|`. A comment begins with `#`. A mutation that names no file is of the file of the one before it.
 
 A hook names its file, the place `in` it, which is a function, or a structure as `struct NAME`, and an anchor: `before`
 or `behind` the one statement there that has these words in their order. A statement ends at `;`, `{` or `}`, comments
@@ -158,8 +158,10 @@ def put_hooks(source):
 
 def mutations():
     """The name, the file and the old and new texts of each mutation."""
+    file = None
     for block in blocks("mutations"):
-        yield block[0][1], block[1][1], [value for _, value in block[2:]]
+        file = dict(block).get("file", file)
+        yield block[0][1], file, [value for key, value in block if key in ("old", "new")]
 
 
 def mutate(name, target):

@@ -23,11 +23,11 @@
 #include <osmocom/msc/vlr.h>
 
 /* A location update, from its request to its end: by which procedure, of which IMSI, whether CAMEL data have come, and
- * those that are published, as one Insert. */
+ * been withdrawn since, and those that are published, as one Insert. */
 struct msc_camel_location {
 	const struct osmo_fsm_inst *procedure;
 	camel_imsi imsi;
-	bool has_come;
+	bool has_come, has_withdrawn;
 	camel_update insert;
 };
 
@@ -130,13 +130,18 @@ static bool has_owner(const struct msc_camel *camel, const camel_imsi *imsi, con
 	return false;
 }
 
-/* The HLR says of this IMSI that there is no subscriber here: no entry owns its record from here on. */
-static void disown(struct msc_camel *camel, const camel_imsi *imsi)
+/* The owners of the record of this IMSI are unconfirmed, also those that osmo-msc does not see: it asks the HLR before
+ * their next call. If the HLR says that there is no subscriber here, none owns it from here on. */
+static void unconfirm(struct msc_camel *camel, const camel_imsi *imsi, bool is_gone)
 {
 	struct vlr_subscr *vsub;
 
 	llist_for_each_entry(vsub, &camel->vlr->subscribers, list) {
-		if (vsub->msc_camel_imsi == imsi->number)
+		if (vsub->msc_camel_imsi != imsi->number)
+			continue;
+		vsub->sub_dataconf_by_hlr_ind = false;
+		vsub->loc_conf_in_hlr_ind = false;
+		if (is_gone)
 			vsub->msc_camel_imsi = 0;
 	}
 }
@@ -305,12 +310,12 @@ enum gsm48_gmm_cause msc_camel_insert(struct vlr_subscr *vsub, const struct osmo
 	status = imsi_of(vsub, &imsi);
 	if (status == CAMEL_OK)
 		requester = find_requester(camel, &imsi);
-	if (requester) {
+	if (requester)
 		requester->msc_camel_location->has_come = true;
+	if (requester && !requester->msc_camel_location->has_withdrawn)
 		status = insert_anew(requester, gsup, &place);
-	} else if (status == CAMEL_OK) {
+	else if (status == CAMEL_OK)
 		status = commit_map(camel, CAMEL_INSERT_SUBSCRIBER_DATA, &imsi, gsup, &place);
-	}
 	return cause_of(vsub->imsi, "InsertSubscriberData", status, place);
 }
 
@@ -340,9 +345,11 @@ enum gsm48_gmm_cause msc_camel_location_updated(struct vlr_subscr *vsub)
 	return requester ? cause_of(vsub->imsi, "UpdateLocation", end_well(camel, requester), CAMEL_NO_OCTET) : 0;
 }
 
+/* In a location update the kept Insert would bring back what this withdraws, so later data are Inserts of their own. */
 bool msc_camel_delete(struct vlr_subscr *vsub, const struct osmo_gsup_message *gsup, enum gsm48_gmm_cause *cause)
 {
 	struct msc_camel *camel = vsub->vlr->camel;
+	struct vlr_subscr *requester = NULL;
 	uint64_t place = CAMEL_NO_OCTET;
 	camel_imsi imsi;
 	camel_status status;
@@ -352,6 +359,10 @@ bool msc_camel_delete(struct vlr_subscr *vsub, const struct osmo_gsup_message *g
 	status = imsi_of(vsub, &imsi);
 	if (status == CAMEL_OK)
 		status = commit_map(camel, CAMEL_DELETE_SUBSCRIBER_DATA, &imsi, gsup, &place);
+	if (status == CAMEL_OK)
+		requester = find_requester(camel, &imsi);
+	if (requester)
+		requester->msc_camel_location->has_withdrawn = requester->msc_camel_location->insert.is_full;
 	*cause = cause_of(vsub->imsi, "DeleteSubscriberData", status, place);
 	return true;
 }
@@ -369,11 +380,32 @@ enum gsm48_gmm_cause msc_camel_cancel(struct vlr_subscr *vsub)
 	if (status == CAMEL_OK)
 		status = commit_change(camel, CAMEL_UPDATE_CANCEL, &imsi);
 	if (status == CAMEL_OK)
-		disown(camel, &imsi);
+		unconfirm(camel, &imsi, true);
 	return cause_of(vsub->imsi, "CancelLocation", status, CAMEL_NO_OCTET);
 }
 
-void msc_camel_location_refused(struct vlr_subscr *vsub)
+/* Whether the cause with which the HLR refuses a location update says that the subscription is gone, or does not hold
+ * here. These are the causes of GMM at which a mobile gives up its registration (TS 24.008 4.4.4.7 (?)), and 8, in the
+ * place of MAP's unknownSubscriber, unknownEquipment and roamingNotAllowed. Each other one, as that of a sick HLR, or
+ * none, says nothing of the subscription. */
+static bool is_subscription_gone(enum gsm48_gmm_cause cause)
+{
+	switch (cause) {
+	case GMM_CAUSE_IMSI_UNKNOWN:
+	case GMM_CAUSE_ILLEGAL_MS:
+	case GMM_CAUSE_ILLEGAL_ME:
+	case GMM_CAUSE_GPRS_OTHER_NOTALLOWED:
+	case GMM_CAUSE_PLMN_NOTALLOWED:
+	case GMM_CAUSE_LA_NOTALLOWED:
+	case GMM_CAUSE_ROAMING_NOTALLOWED:
+	case GMM_CAUSE_NO_SUIT_CELL_IN_LA:
+		return true;
+	default:
+		return false;
+	}
+}
+
+void msc_camel_location_refused(struct vlr_subscr *vsub, enum gsm48_gmm_cause cause)
 {
 	struct msc_camel *camel = vsub->vlr->camel;
 	struct vlr_subscr *requester;
@@ -385,8 +417,11 @@ void msc_camel_location_refused(struct vlr_subscr *vsub)
 	if (!requester)
 		return;
 	end_location(requester);
-	disown(camel, &imsi);
-	cancel_unanswered(camel, &imsi, "the Cancel of a location update");
+	unconfirm(camel, &imsi, is_subscription_gone(cause));
+	if (is_subscription_gone(cause))
+		cancel_unanswered(camel, &imsi, "the Cancel of a location update");
+	else
+		LOG_CAMEL(vsub->imsi, LOGL_NOTICE, "UpdateLocation failed with cause %u, which cancels nothing", cause);
 }
 
 struct msc_camel *msc_camel_alloc(struct vlr_instance *vlr)

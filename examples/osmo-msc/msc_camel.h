@@ -33,11 +33,11 @@ enum { MSC_CAMEL_ABSENT = 20, MSC_CAMEL_RELEASED = GSM48_CC_CAUSE_TEMP_FAILURE }
 struct msc_camel *msc_camel_alloc(struct vlr_instance *vlr);
 
 /* A procedure of the VLR requests a location update of the subscriber. The HLR ends it well, for which a cause other
- * than 0 makes it fail, or refuses it. A procedure ends that may have requested one of the subscriber, who may be
- * NULL. */
+ * than 0 makes it fail, or refuses it with a cause. A procedure ends that may have requested one of the subscriber, who
+ * may be NULL. */
 void msc_camel_location_requested(struct vlr_subscr *vsub, const struct osmo_fsm_inst *procedure);
 enum gsm48_gmm_cause msc_camel_location_updated(struct vlr_subscr *vsub);
-void msc_camel_location_refused(struct vlr_subscr *vsub);
+void msc_camel_location_refused(struct vlr_subscr *vsub, enum gsm48_gmm_cause cause);
 void msc_camel_procedure_ended(struct vlr_subscr *vsub, const struct osmo_fsm_inst *procedure);
 
 /* What the HLR sends of an IMSI, which may be that of several entries. 0: it is published, and is answered as done.

@@ -18,6 +18,7 @@ struct msc_camel_call {
 	struct msc_camel *camel;
 	camel_subscriber kept;
 	camel_event event;
+	bool releases_unknown; /* if there are no data of the subscriber */
 	char imsi[GSM23003_IMSI_MAX_DIGITS + 1];
 };
 
@@ -39,8 +40,8 @@ static camel_basic_service basic_service_of(const struct gsm_mncc *setup)
 	return service;
 }
 
-/* Logs an answer, and returns whether the call is to be released: there is no gsmSCF that could be asked. Of a
- * subscriber of whom there are no data the VTY says it, also if nothing could be decided. */
+/* Logs an answer, and returns whether the call is to be released: there is no gsmSCF that could be asked. If nothing
+ * could be decided it is as without data. */
 static bool act(const struct msc_camel_call *call, camel_status status, const camel_answer *answer)
 {
 	const camel_event *event = &call->event;
@@ -50,12 +51,12 @@ static bool act(const struct msc_camel_call *call, camel_status status, const ca
 		 event->basic.code, event->cause);
 	if (status != CAMEL_OK) {
 		LOG_CAMEL(call->imsi, LOGL_ERROR, "%s: %s", what, camel_status_name(status));
-		return call->camel->releases_unknown;
+		return call->releases_unknown;
 	}
 	if (!answer->is_trigger) {
 		LOG_CAMEL(call->imsi, LOGL_INFO, "%s front %" PRIu64 ": %s", what, answer->front,
 			  camel_reason_name(answer->reason));
-		return answer->reason == CAMEL_REASON_UNKNOWN && call->camel->releases_unknown;
+		return answer->reason == CAMEL_REASON_UNKNOWN && call->releases_unknown;
 	}
 	LOG_CAMEL(call->imsi, LOGL_INFO, "%s front %" PRIu64 ": service %u at gsmSCF %s, default %s", what,
 		  answer->front, answer->key, osmo_hexdump_nospc(answer->scf.octets, answer->scf.length),
@@ -64,7 +65,9 @@ static bool act(const struct msc_camel_call *call, camel_status status, const ca
 }
 
 /* Decides the event of a set-up, if the status of its data is CAMEL_OK, and keeps the record. Without memory for it the
- * later detection points are not asked, and the set-up is decided all the same. */
+ * later detection points are not asked, and the set-up is decided all the same. Without data the VTY says whether the
+ * call goes on, but only of a subscriber who registered before CAMEL was enabled: of each other one the HLR has taken
+ * them back, or sent such as are refused. */
 static bool set_up(void *ctx, struct vlr_subscr *vsub, const camel_event *event, camel_status status,
 		   struct msc_camel_call **kept)
 {
@@ -77,6 +80,7 @@ static bool set_up(void *ctx, struct vlr_subscr *vsub, const camel_event *event,
 	talloc_set_destructor(call, free_call);
 	call->camel = camel;
 	call->event = *event;
+	call->releases_unknown = camel->releases_unknown || vsub->msc_camel_imsi || !vsub->loc_conf_in_hlr_ind;
 	OSMO_STRLCPY_ARRAY(call->imsi, vsub->imsi);
 	if (status == CAMEL_OK)
 		status = msc_camel_imsi_of(vsub, &call->event.imsi);
@@ -94,7 +98,8 @@ static bool set_up(void *ctx, struct vlr_subscr *vsub, const camel_event *event,
 }
 
 /* A number of an emergency call, also if the mobile sends it in the SETUP of a normal call (TS 22.101): that to which
- * osmo-msc routes emergency calls, and those of the VTY. osmo-msc itself has no list of them. */
+ * osmo-msc routes emergency calls, and those of the VTY. osmo-msc itself has no list of them. That a message is an
+ * EMERGENCY SETUP says nothing: osmo-msc calls the number that a mobile sends in it, whichever that is. */
 static bool is_emergency_number(const struct gsm_network *net, const char *digits)
 {
 	const struct msc_camel_number *number;
@@ -114,8 +119,7 @@ bool msc_camel_outgoing(struct gsm_trans *trans, const struct gsm_mncc *setup, c
 	camel_status status = camel_address_of(called, OSMO_MIN(count, sizeof(event.destination.octets)),
 					       &event.destination);
 
-	if (!trans->net->vlr->camel->is_enabled || setup->emergency
-	    || is_emergency_number(trans->net, setup->called.number))
+	if (!trans->net->vlr->camel->is_enabled || is_emergency_number(trans->net, setup->called.number))
 		return false;
 	return set_up(trans, trans->vsub, &event, status, &trans->cc.camel);
 }

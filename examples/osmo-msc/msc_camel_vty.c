@@ -44,7 +44,7 @@ DEFUN(cfg_camel_no_enable, cfg_camel_no_enable_cmd, "no enable",
 }
 
 DEFUN(cfg_camel_unknown, cfg_camel_unknown_cmd, "unknown-subscriber (continue|release)",
-      "Calls of a subscriber without CAMEL data, also if the location update was before CAMEL was enabled\n"
+      "Calls of a subscriber without CAMEL data whose location update was before CAMEL was enabled\n"
       "They go on without a service (default)\n"
       "They are released\n")
 {

@@ -94,12 +94,22 @@ void test_two_entries(void)
 	hlr_sends(&FIRST, "06", "", NULL, "");
 	goes_away();
 	calls(&FIRST, LISTED);
-	step("again, and the HLR refuses it");
+	step("again, and the HLR is sick: the record stays, and calls of the subscriber wait for the HLR");
 	comes_with_unknown_tmsi();
 	claims(&FIRST, "04");
-	hlr_sends(&FIRST, "05", "", NULL, "");
+	inserts(&FIRST, CALLED_DATA);
+	hlr_sends(&FIRST, "05", "020111", NULL, "");
 	goes_away();
-	calls(&FIRST, LISTED);
+	waits_for_hlr(&FIRST);
+	is_called_and_caller_gives_up(&FIRST);
+	step("again, and the HLR refuses it");
+	location_update(&FIRST, DATA);
+	comes_with_unknown_tmsi();
+	claims(&FIRST, "04");
+	hlr_sends(&FIRST, "05", "020102", NULL, "");
+	step("%u records", count_records());
+	goes_away();
+	waits_for_hlr(&FIRST);
 	ends();
 }
 
@@ -123,6 +133,10 @@ void test_stranger_was_there_first(void)
 	hlr_sends(&FIRST, "1c", "060100", "1e", "");
 	OSMO_ASSERT(bssap_clear_sent);
 	ran_sends_clear_complete();
+	step("osmo-msc detaches the stranger, so a call of the subscriber waits for the HLR");
+	waits_for_hlr(&FIRST);
+	called_in_vain(&FIRST);
+	location_update(&FIRST, DATA);
 	calls(&FIRST, LISTED);
 	ends();
 }
@@ -137,14 +151,14 @@ void test_service_request_of_stranger(void)
 	subscriber = put_aside();
 	net->authentication_required = true;
 	expect_bssap_clear();
-	connects(&FIRST, "052471");
+	connects(&FIRST, CALL_REQUEST);
 	OSMO_ASSERT(cm_service_result_sent == RES_REJECT && bssap_clear_sent);
 	ran_sends_clear_complete();
 	net->authentication_required = false;
 	g_msub = subscriber;
 	step("the data come anew all the same");
 	inserts(&FIRST, DATA);
-	location_update_ends(&FIRST, "06", RES_ACCEPT);
+	location_update_ends(&FIRST, RES_ACCEPT);
 	calls(&FIRST, LISTED);
 	is_called_and_caller_gives_up(&FIRST);
 	ends();
@@ -158,12 +172,12 @@ void test_changed_imsi(void)
 	begins("The IMSI of an entry changes to that of another subscriber");
 	location_update(&FIRST, DATA);
 	location_update(&SECOND, OTHER_DATA);
-	connects(&FIRST, "052471");
+	connects(&FIRST, CALL_REQUEST);
 	vsub = vlr_subscr_find_by_imsi(net->vlr, FIRST.imsi, __func__);
 	OSMO_ASSERT(vsub);
 	vlr_subscr_set_imsi(vsub, SECOND.imsi);
 	step("a call has the record of the IMSI that the HLR has accepted");
-	sends_setup(&SECOND, "0385", SPEECH, LISTED);
+	sends_setup(&SECOND, SETUP, SPEECH, LISTED);
 	rejected_with(34);
 	step("so has the purge");
 	vlr_subscr_rx_imsi_detach(vsub);
@@ -214,7 +228,7 @@ void test_refusal_that_nobody_asked_for(void)
 {
 	begins("The HLR refuses a location update that nobody has requested");
 	location_update(&FIRST, DATA);
-	hlr_sends(&FIRST, "05", "", NULL, "");
+	hlr_sends(&FIRST, "05", "020102", NULL, "");
 	calls(&FIRST, LISTED);
 	ends();
 }
@@ -240,8 +254,8 @@ void test_cancel_by_timer(void)
 	step("so it is with the Cancel of a location update that the HLR refuses");
 	location_update_begins(&SECOND);
 	refused = OF_COMMIT;
-	location_update_ends(&SECOND, "05", RES_REJECT);
+	location_update_refused(&SECOND, GMM_CAUSE_IMSI_UNKNOWN);
 	is_called_and_caller_gives_up(&SECOND);
-	is_called_and_caller_gives_up(&SECOND);
+	called_in_vain(&SECOND);
 	ends();
 }

@@ -11,7 +11,7 @@
 const struct subscriber FIRST = { "901700000010650", "010809710000000156f0", "089910070000106005" };
 const struct subscriber SECOND = { "901700000010651", "010809710000000156f1", "089910070000106015" };
 
-static bool is_muted;
+bool is_muted;
 
 /* The call that the mobile makes, or is called by. */
 enum { INCOMING = 0x423 };
@@ -160,13 +160,26 @@ void location_update_begins(const struct subscriber *who)
 	OSMO_ASSERT(gsup_tx_confirmed);
 }
 
-void location_update_ends(const struct subscriber *who, const char *message, enum result_sent result)
+static void hlr_ends(const struct subscriber *who, const char *type, const char *octets, enum result_sent result)
 {
 	expect_bssap_clear();
-	hlr_sends(who, message, "", NULL, "");
+	hlr_sends(who, type, octets, NULL, "");
 	OSMO_ASSERT(lu_result_sent == result);
 	OSMO_ASSERT(bssap_clear_sent);
 	ran_sends_clear_complete();
+}
+
+void location_update_ends(const struct subscriber *who, enum result_sent result)
+{
+	hlr_ends(who, "06", "", result);
+}
+
+void location_update_refused(const struct subscriber *who, uint8_t cause)
+{
+	char octets[16];
+
+	snprintf(octets, sizeof(octets), "0201%02x", cause);
+	hlr_ends(who, "05", octets, RES_REJECT);
 }
 
 void location_update(const struct subscriber *who, const char *contents)
@@ -176,7 +189,7 @@ void location_update(const struct subscriber *who, const char *contents)
 		inserts(who, contents);
 	else
 		hlr_sends(who, "10", "0804032443f2", "12", "");
-	location_update_ends(who, "06", RES_ACCEPT);
+	location_update_ends(who, RES_ACCEPT);
 }
 
 void mncc_sends(uint32_t message, uint8_t cause)
@@ -211,7 +224,7 @@ void sends_setup(const struct subscriber *who, const char *type, const char *bea
 
 void sets_up(const struct subscriber *who, const char *type, const char *bearer, const char *called)
 {
-	connects(who, "052471");
+	connects(who, CALL_REQUEST);
 	sends_setup(who, type, bearer, called);
 }
 
@@ -229,17 +242,35 @@ void rejected_with(uint8_t cause)
 
 void calls(const struct subscriber *who, const char *called)
 {
-	sets_up(who, "0385", SPEECH, called);
+	sets_up(who, SETUP, SPEECH, called);
 	rejected_with(34);
 }
 
-void calls_in_vain(const struct subscriber *who)
+void calls_in_vain(const struct subscriber *who, const char *type)
 {
-	connects(who, "052471");
+	char sent[128];
+
+	connects(who, CALL_REQUEST);
 	dtap_expect_tx("832a0802e1a9");
 	expect_bssap_clear();
-	ms_sends_msg("0385" SPEECH LISTED "15020100");
+	snprintf(sent, sizeof(sent), "%s" SPEECH LISTED "15020100", type);
+	ms_sends_msg(sent);
 	OSMO_ASSERT(dtap_tx_confirmed && bssap_clear_sent);
+	ran_sends_clear_complete();
+}
+
+void waits_for_hlr(const struct subscriber *who)
+{
+	char expected[64];
+
+	snprintf(expected, sizeof(expected), "04%s" CN_DOMAIN VLR_TO_HLR, who->in_gsup);
+	gsup_tx_expected = expected;
+	gsup_tx_confirmed = false;
+	connects(who, CALL_REQUEST);
+	OSMO_ASSERT(gsup_tx_confirmed && cm_service_result_sent == RES_NONE);
+	expect_bssap_clear();
+	fake_time_passes(31, 0);
+	OSMO_ASSERT(cm_service_result_sent == RES_REJECT && bssap_clear_sent);
 	ran_sends_clear_complete();
 }
 

@@ -61,12 +61,19 @@ extern const struct subscriber FIRST, SECOND;
 #define LONG_NUMBER "5e1791346105" "1111111111111111111111111111111111111111"
 #define EMERGENCY_NUMBER "5e038111f2"
 
+/* Messages with which a mobile calls, and the requests of a connection for them. */
+#define SETUP "0385"
+#define EMERGENCY_SETUP "038e"
+#define CALL_REQUEST "052471"
+#define EMERGENCY_REQUEST "052472"
+
 /* Which requests of the library for memory are refused: those of each commit, those of the next one only, or all. The
  * next commit can be held. */
 enum refusal { NO_REQUEST, OF_COMMITS, OF_COMMIT, EACH_REQUEST, HELD_COMMIT };
 extern enum refusal refused;
 
-/* Prints a line beside those of the glue. */
+/* Prints a line beside those of the glue, which can be muted. */
+extern bool is_muted;
 #define step(format, args...) printf("- " format "\n", ##args)
 
 /* A test begins, with a heading and CAMEL enabled, and ends with no connection and no subscriber, and with it off. */
@@ -84,13 +91,15 @@ const char *argument_of(const char *contents);
 void inserts(const struct subscriber *who, const char *contents);
 void insert_refused(const struct subscriber *who, const char *argument, const char *cause);
 
-/* A location update with these data, or without CAMEL data, and its parts. */
+/* A location update with these data, or without CAMEL data, and its parts. The HLR may refuse it with a cause. */
 void location_update(const struct subscriber *who, const char *contents);
 void location_update_begins(const struct subscriber *who);
-void location_update_ends(const struct subscriber *who, const char *message, enum result_sent result);
+void location_update_ends(const struct subscriber *who, enum result_sent result);
+void location_update_refused(const struct subscriber *who, uint8_t cause);
 
-/* A command of the node `camel` of the VTY, and what the VTY returns. */
+/* A command of the node `camel` of the VTY, and what the VTY returns. How many subscribers have a record. */
 int configures(const char *command);
+unsigned count_records(void);
 
 /* The mobile asks for a connection. It sends a SETUP, of which MNCC is told; MNCC rejects it with a cause, or the
  * mobile ends it, and MNCC then. calls() is a call that finds no way: 34, no circuit or channel available. */
@@ -101,8 +110,11 @@ void rejected_with(uint8_t cause);
 void caller_disconnects(void);
 void calls(const struct subscriber *who, const char *called);
 
-/* A call that is released at DP 2, of which MNCC is told nothing. */
-void calls_in_vain(const struct subscriber *who);
+/* A call by a message of this type that is released at DP 2, of which MNCC is told nothing. */
+void calls_in_vain(const struct subscriber *who, const char *type);
+
+/* The mobile asks for a connection for a call, but it is unconfirmed, so osmo-msc turns to the HLR, which is silent. */
+void waits_for_hlr(const struct subscriber *who);
 
 /* The mobile is switched off, or so it seems. */
 void detaches(const struct subscriber *who);

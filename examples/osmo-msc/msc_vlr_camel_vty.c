@@ -101,7 +101,7 @@ void test_switch(void)
 	begins("CAMEL is switched off and on");
 	location_update(&FIRST, DATA);
 	location_update(&SECOND, DATA);
-	sets_up(&FIRST, "0385", SPEECH, LISTED);
+	sets_up(&FIRST, SETUP, SPEECH, LISTED);
 	step("off: no call is asked, also one that has begun, and no data are stored");
 	OSMO_ASSERT(configures("no enable") == CMD_SUCCESS);
 	rejected_with(34);
@@ -117,6 +117,11 @@ void test_switch(void)
 	OSMO_ASSERT(configures("enable") == CMD_SUCCESS);
 	calls(&FIRST, LISTED);
 	is_called_and_caller_gives_up(&FIRST);
+	step("without them a call is released, if the VTY says so");
+	OSMO_ASSERT(configures("unknown-subscriber release") == CMD_SUCCESS);
+	calls_in_vain(&FIRST, SETUP);
+	called_in_vain(&FIRST);
+	OSMO_ASSERT(configures("unknown-subscriber continue") == CMD_SUCCESS);
 	detaches(&SECOND);
 	location_update(&FIRST, DATA);
 	calls(&FIRST, LISTED);
@@ -145,6 +150,14 @@ static void print_counters(void)
 	for (unsigned at = 0; at < camel->stats->desc->num_items; at++)
 		printf("%s: %d\n", camel->stats->desc->item_desc[at].name,
 		       (int)osmo_stat_item_get_last(osmo_stat_item_group_get_item(camel->stats, at)));
+}
+
+unsigned count_records(void)
+{
+	camel_counts counts;
+
+	OSMO_ASSERT(camel_counts_of(&net->vlr->camel->store, &counts) == CAMEL_OK);
+	return counts.subscribers;
 }
 
 void test_counters(void)

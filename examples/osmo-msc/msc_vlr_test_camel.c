@@ -14,16 +14,16 @@ static void test_criteria(void)
 	step("a listed number, and a listed cause");
 	calls(&FIRST, LISTED);
 	step("another number, and another cause");
-	sets_up(&FIRST, "0385", SPEECH, NOT_LISTED);
+	sets_up(&FIRST, SETUP, SPEECH, NOT_LISTED);
 	rejected_with(3);
 	step("a number of 22 octets, of which the first 20 are compared");
 	calls(&FIRST, LONG_NUMBER);
 	step("facsimile, asynchronous and synchronous data");
-	sets_up(&FIRST, "0385", FAX, LISTED);
+	sets_up(&FIRST, SETUP, FAX, LISTED);
 	rejected_with(38);
-	sets_up(&FIRST, "0385", ASYNCHRONOUS, LISTED);
+	sets_up(&FIRST, SETUP, ASYNCHRONOUS, LISTED);
 	rejected_with(38);
-	sets_up(&FIRST, "0385", SYNCHRONOUS, LISTED);
+	sets_up(&FIRST, SETUP, SYNCHRONOUS, LISTED);
 	rejected_with(38);
 	ends();
 }
@@ -32,7 +32,9 @@ static void test_release(void)
 {
 	begins("An O-CSI whose default call handling is release");
 	location_update(&FIRST, RELEASING_DATA);
-	calls_in_vain(&FIRST);
+	calls_in_vain(&FIRST, SETUP);
+	step("an EMERGENCY SETUP to a number that is none of emergency");
+	calls_in_vain(&FIRST, EMERGENCY_SETUP);
 	ends();
 }
 
@@ -40,23 +42,48 @@ static void test_emergency(void)
 {
 	begins("Emergency calls are not asked");
 	location_update(&FIRST, DATA);
-	step("an EMERGENCY SETUP");
-	sets_up(&FIRST, "038e", SPEECH, "");
+	step("an EMERGENCY SETUP without a number");
+	sets_up(&FIRST, EMERGENCY_SETUP, SPEECH, "");
 	rejected_with(34);
-	sets_up(&FIRST, "038e", SPEECH, EMERGENCY_NUMBER);
-	rejected_with(34);
-	step("a SETUP to 112, which is no emergency number here");
+	step("a SETUP and an EMERGENCY SETUP to 112, which is no emergency number here");
 	calls(&FIRST, EMERGENCY_NUMBER);
-	step("a SETUP to a number of the VTY");
+	sets_up(&FIRST, EMERGENCY_SETUP, SPEECH, EMERGENCY_NUMBER);
+	rejected_with(34);
+	step("both to a number of the VTY");
 	OSMO_ASSERT(configures("emergency-number 999") == 0 && configures("emergency-number 112") == 0);
 	calls(&FIRST, EMERGENCY_NUMBER);
+	sets_up(&FIRST, EMERGENCY_SETUP, SPEECH, EMERGENCY_NUMBER);
+	rejected_with(34);
 	OSMO_ASSERT(configures("no emergency-number 112") == 0);
 	calls(&FIRST, EMERGENCY_NUMBER);
 	OSMO_ASSERT(configures("no emergency-number 999") == 0);
-	step("a SETUP to the number to which osmo-msc routes emergency calls");
+	step("both, and one without a number, to the number to which osmo-msc routes emergency calls");
 	net->emergency.route_to_msisdn = "112";
 	calls(&FIRST, EMERGENCY_NUMBER);
+	sets_up(&FIRST, EMERGENCY_SETUP, SPEECH, EMERGENCY_NUMBER);
+	rejected_with(34);
+	sets_up(&FIRST, EMERGENCY_SETUP, SPEECH, "");
+	rejected_with(34);
 	calls(&FIRST, LISTED);
+	net->emergency.route_to_msisdn = NULL;
+	ends();
+}
+
+/* osmo-msc calls the number that a modified mobile sends in an EMERGENCY SETUP, also if it has one of its own. */
+static void test_claimed_emergency(void)
+{
+	begins("A mobile claims an emergency, and calls another number");
+	location_update(&FIRST, DATA O_CRITERIA);
+	for (unsigned at = 0; at < 8; at++) {
+		const char *request = at & 1 ? EMERGENCY_REQUEST : CALL_REQUEST;
+		const char *message = at & 2 ? EMERGENCY_SETUP : SETUP;
+
+		net->emergency.route_to_msisdn = at & 4 ? "112" : NULL;
+		step("request %s, message %s, emergency calls to %s", request, message, at & 4 ? "112" : "no number");
+		connects(&FIRST, request);
+		sends_setup(&FIRST, message, SPEECH, LISTED);
+		rejected_with(34);
+	}
 	net->emergency.route_to_msisdn = NULL;
 	ends();
 }
@@ -69,14 +96,14 @@ static void test_not_asked_at_4(void)
 	location_update(&FIRST, DATA);
 	for (size_t at = 0; at < ARRAY_SIZE(causes); at++) {
 		step("the cause %u", causes[at]);
-		sets_up(&FIRST, "0385", SPEECH, LISTED);
+		sets_up(&FIRST, SETUP, SPEECH, LISTED);
 		rejected_with(causes[at]);
 	}
 	step("the caller gives up");
-	sets_up(&FIRST, "0385", SPEECH, LISTED);
+	sets_up(&FIRST, SETUP, SPEECH, LISTED);
 	caller_disconnects();
 	step("the call is answered, and ended");
-	sets_up(&FIRST, "0385", SPEECH, LISTED);
+	sets_up(&FIRST, SETUP, SPEECH, LISTED);
 	dtap_expect_tx("8307");
 	mncc_sends(MNCC_SETUP_RSP, 0);
 	cc_to_mncc_expect_tx("", MNCC_SETUP_COMPL_IND);
@@ -94,7 +121,7 @@ static void test_record_of_set_up(void)
 {
 	begins("A second O-CSI is published during a call");
 	location_update(&FIRST, DATA);
-	sets_up(&FIRST, "0385", SPEECH, LISTED);
+	sets_up(&FIRST, SETUP, SPEECH, LISTED);
 	inserts(&FIRST, OTHER_DATA);
 	step("the call has the record of its set-up");
 	rejected_with(34);
@@ -121,8 +148,13 @@ static void test_refused_data(void)
 	step("a location update whose data are refused");
 	location_update_begins(&FIRST);
 	insert_refused(&FIRST, argument_of("a0023000"), "020164");
-	location_update_ends(&FIRST, "06", RES_ACCEPT);
+	location_update_ends(&FIRST, RES_ACCEPT);
 	calls(&FIRST, LISTED);
+	step("the first one of a subscriber: without data no call is set up, whatever the VTY says");
+	location_update_begins(&SECOND);
+	insert_refused(&SECOND, argument_of("a0023000"), "020164");
+	location_update_ends(&SECOND, RES_ACCEPT);
+	calls_in_vain(&SECOND, SETUP);
 	ends();
 }
 
@@ -139,6 +171,21 @@ static void test_withdrawal(void)
 	step("of all CAMEL data");
 	hlr_sends(&FIRST, "14", WITHDRAWN_ALL, "16", "");
 	calls(&FIRST, LISTED);
+	step("of the O-CSI in a location update: what comes behind it does not bring that back");
+	location_update_begins(&FIRST);
+	inserts(&FIRST, DATA);
+	hlr_sends(&FIRST, "14", WITHDRAWN_O, "16", "");
+	inserts(&FIRST, CALLED_RELEASE);
+	location_update_ends(&FIRST, RES_ACCEPT);
+	calls(&FIRST, LISTED);
+	called_in_vain(&FIRST);
+	step("at the beginning of one: the data come anew all the same");
+	location_update_begins(&FIRST);
+	hlr_sends(&FIRST, "14", WITHDRAWN_O, "16", "");
+	inserts(&FIRST, DATA);
+	location_update_ends(&FIRST, RES_ACCEPT);
+	calls(&FIRST, LISTED);
+	is_called_and_caller_gives_up(&FIRST);
 	ends();
 }
 
@@ -150,14 +197,14 @@ static void test_location_updates(void)
 	location_update_begins(&FIRST);
 	inserts(&FIRST, DATA);
 	inserts(&FIRST, O_CRITERIA);
-	location_update_ends(&FIRST, "06", RES_ACCEPT);
+	location_update_ends(&FIRST, RES_ACCEPT);
 	calls(&FIRST, NOT_LISTED);
 	step("of the second operation the data are refused, and the first one stands");
 	location_update_begins(&FIRST);
 	inserts(&FIRST, OTHER_DATA O_CRITERIA);
 	insert_refused(&FIRST, argument_of(O_CRITERIA), "02015f");
 	inserts(&FIRST, CALLED_RELEASE);
-	location_update_ends(&FIRST, "06", RES_ACCEPT);
+	location_update_ends(&FIRST, RES_ACCEPT);
 	calls(&FIRST, LISTED);
 	called_in_vain(&FIRST);
 	step("a VT-CSI comes, and no O-CSI");
@@ -269,7 +316,7 @@ static void test_not_reached(void)
 	ran_sends_clear_complete();
 	step("the subscriber is in another call");
 	net->call_waiting = false;
-	sets_up(&FIRST, "0385", SPEECH, LISTED);
+	sets_up(&FIRST, SETUP, SPEECH, LISTED);
 	called_in_vain(&FIRST);
 	rejected_with(34);
 	net->call_waiting = true;
@@ -281,11 +328,10 @@ static void test_not_reached(void)
 static void test_cancel_location(void)
 {
 	begins("CancelLocation during a call");
-	OSMO_ASSERT(configures("unknown-subscriber release") == 0);
 	location_update(&FIRST, DATA);
-	sets_up(&FIRST, "0385", SPEECH, LISTED);
+	sets_up(&FIRST, SETUP, SPEECH, LISTED);
 	hlr_sends(&FIRST, "1c", "060100", "1e", "");
-	step("another call is not set up");
+	step("another call is not set up on its connection, whatever the VTY says");
 	dtap_expect_tx("932a0802e1a9");
 	ms_sends_msg("1385" SPEECH LISTED "15020100");
 	OSMO_ASSERT(dtap_tx_confirmed);
@@ -294,20 +340,34 @@ static void test_cancel_location(void)
 	step("the subscriber returns");
 	location_update(&FIRST, OTHER_DATA);
 	calls(&FIRST, LISTED);
-	OSMO_ASSERT(configures("unknown-subscriber continue") == 0);
 	ends();
 }
 
 static void test_refused_location_update(void)
 {
 	begins("A location update that the HLR refuses");
+	is_muted = true;
+	printf("- the record goes if the cause is one of:");
+	for (unsigned cause = 0; cause <= UINT8_MAX; cause++) {
+		location_update(&FIRST, CALLED_DATA);
+		location_update_begins(&FIRST);
+		location_update_refused(&FIRST, cause);
+		if (count_records() == 0)
+			printf(" %u", cause);
+	}
+	printf("\n");
+	is_muted = false;
+	step("no such cause: a call to the subscriber is asked, and one of the subscriber waits for the HLR");
 	location_update(&FIRST, CALLED_DATA);
 	location_update_begins(&FIRST);
-	location_update_ends(&FIRST, "05", RES_REJECT);
-	step("a call to the subscriber is not set up, if the VTY says so");
-	OSMO_ASSERT(configures("unknown-subscriber release") == 0);
+	location_update_refused(&FIRST, GMM_CAUSE_NET_FAIL);
+	is_called_and_caller_gives_up(&FIRST);
+	waits_for_hlr(&FIRST);
+	step("such a cause: a call to the subscriber is not set up, whatever the VTY says");
+	location_update(&FIRST, CALLED_DATA);
+	location_update_begins(&FIRST);
+	location_update_refused(&FIRST, GMM_CAUSE_IMSI_UNKNOWN);
 	called_in_vain(&FIRST);
-	OSMO_ASSERT(configures("unknown-subscriber continue") == 0);
 	step("an InsertSubscriberData outside of a location update finds no record");
 	insert_refused(&FIRST, argument_of(DATA), "020102");
 	ends();
@@ -333,7 +393,7 @@ static void test_refused_publication(void)
 	refused = OF_COMMITS;
 	insert_refused(&FIRST, argument_of(OTHER_GREAT_DATA), "020116");
 	refused = NO_REQUEST;
-	location_update_ends(&FIRST, "06", RES_ACCEPT);
+	location_update_ends(&FIRST, RES_ACCEPT);
 	inserts(&SECOND, GREAT_DATA);
 	calls(&FIRST, LISTED);
 	step("the second data of a location update, and a third operation comes");
@@ -343,7 +403,7 @@ static void test_refused_publication(void)
 	insert_refused(&FIRST, argument_of(DATA O_CRITERIA), "020116");
 	refused = NO_REQUEST;
 	inserts(&FIRST, "");
-	location_update_ends(&FIRST, "06", RES_ACCEPT);
+	location_update_ends(&FIRST, RES_ACCEPT);
 	calls(&FIRST, LISTED);
 	ends();
 }
@@ -367,7 +427,7 @@ static void test_refused_withdrawals(void)
 	step("the end of a location update without CAMEL data");
 	location_update_begins(&FIRST);
 	refused = OF_COMMIT;
-	location_update_ends(&FIRST, "06", RES_REJECT);
+	location_update_ends(&FIRST, RES_REJECT);
 	step("the location update is made again");
 	location_update(&FIRST, NULL);
 	calls(&FIRST, LISTED);
@@ -379,7 +439,7 @@ static void test_refused_record(void)
 	begins("Memory is refused to the record of a set-up, which is decided without it");
 	location_update(&FIRST, DATA);
 	refused = EACH_REQUEST;
-	sets_up(&FIRST, "0385", SPEECH, LISTED);
+	sets_up(&FIRST, SETUP, SPEECH, LISTED);
 	refused = NO_REQUEST;
 	rejected_with(34);
 	ends();
@@ -400,6 +460,7 @@ msc_vlr_test_func_t msc_vlr_tests[] = {
 	test_criteria,
 	test_release,
 	test_emergency,
+	test_claimed_emergency,
 	test_not_asked_at_4,
 	test_record_of_set_up,
 	test_refused_data,
