@@ -19,13 +19,15 @@
  *
  * Statuses. A call that fails has done nothing, but what is said of it. It tells the first fault, in this order:
  *   1. the version, of camel_open only (CAMEL_OTHER_VERSION);
- *   2. data, field by field and item by item in their order (CAMEL_MALFORMED, and what else it says of them);
+ *   2. data, field by field and item by item in their order; of one item counts, numbers and addresses come before
+ *      values, and of the VT-CSI a number or a call type before all (CAMEL_MALFORMED, and what else it says of them);
  *   3. the handle that it is made of (CAMEL_WRONG_HANDLE);
  *   4. the handle that it is to fill (CAMEL_FULL_HANDLE);
  *   5. whether a look has begun (CAMEL_HELD);
  *   6. all else.
- * CAMEL_OUT_OF_MEMORY may come before 3 and 4 of a call that reads the lists of an Insert or the octets of a MAP
- * argument, and before the store's handle of camel_submit and camel_submit_all, which copy updates.
+ * Of several sessions it tells what is wrong with the first that has a fault.
+ * CAMEL_OUT_OF_MEMORY may come amid 2, and before 3 and 4, of a call that reads the lists of an Insert or the octets of
+ * a MAP argument, and before the store's handle of camel_submit and camel_submit_all, which copy updates.
  *
  * Threads. The store's handle is the writer's, and each session's handle that of one thread. A handle moves to another
  * thread by a lock, by a thread's start or join, or by an atomic that one stores with release and the other loads with
@@ -37,7 +39,8 @@
  * may be made again. It has changed nothing, but camel_commit says what it leaves. A session that looks in such a call
  * may have seen a later front. Only camel_open, camel_update_of, camel_update_of_map and camel_update_join,
  * camel_submit and camel_submit_*, camel_publish, camel_publish_to, camel_commit, camel_drop_pending, camel_keep,
- * camel_set_up, camel_imsis_of and camel_encode_record ask for any, and a publication that returns CAMEL_HELD for none.
+ * camel_set_up, camel_imsis_of and camel_encode_record ask for any. camel_publish and camel_publish_to ask for none if
+ * they return CAMEL_HELD; camel_commit does, and if it is refused returns CAMEL_OUT_OF_MEMORY and not CAMEL_HELD.
  * Nothing else is asked of the system, but getrandom by camel_random_seed: the library has no descriptor, timer,
  * thread, callback, signal handler or exit handler, and prints nothing. errno is as these functions leave it.
  *
@@ -70,8 +73,8 @@ extern "C" {
 #define CAMEL_VERSION_NUMBER 0x000700 /* an octet for each of its numbers */
 #define CAMEL_ABI_VERSION 4
 
-/* The most sessions that a store has, the most updates that it takes in its life, and the most octets of a MAP argument
- * that camel_encode_record writes. */
+/* The most sessions that a store has, the most updates that it takes in its life, and the room of a MAP argument, of
+ * which the longest record takes 582 octets. */
 #define CAMEL_MAX_SESSIONS 64
 #define CAMEL_MAX_UPDATES UINT64_C(0x7fffffffffffffff)
 #define CAMEL_MAX_ARGUMENT 1198
@@ -277,7 +280,7 @@ typedef struct camel_counts {
     uint64_t subscribers; /* who have a record in what is published */
     uint64_t published;   /* updates */
     uint64_t pending;     /* updates */
-    uint64_t held;        /* publications that a look held up, modulo 2^64; that of a session to tell is not counted */
+    uint64_t held;        /* publications that a look held up, modulo 2^64; one of a session to tell does not count */
 } camel_counts;
 
 /* How many events a session has decided, by camel_decide, camel_set_up and camel_decide_kept, at each detection point
@@ -613,13 +616,15 @@ CAMEL_INLINE camel_status camel_publish(camel_store *store)
 /* What a switch with one event loop does with the updates of an operation: submits copies of them, as camel_submit_all
  * does, publishes them, and has these sessions learn it, as camel_publish_to does. After each status below but the
  * last, none of it is shown, so the HLR may be answered with an error. What was pending before the call is dropped: a
- * switch that commits submits nothing else. `rejected` is that of camel_submit_all.
+ * switch that commits submits nothing else. `rejected` is that of camel_submit_all. The updates are looked at last,
+ * behind the sessions and the looks that hold the publication up.
  *   CAMEL_MALFORMED, CAMEL_WRONG_HANDLE, CAMEL_OTHER_STORE: as of both calls. All is as before.
  *   CAMEL_HELD: the first session that cannot learn has begun a look, and all is as before; or a look holds the
  *     publication up, and nothing is pending. Only then `held` of camel_counts is more than before the call.
  *   CAMEL_UNIDENTIFIED_SUBSCRIBER, CAMEL_DATA_MISSING, CAMEL_UNEXPECTED_DATA_VALUE, CAMEL_HISTORY_FULL: of an update,
  *     which `rejected` names. Nothing is pending.
- *   CAMEL_OUT_OF_MEMORY: some may be pending, which the next camel_commit drops.
+ *   CAMEL_OUT_OF_MEMORY: some may be pending, which camel_publish would show. The next camel_commit drops it, and so
+ *     does camel_drop_pending: call one of these first.
  *   CAMEL_NO_LOOK, or CAMEL_OTHER_STORE with more updates published than before: not expected, as of camel_publish_to.
  *     All of it is published, and a session does not show it. */
 CAMEL_RESULT
@@ -733,7 +738,8 @@ camel_status camel_next_imsi(camel_imsis *imsis, camel_imsi *imsi, bool *is_ther
  * registered, over the look that has begun, or else by a look of its own: what camel_submit_map or camel_update_of_map
  * makes the record of again, as after a restart. is_there tells whether there is a record; if not, the argument is as
  * before. It has the IMSI in itself. A CSI without rows is written as one row of a detection point of the other CSI, 12
- * in the O-CSI and 2 in the VT-CSI, which is ignored. Without a CSI, vlrCamelSubscriptionInfo has no fields. */
+ * in the O-CSI and 2 in the VT-CSI, which is ignored; a decoder that takes no values but those listed refuses it.
+ * Without a CSI, vlrCamelSubscriptionInfo has no fields. */
 CAMEL_CALL
 camel_status camel_encode_record(camel_session *session, const camel_imsi *imsi, camel_argument *argument,
                                  bool *is_there);
@@ -741,8 +747,9 @@ camel_status camel_encode_record(camel_session *session, const camel_imsi *imsi,
 /* Ends the store and empties its handle; what is pending is dropped. Each look that is held goes on until it is left,
  * and no session begins another: CAMEL_NO_LOOK. CAMEL_HELD: a look is held. Then the store has ended all the same, but
  * its handle stays full: it is to be closed again, or freed, and the writer's other calls return CAMEL_WRONG_HANDLE.
- * To learn who would hold the end up, call camel_publish and then camel_holders before camel_close. A switch that need
- * not know whether a look is held calls camel_free instead. */
+ * Before it camel_holders tells whose looks would hold the end up, once camel_drop_pending and then camel_publish have
+ * returned CAMEL_OK: of the looks that began before that publication all, and none that has begun since. A switch that
+ * need not know whether a look is held calls camel_free instead. */
 CAMEL_CALL
 camel_status camel_close(camel_store *store);
 

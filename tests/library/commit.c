@@ -227,6 +227,14 @@ static void held_by_another(void)
         COMMITS(CAMEL_HELD, 2, updates, 2, sessions, 2);
         IS(counts_are(2, 0, held) && shown() == before);
     }
+    /* Its copies of the updates come first: refused memory for one, it does not tell of the look. */
+    requests = 0;
+    refused_at = 1;
+    is_counting = true;
+    COMMITS(CAMEL_OUT_OF_MEMORY, 2, updates, 2, sessions, 2);
+    is_counting = was_refused = false;
+    refused_at = 0;
+    IS(counts_are(2, 0, 3) && shown() == before);
     RETURNS(CAMEL_OK, camel_leave(&sessions[2]));
     shows_nothing(before);
     COMMITS(CAMEL_OK, 2, updates, 2, sessions, SESSIONS);

@@ -54,6 +54,28 @@ static void held_by_some(camel_store *store, camel_session *sessions, size_t cou
     IS(holders(store) == 0);
 }
 
+/* Who would hold the end up is named once a publication has gone through, and not while one is held. */
+static void holders_of_the_end_are_named(void)
+{
+    camel_store store = CAMEL_EMPTY;
+    camel_session sessions[2] = { CAMEL_EMPTY, CAMEL_EMPTY };
+
+    RETURNS(CAMEL_OK, camel_open(&store, sessions, 2, 1, 1, 1));
+    RETURNS(CAMEL_OK, camel_look(&sessions[0]));
+    publish(&store, false);
+    RETURNS(CAMEL_OK, camel_look(&sessions[1]));
+    publish(&store, true);
+    IS(holders(&store) == 1);
+    RETURNS(CAMEL_OK, camel_leave(&sessions[0]));
+    publish(&store, false);
+    IS(holders(&store) == 2);
+    RETURNS(CAMEL_HELD, camel_close(&store));
+    RETURNS(CAMEL_OK, camel_leave(&sessions[1]));
+    RETURNS(CAMEL_OK, camel_close(&store));
+    camel_free(&sessions[0]);
+    camel_free(&sessions[1]);
+}
+
 static void holders_are_named(void)
 {
     static const size_t session_counts[] = { 1, 5, CAMEL_MAX_SESSIONS };
@@ -265,6 +287,7 @@ int main(void)
     bool is_there = false;
 
     holders_are_named();
+    holders_of_the_end_are_named();
     RETURNS(CAMEL_OK, camel_open(&store, sessions, 2, 20, 1, 1));
     updates_are_counted(&store);
     held_publications_are_counted(&store, &sessions[0]);

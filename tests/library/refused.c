@@ -331,29 +331,7 @@ static void hold(void)
 
 #include "refused_set_ups.h"
 
-/* All handles are empty, or a store is refused before any memory is asked for. */
-static void refuse_full_handles(void)
-{
-    static const size_t places[] = { 0, 2, 4 };
-    for (size_t at = 0; at < 3; at++) {
-        camel_store other = CAMEL_EMPTY, none = CAMEL_EMPTY;
-        camel_session own[5] = { CAMEL_EMPTY };
-        unsigned full = 0;
-        RETURNS(CAMEL_OK, camel_open(&other, &own[places[at]], 1, LIMIT, 1, 1));
-        NONE(CAMEL_FULL_HANDLE, camel_open(&none, own, 5, LIMIT, 1, 1));
-        for (size_t place = 0; place < 5; place++)
-            full += own[place].is_full;
-        IS(!none.is_full && full == 1 && own[places[at]].is_full);
-        camel_free(&own[places[at]]);
-        NONE(CAMEL_FULL_HANDLE, camel_open(&other, own, 5, LIMIT, 1, 1));
-        NONE(CAMEL_MALFORMED, camel_open(&other, own, 5, 0, 1, 1));
-        NONE(CAMEL_OTHER_VERSION, camel_open_version(1, &none, own, 5, LIMIT, 1, 1));
-        for (size_t place = 0; place < 5; place++)
-            IS(!own[place].is_full);
-        RETURNS(CAMEL_OK, camel_close(&other));
-    }
-    IS(blocks == 0);
-}
+#include "refused_orders.h"
 
 static void make_data(void)
 {

@@ -55,9 +55,12 @@ static void commit_next(uint64_t front)
     }
 }
 
+/* What drops what such a commit has left pending. */
+enum { BY_A_COMMIT, BY_A_DROP, DROPS };
+
 /* One life of a store: a commit is refused a request, the first being 1, and as many of those behind it as is said.
  * Tells whether the commit met it. It does without if it succeeds all the same. */
-static bool refuse_commit(unsigned what, unsigned pending, long request, long more)
+static bool refuse_commit(unsigned what, unsigned pending, unsigned drop, long request, long more)
 {
     camel_update updates[2] = { CAMEL_EMPTY, CAMEL_EMPTY };
     size_t count, rejected = 99;
@@ -82,6 +85,10 @@ static bool refuse_commit(unsigned what, unsigned pending, long request, long mo
         IS(counts_of(&store).pending == 0 || pending != NO_PENDING || is_removal(what));
         for (size_t at = 0; at < SESSIONS; at++)
             IS(shown_of_subscribers(&sessions[at]) == before);
+        if (drop == BY_A_DROP) {
+            RETURNS(CAMEL_OK, camel_drop_pending(&store));
+            shows_nothing(shown());
+        }
         commit_next(2);
     } else
         IS(counts_are(2 + count, 0, 0));
@@ -96,12 +103,13 @@ static void refused_commits(void)
 {
     for (unsigned what = CAMEL_UPDATE_REGISTER; what < COMMITTED; what++)
         for (unsigned pending = 0; pending < PENDINGS; pending++)
-            for (int is_all = 0; is_all < 2; is_all++) {
-                long request = 1;
-                while (!failed && refuse_commit(what, pending, request, is_all ? LONG_MAX : 0))
-                    request++;
-                IS(request > 1 || what == NOTHING);
-            }
+            for (unsigned drop = 0; drop < DROPS; drop++)
+                for (int is_all = 0; is_all < 2; is_all++) {
+                    long request = 1;
+                    while (!failed && refuse_commit(what, pending, drop, request, is_all ? LONG_MAX : 0))
+                        request++;
+                    IS(request > 1 || what == NOTHING);
+                }
 }
 
 #endif

@@ -94,6 +94,25 @@ static void lists_of_none(camel_store *store, const camel_imsi *imsi)
     RETURNS(CAMEL_MALFORMED, submit_insert(store, imsi, &none));
 }
 
+/* Of one item counts, numbers and addresses come before values, and of the VT-CSI a number or a call type before all. */
+static void order_within_an_item(camel_store *store)
+{
+    camel_row row = { .dp = 2, .key = 0x80000000u };
+    camel_criteria number = { .dp = 2, .has_number = true, .number = { .number_count = 1, .length_count = 1 } };
+    camel_criteria basic = { .dp = 13, .basic = { .count = 6 } };
+
+    number.number.lengths[0] = 16;
+    RETURNS(CAMEL_MALFORMED, insert(store, 1, ROWS(&row, 1), NO_CSI));
+    row.scf = isdn_of(SCF, sizeof SCF);
+    RETURNS(CAMEL_UNEXPECTED_DATA_VALUE, insert(store, 1, ROWS(&row, 1), NO_CSI));
+    RETURNS(CAMEL_MALFORMED, insert(store, 1, CSI(NULL, 0, &number, 1), NO_CSI));
+    number.number.numbers[0] = row.scf;
+    RETURNS(CAMEL_UNEXPECTED_DATA_VALUE, insert(store, 1, CSI(NULL, 0, &number, 1), NO_CSI));
+    RETURNS(CAMEL_MALFORMED, insert(store, 1, NO_CSI, CSI(NULL, 0, &basic, 1)));
+    basic.has_call_type = true;
+    RETURNS(CAMEL_UNEXPECTED_DATA_VALUE, insert(store, 1, NO_CSI, CSI(NULL, 0, &basic, 1)));
+}
+
 /* A change is of one of five kinds, and what is not of its kind is not looked at. */
 static void kinds_of_changes(void)
 {
@@ -157,6 +176,7 @@ static void rejected_updates(camel_store *store)
     criteria.number.number_count = 11;
     RETURNS(CAMEL_MALFORMED, insert(store, 1, CSI(&row, 1, &criteria, 1), NO_CSI));
     lists_of_none(store, &imsi);
+    order_within_an_item(store);
     RETURNS(CAMEL_OK, insert(store, 1, ROWS(&row, 1), NO_CSI));
     RETURNS(CAMEL_OK, submit_clear_all(store));
     RETURNS(CAMEL_HISTORY_FULL, submit_register(store, &imsi));
