@@ -6,9 +6,10 @@ from importlib.machinery import SourceFileLoader
 from importlib.util import module_from_spec, spec_from_loader
 from pathlib import Path
 
-from map_arguments import encoding, packets, transactions
-from map_arguments.ber import APPLICATION, INTEGER, OBJECT_IDENTIFIER, Element, context, minimal, universal
-from map_arguments.transactions import BEGIN, CONTINUE, END, RESPONSE, dialogue, error, invoke, message, result, wrapped
+from map_arguments import encoding, packets
+from map_arguments.ber import INTEGER, context, minimal, universal
+from map_arguments.transactions import (BEGIN, CONTINUE, END, REQUEST, RESPONSE, dialogue, error, invoke, message,
+                                        result, wrapped)
 from map_arguments.updates import Cancel
 
 from vectors import OPERATIONS
@@ -21,28 +22,12 @@ loader.exec_module(mapcapture)
 # What docs/MAP.md answers the HLR with: these are errors of MAP, and the other numbers are faults of the argument.
 ERRORS = {5: 5, 35: 35, 36: 36, 407: 36, 409: 36}
 MISTYPED_PARAMETER = b"\x81\x01\x02"
-# The reference by which a dialogue has an IMSI: MAP-OpenInfo, and octet 1 of a number of E.212.
-MAP_DIALOGUE, LAND_MOBILE = bytes.fromhex("04000001010101"), b"\x96"
 HLR_SIDE, VLR_SIDE = (mapcapture.HLR, mapcapture.VLR), (mapcapture.VLR, mapcapture.HLR)
 
 
 def version_of(operation, octets):
     """The version of the application context: an identity without [3] is of an earlier one."""
     return 2 if operation == "cancelLocation" and octets[:1] != b"\xa3" else 3
-
-
-def opened(operation, number, imsi):
-    """The dialogue portion by which the HLR opens a dialogue of this version, with the IMSI as the destination
-    reference."""
-    if not imsi:
-        return dialogue(transactions.REQUEST, operation, number)
-    arcs = transactions.CONTEXT_PREFIX + bytes([transactions.CONTEXTS[operation][0], number])
-    version, name = context(0, transactions.VERSION_1), context(1, [universal(OBJECT_IDENTIFIER, arcs)])
-    reference = context(0, [context(0, LAND_MOBILE + encoding.tbcd(imsi))])
-    external = universal(8, [universal(OBJECT_IDENTIFIER, MAP_DIALOGUE), context(0, [reference])])
-    unit = Element(APPLICATION, transactions.REQUEST, [version, name, context(30, [external])])
-    whole = universal(8, [universal(OBJECT_IDENTIFIER, transactions.DIALOGUE_AS_STRUCTURED), context(0, [unit])])
-    return minimal(Element(APPLICATION, 11, [whole]))
 
 
 def component_of(number, answer):
@@ -63,7 +48,8 @@ def operation_messages(transaction, operation, imsi, steps):
         portion, accepts = b"", b""
         if is_first:
             version = version_of(operation, octets)
-            portion, accepts = opened(operation, version, imsi), dialogue(RESPONSE, operation, version)
+            portion = dialogue(REQUEST, operation, version, imsi)
+            accepts = dialogue(RESPONSE, operation, version)
         kind, own = (BEGIN, None) if is_first else (CONTINUE, transaction + 1)
         yield *HLR_SIDE, message(kind, transaction, own, portion, [component])
         kind, own = (END, None) if is_last else (CONTINUE, transaction + 1)

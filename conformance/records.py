@@ -85,6 +85,11 @@ def item_texts(update):
             for name in updates.IGNORED for item in update.lists.get(name, ())]
 
 
+def insert_texts(insert):
+    """What an insert holds: its IMSI, if it has one in itself, and its items."""
+    return [f"imsi:{insert.imsi}"] * insert.shows_imsi + item_texts(insert)
+
+
 def received(step):
     """The update of a step's octets, with what a script's record may say and a rule refuses, or Untold."""
     right = decoder.unless
@@ -106,7 +111,7 @@ def held(step):
     update = received(step)
     if isinstance(update, updates.Delete):
         return update.imsi, updates.withdrawn(update)
-    return update.imsi, item_texts(update) if isinstance(update, updates.Insert) else []
+    return update.imsi, insert_texts(update) if isinstance(update, updates.Insert) else []
 
 
 def call_of(fields):
