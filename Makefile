@@ -49,17 +49,15 @@ endef
 	proofs edits must-not-compile examples scripts streams coprocess conformance refusals fuzz map-check map-program \
 	library install library-test library-c library-cpp library-as-shipped library-installed library-deb library-rust \
 	library-conformance tools deb deb-check deb-root osmo-check osmo-source standard-check soak fuzz-c bench \
-	bench-program bench-peers bench-table bench-loop bench-map count-vlr test
+	bench-program bench-peers bench-table bench-loop bench-map count-vlr test always
 # In order, so that what is missing is said before anything is built.
 .NOTPARALLEL:
 .SECONDEXPANSION:
 
-# The list of targets needs awk only. For any other target make first asks for the sources of each program, and without
-# these tools the shell would say for each of them what it lacks.
+# The list of targets needs awk only. Without these tools no script could say what it lacks.
 wanted := awk $(if $(filter-out help,$(MAKECMDGOALS)),bash find)
 lacking := $(strip $(foreach tool,$(wanted),$(shell command -v $(tool) > /dev/null || echo $(tool))))
 $(if $(lacking),$(error missing: $(lacking). All targets run by awk, and all but `make help` by bash and find))
-sources = $(if $(filter bash,$(wanted)),$(shell scripts/sources $(1)))
 
 ## Lists the targets.
 help:
@@ -82,13 +80,9 @@ crate:
 	@[ -n "$$CRATE" ] && [ -d "crates/$$CRATE/src" ] || \
 		{ echo "CRATE=$$CRATE is no crate: name one of \`ls crates\`, as CRATE=camel_rows" >&2; exit 2; }
 
-# Proves and builds a program if a source below it is newer, and runs it once. What `rt ci` has built is newer than
-# its sources.
-$(REPLAY) $(BENCH) $(REFUSALS) $(MAP_CHECK) $(EXPLAIN): $$(call sources,$$(@F))
-	@scripts/parts need build
-	@echo "$(@F): proved and built with all that it stands on, $(BUILD_TIME); log: $(@D)/build.log" >&2
-	@scripts/build $(@F)
-	@touch $@
+# The script knows what is built of the sources that are there, also by `rt ci`. Times say nothing of that.
+$(REPLAY) $(BENCH) $(REFUSALS) $(MAP_CHECK) $(EXPLAIN): always
+	@scripts/build $(@F) '$(BUILD_TIME)'
 
 $(EXPLAIN): BUILD_TIME = $(LONG_TIME)
 
@@ -120,7 +114,7 @@ explain: script $(EXPLAIN)
 
 ## Proves and builds the program: BUILD_TIME.
 program: $(REPLAY)
-	@echo "$< is built, and no source is newer" >&2
+	@echo "$< is built of the sources that are there" >&2
 
 ## Proves the crate CRATE with what it stands on: 1 to 15 minutes the first time.
 check: crate begin-$$@
@@ -251,11 +245,13 @@ osmo-check: begin-$$@ osmo-source $(if $(LIBRARY),,library)
 osmo-source: begin-osmo-check
 	@scripts/osmo-check source
 
-# It needs the network, and fetches the source package once.
+# It needs the network, and fetches the source packages once; the recorded messages need tshark.
 ## Looks up what docs/STANDARD.md quotes of TS 29.002 and 29.078: half a minute at first, with 60 MB fetched, then seconds.
 standard-check: begin-$$@
 	@scripts/fetch-source wireshark out/standard
 	@scripts/standard quotations
+	@scripts/fetch-source libosmo-sccp out/sccp --tar-only
+	@scripts/standard messages
 
 # It makes so many DECISIONS, or goes on for so many SECONDS if they are given. Another SEED gives other calls and
 # updates.
@@ -275,7 +271,7 @@ bench: begin-$$@ $(REPLAY) $(EXPLAIN)
 
 ## Proves and builds the program that measures the store: BUILD_TIME.
 bench-program: $(BENCH)
-	@echo "$< is built, and no source is newer" >&2
+	@echo "$< is built of the sources that are there" >&2
 
 # Says which Debian packages it needs, if one is missing.
 ## Measures the store beside others in Rust and C: about a quarter of an hour, once program and library are built.
@@ -314,7 +310,7 @@ map-check: begin-$$@ $(REPLAY) $(MAP_CHECK)
 
 ## Proves and builds the program that reads MAP arguments for `tools/map2script`: BUILD_TIME.
 map-program: $(MAP_CHECK)
-	@echo "$< is built, and no source is newer" >&2
+	@echo "$< is built of the sources that are there" >&2
 
 ## Passes every proof and every test: TEST_TIME. PARTS=any leaves out those whose tools are missing, and says which.
 test:

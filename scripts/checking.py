@@ -1,9 +1,10 @@
-"""What the checks share: a difference, how it is told, and how many checks run side by side."""
+"""What the checks share: a difference and how it is told, what the repository has, and checks that run side by side."""
 
 import os
 import signal
 from concurrent.futures import ProcessPoolExecutor
 from multiprocessing import get_context
+from pathlib import Path
 
 
 class Difference(Exception):
@@ -19,6 +20,15 @@ def shown(value):
 def expect(what, found, expected):
     if found != expected:
         raise Difference(f"{what}: {shown(found)}, NOT {shown(expected)}")
+
+
+def entries(root):
+    """The files and folders of the repository, but for what is built. git is not asked: it may not be there, and gives no
+    answer in the clone of another user."""
+    for folder, folders, files in os.walk(root):
+        folders[:] = sorted(set(folders) - {".git", "out", "target", "__pycache__"})
+        for name in folders + files:
+            yield (Path(folder) / name).relative_to(root).as_posix()
 
 
 def end_at_interrupt():
