@@ -383,7 +383,7 @@ CAMEL_INLINE camel_lists camel_lists_of(const camel_insert *sent)
     return lists;
 }
 
-/* A pointer that is not null: of no octets where it was, */
+/* Returns `octets`; for NULL, a pointer to nothing, with the count set to 0. */
 CAMEL_INLINE const uint8_t *camel_octets_at(const uint8_t *octets, size_t *octet_count)
 {
     static const uint8_t none = 0;
@@ -393,7 +393,7 @@ CAMEL_INLINE const uint8_t *camel_octets_at(const uint8_t *octets, size_t *octet
     return &none;
 }
 
-/* and of one empty handle if there are to be some. */
+/* Returns `updates`; for NULL, one empty handle, which the call refuses unless the count is 0. */
 CAMEL_INLINE const camel_update *camel_updates_at(const camel_update *updates, size_t *update_count)
 {
     static const camel_update none = CAMEL_EMPTY;
@@ -589,7 +589,7 @@ CAMEL_INLINE camel_status camel_submit(camel_store *store, const camel_update *u
 /* Publishes all that is pending, also if nothing is, and has these sessions of the store learn it, as camel_learn does:
  * from then on each shows it. The sessions are in no other call meanwhile: those of other threads learn a receipt.
  *   CAMEL_MALFORMED: there are more than CAMEL_MAX_SESSIONS.
- *   CAMEL_WRONG_HANDLE: the store's handle holds none, or the first session that cannot learn is none.
+ *   CAMEL_WRONG_HANDLE: `store` is no live store, or the first of `sessions` that cannot learn is no session.
  *   CAMEL_HELD: that session has begun a look, or a look that began before the last publication is held.
  *   CAMEL_OTHER_STORE: that session is of another store.
  *   CAMEL_OUT_OF_MEMORY.

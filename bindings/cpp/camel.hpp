@@ -2,9 +2,9 @@
  *
  * A Store is the writer's, and each Session is of one call-control thread. Store, Session, Look, Subscriber, Update and
  * Imsis move, are not copied, and free what they hold at their end, and when another is assigned to them. One that was
- * made by its default constructor, or moved from, holds nothing: its calls return CAMEL_WRONG_HANDLE, if their data are
- * some, and to leave a Look that holds nothing is no fault. An object is in one call at a time, but may be in several
- * const ones; different objects may be in calls at the same time. All else is plain data, the structs of camel.h.
+ * made by its default constructor, or moved from, holds nothing: its calls return CAMEL_WRONG_HANDLE when their
+ * arguments are valid; leaving such a Look is allowed. An object is in one call at a time, but may be in several const
+ * ones; different objects may be in calls at the same time. All else is plain data, the structs of camel.h.
  *
  * A call returns a Result: its value, or the status that says why it did nothing, with what camel.h says of it. Nothing
  * throws but the vector of open. Beside what camel.h leaves unchecked, one thing is left to the caller: a session is
@@ -33,8 +33,7 @@ struct Failure {
     camel_status status;
 };
 
-/* A value that may not be there. Whoever asks for one that is not ends the program, in each build: no call goes on with
- * what is none. */
+/* A value that may not be there. Reading a value that is absent calls std::terminate, in release builds too. */
 template <class T>
 class Optional {
 public:
@@ -76,9 +75,8 @@ private:
     camel_status status_ = CAMEL_OK;
 };
 
-/* What is there, or nothing, or the status that says why neither is known. It has no truth of its own, which could be
- * of either: `ok` says whether it is known, and `is_there` whether there is a value, which whoever asks for it has to
- * know. */
+/* What a call found, nothing, or the status that says why it failed. It does not convert to bool, which could mean two
+ * things. ok(): the call succeeded. is_there(): it found a value. Check both before you read it. */
 template <class T>
 class [[nodiscard]] Maybe : private Optional<T> {
 public:
