@@ -1,0 +1,78 @@
+"""What all tests share: the programs and the library that are built, and what happens if a tool is missing."""
+
+import os
+from functools import lru_cache
+from pathlib import Path
+
+import pytest
+
+pytest.register_assert_rewrite("support")
+pytest_plugins = ["support.preloaded"]
+
+from support import tools  # noqa: E402
+
+TOP = Path(__file__).resolve().parent.parent
+
+
+def end_session(config, text):
+    """Ends the session at once. A worker of pytest-xdist has its controller say why."""
+    if hasattr(config, "workeroutput"):
+        config.workeroutput["ended_by"] = text
+    pytest.exit(text, 2)
+
+
+@pytest.hookimpl(optionalhook=True)
+def pytest_testnodedown(node):
+    text = getattr(node, "workeroutput", {}).get("ended_by")
+    if text:
+        pytest.exit(text, 2)
+
+
+@pytest.hookimpl(trylast=True)
+def pytest_collection_modifyitems(config, items):
+    """Ends the session if a test needs a tool that is missing, or with PARTS=any skips the test."""
+    is_there = lru_cache(tools.is_there)
+    lacking = {}
+    for item in items:
+        needed = [tool for marker in item.iter_markers("needs") for tool in marker.args]
+        if unknown := set(needed) - set(tools.SOURCES):
+            end_session(config, f"{item.nodeid} needs {unknown}, which tests/support/tools.py does not have")
+        if missing := [tool for tool in needed if not is_there(tool)]:
+            lacking |= dict.fromkeys(missing)
+            item.add_marker(pytest.mark.skip(reason="; ".join(map(tools.lack_of, missing))))
+    if lacking and os.environ.get("PARTS") != "any":
+        said = [tools.lack_of(tool) for tool in sorted(lacking)]
+        end_session(config, "\n".join([*said, "no test was begun; PARTS=any skips those that need these tools"]))
+
+
+@pytest.fixture(scope="session")
+def top():
+    """The folder of the repository."""
+    return TOP
+
+
+def built(config, path, target):
+    if not path.exists():
+        end_session(config, f"{path.relative_to(TOP)} is not built: `make {target}` builds it")
+    return path
+
+
+def program(name, target):
+    """A fixture of the path of a program that is built."""
+
+    def of_session(pytestconfig):
+        return built(pytestconfig, TOP / "crates" / name / "out" / name, target)
+
+    return pytest.fixture(scope="session")(of_session)
+
+
+replay = program("camel_replay", "program")
+explain = program("camel_explain", "tools")
+map_check = program("camel_map_check", "map-program")
+
+
+@pytest.fixture(scope="session")
+def library(pytestconfig):
+    """The folder of the library for C, C++ and Rust."""
+    built(pytestconfig, TOP / "out/library/libwenqolo.a", "library")
+    return TOP / "out/library"
