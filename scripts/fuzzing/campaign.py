@@ -11,6 +11,7 @@ from glob import glob
 from pathlib import Path
 
 from checking import Difference, shown, side_by_side
+from support.cases import read_case
 
 from . import prefixes, too_long
 from .comparison import compare
@@ -41,8 +42,10 @@ def attributed_to(name, script, options):
 def read_bases():
     """The scripts of examples/ and tests/scripts/ by their names. Of those with the same octets it is the first one."""
     bases = {}
-    for name in sorted(glob("examples/*.csv")) + sorted(glob("tests/scripts/*.csv")):
+    for name in sorted(glob("examples/*.csv")):
         bases.setdefault(Path(name).read_bytes(), name)
+    for name in sorted(glob("tests/scripts/*.case")):
+        bases.setdefault(read_case(Path(name)).input, name)
     if not bases:
         raise Difference("there are no scripts to begin from")
     return {name: octets for octets, name in bases.items()}

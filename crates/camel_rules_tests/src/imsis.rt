@@ -17,7 +17,7 @@ fn keeps_5_to_15_digits(rt: HostRuntime) {
     assert!(rt; Imsi::from_digits(&[2, 6, 2, 10, 11]).err() == Some(ImsiFault::NotDigit { at: 3 }));
 }
 
-/// `tests/explain/imsis.csv` has other characters.
+/// `tests/explain/imsis.case` has other characters.
 #[test]
 fn keeps_the_digits_of_characters(rt: HostRuntime) {
     let digits = [0, 0, 1, 0, 1, 0, 1, 2, 3, 4, 5, 6, 7, 8, 9];
