@@ -19,7 +19,6 @@ PREFIX ?= /usr/local
 REPLAY := crates/camel_replay/out/camel_replay
 BENCH := crates/camel_vlr_bench/out/camel_vlr_bench
 REFUSALS := crates/camel_refusals/out/camel_refusals
-COPROCESS := crates/camel_replay/out/coprocess
 MAP_CHECK := crates/camel_map_check/out/camel_map_check
 EXPLAIN := crates/camel_explain/out/camel_explain
 
@@ -168,9 +167,7 @@ streams: begin-$$@ $(REPLAY)
 # The round trip is that of so many CALLS.
 ## Runs the program as the child of a switch in C, and of the first call through pipes: seconds, once it is built.
 coprocess: begin-$$@ $(REPLAY)
-	@$(CC) -std=c11 -O2 -Wall -Wextra -o $(COPROCESS) examples/coprocess.c
-	@$(COPROCESS) $(REPLAY) $(CALLS)
-	@scripts/install out/installed && PATH="$(CURDIR)/out/installed/bin:$$PATH" scripts/first-calls docs/PIPES.md
+	@CALLS=$(CALLS) pytest-3 -s tests/coprocess
 
 # It needs no Rattle if library and program are there, and with PROGRAM=.. neither of them. PROFILE=1 is only profile 1.
 ## Runs the vectors of conformance/ over library and program, or over any PROGRAM between two pipes: seconds.
@@ -215,23 +212,23 @@ library-test: begin-$$@ library-c library-cpp library-as-shipped library-install
 
 library-c: COUNT ?= 100000
 library-c: begin-$$@ library
-	@scripts/library-test c $(COUNT)
+	@COUNT=$(COUNT) pytest-3 tests/library/test_library_c.py
 
 library-cpp: begin-$$@ library
-	@scripts/library-test cpp
+	@pytest-3 tests/library -k in_cpp
 
 library-as-shipped: begin-$$@ library
-	@scripts/library-as-shipped
+	@pytest-3 tests/library -k of_the_page
 
 library-installed: begin-$$@ library
-	@scripts/library-test installed
+	@pytest-3 tests/library/test_library_installed.py -k 'not of_the_page'
 
 library-deb: begin-$$@ library tools
-	@scripts/library-test deb
+	@pytest-3 tests/packages
 
 library-rust: DECISIONS ?= 1000000
 library-rust: begin-$$@ library
-	@scripts/library-test rust $(DECISIONS)
+	@DECISIONS=$(DECISIONS) pytest-3 tests/library -k in_rust
 
 library-conformance: begin-$$@ library $(REPLAY)
 	@scripts/conformance
@@ -263,7 +260,7 @@ soak: begin-$$@ library
 fuzz-c: COUNT ?= 1000000
 ## Makes COUNT calls of the library with the random fields of SEED: seconds, once it is built.
 fuzz-c: begin-$$@ library
-	@scripts/fuzz-c $(COUNT) $(SEED)
+	@COUNT=$(COUNT) SEED=$(SEED) pytest-3 tests/library -k random_calls
 
 ## Measures the program beside a plain one in Rust: some minutes, once it is built.
 bench: begin-$$@ $(REPLAY) $(EXPLAIN)

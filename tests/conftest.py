@@ -7,7 +7,7 @@ from pathlib import Path
 import pytest
 
 pytest.register_assert_rewrite("support")
-pytest_plugins = ["support.preloaded", "support.processes"]
+pytest_plugins = ["support.compiling", "support.preloaded", "support.processes"]
 
 from support import tools  # noqa: E402
 

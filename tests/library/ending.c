@@ -2,6 +2,7 @@
  * freed when the last of them is left.
  *
  *     ending ENDS    makes so many ends beside four threads that decide and look */
+#define _GNU_SOURCE
 #include "check.h"
 
 #include <malloc.h>

@@ -447,6 +447,7 @@ static void print(const char *call, const char *calls, long failing, long withou
 
 int main(void)
 {
+    refuse_amid_data();
     uint64_t wanted = live();
     long all = requests;
     sweep(all, wanted);

@@ -1,0 +1,55 @@
+"""The library in C++ and in Rust: the tests of the header and of the crate, the examples, and a soak."""
+
+import os
+import shutil
+
+import pytest
+
+from support.compiling import TOP, output
+
+CPP = pytest.mark.parametrize("standard", ["c++17", "c++20"])
+RUST = pytest.mark.needs("cc", "cargo", "rustc")
+
+
+def text_of(example):
+    return (TOP / f"tests/library/{example}.txt").read_text()
+
+
+@CPP
+@pytest.mark.needs("c++")
+@pytest.mark.parametrize("name", ["test", "test_updates"])
+def test_header_in_cpp(name, standard, compiled):
+    output(compiled(f"bindings/cpp/{name}.cpp", f"-std={standard}"))
+
+
+@CPP
+@pytest.mark.needs("c++")
+def test_event_loop_in_cpp(standard, compiled, sanitizers):
+    program = compiled("examples/event_loop.cpp", f"-std={standard}", *sanitizers)
+    assert output(program, input=text_of("event_loop")) == text_of("event_loop")
+
+
+@RUST
+def test_soak_in_rust(library):
+    output(TOP / "scripts/soak", "--decisions", os.environ.get("DECISIONS", "1000000"))
+
+
+@pytest.fixture
+def cargo(library, tmp_path):
+    """Returns what runs cargo over the crate by itself, as a switch has it."""
+    crate = tmp_path / "bindings/rust"
+    shutil.copytree(TOP / "bindings/rust", crate, ignore=shutil.ignore_patterns("target", "Cargo.lock"))
+    environment = os.environ | {"CAMEL_LIB_DIR": library}
+    return lambda *words, **options: output("cargo", *words, cwd=crate, env=environment, **options)
+
+
+@RUST
+def test_crate_in_rust(cargo):
+    cargo("test", "--offline", "--quiet")
+
+
+@RUST
+@pytest.mark.parametrize("name", ["switch", "event_loop"])
+def test_example_in_rust(name, cargo):
+    words = ["run", "--offline", "--quiet", "--release", "--example", name]
+    assert cargo(*words, input=text_of(name)) == text_of(name)
