@@ -176,7 +176,7 @@ conformance: begin-$$@
 
 ## Refuses each request for memory in turn: some minutes, once the two programs are built.
 refusals: begin-$$@ $(REFUSALS) $(REPLAY)
-	@scripts/refusals
+	@pytest-3 tests/refused -k 'call or replay'
 
 ## Proves and builds the library for C, C++ and Rust, into out/library: LONG_TIME.
 library: begin-$$@
@@ -212,7 +212,7 @@ library-test: begin-$$@ library-c library-cpp library-as-shipped library-install
 
 library-c: COUNT ?= 100000
 library-c: begin-$$@ library
-	@COUNT=$(COUNT) pytest-3 tests/library/test_library_c.py
+	@COUNT=$(COUNT) pytest-3 tests/library/test_library_c.py tests/refused -k 'library_c or life'
 
 library-cpp: begin-$$@ library
 	@pytest-3 tests/library -k in_cpp

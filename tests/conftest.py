@@ -69,6 +69,7 @@ def program(name, target):
 replay = program("camel_replay", "program")
 explain = program("camel_explain", "tools")
 map_check = program("camel_map_check", "map-program")
+refusals = program("camel_refusals", "refusals")
 
 
 @pytest.fixture(scope="session")

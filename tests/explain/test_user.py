@@ -9,6 +9,7 @@ import termios
 import pytest
 
 from support.processes import LIMIT, PIPE_HOLDS, receive, run, start_in_terminal
+from support.refusals import refuse, sweep
 
 GREETING = "help prints what may be typed; Ctrl-D ends the session\n"
 # What is typed, and what comes of it. An empty line leaves the prompt with a space behind it.
@@ -144,27 +145,18 @@ def test_help_has_examples(explain):
 def test_memory_that_is_refused_is_done_without_or_is_102(explain, refusing):
     """Each request is refused in turn. Then what is printed is a beginning of the whole, with 102, or the whole."""
     octets = b'register,26201\n# a comment\r"publish"\ncall,2,26201,"t\n11",91,n\n' + b"none," * 5000
-    whole = run(explain, octets=octets)
-    ends = []
-    for request in range(1, 2000):
-        left = run(explain, octets=octets, env=refusing(request))
-        if not left.stderr.startswith(b"refused\n"):
-            break
-        ends.append(end_of_refused(left, whole))
-        assert ends[-1], f"request {request}: {left}"
-    else:
-        pytest.fail("over 2000 requests for memory")
-    assert "102" in ends
+    whole = refuse(refusing(0), [explain], octets=octets)
+    ends = [end_of_refused(left, whole) for left in sweep(refusing, [explain], octets=octets)]
+    assert None not in ends and "102" in ends
 
 
 def end_of_refused(left, whole):
     """How a run ended of which a request was refused, or None if it may not end so."""
-    said = left.stderr.removeprefix(b"refused\n")
-    if said == b"camel_explain: fault 102: memory is refused\n":
-        return "102" if left.returncode == 1 and whole.stdout.startswith(left.stdout) else None
-    if left.returncode == 2:
-        return "words rejected" if said and not left.stdout else None
-    return "whole" if (left.returncode, left.stdout, said) == (whole.returncode, whole.stdout, b"") else None
+    if left.said == "camel_explain: fault 102: memory is refused\n":
+        return "102" if left.status == 1 and whole.output.startswith(left.output) else None
+    if left.status == 2:
+        return "words rejected" if left.said and not left.output else None
+    return "whole" if left[:3] == (whole.status, whole.output, "") else None
 
 
 def test_counts_are_those_of_the_script(explain):

@@ -1,11 +1,6 @@
 /* Updates that are committed: published by themselves, with sessions that show them from then on, or not shown at all.
  * Each status, by a call that returns it, and what is pending and shown behind it. Then each request for memory of a
- * commit is refused in turn: nothing of it is shown, and the next commit publishes its own updates only. Linked with
- * --wrap of malloc, realloc and free. */
-#include "check.h"
-
-enum kind { COMMIT, KINDS };
-
+ * commit is refused in turn: nothing of it is shown, and the next commit publishes its own updates only. */
 #include "refusing.h"
 
 #include "shown.h"
@@ -228,12 +223,12 @@ static void held_by_another(void)
         IS(counts_are(2, 0, held) && shown() == before);
     }
     /* Its copies of the updates come first: refused memory for one, it does not tell of the look. */
-    requests = 0;
-    refused_at = 1;
+    refused_from = refused_to = requests + 1;
     is_counting = true;
     COMMITS(CAMEL_OUT_OF_MEMORY, 2, updates, 2, sessions, 2);
-    is_counting = was_refused = false;
-    refused_at = 0;
+    is_counting = false;
+    IS(refused == 1);
+    refused_from = refused_to = refused = 0;
     IS(counts_are(2, 0, 3) && shown() == before);
     RETURNS(CAMEL_OK, camel_leave(&sessions[2]));
     shows_nothing(before);

@@ -1,47 +1,8 @@
-/* Each request for memory in the life of a store, refused in turn. The call that it fails returns CAMEL_OUT_OF_MEMORY
- * and has changed nothing; it is made again, or, of a publication, in a second sweep behind a further update. What two
- * of the publications bring is dropped, if they fail, and comes again. Each life ends as one in which no memory was
- * refused, with nothing left allocated. Prints how many requests fail each call, and how many it does without. Linked
- * with --wrap of malloc, realloc and free. */
+/* The life of a store, in which requests for memory may be refused. The call that one fails returns CAMEL_OUT_OF_MEMORY
+ * and has changed nothing; it is made again, or, of a publication, with a word behind a further update. What two of the
+ * publications bring is dropped, if they fail, and comes again. Nothing is left allocated, and what it shows in the end
+ * is that of a life in which no memory was refused: tests/refused/test_refused.py compares them. */
 #include "octets.h"
-
-enum kind {
-    OPEN, REGISTER, INSERT_ROWS, INSERT_FEW, INSERT_MANY, INSERT_OCTETS, DELETE, CANCEL, CLEAR_ALL,
-    UPDATE_PLAIN, UPDATE_LISTS, UPDATE_OCTETS, JOIN, SUBMIT, SUBMIT_ALL, PUBLISH_INSERTS, PUBLISH_NOTHING,
-    PUBLISH_DELETE, PUBLISH_CANCEL, PUBLISH_CLEAR_ALL, PUBLISH_OR_DROP, PUBLISH_TO, COMMIT, DROP_REMOVALS, KEEP, SET_UP,
-    LIST, ENCODE, KINDS
-};
-
-static const char *const NAMES[KINDS] = {
-    [OPEN] = "`camel_open`, two sessions",
-    [REGISTER] = "`camel_submit_change`, a register",
-    [INSERT_ROWS] = "`camel_submit_change`, an insert of rows",
-    [INSERT_FEW] = "`camel_submit_change`, an insert of rows, and criteria of three numbers and of causes",
-    [INSERT_MANY] = "`camel_submit_change`, an insert of all lists, with criteria of ten numbers and all else",
-    [INSERT_OCTETS] = "`camel_submit_map`, all lists in octets",
-    [DELETE] = "`camel_submit_change`, a delete",
-    [CANCEL] = "`camel_submit_change`, a cancel",
-    [CLEAR_ALL] = "`camel_submit_change`, a clear of all",
-    [UPDATE_PLAIN] = "`camel_update_of`, a register, a delete, a cancel and a clear of all",
-    [UPDATE_LISTS] = "`camel_update_of`, an insert of three lists, with criteria of ten numbers and all else",
-    [UPDATE_OCTETS] = "`camel_update_of_map`, an O-CSI in octets",
-    [JOIN] = "`camel_update_join`, of these two",
-    [SUBMIT] = "`camel_submit`, of what they are together",
-    [SUBMIT_ALL] = "`camel_submit_all`, of a register and the same",
-    [PUBLISH_INSERTS] = "`camel_publish`, of registers and inserts, and the next one",
-    [PUBLISH_NOTHING] = "`camel_publish`, of nothing behind nothing",
-    [PUBLISH_DELETE] = "`camel_publish`, of a delete, and the next one",
-    [PUBLISH_CANCEL] = "`camel_publish`, of a cancel, and the next one",
-    [PUBLISH_CLEAR_ALL] = "`camel_publish`, of a clear of all, and the next one",
-    [PUBLISH_OR_DROP] = "`camel_publish`, of a delete, registers and inserts, which are dropped if it fails",
-    [PUBLISH_TO] = "`camel_publish_to`, of a location update to two sessions, and the next one",
-    [COMMIT] = "`camel_commit`, of a location update to two sessions, and the next one",
-    [DROP_REMOVALS] = "`camel_drop_pending`, of a cancel and a clear of all",
-    [KEEP] = "`camel_keep`",
-    [SET_UP] = "`camel_set_up`",
-    [LIST] = "`camel_imsis_of`",
-    [ENCODE] = "`camel_encode_record`, all lists",
-};
 
 #include "refusing.h"
 
@@ -56,10 +17,16 @@ static bool submits_between; /* a further update, between a publication that is 
 
 #include "shown.h"
 
+/* The calls that are made at several places. */
+static const char UPDATE_PLAIN[] = "`camel_update_of`, a register, a delete, a cancel and a clear of all";
+static const char PUBLISH_INSERTS[] = "`camel_publish`, of registers and inserts, and the next one";
+static const char PUBLISH_NOTHING[] = "`camel_publish`, of nothing behind nothing";
+static const char PUBLISH_TO[] = "`camel_publish_to`, of a location update to two sessions, and the next one";
+
 /* All that the store and a session show, in one number. */
 static uint64_t shown(void)
 {
-    return shown_by(&store, &sessions[1], SHOWN);
+    return store.is_full ? shown_by(&store, &sessions[1], SHOWN) : 0;
 }
 
 /* Criteria of so many numbers, and if they are many, of all other kinds too. */
@@ -107,8 +74,7 @@ static bool has_o(unsigned number)
 static void register_subscriber(unsigned number)
 {
     camel_imsi imsi = imsi_of(number);
-    uint64_t before = shown();
-    AGAIN(REGISTER, submit_register(&store, &imsi), shown() == before && is_unknown(number));
+    AGAIN("`camel_submit_change`, a register", submit_register(&store, &imsi), is_unknown(number));
     accepted++;
 }
 
@@ -117,11 +83,11 @@ static void submit_octets(unsigned number)
 {
     struct argument argument = ARGUMENT[ALL_LISTS];
     camel_imsi imsi = imsi_of(number);
-    uint64_t before = shown(), place = 99;
+    uint64_t place = 99;
     write_tbcd(number, argument.octets + IMSI_AT);
-    AGAIN(INSERT_OCTETS,
+    AGAIN("`camel_submit_map`, all lists in octets",
           camel_submit_map(&store, argument.operation, &imsi, argument.octets, argument.count, &place),
-          shown() == before && place == CAMEL_NO_OCTET && has_no_vt(number));
+          place == CAMEL_NO_OCTET && has_no_vt(number));
     IS(place == CAMEL_NO_OCTET);
 }
 
@@ -131,22 +97,21 @@ static void send_lists(unsigned number)
     camel_row o[] = { row_of(2, 100), row_of(4, 101) }, vt[] = { row_of(12, 102), row_of(13, 103) };
     camel_criteria few = o_criteria_of(2, 3), many[] = { o_criteria_of(2, 10), o_criteria_of(4, 4) };
     camel_criteria causes[] = { CAUSES, { .dp = 12, .basic = { 1, { { true, 0x11 } } } } };
-    uint64_t before = shown();
     switch (number % 6) {
     case 0:
-        AGAIN(INSERT_ROWS, insert(&store, number, ROWS(o, 2), NO_CSI),
-              shown() == before && has_no_vt(number));
+        AGAIN("`camel_submit_change`, an insert of rows", insert(&store, number, ROWS(o, 2), NO_CSI),
+              has_no_vt(number));
         break;
     case 3:
         submit_octets(number);
         break;
     case 1: case 4:
-        AGAIN(INSERT_FEW, insert(&store, number, CSI(o, 1, &few, 1), CSI(vt, 2, causes, 1)),
-              shown() == before && has_no_vt(number));
+        AGAIN("`camel_submit_change`, an insert of rows, and criteria of three numbers and of causes",
+              insert(&store, number, CSI(o, 1, &few, 1), CSI(vt, 2, causes, 1)), has_no_vt(number));
         break;
     default:
-        AGAIN(INSERT_MANY, insert(&store, number, CSI(o, 2, many, 2), CSI(vt, 2, causes, 2)),
-              shown() == before && has_no_vt(number));
+        AGAIN("`camel_submit_change`, an insert of all lists, with criteria of ten numbers and all else",
+              insert(&store, number, CSI(o, 2, many, 2), CSI(vt, 2, causes, 2)), has_no_vt(number));
     }
     accepted++;
 }
@@ -182,11 +147,12 @@ static void make_parts(unsigned number, camel_update *update, camel_update *next
     uint64_t place = 99;
 
     write_tbcd(number, argument.octets + IMSI_AT);
-    AGAIN(UPDATE_OCTETS,
+    AGAIN("`camel_update_of_map`, an O-CSI in octets",
           camel_update_of_map(argument.operation, &imsi, argument.octets, argument.count, update, &place),
           !update->is_full && place == CAMEL_NO_OCTET);
-    AGAIN(UPDATE_LISTS, update_of_insert(&imsi, &sent, next), !next->is_full);
-    AGAIN(JOIN, camel_update_join(update, next, joined), !joined->is_full);
+    AGAIN("`camel_update_of`, an insert of three lists, with criteria of ten numbers and all else",
+          update_of_insert(&imsi, &sent, next), !next->is_full);
+    AGAIN("`camel_update_join`, of these two", camel_update_join(update, next, joined), !joined->is_full);
     IS(has_items(update, 1, 0) && has_items(next, 0, 2) && has_items(joined, 1, 2));
 }
 
@@ -195,15 +161,14 @@ static void update_location(unsigned number)
 {
     camel_update updates[2] = { CAMEL_EMPTY, CAMEL_EMPTY }, one = CAMEL_EMPTY, next = CAMEL_EMPTY, empty = CAMEL_EMPTY;
     camel_imsi imsi = imsi_of(number), none = { 0 };
-    uint64_t before = shown();
     size_t rejected = 99;
 
     AGAIN(UPDATE_PLAIN, update_of_register(&imsi, &updates[0]), !updates[0].is_full);
     make_parts(number, &one, &next, &updates[1]);
-    AGAIN(SUBMIT_ALL, camel_submit_all(&store, updates, 2, &rejected),
-          shown() == before && rejected == 2 && is_unknown(number));
-    before = shown();
-    AGAIN(SUBMIT, camel_submit(&store, &updates[1]), shown() == before && has_items(&updates[1], 1, 2));
+    AGAIN("`camel_submit_all`, of a register and the same", camel_submit_all(&store, updates, 2, &rejected),
+          rejected == 2 && is_unknown(number));
+    AGAIN("`camel_submit`, of what they are together", camel_submit(&store, &updates[1]),
+          has_items(&updates[1], 1, 2));
     accepted += 3;
     NONE(CAMEL_MALFORMED, update_of_register(&none, &empty));
     NONE(CAMEL_FULL_HANDLE, update_of_register(&imsi, &next));
@@ -239,9 +204,10 @@ static uint64_t list_records(void)
     uint64_t count = 0;
     bool is_there = false;
 
-    AGAIN(ENCODE, camel_encode_record(&sessions[0], &imsi, &argument, &is_there), !is_there && argument.count == 0);
+    AGAIN("`camel_encode_record`, all lists", camel_encode_record(&sessions[0], &imsi, &argument, &is_there),
+          !is_there && argument.count == 0);
     IS(is_there && argument.count > 0);
-    AGAIN(LIST, camel_imsis_of(&sessions[0], &imsis), !imsis.is_full);
+    AGAIN("`camel_imsis_of`", camel_imsis_of(&sessions[0], &imsis), !imsis.is_full);
     NONE(CAMEL_FULL_HANDLE, camel_imsis_of(&sessions[0], &imsis));
     NONE(CAMEL_WRONG_HANDLE, camel_imsis_of((camel_session *)&store, &none));
     for (; is_there; count += is_there)
@@ -253,22 +219,22 @@ static uint64_t list_records(void)
     return digest;
 }
 
-static camel_status published(enum kind kind)
+static camel_status published(const char *name)
 {
-    return kind == PUBLISH_TO ? camel_publish_to(&store, sessions, 2) : camel_publish(&store);
+    return name == PUBLISH_TO ? camel_publish_to(&store, sessions, 2) : camel_publish(&store);
 }
 
 /* Publishes all that is pending. */
-static void publish(enum kind kind)
+static void publish(const char *name)
 {
     uint64_t before = shown();
     camel_counts counts;
-    camel_status status = COUNTED(published(kind));
-    if (has_failed(kind, status)) {
+    camel_status status = COUNTED(published(name));
+    if (has_failed(name, status)) {
         IS(shown() == before);
         if (submits_between)
             register_subscriber(FURTHER);
-        status = COUNTED(published(kind));
+        status = COUNTED(published(name));
     }
     RETURNS(CAMEL_OK, status);
     counts = counts_of(&store);
@@ -276,10 +242,10 @@ static void publish(enum kind kind)
 }
 
 /* Publishes, and once more, which brings the other copy to the same. */
-static void publish_to_both(enum kind kind)
+static void publish_to_both(const char *name)
 {
-    publish(kind);
-    publish(kind);
+    publish(name);
+    publish(name);
 }
 
 /* Takes back one thing after the other: a CSI, a record, and all of them. */
@@ -287,18 +253,15 @@ static void take_back(void)
 {
     camel_imsi first = imsi_of(1), second = imsi_of(2);
     camel_withdrawal what = { .o = true };
-    uint64_t before = shown();
-    AGAIN(DELETE, submit_delete(&store, &first, &what), shown() == before && has_o(1));
+    AGAIN("`camel_submit_change`, a delete", submit_delete(&store, &first, &what), has_o(1));
     accepted++;
-    publish_to_both(PUBLISH_DELETE);
-    before = shown();
-    AGAIN(CANCEL, submit_cancel(&store, &second), shown() == before && has_o(2));
+    publish_to_both("`camel_publish`, of a delete, and the next one");
+    AGAIN("`camel_submit_change`, a cancel", submit_cancel(&store, &second), has_o(2));
     accepted++;
-    publish_to_both(PUBLISH_CANCEL);
-    before = shown();
-    AGAIN(CLEAR_ALL, submit_clear_all(&store), shown() == before && has_o(3));
+    publish_to_both("`camel_publish`, of a cancel, and the next one");
+    AGAIN("`camel_submit_change`, a clear of all", submit_clear_all(&store), has_o(3));
     accepted++;
-    publish_to_both(PUBLISH_CLEAR_ALL);
+    publish_to_both("`camel_publish`, of a clear of all, and the next one");
 }
 
 #include "refused_drops.h"
@@ -329,9 +292,80 @@ static void hold(void)
     NONE(CAMEL_OTHER_STORE, camel_learn(&sessions[0], &forged));
 }
 
-#include "refused_set_ups.h"
+/* What camel_keep and camel_set_up look at before they ask for memory. */
+static void keep_none(camel_subscriber *full)
+{
+    camel_imsi imsi = imsi_of(5), none = { 0 };
+    camel_event event = event_of(5, 2), malformed = event_of(5, 3);
+    camel_answer answer = { 0 };
+    camel_subscriber kept = CAMEL_EMPTY;
+    bool is_there = false;
+    NONE(CAMEL_MALFORMED, camel_set_up(&sessions[0], &malformed, &answer, full, &is_there));
+    NONE(CAMEL_WRONG_HANDLE, camel_set_up((camel_session *)&store, &event, &answer, full, &is_there));
+    NONE(CAMEL_FULL_HANDLE, camel_set_up(&sessions[0], &event, &answer, full, &is_there));
+    NONE(CAMEL_MALFORMED, camel_keep(&sessions[0], &none, full, &is_there));
+    NONE(CAMEL_WRONG_HANDLE, camel_keep((camel_session *)&store, &imsi, full, &is_there));
+    NONE(CAMEL_FULL_HANDLE, camel_keep(&sessions[0], &imsi, full, &is_there));
+    IS(!is_there && !kept.is_full);
+}
 
-#include "refused_orders.h"
+/* A call that is set up: refused memory, nothing is decided or counted. */
+static void set_up(void)
+{
+    camel_subscriber kept = CAMEL_EMPTY;
+    camel_event event = event_of(5, 2);
+    camel_answer answer = { 0 };
+    camel_decisions before, after;
+    bool is_there = false;
+    RETURNS(CAMEL_OK, camel_decisions_of(&sessions[0], &before));
+    AGAIN("`camel_set_up`", camel_set_up(&sessions[0], &event, &answer, &kept, &is_there),
+          !kept.is_full && !is_there && answer.front == 0);
+    RETURNS(CAMEL_OK, camel_decisions_of(&sessions[0], &after));
+    IS(is_there && answer.is_trigger && answer.front == accepted);
+    IS(after.by[2][CAMEL_REASON_NONE] == before.by[2][CAMEL_REASON_NONE] + 1);
+    NONE(CAMEL_OK, FREED(&kept));
+}
+
+/* All handles are empty, or a store is refused before any memory is asked for. */
+static void refuse_full_handles(void)
+{
+    static const size_t places[] = { 0, 2, 4 };
+    for (size_t at = 0; at < 3; at++) {
+        camel_store other = CAMEL_EMPTY, none = CAMEL_EMPTY;
+        camel_session own[5] = { CAMEL_EMPTY };
+        unsigned full = 0;
+        RETURNS(CAMEL_OK, camel_open(&other, &own[places[at]], 1, LIMIT, 1, 1));
+        NONE(CAMEL_FULL_HANDLE, camel_open(&none, own, 5, LIMIT, 1, 1));
+        for (size_t place = 0; place < 5; place++)
+            full += own[place].is_full;
+        IS(!none.is_full && full == 1 && own[places[at]].is_full);
+        camel_free(&own[places[at]]);
+        NONE(CAMEL_FULL_HANDLE, camel_open(&other, own, 5, LIMIT, 1, 1));
+        NONE(CAMEL_MALFORMED, camel_open(&other, own, 5, 0, 1, 1));
+        NONE(CAMEL_OTHER_VERSION, camel_open_version(1, &none, own, 5, LIMIT, 1, 1));
+        for (size_t place = 0; place < 5; place++)
+            IS(!own[place].is_full);
+        RETURNS(CAMEL_OK, camel_close(&other));
+    }
+    IS(blocks == 0);
+}
+
+/* Memory is refused amid data: for what comes before a fault, which is told otherwise. */
+static void refuse_amid_data(void)
+{
+    camel_criteria entries[] = { o_criteria_of(2, 3), { .dp = 4, .basic = { .count = 6 } } };
+    camel_change change = { .kind = CAMEL_UPDATE_INSERT, .imsi = imsi_of(1) };
+    camel_update update = CAMEL_EMPTY;
+    change.insert.o = CSI(NULL, 0, entries, 2);
+    RETURNS(CAMEL_MALFORMED, camel_update_of(&change, &update));
+    RETURNS(CAMEL_MALFORMED, camel_submit_change(&store, &change));
+    for (int is_submitted = 0; is_submitted < 2; is_submitted++) {
+        refused_from = refused_to = requests + 1;
+        RETURNS(CAMEL_OUT_OF_MEMORY, COUNTED(is_submitted ? camel_submit_change(&store, &change)
+                                                          : camel_update_of(&change, &update)));
+        IS(requests == refused_to && !update.is_full && blocks == 0);
+    }
+}
 
 static void make_data(void)
 {
@@ -391,18 +425,16 @@ static uint64_t live(void)
     camel_answer answer = { 0 };
     bool is_there = false;
 
-    requests = blocks = 0;
-    accepted = 0;
     make_data();
     refuse_full_handles();
-    AGAIN(OPEN, camel_open(&store, sessions, 2, LIMIT, 1, 1),
+    AGAIN("`camel_open`, two sessions", camel_open(&store, sessions, 2, LIMIT, 1, 1),
           !store.is_full && !sessions[0].is_full && !sessions[1].is_full && blocks == 0);
     come(1, SUBSCRIBERS / 2);
     publish(PUBLISH_INSERTS);
     come(SUBSCRIBERS / 2 + 1, SUBSCRIBERS);
     publish_to_both(PUBLISH_INSERTS);
     hold();
-    AGAIN(KEEP, camel_keep(&sessions[0], &imsi, &kept, &is_there), !kept.is_full && !is_there);
+    AGAIN("`camel_keep`", camel_keep(&sessions[0], &imsi, &kept, &is_there), !kept.is_full && !is_there);
     keep_none(&kept);
     set_up();
     take_back();
@@ -426,45 +458,14 @@ static uint64_t live(void)
     return end;
 }
 
-/* Refuses each of so many requests in turn. Each life is refused one, and ends as it has to. */
-static void sweep(long all, uint64_t wanted)
+/* Prints what the store shows in the end. Standard error tells of each call that may ask for memory. */
+int main(int count, char **words)
 {
-    memset(&tallies, 0, sizeof tallies);
-    for (refused_at = 1; refused_at <= all && !failed; refused_at++) {
-        long met = 0;
-        memset(tallies.calls, 0, sizeof tallies.calls);
-        IS(live() == wanted);
-        for (int kind = 0; kind < KINDS; kind++)
-            met += tallies.failed[kind] + tallies.without[kind];
-        IS(met == refused_at);
-    }
-}
-
-static void print(const char *call, const char *calls, long failing, long without)
-{
-    printf("| %s | %s | %ld | %s | %ld |\n", call, calls, failing, failing ? "102" : "as ever", without);
-}
-
-int main(void)
-{
+    uint64_t end;
+    (void)words;
+    submits_between = count > 1;
+    end = live();
     refuse_amid_data();
-    uint64_t wanted = live();
-    long all = requests;
-    sweep(all, wanted);
-    struct tallies again = tallies;
-    submits_between = true;
-    sweep(all, wanted);
-    IS(refused_restorings > 0);
-    for (int kind = 0; kind < KINDS; kind++)
-        IS(again.failed[kind] == tallies.failed[kind] && again.without[kind] == tallies.without[kind]);
-
-    puts("| Call | Calls | Requests that fail one | What it answers | Requests that they do without |");
-    puts("|---|---|---|---|---|");
-    for (int kind = 0; kind < KINDS; kind++) {
-        char calls[24];
-        snprintf(calls, sizeof calls, "%ld", again.calls[kind]);
-        print(NAMES[kind], calls, again.failed[kind], again.without[kind]);
-    }
-    print("all other calls, and a publication that is held", "", 0, 0);
+    printf("%llx\n", (unsigned long long)end);
     return ended("refused");
 }

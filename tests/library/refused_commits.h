@@ -2,6 +2,8 @@
 #ifndef REFUSED_COMMITS_H
 #define REFUSED_COMMITS_H
 
+#include <limits.h>
+
 /* What the refused commit brings: a location update, one of its kinds by itself, or nothing. */
 enum { LOCATION_UPDATE = CAMEL_UPDATE_CLEAR_ALL + 1, NOTHING, COMMITTED };
 
@@ -9,17 +11,13 @@ static size_t make_committed(unsigned what, camel_update *updates)
 {
     if (what == NOTHING)
         return 0;
-    if (what != LOCATION_UPDATE && what != CAMEL_UPDATE_INSERT) {
-        updates[0] = update_of_kind((uint8_t)what, 1);
-        return 1;
+    if (what == LOCATION_UPDATE) {
+        updates[0] = update_of_kind(CAMEL_UPDATE_REGISTER, 2);
+        updates[1] = insert_of_row(2, 105);
+        return 2;
     }
-    if (what == CAMEL_UPDATE_INSERT) {
-        updates[0] = insert_of_row(1, 104);
-        return 1;
-    }
-    updates[0] = update_of_kind(CAMEL_UPDATE_REGISTER, 2);
-    updates[1] = insert_of_row(2, 105);
-    return 2;
+    updates[0] = what == CAMEL_UPDATE_INSERT ? insert_of_row(1, 104) : update_of_kind((uint8_t)what, 1);
+    return 1;
 }
 
 static bool is_removal(unsigned what)
@@ -58,9 +56,9 @@ static void commit_next(uint64_t front)
 /* What drops what such a commit has left pending. */
 enum { BY_A_COMMIT, BY_A_DROP, DROPS };
 
-/* One life of a store: a commit is refused a request, the first being 1, and as many of those behind it as is said.
- * Tells whether the commit met it. It does without if it succeeds all the same. */
-static bool refuse_commit(unsigned what, unsigned pending, unsigned drop, long request, long more)
+/* One life of a store: a commit is refused its requests from the first of these numbers to the last. Tells whether it
+ * met one. It does without if it succeeds all the same. */
+static bool refuse_commit(unsigned what, unsigned pending, unsigned drop, unsigned long first, unsigned long last)
 {
     camel_update updates[2] = { CAMEL_EMPTY, CAMEL_EMPTY };
     size_t count, rejected = 99;
@@ -73,13 +71,13 @@ static bool refuse_commit(unsigned what, unsigned pending, unsigned drop, long r
     before = shown_of_subscribers(&sessions[0]);
     submit_pending(pending);
     requests = 0;
-    refused_at = request;
-    refused_behind = more;
+    refused_from = first;
+    refused_to = last;
     status = COUNTED(camel_commit(&store, updates, count, sessions, 2, &rejected));
-    refused_at = refused_behind = 0;
-    was_met = was_refused;
+    refused_from = refused_to = 0;
+    was_met = refused > 0;
     IS(rejected == count && (status == CAMEL_OK || status == CAMEL_OUT_OF_MEMORY));
-    if (has_failed(COMMIT, status)) {
+    if (has_failed("commit", status)) {
         IS(counts_of(&store).published == 2 && counts_of(&store).subscribers == 1 && counts_of(&store).held == 0);
         /* A removal may still be pending, and what was pending as the copies were refused. */
         IS(counts_of(&store).pending == 0 || pending != NO_PENDING || is_removal(what));
@@ -105,8 +103,8 @@ static void refused_commits(void)
         for (unsigned pending = 0; pending < PENDINGS; pending++)
             for (unsigned drop = 0; drop < DROPS; drop++)
                 for (int is_all = 0; is_all < 2; is_all++) {
-                    long request = 1;
-                    while (!failed && refuse_commit(what, pending, drop, request, is_all ? LONG_MAX : 0))
+                    unsigned long request = 1;
+                    while (!failed && refuse_commit(what, pending, drop, request, is_all ? ULONG_MAX : request))
                         request++;
                     IS(request > 1 || what == NOTHING);
                 }

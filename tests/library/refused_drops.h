@@ -2,23 +2,23 @@
 #ifndef REFUSED_DROPS_H
 #define REFUSED_DROPS_H
 
-static long refused_restorings; /* publications behind a drop that were refused memory */
-
 /* Publishes nothing behind a drop. The first try is refused its first request, the second its second one and so on,
  * until a try makes fewer: each shows what was shown, and the last one goes on where the others stopped. */
 static void publish_behind_drop(uint64_t wanted)
 {
-    long refused_before = refused_at, tries = 0;
+    unsigned long from = refused_from, to = refused_to, tries = 0;
     camel_status status;
     do {
-        refused_at = requests + ++tries;
+        refused_from = refused_to = requests + ++tries;
         status = COUNTED(camel_publish(&store));
-        IS(status == CAMEL_OK || (status == CAMEL_OUT_OF_MEMORY && was_refused));
+        IS(status == CAMEL_OK || (status == CAMEL_OUT_OF_MEMORY && refused > 0));
         IS(shown() == wanted);
-        refused_restorings += was_refused;
-        was_refused = false;
+        if (refused > 0)
+            fputs("restoring | made\n", stderr);
+        refused = 0;
     } while (status == CAMEL_OUT_OF_MEMORY);
-    refused_at = refused_before;
+    refused_from = from;
+    refused_to = to;
 }
 
 /* A subscriber who is known, if it is not 0, loses all CSIs, and others come. */
@@ -41,7 +41,7 @@ static void come_or_drop(unsigned known, unsigned first, unsigned last)
     camel_status status;
     go_and_come(known, first, last);
     status = COUNTED(camel_publish(&store));
-    if (has_failed(PUBLISH_OR_DROP, status)) {
+    if (has_failed("`camel_publish`, of a delete, registers and inserts, which are dropped if it fails", status)) {
         NONE(CAMEL_OK, camel_drop_pending(&store));
         accepted = accepted_before;
         for (int times = 0; times < 3; times++) {
@@ -59,12 +59,12 @@ static void come_or_drop(unsigned known, unsigned first, unsigned last)
  * subscriber is known again, whose update is dropped without memory. */
 static void drop_removals(void)
 {
-    uint64_t published = shown(), before;
+    uint64_t published = shown();
     camel_imsi imsi = imsi_of(1);
     RETURNS(CAMEL_OK, submit_cancel(&store, &imsi));
     RETURNS(CAMEL_OK, submit_clear_all(&store));
-    before = shown();
-    AGAIN(DROP_REMOVALS, camel_drop_pending(&store), shown() == before && is_unknown(1) && is_unknown(SHOWN));
+    AGAIN("`camel_drop_pending`, of a cancel and a clear of all", camel_drop_pending(&store),
+          is_unknown(1) && is_unknown(SHOWN));
     IS(shown() == published && !is_unknown(1) && !is_unknown(SHOWN));
     NONE(CAMEL_OK, camel_drop_pending(&store));
     IS(shown() == published);
@@ -77,12 +77,12 @@ static void commit_location(void)
     camel_imsi imsi = imsi_of(COMMITTED);
     camel_row row = row_of(2, 100);
     camel_insert sent = { .o = { .rows = &row, .row_count = 1 } };
-    uint64_t before = shown();
     size_t rejected = 99;
 
     RETURNS(CAMEL_OK, update_of_register(&imsi, &updates[0]));
     RETURNS(CAMEL_OK, update_of_insert(&imsi, &sent, &updates[1]));
-    AGAIN(COMMIT, camel_commit(&store, updates, 2, sessions, 2, &rejected), shown() == before && rejected == 2);
+    AGAIN("`camel_commit`, of a location update to two sessions, and the next one",
+          camel_commit(&store, updates, 2, sessions, 2, &rejected), rejected == 2);
     accepted += 2;
     IS(rejected == 2 && counts_of(&store).published == accepted && counts_of(&store).pending == 0);
     camel_free(&updates[0]);

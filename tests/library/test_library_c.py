@@ -14,7 +14,6 @@ from support.tools import command_of
 pytestmark = pytest.mark.needs("cc", "nm")
 PROGRAMS = "bools commit counts ending imsis inline layouts names receipts restart seeds set_ups statuses updates"
 WORDS = {"ending": ["10000"], "restart": ["100000", "1000000"]}
-WRAP = {name: ["-Wl,--wrap=malloc,--wrap=realloc,--wrap=free"] for name in ("commit", "refused")}
 RACES = ["-g", "-fsanitize=thread"]
 # A pointer that is to no handle does not compile here, nor a move between handles of two kinds.
 KINDS = """#include "camel.h"
@@ -30,13 +29,7 @@ OTHER_KINDS = ["camel_free((void *)store);", "camel_free(imsi);", "(void)camel_m
 
 @pytest.mark.parametrize("name", PROGRAMS.split())
 def test_program(name, compiled):
-    output(compiled(f"tests/library/{name}.c", *WRAP.get(name, [])), *WORDS.get(name, []))
-
-
-def test_refused_memory_fails_as_the_table_says(compiled):
-    said = output(compiled("tests/library/refused.c", *WRAP["refused"]))
-    table = "".join(line for line in said.splitlines(keepends=True) if line.startswith("|"))
-    assert table == (TOP / "tests/refused/refused.txt").read_text()
+    output(compiled(f"tests/library/{name}.c"), *WORDS.get(name, []))
 
 
 @pytest.mark.parametrize("name", ["names", "statuses", "updates"])
