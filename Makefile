@@ -298,7 +298,7 @@ count-vlr: begin-$$@ $(BENCH)
 fuzz: COUNT ?= 100000
 ## Replays COUNT scripts of bad octets: 2 to 5 minutes for 100,000, once the program is built.
 fuzz: begin-$$@ $(REPLAY)
-	@scripts/fuzz $(SEED) $(COUNT)
+	@COUNT=$(COUNT) SEED=$(SEED) $(PYTEST) -n auto -rP tests/fuzz
 
 # COUNT arguments that SEED makes, in five styles, COUNT of them with edits, and COUNT that the encoder makes of them.
 map-check: COUNT ?= 100000

@@ -8,10 +8,7 @@ import subprocess
 import tempfile
 from functools import partial
 
-from checking import Difference, expect
-
-from .program import PROGRAM, Fault
-from .samples import FIRST_CALL, FIRST_CALL_LINES, MAX_RECORDS, SHORT, SHORT_LINE
+from support.fuzzing.replays import FIRST_CALL, FIRST_CALL_LINES, MAX_RECORDS, PROGRAM, SHORT, SHORT_LINE, Fault
 
 # The most memory of a run is BASE and MULTIPLE times the octets of the longest record. The kernel counts what the
 # process that starts the program had in memory, so BASE is more than the program needs, and that process holds little.
@@ -40,9 +37,6 @@ TOO_LONG = (
     ("an open quote before 50 MB", b'register,"', b"26201\n", 8_333_333, b"", 205),
 )
 
-# Threads, and the octets of the stack that each of them asks for.
-STACKS = ((2, 2**30), (16, 2**27))
-
 
 def feed(pipe, pieces):
     """Writes each piece so many times, as far as they are read."""
@@ -64,7 +58,7 @@ def prepare(limits):
         limits()
 
 
-def replay(name, options, pieces, lines, fault, limits=None):
+def replay(options, pieces, lines, fault, limits=None):
     """Runs the program over a script, and checks what it leaves. Returns its most memory in octets."""
     with tempfile.TemporaryFile() as out, tempfile.TemporaryFile() as err:
         command = [PROGRAM, *options]
@@ -74,42 +68,36 @@ def replay(name, options, pieces, lines, fault, limits=None):
         _, status, usage = os.wait4(child.pid, 0)
         child.returncode = os.waitstatus_to_exitcode(status)
         err.seek(0)
-        expect(f"{name}: standard error", err.read(), f"camel_replay: {fault}\n".encode() if fault else b"")
-        expect(f"{name}: status", child.returncode, 1 if fault else 0)
+        assert err.read() == (f"camel_replay: {fault}\n".encode() if fault else b"")
+        assert child.returncode == (1 if fault else 0)
         out.seek(0)
         for line in lines:
-            expect(f"{name}: a line", out.readline(), line)
-        expect(f"{name}: the end", out.readline(), b"")
+            assert out.readline() == line
+        assert out.readline() == b""
         return usage.ru_maxrss * 1024
 
 
-def check_memory(name, longest, most):
-    """Checks the most memory of a run over a script with a record of so many octets. Returns a line that says it."""
-    allowed = BASE + MULTIPLE * longest
-    if most > allowed:
-        raise Difference(f"{name}: {most} octets of memory, and {allowed} are allowed")
-    times = max(0, most - BASE) / longest
-    return f"{name}: {most / 2**20:.1f} MiB, the base and {times:.1f} times the longest record"
+def check_memory(longest, most):
+    """Checks the most memory of a run over a script with a record of so many octets."""
+    print(f"{most / 2**20:.1f} MiB, the base and {max(0, most - BASE) / longest:.1f} times the longest record")
+    assert most <= BASE + MULTIPLE * longest, f"{most} octets of memory"
 
 
-def check_too_long(name, before, part, times, after, code):
+def check_too_long(before, part, times, after, code):
     """A script with one record that is far too long, on one thread and with two."""
     pieces = [(FIRST_CALL, 1), (before, 1), (part, times), (after, 1)]
     longest = len(before) + len(part) * times + len(after)
     refused = [] if code else [REFUSED]
     fault = Fault(5, code) if code else None
-    most = replay(name, [], pieces, [*UPDATE_LINES, CALL_LINE, *refused], fault)
-    on_one = check_memory(name, longest, most)
+    check_memory(longest, replay([], pieces, [*UPDATE_LINES, CALL_LINE, *refused], fault))
     answered = [*UPDATE_LINES, *refused, b"session 0 call 0 " + CALL_LINE, b"audit ok\n"]
-    name += ", two threads"
-    most = replay(name, ["--threads", "2"], pieces, [] if code else answered, fault)
-    return [on_one, check_memory(name, longest, most)]
+    check_memory(longest, replay(["--threads", "2"], pieces, [] if code else answered, fault))
 
 
-def check_short_records(name, count, fault):
+def check_short_records(count, fault):
     """Short records, as many as a script may have or more."""
     lines = itertools.repeat(SHORT_LINE, MAX_RECORDS)
-    return [check_memory(name, len(SHORT), replay(name, [], [(SHORT, count)], lines, fault))]
+    check_memory(len(SHORT), replay([], [(SHORT, count)], lines, fault))
 
 
 def check_threads_that_do_not_start(threads, stack):
@@ -119,19 +107,4 @@ def check_threads_that_do_not_start(threads, stack):
         resource.setrlimit(resource.RLIMIT_STACK, (stack, resource.RLIM_INFINITY))
         resource.setrlimit(resource.RLIMIT_AS, (2**29, 2**29))
 
-    name = f"{threads} threads with stacks of {stack} octets"
-    replay(name, ["--threads", str(threads)], [(FIRST_CALL, 1)], [], Fault(None, 106), limit)
-    return [f"{name}: not started"]
-
-
-# Each returns the lines that it has to say.
-CHECKS = (
-    *(partial(check_too_long, *script) for script in TOO_LONG),
-    partial(check_short_records, "a million short records", MAX_RECORDS, None),
-    partial(check_short_records, "one record too many", MAX_RECORDS + 1, Fault(MAX_RECORDS + 1, 207)),
-    *(partial(check_threads_that_do_not_start, *stacks) for stacks in STACKS),
-)
-
-
-def check(number):
-    return CHECKS[number]()
+    replay(["--threads", str(threads)], [(FIRST_CALL, 1)], [], Fault(None, 106), limit)

@@ -1,14 +1,8 @@
 """Each beginning of a script is a script too."""
 
-from checking import Difference
-
-from .comparison import compare
-from .csv_records import ended_records, octets_before
-from .program import MAX_LIMIT, Fault, Left, Options, replay
-from .samples import FIRST_CALL_LINES
-
-SAMPLE = "examples/first-call.csv"
-SAMPLE_OPTIONS = Options(threads=2, limit=MAX_LIMIT, profile=1)
+from support.fuzzing.csv_records import ended_records, octets_before
+from support.fuzzing.outputs import compare
+from support.fuzzing.replays import FIRST_CALL_LINES, Fault, Left, replay
 
 NO_LINE = b""
 ONE_LINE, TWO_LINES, THREE_LINES, FOUR_LINES = (b"".join(FIRST_CALL_LINES[:count]) for count in range(1, 5))
@@ -16,8 +10,8 @@ ONE_LINE, TWO_LINES, THREE_LINES, FOUR_LINES = (b"".join(FIRST_CALL_LINES[:count
 # What a shorter IMSI in the second record gives: no subscriber has it.
 UNKNOWN = b"accepted 1\nrefused 5\n"
 
-# What is written when no more than so many octets of SAMPLE are read; and the fault of the next record then, if there
-# is one. The shortest such beginning has an octet more than the longest one before.
+# What is written when no more than so many octets of examples/first-call.csv are read; and the fault of the next record
+# then, if there is one. The shortest such beginning has an octet more than the longest one before.
 BEGINNINGS = (
     (NO_LINE, ((0, None), (7, 202), (8, 203), (13, 205))),
     (ONE_LINE, ((25, None), (30, 202), (31, 203), (36, 205))),
@@ -31,7 +25,7 @@ BEGINNINGS = (
 
 
 def expected_of_sample():
-    """What one thread leaves of each beginning of SAMPLE, the shortest first."""
+    """What one thread leaves of each beginning of examples/first-call.csv, the shortest first."""
     expected = []
     for output, ends in BEGINNINGS:
         for longest, code in ends:
@@ -40,22 +34,14 @@ def expected_of_sample():
     return expected
 
 
-def check_beginning_of_sample(beginning, expected):
-    left = replay(beginning, SAMPLE_OPTIONS)
-    if left != expected:
-        raise Difference(f"it leaves {left}, and not {expected}")
-
-
 def check_beginning(beginning, whole, options):
     """Replays a beginning of a script in both ways, and compares what is left with what the whole script leaves."""
     _, left = compare(beginning, options)
     ended = ended_records(beginning)
     lines = left.output.splitlines(True)
-    if not whole.output.startswith(b"".join(lines[:ended])):
-        raise Difference("a line that the whole script does not give")
+    assert whole.output.startswith(b"".join(lines[:ended])), "a line that the whole script does not give"
     expected = expected_fault(beginning, ended, whole.fault, options)
-    if left.fault != expected:
-        raise Difference(f"it ends with {left.fault}, and its records with {expected}")
+    assert left.fault == expected, f"it ends with {left.fault}, and its records with {expected}"
 
 
 def expected_fault(beginning, ended, fault_of_whole, options):

@@ -1,24 +1,30 @@
-"""The program, and what a run of it leaves."""
+"""The program, what a run of it leaves, and records from which scripts are made."""
 
 import re
-import subprocess
+from pathlib import Path
 from typing import NamedTuple, Optional
 
-from checking import Difference
+from support.processes import run
 
-PROGRAM = "crates/camel_replay/out/camel_replay"
+PROGRAM = Path(__file__).resolve().parents[3] / "crates/camel_replay/out/camel_replay"
 
-# The greatest limit, which is the program's default too.
-MAX_LIMIT = 1_000_000
-
-# A run that takes longer is taken for one that does not end.
-SECONDS = 120
+# The greatest limit, which is the program's default too, and how many records a script has at most.
+MAX_LIMIT = MAX_RECORDS = 1_000_000
 
 # The faults with which a run may end on a machine that has much else to do. Such a run is repeated, so often at most.
 BUSY = (103, 104, 106)
 REPEATS = 100
 
 FAULT_LINE = re.compile(rb"camel_replay: (?:record (0|[1-9]\d*): )?fault ([1-9]\d*)\n")
+
+# A subscriber with a service that is published, and a call that triggers it; and their lines.
+FIRST_CALL = b"register,26201\ninsert,26201,o:2:100:919471160000:0\npublish\ncall,2,26201,t11,91214365,n\n"
+FIRST_CALL_LINES = (b"accepted 1\n", b"accepted 2\n", b"published 2\n",
+                    b"front 2 trigger 2 100 919471160000 continue\n")
+# A publication, and a call of that subscriber.
+LAST_CALL = b"publish\ncall,2,26201,t11,91214365,n\n"
+# A short record of a subscriber that has no record, and its line.
+SHORT, SHORT_LINE = b"delete,26202,o\n", b"refused 5\n"
 
 
 class Fault(NamedTuple):
@@ -57,24 +63,16 @@ class Left(NamedTuple):
 
 def replay(script, options, threads=None):
     """Replays a script without `--threads`, or with so many."""
-    command = [PROGRAM, *options.words(threads)]
-    try:
-        run = subprocess.run(command, input=script, capture_output=True, timeout=SECONDS)
-    except subprocess.TimeoutExpired:
-        raise Difference(f"no end in {SECONDS} seconds") from None
-    if run.stdout and not run.stdout.endswith(b"\n"):
-        raise Difference("the last line has no end")
-    return Left(fault_of(run.returncode, run.stderr), run.stdout)
+    ended = run(PROGRAM, *options.words(threads), octets=script)
+    assert not ended.stdout or ended.stdout.endswith(b"\n"), "the last line has no end"
+    return Left(fault_of(ended.returncode, ended.stderr), ended.stdout)
 
 
 def fault_of(status, error):
-    """The fault of a run, or None. Another status, and another standard error, is a difference."""
-    if status == 0 and not error:
-        return None
+    """The fault of a run, or None. There is no other status, and no other standard error."""
     line = FAULT_LINE.fullmatch(error)
-    if status != 1 or not line:
-        raise Difference(f"status {status}, standard error {shown(error)}")
-    return Fault(None if line[1] is None else int(line[1]), int(line[2]))
+    assert (status, error) == (0, b"") or status == 1 and line, f"status {status}, standard error {error[-600:]}"
+    return line and Fault(None if line[1] is None else int(line[1]), int(line[2]))
 
 
 def replay_with_threads(script, options):

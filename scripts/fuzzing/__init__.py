@@ -1,1 +1,0 @@
-"""Replays of scripts of bad octets, and what they are compared with. `scripts/fuzz` starts them."""

@@ -1,0 +1,1 @@
+"""Replays of scripts of bad octets, and what they are compared with."""
