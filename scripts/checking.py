@@ -1,9 +1,6 @@
-"""What the checks share: a difference and how it is told, what the repository has, and checks that run side by side."""
+"""What the checks share: a difference and how it is told, and what the repository has."""
 
 import os
-import signal
-from concurrent.futures import ProcessPoolExecutor
-from multiprocessing import get_context
 from pathlib import Path
 
 
@@ -29,15 +26,3 @@ def entries(root):
         folders[:] = sorted(set(folders) - {".git", "out", "target", "__pycache__"})
         for name in folders + files:
             yield (Path(folder) / name).relative_to(root).as_posix()
-
-
-def end_at_interrupt():
-    """Has Ctrl-C end this process: one of a pool would take it for the fault of an item, and go on with the next."""
-    signal.signal(signal.SIGINT, signal.SIG_DFL)
-
-
-def side_by_side(check, items, chunksize=1):
-    """Yields what the check returns of each item, in their order. It ends with the first item that fails."""
-    cores = len(os.sched_getaffinity(0))
-    with ProcessPoolExecutor(cores, get_context("fork"), initializer=end_at_interrupt) as pool:
-        yield from pool.map(check, items, chunksize=chunksize)
