@@ -15,7 +15,6 @@ SEED ?= 1
 CALLS ?= 100000
 SUBSCRIBERS ?= 10000
 PREFIX ?= /usr/local
-PYTEST ?= pytest-3
 
 REPLAY := crates/camel_replay/out/camel_replay
 BENCH := crates/camel_vlr_bench/out/camel_vlr_bench
@@ -173,7 +172,7 @@ coprocess: begin-$$@ $(REPLAY)
 # It needs no Rattle if library and program are there, and with PROGRAM=.. neither of them. PROFILE=1 is only profile 1.
 ## Runs the vectors of conformance/ over library and program, or over any PROGRAM between two pipes: seconds.
 conformance: begin-$$@
-	@$(if $(PROGRAM),conformance/run $(if $(PROFILE),--profile $(PROFILE)) $(PROGRAM),$(PYTEST) tests/conformance)
+	@$(if $(PROGRAM),conformance/run $(if $(PROFILE),--profile $(PROFILE)) $(PROGRAM),pytest-3 tests/conformance)
 
 ## Refuses each request for memory in turn: some minutes, once the two programs are built.
 refusals: begin-$$@ $(REFUSALS) $(REPLAY)
@@ -232,7 +231,7 @@ library-rust: begin-$$@ library
 	@DECISIONS=$(DECISIONS) pytest-3 tests/library -k in_rust
 
 library-conformance: begin-$$@ library $(REPLAY)
-	@$(PYTEST) tests/conformance
+	@pytest-3 tests/conformance
 
 # It needs the packages that osmo-msc is built with, says which are missing, and fetches the source once. LIBRARY=/usr
 # takes the library that is installed there. SANITIZE=1 builds osmo-msc with its sanitizers, by so many JOBS.
@@ -298,13 +297,13 @@ count-vlr: begin-$$@ $(BENCH)
 fuzz: COUNT ?= 100000
 ## Replays COUNT scripts of bad octets: 2 to 5 minutes for 100,000, once the program is built.
 fuzz: begin-$$@ $(REPLAY)
-	@COUNT=$(COUNT) SEED=$(SEED) $(PYTEST) -n auto -rP tests/fuzz
+	@COUNT=$(COUNT) SEED=$(SEED) pytest-3 -rP tests/fuzz
 
 # COUNT arguments that SEED makes, in five styles, COUNT of them with edits, and COUNT that the encoder makes of them.
 map-check: COUNT ?= 100000
 ## Compares what is read and made of COUNT MAP arguments with tshark: 6 minutes for 100,000, with the programs built.
 map-check: begin-$$@ $(REPLAY) $(MAP_CHECK)
-	@COUNT=$(COUNT) SEED=$(SEED) $(PYTEST) -rP tests/map
+	@COUNT=$(COUNT) SEED=$(SEED) pytest-3 -rP tests/map
 
 ## Proves and builds the program that reads MAP arguments for `tools/map2script`: BUILD_TIME.
 map-program: $(MAP_CHECK)

@@ -61,13 +61,18 @@ def test_each_beginning_of_the_sample_leaves_what_is_known_of_it():
         assert replay(sample[:length], options) == expected, f"the first {length} octets"
 
 
+def check_beginning(script, whole, options, folder, length):
+    with attributed_to(f"the first {length} octets", script[:length], options, folder):
+        prefixes.check_beginning(script[:length], whole, options)
+    return length
+
+
 @pytest.mark.parametrize("name", BASES)
 def test_each_beginning_of_a_script_is_a_script(name, tmp_path):
     script, options = BASES[name], options_of(random.Random(f"{SEED} {name}"))._replace(threads=2)
-    whole = replay(script, options)
-    for length in range(len(script) + 1):
-        with attributed_to(f"the first {length} octets", script[:length], options, tmp_path):
-            prefixes.check_beginning(script[:length], whole, options)
+    lengths = range(len(script) + 1)
+    check = partial(check_beginning, script, replay(script, options), options, tmp_path)
+    assert [*side_by_side(check, lengths, CHUNK)] == [*lengths]
 
 
 @pytest.mark.parametrize("script", [pytest.param(script, id=name) for name, *script in too_long.TOO_LONG])
