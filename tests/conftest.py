@@ -1,7 +1,6 @@
 """What all tests share: the programs and the library that are built, and what happens if a tool is missing."""
 
 import os
-from functools import lru_cache
 from pathlib import Path
 
 import pytest
@@ -31,18 +30,15 @@ def pytest_testnodedown(node):
 @pytest.hookimpl(trylast=True)
 def pytest_collection_modifyitems(config, items):
     """Ends the session if a test needs a tool that is missing, or with PARTS=any skips the test."""
-    is_there = lru_cache(tools.is_there)
-    lacking = {}
+    lacking = set()
     for item in items:
         needed = [tool for marker in item.iter_markers("needs") for tool in marker.args]
-        if unknown := set(needed) - set(tools.SOURCES):
-            end_session(config, f"{item.nodeid} needs {unknown}, which tests/support/tools.py does not have")
-        if missing := [tool for tool in needed if not is_there(tool)]:
-            lacking |= dict.fromkeys(missing)
-            item.add_marker(pytest.mark.skip(reason="; ".join(map(tools.lack_of, missing))))
+        if missing := [said for said in map(tools.lack_of, needed) if said]:
+            lacking.update(missing)
+            item.add_marker(pytest.mark.skip(reason="; ".join(missing)))
     if lacking and os.environ.get("PARTS") != "any":
-        said = [tools.lack_of(tool) for tool in sorted(lacking)]
-        end_session(config, "\n".join([*said, "no test was begun; PARTS=any skips those that need these tools"]))
+        more = "no test was begun; PARTS=any skips those that need these tools"
+        end_session(config, "\n".join([*sorted(lacking), more]))
 
 
 @pytest.fixture(scope="session")
@@ -57,19 +53,19 @@ def built(config, path, target):
     return path
 
 
-def program(name, target):
+def program(name):
     """A fixture of the path of a program that is built."""
 
     def of_session(pytestconfig):
-        return built(pytestconfig, TOP / "crates" / name / "out" / name, target)
+        return built(pytestconfig, TOP / "crates" / name / "out" / name, f"program CRATE={name}")
 
     return pytest.fixture(scope="session")(of_session)
 
 
-replay = program("camel_replay", "program")
-explain = program("camel_explain", "tools")
-map_check = program("camel_map_check", "map-program")
-refusals = program("camel_refusals", "refusals")
+replay = program("camel_replay")
+explain = program("camel_explain")
+map_check = program("camel_map_check")
+refusals = program("camel_refusals")
 
 
 @pytest.fixture(scope="session")
