@@ -5,17 +5,20 @@ import itertools
 import os
 import resource
 import subprocess
+import sys
 import tempfile
 from functools import partial
+from pathlib import Path
 
 from support.fuzzing.replays import FIRST_CALL, FIRST_CALL_LINES, MAX_RECORDS, PROGRAM, SHORT, SHORT_LINE, Fault
 
-# The most memory of a run is BASE and MULTIPLE times the octets of the longest record. The kernel counts what the
-# process that starts the program had in memory, so BASE is more than the program needs, and that process holds little.
-# The system may give huge pages, most of which nobody uses, so the program is started without them.
+# The most memory of a run is BASE and MULTIPLE times the octets of the longest record. BASE is more than the program
+# needs, since the process counts that starts it (support/measured.py). The system may give huge pages, most of which
+# nobody uses, so the program is started without them.
 BASE = 32 * 2**20
 MULTIPLE = 28
 PR_SET_THP_DISABLE = 41
+MEASURED = Path(__file__).resolve().parent.parent / "measured.py"
 LIBC = ctypes.CDLL(None)
 
 UPDATE_LINES, CALL_LINE = FIRST_CALL_LINES[:3], FIRST_CALL_LINES[3]
@@ -61,20 +64,22 @@ def prepare(limits):
 def replay(options, pieces, lines, fault, limits=None):
     """Runs the program over a script, and checks what it leaves. Returns its most memory in octets."""
     with tempfile.TemporaryFile() as out, tempfile.TemporaryFile() as err:
-        command = [PROGRAM, *options]
-        child = subprocess.Popen(command, stdin=subprocess.PIPE, stdout=out, stderr=err,
+        report, told = os.pipe()
+        command = [sys.executable, "-IS", MEASURED, str(told), PROGRAM, *options]
+        child = subprocess.Popen(command, stdin=subprocess.PIPE, stdout=out, stderr=err, pass_fds=[told],
                                  preexec_fn=partial(prepare, limits))
+        os.close(told)
         feed(child.stdin, pieces)
-        _, status, usage = os.wait4(child.pid, 0)
-        child.returncode = os.waitstatus_to_exitcode(status)
+        with open(report, encoding="ascii") as kilobytes:
+            most = int(kilobytes.read()) * 1024
         err.seek(0)
         assert err.read() == (f"camel_replay: {fault}\n".encode() if fault else b"")
-        assert child.returncode == (1 if fault else 0)
+        assert child.wait() == (1 if fault else 0)
         out.seek(0)
         for line in lines:
             assert out.readline() == line
         assert out.readline() == b""
-        return usage.ru_maxrss * 1024
+        return most
 
 
 def check_memory(longest, most):
