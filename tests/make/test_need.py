@@ -74,17 +74,17 @@ def test_gate_begins_nothing_without_a_tool_or_leaves_its_tests_out(gate, yard):
     ran = gate("scripts/gate", *PARTS)
     assert (ran.returncode, ran.begun, ran.stderr.startswith(NO_TSHARK)) == (2, [], True)
     ran = gate("scripts/gate", *PARTS, PARTS="any")
-    said = f"test: 3 of 3 parts passed\nleft out: the tests that run by what is missing\n{NO_TSHARK}"
+    said = f"test: 3 of 3 parts passed\nleft out: what runs by tools that are missing\n{NO_TSHARK}"
     assert (ran.returncode, ran.begun, ran.stdout) == (0, PARTS, said)
     assert gate("scripts/gate", *PARTS, PARTS="some").returncode == 2
 
 
-@pytest.mark.parametrize("tool", ["rt", "cc", "pytest-3"])
-def test_gate_leaves_out_no_part(gate, yard, tool):
+@pytest.mark.parametrize("tool, status, begun", [("rt", 2, []), ("cc", 2, []), ("pytest-3", 0, PARTS[:2])])
+def test_gate_leaves_out_a_part_if_others_can_do_without_the_tool(gate, yard, tool, status, begun):
     yard.put("python3", '[ "$1" = -c ]')
     (yard.tools / tool).unlink()
     ran = gate("scripts/gate", *PARTS, PARTS="any")
-    assert (ran.returncode, ran.begun) == (2, [])
+    assert (ran.returncode, ran.begun, f"{tool[:6]} is missing" in ran.stdout + ran.stderr) == (status, begun, True)
 
 
 def test_ci_installs_what_is_missing_and_ends_as_the_gate_does(gate, yard):
