@@ -5,7 +5,7 @@ use Rattle.camel_c.proofs.ReadingLemmas.{no_fault, same_value}
 use Rattle.camel_c.specs.Octets.{ReadsOctets, TakesOctets, no_octet, octets_fault_code, octets_fault_place, arrival_in}
 use Rattle.camel_c.specs.Octets.{dialogue_in, in_argument, operation_in, octets_in, update_read}
 use Rattle.camel_c.specs.declared.object.Object.{Object}
-use Rattle.camel_c.specs.declared.reading_map.OctetsFault.{OctetsFault}
+use Rattle.camel_c.specs.declared.update.octets.OctetsFault.{OctetsFault}
 use Rattle.camel_ber.specs.Elements.{◌>>=◌}
 use Rattle.camel_rows.specs.declared.subscriber.update.Update.{Update}
 use Rattle.camel_map.specs.Reading.{whole}

@@ -7,15 +7,15 @@ use Rattle.std.proofs.lemmas.List.{append-nil, append_assoc}
 use Rattle.camel_c.specs.Object.{HoldsFreeStore, live_store}
 use Rattle.camel_c.specs.Publication.{AllReady, AreReady, Commits, ShowsNoMore, with_cleared, AllLearn, AllMayLook}
 use Rattle.camel_c.specs.declared.handle.CamelHandle.{CamelHandle}
-use Rattle.camel_c.specs.declared.object.LiveStore.{LiveStore}
+use Rattle.camel_c.specs.declared.store.LiveStore.{LiveStore}
 use Rattle.camel_c.specs.declared.object.Object.{Object}
-use Rattle.camel_c.specs.declared.object.Stage.{Stage}
+use Rattle.camel_c.specs.declared.store.Stage.{Stage}
 use Rattle.camel_rows.specs.declared.subscriber.update.Update.{Update}
 use Rattle.camel_vlr.specs.Store.{StoreData, with_none_pending, AcceptsAll, submission_refusal, with_accepted}
 use Rattle.camel_c.specs.Session.{with_published, receipt_of}
 use Rattle.camel_c.specs.Submission.{AcceptsTogether, RejectsTogether, TakesAll, with_all_pending}
 use Rattle.camel_c.specs.declared.object.Object.TheVariants as object
-use Rattle.camel_c.specs.declared.object.Stage.TheVariants as stage
+use Rattle.camel_c.specs.declared.store.Stage.TheVariants as stage
 
 -- Sessions that a publication is told to.
 

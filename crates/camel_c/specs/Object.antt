@@ -3,11 +3,11 @@ use Rattle.std.specs.Prelude.{◌≡◌, true, false, List, Option, Some, ◌≢
 use Rattle.std.specs.Prelude.{if◌then◌else◌, length, [], ◌∷◌, ◌++◌, Ok, ◌-◌, replicate}
 use Rattle.camel_rows.specs.declared.subscriber.update.Update.{Update}
 use Rattle.camel_vlr.specs.Store.{AllLeave, fresh_session, SessionData}
-use Rattle.camel_c.specs.declared.object.LiveStore.{LiveStore}
+use Rattle.camel_c.specs.declared.store.LiveStore.{LiveStore}
 use Rattle.camel_c.specs.declared.object.Object.{Object}
-use Rattle.camel_c.specs.declared.object.Stage.{Stage}
-use Rattle.camel_c.specs.declared.object.Store.{Store}
-use Rattle.camel_c.specs.declared.thread_session.ThreadSession.{ThreadSession}
+use Rattle.camel_c.specs.declared.store.Stage.{Stage}
+use Rattle.camel_c.specs.declared.store.Store.{Store}
+use Rattle.camel_c.specs.declared.session.ThreadSession.{ThreadSession}
 use Rattle.camel_c.specs.declared.handle.CamelHandle.{CamelHandle}
 use Rattle.camel_tbcd.specs.declared.profile.Profile.{Profile}
 use Rattle.camel_tbcd.specs.declared.profile.Profile.TheVariants.{One, Two}
@@ -21,9 +21,9 @@ use Rattle.camel_c_data.specs.Fields.{imsi_in}
 use Rattle.camel_c_data.specs.declared.imsi.CamelImsi.{CamelImsi}
 use Rattle.camel_rows.specs.Subscriber.{SubscriberData}
 use Rattle.camel_map.specs.Encoding.{insert_of_record, octets_of_update}
-use Rattle.camel_c.specs.declared.argument.CamelArgument.{CamelArgument}
+use Rattle.camel_c.specs.declared.data.CamelArgument.{CamelArgument}
 use Rattle.camel_c.specs.declared.object.Object.TheVariants as object
-use Rattle.camel_c.specs.declared.object.Stage.TheVariants as stage
+use Rattle.camel_c.specs.declared.store.Stage.TheVariants as stage
 use Rattle.std.specs.FinMap as map
 
 -- What a handle of C holds.

@@ -9,8 +9,8 @@ use Rattle.camel_map.specs.declared.operation.Operation.{Operation}
 use Rattle.camel_c_data.specs.Fields.{imsi_in}
 use Rattle.camel_c_data.specs.declared.imsi.CamelImsi.{CamelImsi}
 use Rattle.camel_c.specs.declared.object.Object.{Object}
-use Rattle.camel_c.specs.declared.reading_map.OctetsFault.{OctetsFault}
-use Rattle.camel_c.specs.declared.reading_map.OctetsFault.TheVariants.{Argument, Malformed, OutOfMemory}
+use Rattle.camel_c.specs.declared.update.octets.OctetsFault.{OctetsFault}
+use Rattle.camel_c.specs.declared.update.octets.OctetsFault.TheVariants.{Argument, Malformed, OutOfMemory}
 use Rattle.camel_rows.specs.declared.subscriber.update.Update.{Update}
 use Rattle.camel_c.specs.Submission.{ReadsAndSubmits}
 

@@ -7,9 +7,9 @@ use Rattle.camel_c.specs.Session.{ChangesStore, RefusesStore, with_held, with_pu
 use Rattle.camel_c.specs.Session.{MayLook, with_dropped, with_free, receipt_of}
 use Rattle.camel_c.specs.Object.{HoldsAnySession, HoldsFreeStore, HoldsLiveStore, HoldsLook, HoldsSession, live_store}
 use Rattle.camel_c.specs.declared.handle.CamelHandle.{CamelHandle}
-use Rattle.camel_c.specs.declared.object.LiveStore.{LiveStore}
+use Rattle.camel_c.specs.declared.store.LiveStore.{LiveStore}
 use Rattle.camel_c.specs.declared.object.Object.{Object}
-use Rattle.camel_c.specs.declared.thread_session.ThreadSession.{ThreadSession}
+use Rattle.camel_c.specs.declared.session.ThreadSession.{ThreadSession}
 use Rattle.camel_criteria.specs.Refusal.{refusal_code}
 use Rattle.camel_criteria.specs.declared.refusal.Refusal.{Refusal}
 use Rattle.camel_rows.specs.declared.subscriber.update.Update.{Update}

@@ -6,9 +6,9 @@ use Rattle.camel_rows.specs.Store.{with_update}
 use Rattle.camel_rows.specs.declared.subscriber.update.Update.{Update}
 use Rattle.camel_vlr.specs.Store.{with_all_published, with_none_pending, LeavesLook, Sees, SessionData}
 use Rattle.camel_c.specs.Object.{closing_store, live_store, HoldsAnySession, HoldsLook, HoldsSession}
-use Rattle.camel_c.specs.declared.object.LiveStore.{LiveStore}
+use Rattle.camel_c.specs.declared.store.LiveStore.{LiveStore}
 use Rattle.camel_c.specs.declared.object.Object.{Object}
-use Rattle.camel_c.specs.declared.thread_session.ThreadSession.{ThreadSession}
+use Rattle.camel_c.specs.declared.session.ThreadSession.{ThreadSession}
 use Rattle.camel_rows.specs.Subscriber.{EntryData, O, T, SubscriberData, entry_at, row_at}
 use Rattle.camel_rows.specs.TdpRow.{TdpRowData}
 use Rattle.camel_rows.specs.Update.{records_of}
@@ -17,7 +17,7 @@ use Rattle.camel_c_data.specs.declared.criteria.CamelCriteria.{CamelCriteria}
 use Rattle.camel_c_data.specs.Fields.{flag_of}
 use Rattle.camel_rows.specs.Decision.{by_record, EventData, outcome_of, answer_over, event_dp, event_imsi}
 use Rattle.camel_rows.specs.declared.trigger.outcome.Answer.{Answer}
-use Rattle.camel_c.specs.declared.kept_subscriber.KeptSubscriber.{KeptSubscriber}
+use Rattle.camel_c.specs.declared.subscriber.KeptSubscriber.{KeptSubscriber}
 use Rattle.camel_c_data.specs.Event.{outcome_number, with_decision, ShowsAnswer}
 use Rattle.camel_c_data.specs.declared.answer.CamelAnswer.{CamelAnswer}
 use Rattle.camel_c_data.specs.declared.receipt.CamelReceipt.{CamelReceipt}

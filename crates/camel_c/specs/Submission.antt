@@ -10,7 +10,7 @@ use Rattle.camel_c_data.specs.declared.data_fault.DataFault.{DataFault}
 use Rattle.camel_c_data.specs.declared.imsi.CamelImsi.{CamelImsi}
 use Rattle.camel_c.specs.Session.{ChangesStore, with_pending}
 use Rattle.camel_c.specs.Object.{HoldsLiveStore, live_store}
-use Rattle.camel_c.specs.declared.object.LiveStore.{LiveStore}
+use Rattle.camel_c.specs.declared.store.LiveStore.{LiveStore}
 use Rattle.camel_c.specs.declared.object.Object.{Object}
 use Rattle.camel_criteria.specs.declared.refusal.Refusal.{Refusal}
 use Rattle.camel_rows.specs.declared.subscriber.update.Update.TheVariants as update

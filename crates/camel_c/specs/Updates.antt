@@ -14,7 +14,7 @@ use Rattle.camel_c_data.specs.declared.update.CamelInsert.{CamelInsert}
 use Rattle.camel_c.specs.Object.{Fills}
 use Rattle.camel_c.specs.Octets.{TakesOctets}
 use Rattle.camel_c.specs.declared.object.Object.{Object}
-use Rattle.camel_c.specs.declared.reading_map.OctetsFault.{OctetsFault}
+use Rattle.camel_c.specs.declared.update.octets.OctetsFault.{OctetsFault}
 use Rattle.camel_tbcd.specs.Imsi.{imsi_number}
 use Rattle.camel_rows.specs.Update.{update_imsi}
 use Rattle.camel_map.specs.Update.{join_fault_code}
@@ -22,7 +22,7 @@ use Rattle.camel_map.specs.declared.join.JoinFault.{JoinFault}
 use Rattle.camel_c_data.specs.declared.update.CamelWithdrawal.{CamelWithdrawal}
 use Rattle.camel_c.specs.declared.failure.Failure.{Failure}
 use Rattle.camel_c.specs.declared.handle.CamelHandle.{CamelHandle}
-use Rattle.camel_c.specs.declared.update_parts.CamelUpdateParts.{CamelUpdateParts}
+use Rattle.camel_c.specs.declared.update.CamelUpdateParts.{CamelUpdateParts}
 use Rattle.camel_c.specs.declared.object.Object.TheVariants as object
 use Rattle.camel_criteria.specs.declared.refusal.Refusal.TheVariants as refusal
 use Rattle.camel_rows.specs.declared.subscriber.update.Update.TheVariants as update

@@ -10,45 +10,18 @@
 //! are those of one allocator. A handle may go to another thread.
 #![tactic(auto)]
 
-mod argument;
-mod committing;
-mod copies;
-mod counting;
-mod deciding;
-mod deciding_kept;
-mod dropping;
-mod encoding;
-mod ending;
+mod data;
 mod failure;
-mod filling;
-mod fronts;
 mod handle;
-mod imsi_list;
-mod joining;
-mod keeping;
-mod kept_subscriber;
+mod imsis;
 mod layouts;
-mod listing;
-mod looks;
-mod making;
 mod object;
-mod opening;
-mod publishing;
-mod publishing_to;
-mod reading_map;
-mod receipts;
-mod setting_up;
-mod showing;
-mod shown_at;
-mod submitting;
-mod submitting_all;
-mod submitting_map;
-mod thread_session;
-mod update_parts;
-mod updates;
-mod updates_map;
+mod session;
+mod store;
+mod subscriber;
+mod update;
 
-pub use argument::CamelArgument;
+pub use data::CamelArgument;
 pub use failure::Failure;
 pub use handle::CamelHandle;
-pub use update_parts::CamelUpdateParts;
+pub use update::CamelUpdateParts;

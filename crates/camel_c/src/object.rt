@@ -1,73 +1,19 @@
-//! What a handle of C may hold.
+//! What a handle of C may hold, and the calls that fill and empty one: those that allocate and free.
 
-ghost use Rattle.std.specs.Prelude.{◌≡◌, ◌≢◌, MatchOption};
-ghost use Rattle.camel_c.specs.Object.{live_store};
+ghost use Rattle.std.specs.Prelude.{◌≡◌, ◌≢◌, ◌⊎◌, Err, Some, None, IfErr, MatchOption, OnErr, OnOk};
+ghost use Rattle.camel_c.specs.Object.{live_store, Fills};
+ghost use Rattle.camel_c.specs.declared.failure.Failure.TheVariants as failure;
 ghost use Rattle.camel_c.specs.declared.object.Object.TheVariants as object;
 
-use crate::imsi_list::ImsiList;
-use crate::kept_subscriber::KeptSubscriber;
-use crate::thread_session::ThreadSession;
+use crate::imsis::ImsiList;
+use crate::session::ThreadSession;
+use crate::store::{LiveStore, Stage, Store};
+use crate::subscriber::KeptSubscriber;
+use crate::{CamelHandle, Failure};
+use camel_criteria::Refusal;
 use camel_map::Arrival;
-use camel_vlr::{Closing, WaitFreeVlr};
-
-/// A store that takes updates.
-pub struct LiveStore {
-    pub vlr: WaitFreeVlr,
-    /// Its seed, by which its sessions know its receipts.
-    pub number: u64,
-    /// How many publications a look held up, modulo 2^64.
-    pub held: u64,
-}
-
-impl LiveStore {
-    /// The store, without what is counted of it.
-    pub(crate) fn into_vlr(self) -> WaitFreeVlr
-        ensures { result ≡ self.vlr }
-    {
-        let LiveStore {
-            vlr,
-            number: _number,
-            held: _held,
-        } = self;
-        vlr
-    }
-}
-
-/// How far a store is.
-pub enum Stage {
-    /// It takes updates.
-    Live(LiveStore),
-    /// A look holds its end up.
-    Closing(Closing),
-    /// It has ended. A box that held a store has to hold something until it is freed.
-    Closed,
-}
-
-/// A store that may be dropped, as an object of C has to be: a [`WaitFreeVlr`] may not. The looks that are held then
-/// free what they keep.
-pub struct Store {
-    pub stage: Stage,
-}
-
-impl Store {
-    /// A store at this stage.
-    pub fn of(stage: Stage) -> Store
-        ensures { result.stage ≡ stage }
-    {
-        Store { stage }
-    }
-}
-
-impl Drop for Store {
-    fn drop(self) {
-        let Store { stage } = self;
-        match stage {
-            Stage::Live(live) => live.into_vlr().abandon(),
-            Stage::Closing(closing) => closing.abandon(),
-            Stage::Closed => {}
-        }
-    }
-}
+use core::mem::replace_with;
+use std::alloc::Global;
 
 /// What a handle of C may hold.
 #[derive(Drop)]
@@ -80,6 +26,64 @@ pub enum Object {
     Update(Arrival),
     /// IMSIs that are still to be told.
     Imsis(ImsiList),
+}
+
+/// Puts an object into a handle that is empty.
+pub(crate) fn fill(
+    handle: CamelHandle,
+    with: (Global, Object),
+) -> (CamelHandle, Result<(), Failure>)
+    ensures filled { OnOk result.1 ((handle.value ≡ None) × (result.0.value ≡ Some with.1)) }
+    ensures unchanged { OnErr result.1 (result.0.value ≡ handle.value) }
+    ensures only { handle.value ≡ None → IfErr result.1 (λ why. why ≡ failure.Refused Refusal.OutOfMemory) }
+    ensures full { (handle.value ≡ None) ⊎ (result.1 ≡ Err failure.FullHandle) }
+{
+    let (alloc, object) = with;
+    match handle.into_box(alloc) {
+        Some(held) => {
+            drop(object);
+            (CamelHandle::of(held), Err(Failure::FullHandle))
+        }
+        None => match Box::new(alloc, object) {
+            Ok(whole) => (CamelHandle::of(whole), Ok(())),
+            Err(_) => (
+                CamelHandle::empty(),
+                Err(Failure::Refused(Refusal::OutOfMemory)),
+            ),
+        },
+    }
+}
+
+/// Puts an object into the handle if that is empty, and gives the status: 504 if it is not, and 102 if memory was
+/// refused.
+pub(crate) fn put(alloc: Global, handle: &mut CamelHandle, object: Object) -> u32
+    ensures { Fills object result handle.old.value handle.new.value }
+{
+    match replace_with(handle, (alloc, object), fill) {
+        Ok(()) => 0,
+        Err(why) => why.code(),
+    }
+}
+
+/// Frees what a handle holds, and leaves it empty. An empty one stays so.
+///
+/// A store that was not closed ends too: each look that is held goes on until it is left, and no session begins
+/// another. Its data are freed when the last of them is left.
+#[inline(never)]
+#[unsafe(no_mangle)]
+pub extern "C" fn camel_empty(alloc: Global, handle: &mut CamelHandle)
+    ensures { handle.new.value ≡ None }
+{
+    replace_with(handle, alloc, empty);
+}
+
+fn empty(handle: CamelHandle, alloc: Global) -> (CamelHandle, ())
+    ensures { result.0.value ≡ None }
+{
+    if let Some(held) = handle.into_box(alloc) {
+        drop(held);
+    }
+    (CamelHandle::empty(), ())
 }
 
 /// What a handle may be asked for: a kind of object, or a part of one.

@@ -23,7 +23,7 @@ pub(super) const LAYOUT_SIZES: [u32; LAYOUT_COUNT] = [
     size_of::<camel_c_data::CamelAnswer>() as u32,
     size_of::<camel_c_data::CamelCounts>() as u32,
     size_of::<camel_c_data::CamelDecisions>() as u32,
-    size_of::<crate::update_parts::CamelUpdateParts>() as u32,
-    size_of::<crate::argument::CamelArgument>() as u32,
+    size_of::<crate::update::CamelUpdateParts>() as u32,
+    size_of::<crate::data::CamelArgument>() as u32,
     size_of::<crate::handle::CamelHandle>() as u32,
 ];

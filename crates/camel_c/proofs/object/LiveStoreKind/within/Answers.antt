@@ -1,7 +1,7 @@
 use Rattle.std.proofs.Common.{◌≡◌, ◌∙◌, ap, refl}
 use Rattle.camel_c.specs.Object.{live_store}
 use Rattle.camel_c.specs.declared.object.Object.TheVariants as object
-use Rattle.camel_c.specs.declared.object.Stage.TheVariants as stage
+use Rattle.camel_c.specs.declared.store.Stage.TheVariants as stage
 use Rattle.camel_c.proofs.object.LiveStoreKind.within.Goals as goal
 
 pub returns-in-Live : goal.returns-in-Live

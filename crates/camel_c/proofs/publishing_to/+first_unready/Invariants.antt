@@ -1,5 +1,0 @@
-use Rattle.std.proofs.Common.{length}
-use Rattle.camel_c.proofs.publishing_to.+first_unready.Given as goal
-
-abbrev pub decreases-first_unready : goal.decreases-first_unready
-decreases-first_unready l = length l.sessions.now
