@@ -22,7 +22,7 @@ use Rattle.camel_rows.specs.TdpRow.{kept_unless, list_refusal}
 use Rattle.camel_ber.specs.Elements.{◌>>=◌}
 use Rattle.camel_criteria.specs.DetectionPoint.{o_detection_points, vt_detection_points}
 use Rattle.camel_c_data.specs.declared.imsi.CamelImsi.{CamelImsi}
-use Rattle.camel_c_data.specs.declared.update.CamelInsert.{CamelInsert}
+use Rattle.camel_c_data.specs.declared.update.CamelLists.{CamelLists}
 use Rattle.camel_map.specs.declared.arrival.Arrival.{Arrival}
 use Rattle.camel_rows.specs.declared.subscriber.update.Update.TheVariants as update
 
@@ -172,7 +172,7 @@ came_few points dp_of (Some received) came is =
 
 -- The Insert of the lists that are sent is one of received lists.
 
-pub insert_in-of_lists : (sent : CamelInsert) (held : CamelImsi) (made : Update)
+pub insert_in-of_lists : (sent : CamelLists) (held : CamelImsi) (made : Update)
     → insert_in sent held ≡ Ok made → IsOfLists (with_counts (counts_in sent) made)
 unfolding insert_in rows_in entries_in
 insert_in-of_lists sent held made is =
@@ -190,7 +190,7 @@ insert_in-of_lists sent held made is =
     (of_came imsi.0 (counts_in sent) o.0 o_criteria.0 vt.0 t_criteria.0 o_came o_criteria_came vt_came t_criteria_came)
 
 -- what is made of the lists that are sent is held as an Insert of received lists
-pub made_lists : (sent : CamelInsert) (held : CamelImsi) (read : Result Update DataFault) (status : ℕ)
+pub made_lists : (sent : CamelLists) (held : CamelImsi) (read : Result Update DataFault) (status : ℕ)
     (before after : Option Object) → ReadsAs IsMemory read (insert_in sent held)
     → Makes (counted (counts_in sent) read) status before after → status ≡ 0 → HoldsLists after
 made_lists sent held (Ok made) status before after is makes done =

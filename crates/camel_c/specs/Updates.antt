@@ -10,7 +10,7 @@ use Rattle.camel_reading.specs.Reading.{◌>>=◌}
 use Rattle.camel_c_data.specs.Update.{insert_in}
 use Rattle.camel_c_data.specs.declared.data_fault.DataFault.{DataFault}
 use Rattle.camel_c_data.specs.declared.imsi.CamelImsi.{CamelImsi}
-use Rattle.camel_c_data.specs.declared.update.CamelInsert.{CamelInsert}
+use Rattle.camel_c_data.specs.declared.update.CamelLists.{CamelLists}
 use Rattle.camel_c.specs.Object.{Fills}
 use Rattle.camel_c.specs.Octets.{TakesOctets}
 use Rattle.camel_c.specs.declared.object.Object.{Object}
@@ -35,7 +35,7 @@ abbrev pub count_in : {A : Type 0} → ℕ → List A → ℕ
 count_in has items = if is_set has then length items else 0
 
 -- how many items came in each list
-abbrev pub counts_in : CamelInsert → ItemCounts
+abbrev pub counts_in : CamelLists → ItemCounts
 counts_in sent = record {
   o = count_in sent.o.has_rows sent.o.rows.now;
   o_criteria = count_in sent.o.has_criteria sent.o.criteria.now;
@@ -57,7 +57,7 @@ abbrev pub alone : Result Update DataFault → Result Arrival DataFault
 alone reading = counted (record { o = 0; o_criteria = 0; vt = 0; t_criteria = 0 }) reading
 
 -- the Insert of an IMSI and of the lists that are sent
-abbrev pub lists_in : CamelInsert → CamelImsi → Result Arrival DataFault
+abbrev pub lists_in : CamelLists → CamelImsi → Result Arrival DataFault
 lists_in sent imsi = counted (counts_in sent) (insert_in sent imsi)
 
 -- an Insert of received lists

@@ -15,7 +15,7 @@ pub(crate) mod octets;
 
 use crate::object::{Object, put};
 use crate::{CamelHandle, Failure};
-use camel_c_data::{CamelImsi, CamelInsert, CamelWithdrawal, DataFault};
+use camel_c_data::{CamelImsi, CamelLists, CamelWithdrawal, DataFault};
 use camel_criteria::Refusal;
 use camel_map::{Arrival, CapabilityHandling, ItemCounts};
 use camel_rows::Update;
@@ -44,7 +44,7 @@ pub extern "C" fn camel_update_of_nonnull(
     kind: u8,
     imsi: &CamelImsi,
     what: &CamelWithdrawal,
-    sent: &CamelInsert,
+    sent: &CamelLists,
     update: &mut CamelHandle,
 ) -> u32
     ensures register { kind ≡ 1 → Makes (alone (register_in imsi.now)) result update.old.value update.new.value }
@@ -66,7 +66,7 @@ pub extern "C" fn camel_update_of_nonnull(
     }
 }
 
-fn keep_insert(alloc: Global, update: &mut CamelHandle, imsi: &CamelImsi, sent: &CamelInsert) -> u32
+fn keep_insert(alloc: Global, update: &mut CamelHandle, imsi: &CamelImsi, sent: &CamelLists) -> u32
     ensures made { ReadsAndMakes (lists_in sent.now imsi.now) result update.old.value update.new.value }
     ensures received { result ≡ 0 → HoldsLists update.new.value }
 {
@@ -75,7 +75,7 @@ fn keep_insert(alloc: Global, update: &mut CamelHandle, imsi: &CamelImsi, sent: 
 }
 
 /// How many items came in each list that is sent.
-fn counts_in(sent: &CamelInsert) -> ItemCounts
+fn counts_in(sent: &CamelLists) -> ItemCounts
     ensures { result ≡ counts_in sent.now }
 {
     ItemCounts {

@@ -24,11 +24,11 @@ use Rattle.camel_criteria.specs.declared.refusal.Refusal.TheVariants.{Unexpected
 use Rattle.camel_c_data.specs.declared.criteria.CamelCriteria.{CamelCriteria}
 use Rattle.camel_c_data.specs.declared.data_fault.DataFault.TheVariants.{Refused}
 use Rattle.camel_criteria.specs.declared.refusal.Refusal.{Refusal}
-use Rattle.camel_c_data.specs.declared.sent_csi.CamelSentCsi.{CamelSentCsi}
+use Rattle.camel_c_data.specs.declared.csi_lists.CamelCsiLists.{CamelCsiLists}
 use Rattle.camel_rows.specs.declared.subscriber.update.Update.{Update}
 use Rattle.camel_rows.specs.declared.subscriber.update.Withdrawal.{Withdrawal}
 use Rattle.camel_c_data.specs.declared.imsi.CamelImsi.{CamelImsi}
-use Rattle.camel_c_data.specs.declared.update.CamelInsert.{CamelInsert}
+use Rattle.camel_c_data.specs.declared.update.CamelLists.{CamelLists}
 use Rattle.camel_c_data.specs.declared.update.CamelWithdrawal.{CamelWithdrawal}
 use Rattle.camel_rows.specs.declared.subscriber.update.Update.TheVariants as update
 
@@ -161,18 +161,18 @@ sent_list item_in kept_of true items = do
 -- What an Insert sends of a CSI: its rows and the entries of its criteria, each list if it is sent.
 
 -- the rows that are kept of a CSI with these detection points
-unfoldable pub rows_in : List ℕ → CamelSentCsi → Result (Option (List TdpRowData)) DataFault
+unfoldable pub rows_in : List ℕ → CamelCsiLists → Result (Option (List TdpRowData)) DataFault
 rows_in points sent = sent_list row_in (kept_of points (λ row. row.dp)) (is_set sent.has_rows) sent.rows.now
 
 -- the entries that are kept of the criteria of such a CSI
-unfoldable pub entries_in : {Entry : Type 0} → (CamelCriteria → Result Entry DataFault) → List ℕ → (Entry → ℕ) → CamelSentCsi
+unfoldable pub entries_in : {Entry : Type 0} → (CamelCriteria → Result Entry DataFault) → List ℕ → (Entry → ℕ) → CamelCsiLists
     → Result (Option (List Entry)) DataFault
 entries_in entry_in points dp_of sent = sent_list entry_in (kept_of points dp_of) (is_set sent.has_criteria) sent.criteria.now
 
 -- The updates Insert and Delete (TS 29.002) by their fields.
 
 -- the Insert of an IMSI and of the lists that are sent
-unfoldable pub insert_in : CamelInsert → CamelImsi → Result Update DataFault
+unfoldable pub insert_in : CamelLists → CamelImsi → Result Update DataFault
 insert_in sent held = do
   imsi ← imsi_in held
   o ← rows_in o_detection_points sent.o

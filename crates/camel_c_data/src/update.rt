@@ -5,7 +5,7 @@ ghost use Rattle.camel_reading.specs.Reading.{ReadsAs};
 ghost use Rattle.camel_c_data.specs.Fields.{IsMemory};
 ghost use Rattle.camel_c_data.specs.Update.{delete_in, insert_in, withdrawal_in};
 
-use crate::{CamelImsi, CamelSentCsi, DataFault};
+use crate::{CamelCsiLists, CamelImsi, DataFault};
 use camel_rows::{Update, Withdrawal};
 use std::alloc::Global;
 use std::mem::size_of;
@@ -13,14 +13,14 @@ use std::mem::size_of;
 /// What an Insert sends.
 #[repr(C)]
 #[derive(Clone, Copy, Debug)]
-pub struct CamelInsert<'a> {
-    pub o: CamelSentCsi<'a>,
-    pub vt: CamelSentCsi<'a>,
+pub struct CamelLists<'a> {
+    pub o: CamelCsiLists<'a>,
+    pub vt: CamelCsiLists<'a>,
 }
 
-const _: () = prove!(size_of::<CamelInsert>() == 80);
+const _: () = prove!(size_of::<CamelLists>() == 80);
 
-impl CamelInsert<'_> {
+impl CamelLists<'_> {
     /// The Insert of an IMSI and of the lists that are sent.
     ///
     /// Fails as the IMSI fails to read, and then as the first list that does, in the order of the fields. Fails with

@@ -16,7 +16,7 @@ use crate::update::{
     read_register,
 };
 use crate::{CamelHandle, Failure};
-use camel_c_data::{CamelImsi, CamelInsert, CamelWithdrawal, DataFault};
+use camel_c_data::{CamelImsi, CamelLists, CamelWithdrawal, DataFault};
 use camel_criteria::Refusal;
 use camel_map::Arrival;
 use camel_rows::Update;
@@ -39,7 +39,7 @@ pub extern "C" fn camel_submit_change_nonnull(
     kind: u8,
     imsi: &CamelImsi,
     what: &CamelWithdrawal,
-    sent: &CamelInsert,
+    sent: &CamelLists,
 ) -> u32
     ensures register { kind ≡ 1 → Submits (register_in imsi.now) result store.old.value store.new.value }
     ensures insert { kind ≡ 2 → ReadsAndSubmits (insert_in sent.now imsi.now) result store.old.value store.new.value }
@@ -89,12 +89,7 @@ fn submit_clear_all(store: &mut CamelHandle) -> u32
 }
 
 #[inline(never)]
-fn submit_insert(
-    alloc: Global,
-    store: &mut CamelHandle,
-    imsi: &CamelImsi,
-    sent: &CamelInsert,
-) -> u32
+fn submit_insert(alloc: Global, store: &mut CamelHandle, imsi: &CamelImsi, sent: &CamelLists) -> u32
     ensures { ReadsAndSubmits (insert_in sent.now imsi.now) result store.old.value store.new.value }
 {
     submit(store, sent.read(alloc, imsi))

@@ -4,7 +4,7 @@ use Rattle.camel_c_data.specs.Update.{row_in}
 use Rattle.camel_reading.proofs.StepLemmas.{reads_exactly}
 use Rattle.camel_c_data.specs.Fields.{IsMemory}
 use Rattle.camel_c_data.proofs.FewLemmas.{few, refused}
-use Rattle.camel_c_data.proofs.sent_csi.read_rows.Goals as goal
+use Rattle.camel_c_data.proofs.csi_lists.read_rows.Goals as goal
 
 pub returns-in_err-check_count-clause-rows : goal.returns-in_err-check_count-clause-rows
 returns-in_err-check_count-clause-rows c =

@@ -1,7 +1,7 @@
 use Rattle.std.proofs.Common.{rules}
 use Rattle.std.proofs.lemmas.Result.{err_from_is_err_and}
 use Rattle.camel_c_data.proofs.FewLemmas.{few, refused}
-use Rattle.camel_c_data.proofs.sent_csi.read_entries.Goals as goal
+use Rattle.camel_c_data.proofs.csi_lists.read_entries.Goals as goal
 
 pub returns-in_err-check_count : goal.returns-in_err-check_count
 returns-in_err-check_count g c =

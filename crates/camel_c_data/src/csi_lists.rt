@@ -20,7 +20,7 @@ use std::alloc::Global;
 /// detection point of the CSI, so criteria can be replaced by none.
 #[repr(C)]
 #[derive(Clone, Copy, Debug)]
-pub struct CamelSentCsi<'a> {
+pub struct CamelCsiLists<'a> {
     pub rows: &'a [CamelRow],
     pub criteria: &'a [CamelCriteria],
     /// Not 0 if the rows are sent.
@@ -29,7 +29,7 @@ pub struct CamelSentCsi<'a> {
     pub has_criteria: u8,
 }
 
-impl CamelSentCsi<'_> {
+impl CamelCsiLists<'_> {
     /// The rows of a CSI of this kind, or none if they are not sent: they are not looked at then. It takes no memory.
     ///
     /// Fails with `UnexpectedDataValue` (36) for more than 10 rows, then as the first row that fails to read, and then
