@@ -1,6 +1,6 @@
 //! Data that C has: IMSIs and addresses, which a caller makes once per call, and the argument that makes a record.
 
-ghost use Rattle.std.specs.Prelude.{◌≡◌, ◌≢◌, ◌≤◌, ◌⊎◌, Ok, IsErr, IsOk, OnErr, OnOk, length};
+ghost use Rattle.std.specs.Prelude.{◌≡◌, ◌≢◌, ◌≤◌, ◌⊎◌, Ok, IfOk, IsErr, IsOk, OnErr, OnOk, length};
 ghost use Rattle.camel_tbcd.specs.AddressString.{max_address_length, max_isdn_address_length};
 ghost use Rattle.camel_tbcd.specs.Imsi.{imsi_of_ascii, imsi_of_tbcd};
 ghost use Rattle.camel_c_data.specs.Fields.{call_address_in, isdn_address_in, imsi_in, ok_or_malformed};
@@ -21,13 +21,8 @@ pub extern "C" fn camel_imsi_of_tbcd_nonnull(octets: &[u8], imsi: &mut CamelImsi
     ensures only { IsOk (imsi_of_tbcd octets.now) → result ≡ 0 }
     ensures malformed { IsErr (imsi_of_tbcd octets.now) → result ≡ 502 }
 {
-    match Imsi::from_tbcd(octets) {
-        Ok(made) => {
-            *imsi = CamelImsi::of(&made);
-            0
-        }
-        Err(_) => Failure::Malformed.code(),
-    }
+    let made = Imsi::from_tbcd(octets).map(|it| CamelImsi::of(&it));
+    write_made(made, imsi)
 }
 
 /// Writes the IMSI that 5 to 15 characters 0 to 9 are. It fails with 502 if they are none, and leaves the IMSI as it
@@ -39,13 +34,8 @@ pub extern "C" fn camel_imsi_of_digits_nonnull(digits: &[u8], imsi: &mut CamelIm
     ensures only { IsOk (imsi_of_ascii digits.now) → result ≡ 0 }
     ensures malformed { IsErr (imsi_of_ascii digits.now) → result ≡ 502 }
 {
-    match Imsi::from_ascii(digits) {
-        Ok(made) => {
-            *imsi = CamelImsi::of(&made);
-            0
-        }
-        Err(_) => Failure::Malformed.code(),
-    }
+    let made = Imsi::from_ascii(digits).map(|it| CamelImsi::of(&it));
+    write_made(made, imsi)
 }
 
 /// Writes the AddressString of these octets, 1 to 20 (TS 29.002). It fails with 502 if they are none, and leaves the
@@ -57,13 +47,8 @@ pub extern "C" fn camel_address_of_nonnull(octets: &[u8], address: &mut CamelAdd
     ensures only { 1 ≤ length octets.now → length octets.now ≤ max_address_length → result ≡ 0 }
     ensures malformed { (result ≡ 0) ⊎ (result ≡ 502) }
 {
-    match CallAddress::from_bytes(octets) {
-        Ok(made) => {
-            *address = CamelAddress::of(&made);
-            0
-        }
-        Err(_) => Failure::Malformed.code(),
-    }
+    let made = CallAddress::from_bytes(octets).map(|it| CamelAddress::of(&it));
+    write_made(made, address)
 }
 
 /// Writes the ISDN-AddressString of these octets, 1 to 9 (TS 29.002). It fails with 502 if they are none, and leaves
@@ -78,9 +63,18 @@ pub extern "C" fn camel_isdn_address_of_nonnull(
     ensures only { 1 ≤ length octets.now → length octets.now ≤ max_isdn_address_length → result ≡ 0 }
     ensures malformed { (result ≡ 0) ⊎ (result ≡ 502) }
 {
-    match IsdnAddress::from_bytes(octets) {
-        Ok(made) => {
-            *address = CamelIsdnAddress::of(&made);
+    let made = IsdnAddress::from_bytes(octets).map(|it| CamelIsdnAddress::of(&it));
+    write_made(made, address)
+}
+
+/// Writes what was made. It fails with 502 if nothing was, and leaves the place as it was.
+fn write_made<C: Copy, E: Copy>(made: Result<C, E>, place: &mut C) -> u32
+    ensures written { IfOk made (λ value. (result ≡ 0) × (place.new ≡ value)) }
+    ensures malformed { OnErr made ((result ≡ 502) × (place.new ≡ place.old)) }
+{
+    match made {
+        Ok(value) => {
+            *place = value;
             0
         }
         Err(_) => Failure::Malformed.code(),

@@ -5,7 +5,6 @@ ghost use Rattle.std.specs.Prelude.{List, ℕ};
 ghost use Rattle.camel_criteria.specs.declared.refusal.Refusal.TheVariants as refusal;
 ghost use Rattle.camel_rows.specs.Update.{records_of};
 ghost use Rattle.camel_table.specs.ByImsi.{ListsEachOnce};
-ghost use Rattle.camel_vlr.specs.Store.{SessionData};
 ghost use Rattle.camel_c.specs.Object.{FillsImsis, HoldsImsis, TellsNext};
 ghost use Rattle.camel_c.specs.Session.{Fetches, Shows};
 ghost use Rattle.camel_c.specs.declared.object.Object.TheVariants as object;
@@ -82,29 +81,14 @@ pub extern "C" fn camel_imsis_of(
     if imsis.is_full() {
         return Failure::FullHandle.code();
     }
-    own.list(alloc, imsis)
-}
-
-impl ThreadSession {
-    fn list(&mut self, alloc: Global, imsis: &mut CamelHandle) -> u32
-        requires { imsis.old.value ≡ None }
-        ensures listed { result ≡ 0 → (shown : SessionData) × Shows self.old shown self.new
-            × FillsImsis shown imsis.old.value imsis.new.value }
-        ensures unwritten { result ≢ 0 → imsis.new.value ≡ imsis.old.value }
-        ensures unchanged { result ≡ 104 → self.new ≡ self.old }
-        ensures no_memory { result ≡ 102 → (shown : SessionData) × Shows self.old shown self.new }
-        ensures only { (result ≡ 0) ⊎ ((result ≡ 102) ⊎ (result ≡ 104)) }
-        ensures looking { self.old.session.looks ≡ true → (result ≡ 0) ⊎ (result ≡ 102) }
-    {
-        let Some(had_begun) = self.begin() else {
-            return Failure::Refused(Refusal::NoGuard).code();
-        };
-        let listed = ImsiList::shown_by(&self.session);
-        self.end(had_begun);
-        match listed {
-            Ok(listed) => put(alloc, imsis, Object::Imsis(listed)),
-            Err(why) => Failure::Refused(why).code(),
-        }
+    let Some(had_begun) = own.begin() else {
+        return Failure::Refused(Refusal::NoGuard).code();
+    };
+    let listed = ImsiList::shown_by(&own.session);
+    own.end(had_begun);
+    match listed {
+        Ok(listed) => put(alloc, imsis, Object::Imsis(listed)),
+        Err(why) => Failure::Refused(why).code(),
     }
 }
 

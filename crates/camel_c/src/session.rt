@@ -1,13 +1,13 @@
 //! Sessions: their looks, what one decides, and what it learns.
 
-ghost use Rattle.std.specs.Prelude.{◌≡◌, ◌≢◌, ◌⊎◌, true, false, Ok, Some, None, IfSome, IsErr, length};
+ghost use Rattle.std.specs.Prelude.{◌≡◌, ◌≢◌, ◌⊎◌, true, false, Ok, Some, None, IfSome, IsErr};
 ghost use Rattle.camel_rows.specs.Decision.{EventData, event_data};
 ghost use Rattle.camel_rows.specs.declared.trigger.outcome.Answer.{Answer};
 ghost use Rattle.camel_vlr.specs.Store.{Sees, SessionData};
 ghost use Rattle.camel_c_data.specs.Event.{ShowsAnswer, event_in};
 ghost use Rattle.camel_c.specs.Object.{HoldsAnySession, HoldsLook, HoldsSession};
 ghost use Rattle.camel_c.specs.Session.{BeginsLook, Decides, IsForeign, IsWithoutLook, LearnsReceipt, Looks, MayLook};
-ghost use Rattle.camel_c.specs.Session.{RejectsReceipt, Shows, with_session};
+ghost use Rattle.camel_c.specs.Session.{RejectsReceipt, with_session};
 ghost use Rattle.camel_c.specs.declared.object.Object.TheVariants as object;
 ghost use Rattle.camel_c.specs.declared.session.ThreadSession.{ThreadSession};
 
@@ -207,23 +207,14 @@ pub extern "C" fn camel_learn(session: &mut CamelHandle, receipt: &CamelReceipt)
     if own.store != receipt.store {
         return Failure::OtherStore.code();
     }
-    match own.see() {
-        None => Failure::Refused(Refusal::NoGuard).code(),
-        Some(front) if front < receipt.front => Failure::OtherStore.code(),
-        Some(_) => 0,
-    }
-}
-
-impl ThreadSession {
-    /// Looks, and tells how many updates the front has; None if the store has ended.
-    fn see(&mut self) -> Option<u64>
-        ensures seen { IfSome result
-            (λ front. (shown : SessionData) × Shows self.old shown self.new × (front ≡ length shown.seen)) }
-        ensures no_look { result ≡ None → self.new ≡ self.old }
-    {
-        let had_begun = self.begin()?;
-        let front = self.session.front();
-        self.end(had_begun);
-        Some(front)
+    let Some(had_begun) = own.begin() else {
+        return Failure::Refused(Refusal::NoGuard).code();
+    };
+    let front = own.session.front();
+    own.end(had_begun);
+    if front < receipt.front {
+        Failure::OtherStore.code()
+    } else {
+        0
     }
 }

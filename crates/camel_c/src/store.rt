@@ -10,7 +10,6 @@ ghost use Rattle.camel_c_data.specs.Event.{no_decisions};
 ghost use Rattle.camel_c.specs.Object.{live_store, at_stage, AllEmpty, AllHold, CanOpen, Counts, HoldAsBefore};
 ghost use Rattle.camel_c.specs.Object.{HoldsLiveStore, HoldsStore, IsNew, Opens, new_session, profile_of};
 ghost use Rattle.camel_c.specs.Session.{GivesReceipt, IsHeldUp, receipt_of};
-ghost use Rattle.camel_c.specs.declared.failure.Failure.TheVariants as failure;
 ghost use Rattle.camel_c.specs.declared.object.Object.TheVariants as object;
 ghost use Rattle.camel_c.specs.declared.store.LiveStore.{LiveStore};
 ghost use Rattle.camel_c.specs.declared.store.Stage.TheVariants as stage;

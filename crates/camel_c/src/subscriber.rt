@@ -5,7 +5,6 @@ ghost use Rattle.camel_criteria.specs.declared.refusal.Refusal.TheVariants as re
 ghost use Rattle.camel_rows.specs.Decision.{EventData, event_data};
 ghost use Rattle.camel_rows.specs.Subscriber.{row_at};
 ghost use Rattle.camel_map.specs.Encoding.{insert_of_record, octets_of_update};
-ghost use Rattle.camel_vlr.specs.Store.{SessionData};
 ghost use Rattle.camel_c_data.specs.Event.{ShowsAnswer, event_in};
 ghost use Rattle.camel_c_data.specs.Fields.{imsi_in};
 ghost use Rattle.camel_c_data.specs.Update.{ShowsRow};
@@ -89,36 +88,14 @@ pub extern "C" fn camel_keep(
     if subscriber.is_full() {
         return Failure::FullHandle.code();
     }
-    own.keep(alloc, &asked, subscriber, is_there)
-}
-
-impl ThreadSession {
-    fn keep(
-        &mut self,
-        alloc: Global,
-        imsi: &Imsi,
-        subscriber: &mut CamelHandle,
-        is_there: &mut u8,
-    ) -> u32
-        requires { subscriber.old.value ≡ None }
-        ensures kept { result ≡ 0 → (shown : SessionData) × Shows self.old shown self.new
-            × FillsKept shown (record_shown shown imsi.now) subscriber.old.value subscriber.new.value is_there.new }
-        ensures unwritten { result ≢ 0
-            → (subscriber.new.value ≡ subscriber.old.value) × (is_there.new ≡ is_there.old) }
-        ensures unchanged { result ≡ 104 → self.new ≡ self.old }
-        ensures no_memory { result ≡ 102 → (shown : SessionData) × Shows self.old shown self.new }
-        ensures only { (result ≡ 0) ⊎ ((result ≡ 102) ⊎ (result ≡ 104)) }
-        ensures looking { self.old.session.looks ≡ true → (result ≡ 0) ⊎ (result ≡ 102) }
-    {
-        let Some(had_begun) = self.begin() else {
-            return Failure::Refused(Refusal::NoGuard).code();
-        };
-        let kept = keep_shown(alloc, &self.session, imsi, subscriber, is_there);
-        self.end(had_begun);
-        match kept {
-            Ok(()) => 0,
-            Err(why) => Failure::Refused(why).code(),
-        }
+    let Some(had_begun) = own.begin() else {
+        return Failure::Refused(Refusal::NoGuard).code();
+    };
+    let kept = keep_shown(alloc, &own.session, &asked, subscriber, is_there);
+    own.end(had_begun);
+    match kept {
+        Ok(()) => 0,
+        Err(why) => Failure::Refused(why).code(),
     }
 }
 
@@ -184,44 +161,20 @@ pub extern "C" fn camel_set_up(
     if subscriber.is_full() {
         return Failure::FullHandle.code();
     }
-    own.set_up(alloc, asked, answer, subscriber, is_there)
-}
-
-impl ThreadSession {
-    fn set_up(
-        &mut self,
-        alloc: Global,
-        event: &Event,
-        answer: &mut CamelAnswer,
-        subscriber: &mut CamelHandle,
-        is_there: &mut u8,
-    ) -> u32
-        requires { subscriber.old.value ≡ None }
-        ensures set_up { result ≡ 0 → (shown : SessionData)
-            × SetsUp (event_data event.now)
-            answer.new subscriber.old.value subscriber.new.value is_there.new self.old shown self.new }
-        ensures unwritten { result ≢ 0 → (answer.new ≡ answer.old)
-            × (subscriber.new.value ≡ subscriber.old.value) × (is_there.new ≡ is_there.old) }
-        ensures unchanged { result ≡ 104 → self.new ≡ self.old }
-        ensures no_memory { result ≡ 102 → (shown : SessionData) × Shows self.old shown self.new }
-        ensures only { (result ≡ 0) ⊎ ((result ≡ 102) ⊎ (result ≡ 104)) }
-        ensures looking { self.old.session.looks ≡ true → (result ≡ 0) ⊎ (result ≡ 102) }
-    {
-        let Some(had_begun) = self.begin() else {
-            return Failure::Refused(Refusal::NoGuard).code();
-        };
-        let kept = keep_shown(alloc, &self.session, &event.imsi(), subscriber, is_there);
-        let status = match kept {
-            Ok(()) => {
-                answer.write(self.session.front(), &self.session.decide(event));
-                self.decisions.count(event, answer.reason);
-                0
-            }
-            Err(why) => Failure::Refused(why).code(),
-        };
-        self.end(had_begun);
-        status
-    }
+    let Some(had_begun) = own.begin() else {
+        return Failure::Refused(Refusal::NoGuard).code();
+    };
+    let kept = keep_shown(alloc, &own.session, &asked.imsi(), subscriber, is_there);
+    let status = match kept {
+        Ok(()) => {
+            answer.write(own.session.front(), &own.session.decide(asked));
+            own.decisions.count(asked, answer.reason);
+            0
+        }
+        Err(why) => Failure::Refused(why).code(),
+    };
+    own.end(had_begun);
+    status
 }
 
 /// Decides an event by a record that is kept, whatever was published since, writes the answer, with the front that the
@@ -333,34 +286,14 @@ pub extern "C" fn camel_encode_record(
     let Some(own) = session.lend::<ThreadSession>() else {
         return Failure::WrongHandle.code();
     };
-    own.encode(alloc, &asked, argument, is_there)
-}
-
-impl ThreadSession {
-    fn encode(
-        &mut self,
-        alloc: Global,
-        imsi: &Imsi,
-        argument: &mut CamelArgument,
-        is_there: &mut u8,
-    ) -> u32
-        ensures shown { result ≡ 0 → (shown : SessionData) × Shows self.old shown self.new
-            × ShowsWritten (MakesRecord imsi.now) (record_shown shown imsi.now) argument.old argument.new is_there.new }
-        ensures unwritten { result ≢ 0 → (argument.new ≡ argument.old) × (is_there.new ≡ is_there.old) }
-        ensures unchanged { result ≡ 104 → self.new ≡ self.old }
-        ensures no_memory { result ≡ 102 → (shown : SessionData) × Shows self.old shown self.new }
-        ensures only { (result ≡ 0) ⊎ ((result ≡ 102) ⊎ (result ≡ 104)) }
-        ensures looking { self.old.session.looks ≡ true → (result ≡ 0) ⊎ (result ≡ 102) }
-    {
-        let Some(had_begun) = self.begin() else {
-            return Failure::Refused(Refusal::NoGuard).code();
-        };
-        let found = octets_shown(&self.session, alloc, imsi);
-        self.end(had_begun);
-        match found {
-            Ok(found) => write_octets(found, argument, is_there),
-            Err(_) => Failure::Refused(Refusal::OutOfMemory).code(),
-        }
+    let Some(had_begun) = own.begin() else {
+        return Failure::Refused(Refusal::NoGuard).code();
+    };
+    let found = octets_shown(&own.session, alloc, &asked);
+    own.end(had_begun);
+    match found {
+        Ok(found) => write_octets(found, argument, is_there),
+        Err(_) => Failure::Refused(Refusal::OutOfMemory).code(),
     }
 }
 

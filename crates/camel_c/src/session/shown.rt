@@ -1,6 +1,6 @@
 //! What a session shows of a subscriber at a detection point: its row, and its criteria.
 
-ghost use Rattle.std.specs.Prelude.{◌≡◌, ◌≢◌, ◌⊎◌, Ok, Option, IsErr, List, ℕ, true};
+ghost use Rattle.std.specs.Prelude.{◌≡◌, ◌≢◌, Ok, Option, IsErr, List, ℕ, true};
 ghost use Rattle.camel_vlr.specs.Store.{SessionData};
 ghost use Rattle.camel_c_data.specs.Fields.{imsi_in};
 ghost use Rattle.camel_c_data.specs.Update.{ShowsRow};
@@ -80,25 +80,12 @@ fn show_at<C: ShownAt>(
     let Some(own) = session.lend::<ThreadSession>() else {
         return Failure::WrongHandle.code();
     };
-    own.show(&asked, dp, place, is_there)
-}
-
-impl ThreadSession {
-    fn show<C: ShownAt>(&mut self, imsi: &Imsi, dp: u8, place: &mut C, is_there: &mut u8) -> u32
-        ensures shown { result ≡ 0 → (shown : SessionData) × Shows self.old shown self.new × (found : Option C)
-            × C.is_found shown imsi.now dp found × Writes found place.old place.new is_there.new }
-        ensures unchanged { result ≢ 0 → self.new ≡ self.old }
-        ensures only { (result ≡ 0) ⊎ (result ≡ 104) }
-        ensures looking { self.old.session.looks ≡ true → result ≡ 0 }
-        ensures unwritten { result ≢ 0 → (place.new ≡ place.old) × (is_there.new ≡ is_there.old) }
-    {
-        let Some(had_begun) = self.begin() else {
-            return Failure::Refused(Refusal::NoGuard).code();
-        };
-        write(C::find(&self.session, imsi, dp), place, is_there);
-        self.end(had_begun);
-        0
-    }
+    let Some(had_begun) = own.begin() else {
+        return Failure::Refused(Refusal::NoGuard).code();
+    };
+    write(C::find(&own.session, &asked, dp), place, is_there);
+    own.end(had_begun);
+    0
 }
 
 /// Writes what is found, and tells whether anything is.
