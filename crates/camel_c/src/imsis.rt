@@ -113,19 +113,12 @@ pub extern "C" fn camel_next_imsi(
     let Some(listed) = imsis.lend::<ImsiList>() else {
         return Failure::WrongHandle.code();
     };
-    write_next(listed, imsi, is_there);
-    0
-}
-
-/// Takes the next IMSI out of a list, if there is one, and writes it.
-fn write_next(imsis: &mut ImsiList, imsi: &mut CamelImsi, is_there: &mut u8)
-    ensures { (next : Option (List ℕ)) × TellsNext next imsis.old imsis.new imsi.old imsi.new is_there.new }
-{
-    match imsis.take_next() {
+    match listed.take_next() {
         Some(next) => {
             *imsi = CamelImsi::of(&next);
             *is_there = 1;
         }
         None => *is_there = 0,
     }
+    0
 }

@@ -68,15 +68,6 @@ pub struct Store {
     pub stage: Stage,
 }
 
-impl Store {
-    /// A store at this stage.
-    pub fn of(stage: Stage) -> Store
-        ensures { result.stage ≡ stage }
-    {
-        Store { stage }
-    }
-}
-
 impl Drop for Store {
     fn drop(self) {
         let Store { stage } = self;
@@ -186,7 +177,9 @@ fn open(
         number: seed,
         held: 0,
     };
-    let made = Object::Store(Store::of(Stage::Live(live)));
+    let made = Object::Store(Store {
+        stage: Stage::Live(live),
+    });
     match replace_with(store, (alloc, made), fill) {
         Ok(()) => match fill_all(alloc, seed, sessions, &mut seated) {
             Ok(()) => Ok(()),

@@ -8,7 +8,7 @@ ghost use Rattle.camel_map.specs.Encoding.{insert_of_record, octets_of_update};
 ghost use Rattle.camel_c_data.specs.Event.{ShowsAnswer, event_in};
 ghost use Rattle.camel_c_data.specs.Fields.{imsi_in};
 ghost use Rattle.camel_c_data.specs.Update.{ShowsRow};
-ghost use Rattle.camel_c.specs.Object.{HasOctets, HoldsAnySession, MakesRecord};
+ghost use Rattle.camel_c.specs.Object.{HoldsAnySession, MakesRecord};
 ghost use Rattle.camel_c.specs.Session.{CountsDecision, Fetches, FillsKept, Finds, HoldsKept, KeepsShown, SetsUp};
 ghost use Rattle.camel_c.specs.Session.{Shows, ShowsWritten, answer_by, record_shown};
 ghost use Rattle.camel_c.specs.declared.object.Object.TheVariants as object;
@@ -55,6 +55,12 @@ impl KeptSubscriber {
             profile: session.profile(),
             front: session.front(),
         }))
+    }
+
+    fn decide(&self, event: &Event, answer: &mut CamelAnswer)
+        ensures { ShowsAnswer (answer_by self.now (event_data event.now)) answer.new }
+    {
+        answer.write(self.front, &self.subscriber.decide(event, self.profile));
     }
 }
 
@@ -218,14 +224,6 @@ pub extern "C" fn camel_decide_kept(
     0
 }
 
-impl KeptSubscriber {
-    fn decide(&self, event: &Event, answer: &mut CamelAnswer)
-        ensures { ShowsAnswer (answer_by self.now (event_data event.now)) answer.new }
-    {
-        answer.write(self.front, &self.subscriber.decide(event, self.profile));
-    }
-}
-
 /// Tells whether a record that is kept has a row at a detection point, and writes the row if there is one. It takes no
 /// memory and does not wait.
 ///
@@ -247,16 +245,8 @@ pub extern "C" fn camel_kept_row_at(
     let Some(kept) = subscriber.lend::<KeptSubscriber>() else {
         return Failure::WrongHandle.code();
     };
-    write(kept.row(dp), row, is_there);
+    write(kept.subscriber.row(dp).map(CamelRow::of), row, is_there);
     0
-}
-
-impl KeptSubscriber {
-    fn row(&self, dp: u8) -> Option<CamelRow>
-        ensures { Finds ShowsRow (row_at dp self.now.subscriber) result }
-    {
-        Some(CamelRow::of(self.subscriber.row(dp)?))
-    }
 }
 
 /// Tells whether a subscriber has a record, over the look that has begun, or else by a look of its own, and writes the
@@ -292,9 +282,15 @@ pub extern "C" fn camel_encode_record(
     let found = octets_shown(&own.session, alloc, &asked);
     own.end(had_begun);
     match found {
-        Ok(found) => write_octets(found, argument, is_there),
-        Err(_) => Failure::Refused(Refusal::OutOfMemory).code(),
+        Ok(Some(octets)) => match argument.set(&octets) {
+            Ok(()) => *is_there = 1,
+            // No record meets this: an argument has room for each.
+            Err(_) => return Failure::Refused(Refusal::OutOfMemory).code(),
+        },
+        Ok(None) => *is_there = 0,
+        Err(_) => return Failure::Refused(Refusal::OutOfMemory).code(),
     }
+    0
 }
 
 /// The octets of the Insert that makes the record which the look of a session shows, if there is one.
@@ -315,25 +311,4 @@ fn octets_shown(
     let mut octets = Vec::new(alloc);
     encode_record(imsi, stored, &mut octets)?;
     Ok(Some(octets))
-}
-
-/// Writes the octets that are found, in the place of an argument, and tells whether there are any. It fails with 102 if
-/// there is no room for them, which no record meets: then nothing is written.
-fn write_octets(found: Option<Vec<u8>>, argument: &mut CamelArgument, is_there: &mut u8) -> u32
-    ensures written { result ≡ 0
-        → ShowsWritten (λ octets. HasOctets octets.items) found argument.old argument.new is_there.new }
-    ensures unwritten { result ≢ 0 → (argument.new ≡ argument.old) × (is_there.new ≡ is_there.old) }
-    ensures only { (result ≡ 0) ⊎ (result ≡ 102) }
-{
-    let Some(octets) = found else {
-        *is_there = 0;
-        return 0;
-    };
-    match argument.set(&octets) {
-        Ok(()) => {
-            *is_there = 1;
-            0
-        }
-        Err(_) => Failure::Refused(Refusal::OutOfMemory).code(),
-    }
 }

@@ -33,6 +33,14 @@ pub(crate) const CANCEL: u8 = 4;
 
 pub(crate) const CLEAR_ALL: u8 = 5;
 
+/// Of an update that is no Insert no items came.
+const NO_ITEMS: ItemCounts = ItemCounts {
+    o: 0,
+    o_criteria: 0,
+    vt: 0,
+    t_criteria: 0,
+};
+
 /// Fills an empty handle with the update that `camel_submit_change_nonnull` submits of the same data. An Insert has how
 /// many items were sent in each list, and no camelCapabilityHandling.
 ///
@@ -57,11 +65,11 @@ pub extern "C" fn camel_update_of_nonnull(
     ensures none { IsNoKind kind → (result ≡ 502) × (update.new.value ≡ update.old.value) }
 {
     match kind {
-        REGISTER => keep(alloc, update, read_register(imsi)),
+        REGISTER => keep(alloc, update, NO_ITEMS, read_register(imsi)),
         INSERT => keep_insert(alloc, update, imsi, sent),
-        DELETE => keep(alloc, update, what.read(imsi)),
-        CANCEL => keep(alloc, update, read_cancel(imsi)),
-        CLEAR_ALL => keep(alloc, update, Ok(Update::ClearAll)),
+        DELETE => keep(alloc, update, NO_ITEMS, what.read(imsi)),
+        CANCEL => keep(alloc, update, NO_ITEMS, read_cancel(imsi)),
+        CLEAR_ALL => keep(alloc, update, NO_ITEMS, Ok(Update::ClearAll)),
         _ => Failure::Malformed.code(),
     }
 }
@@ -71,7 +79,7 @@ fn keep_insert(alloc: Global, update: &mut CamelHandle, imsi: &CamelImsi, sent: 
     ensures received { result ≡ 0 → HoldsLists update.new.value }
 {
     let read = sent.read(alloc, imsi);
-    keep_with(alloc, update, read, counts_in(sent))
+    keep(alloc, update, counts_in(sent), read)
 }
 
 /// How many items came in each list that is sent.
@@ -93,29 +101,12 @@ fn count_of<T>(is_sent: u8, items: &[T]) -> usize
     if is_sent == 0 { 0 } else { items.len() }
 }
 
-/// Fills a handle with an update that was read, and that nothing came beside.
-fn keep(alloc: Global, handle: &mut CamelHandle, read: Result<Update, DataFault>) -> u32
-    ensures { Makes (alone read) result handle.old.value handle.new.value }
-{
-    keep_with(
-        alloc,
-        handle,
-        read,
-        ItemCounts {
-            o: 0,
-            o_criteria: 0,
-            vt: 0,
-            t_criteria: 0,
-        },
-    )
-}
-
 /// Fills a handle with an update that was read, and of which so many items came.
-fn keep_with(
+fn keep(
     alloc: Global,
     handle: &mut CamelHandle,
-    read: Result<Update, DataFault>,
     counts: ItemCounts,
+    read: Result<Update, DataFault>,
 ) -> u32
     ensures { Makes (counted counts read) result handle.old.value handle.new.value }
 {
@@ -177,16 +168,7 @@ pub extern "C" fn camel_update_join(
     if joined.is_full() {
         return Failure::FullHandle.code();
     }
-    join_into(alloc, first, other, joined)
-}
-
-/// Fills an empty handle with the join of two updates, and gives the status.
-fn join_into(alloc: Global, one: &Arrival, next: &Arrival, joined: &mut CamelHandle) -> u32
-    requires { joined.old.value ≡ None }
-    ensures joins { JoinsInto one.now next.now result joined.old.value joined.new.value }
-    ensures unchanged { result ≢ 0 → joined.new.value ≡ joined.old.value }
-{
-    match one.join(alloc, next) {
+    match first.join(alloc, other) {
         Ok(made) => put(alloc, joined, Object::Update(made)),
         Err(why) => u32::from(why.code()),
     }
@@ -213,10 +195,7 @@ fn copy_of(handle: &mut CamelHandle) -> Result<Update, Failure>
     let Some(arrival) = handle.lend::<Arrival>() else {
         return Err(Failure::WrongHandle);
     };
-    match arrival.update.copy() {
-        Ok(copied) => Ok(copied),
-        Err(why) => Err(Failure::Refused(why)),
-    }
+    arrival.update.copy().map_err(Failure::Refused)
 }
 
 /// Whether each handle holds an update.

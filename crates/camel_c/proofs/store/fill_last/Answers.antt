@@ -2,7 +2,6 @@ use Rattle.std.proofs.Common.{◌≡◌, ◌∙◌, ap, subst}
 use Rattle.std.proofs.lemmas.List.Elements.{All-pop}
 use Rattle.std.specs.Prelude.{Option, Some, IfSome}
 use Rattle.camel_vlr.specs.Store.{SessionData}
-use Rattle.camel_c_data.specs.Event.{no_decisions}
 use Rattle.camel_c.specs.declared.object.Object.TheVariants as object
 use Rattle.camel_c.proofs.store.fill_last.Goals as goal
 

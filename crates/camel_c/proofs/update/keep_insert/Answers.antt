@@ -9,18 +9,18 @@ pub returns-clause-made : goal.returns-clause-made
 returns-clause-made c =
     let a = c.args in
     let reading = insert_in a.sent.now a.imsi.now in
-    let status = c.keep_with.result in
+    let status = c.keep.result in
     let before = a.update.now.value in
-    let after = c.keep_with.new.handle.value in
+    let after = c.keep.new.handle.value in
     subst (λ (counts : ItemCounts). ReadsAndMakes (counted counts reading) status before after) c.counts_in.ensures
-    (makes_as c.counts_in.result c.read-read.result reading status before after c.read-read.ensures c.keep_with.ensures)
+    (makes_as c.counts_in.result c.read-read.result reading status before after c.read-read.ensures c.keep.ensures)
 
 pub returns-clause-received : goal.returns-clause-received
 returns-clause-received c =
     let a = c.args in
-    let status = c.keep_with.result in
+    let status = c.keep.result in
     let before = a.update.now.value in
-    let after = c.keep_with.new.handle.value in
+    let after = c.keep.new.handle.value in
     let makes = subst (λ (counts : ItemCounts). Makes (counted counts c.read-read.result) status before after)
-    c.counts_in.ensures c.keep_with.ensures in
+    c.counts_in.ensures c.keep.ensures in
     made_lists a.sent.now a.imsi.now c.read-read.result status before after c.read-read.ensures makes
