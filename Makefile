@@ -14,7 +14,7 @@ TOOLS := camel_replay camel_explain camel_map_check
 
 # The shell reads these, and not make, so that a name may have spaces. By CDPATH cd would print where it goes.
 export SCRIPT LIMIT THREADS PROFILE PROGRAM CAPTURE CRATE PREFIX DESTDIR LIBDIR PARTS SANITIZE JOBS LIBRARY SUITE \
-	MIRROR SIZES TURNS
+	MIRROR SIZES TURNS STORES
 unexport CDPATH
 
 OPTIONS = --limit "$$LIMIT" $(if $(THREADS),--threads "$$THREADS") $(if $(PROFILE),--profile "$$PROFILE")

@@ -1,127 +1,108 @@
 //! A record as one block of octets, and the decision over it.
 //!
-//! A block has each CSI, the O-CSI first. A CSI is the count of its rows, or `ABSENT`, the count of its criteria
-//! entries, its rows and its entries. So all that an event at DP2 asks for lies at the beginning of the block.
-mod decide;
-mod entry;
-
-pub use decide::decide;
-pub(crate) use entry::digits_of;
-
-use crate::workload::{Csi, DetectionPoint, Handling, IsdnAddress, Record, TdpRow};
-use entry::FlatEntry;
+//! A block has the count of the rows of the O-CSI, or `ABSENT`, whether it has an entry at DP 2, its rows, the entry,
+//! and then the rows of the VT-CSI. So all that a call at DP 2 asks for lies at the beginning of the block.
+use crate::data::{Address, COLLECTED_INFO, EMERGENCY_CALLS, Event, Outcome, Reason, Record, Row};
 
 const ABSENT: u8 = 0xFF;
-const HEAD: usize = 2;
+
+/// The count of listed numbers, and room for what further criteria would take: the counts of lengths and of basic
+/// services, a call type and causes. A workload has none.
+type EntryHead = [u8; 8];
+
+/// The first octet of a listed number, the count of its digits, and its digits as `Address::digits` has them.
+type FlatNumber = [u8; 10];
 
 /// The service key, the detection point, the default call handling, and the gsmSCF address with its length.
 type FlatRow = [u8; 16];
 
-/// The data of a subscriber in one block.
-#[derive(Debug)]
-pub struct FlatRecord(Box<[u8]>);
-
-impl Clone for FlatRecord {
-    fn clone(&self) -> FlatRecord {
-        FlatRecord(self.0.clone())
+pub fn block_of(record: &Record) -> Box<[u8]> {
+    let rows = if record.o.is_empty() {
+        ABSENT
+    } else {
+        record.o.len() as u8
+    };
+    let has_entry = rows != ABSENT && !record.numbers.is_empty();
+    let mut block = vec![rows, u8::from(has_entry)];
+    block.extend(record.o.iter().flat_map(flat_row));
+    if has_entry {
+        let mut head = EntryHead::default();
+        head[0] = record.numbers.len() as u8;
+        block.extend(head);
+        block.extend(record.numbers.iter().flat_map(flat_number));
     }
-
-    /// A block of the same size stays where it is.
-    fn clone_from(&mut self, source: &FlatRecord) {
-        self.0.clone_from(&source.0);
-    }
+    block.push(record.vt.len() as u8);
+    block.extend(record.vt.iter().flat_map(flat_row));
+    // The block gets memory of its own size.
+    block.as_slice().into()
 }
 
-impl From<&Record> for FlatRecord {
-    fn from(record: &Record) -> FlatRecord {
-        let mut block = Vec::with_capacity(256);
-        push_csi(&mut block, record.o.as_ref());
-        push_csi(&mut block, record.vt.as_ref());
-        // The block gets memory of its own size.
-        FlatRecord(block.as_slice().into())
-    }
-}
-
-fn push_csi(block: &mut Vec<u8>, csi: Option<&Csi>) {
-    match csi {
-        None => block.extend([ABSENT, 0]),
-        Some(csi) => {
-            block.extend([csi.rows.len() as u8, csi.criteria.len() as u8]);
-            block.extend(csi.rows.iter().flat_map(flat_row));
-            csi.criteria
-                .iter()
-                .for_each(|criteria| entry::push(block, criteria));
-        }
-    }
-}
-
-fn flat_row(row: &TdpRow) -> FlatRow {
+fn flat_row(row: &Row) -> FlatRow {
     let mut flat = [0; 16];
-    flat[..4].copy_from_slice(&row.service_key.to_le_bytes());
-    flat[4] = row.detection_point as u8;
-    flat[5] = row.handling as u8;
+    flat[..4].copy_from_slice(&row.key.to_le_bytes());
+    flat[4] = row.dp;
+    flat[5] = u8::from(row.is_release);
     flat[6..15].copy_from_slice(&row.scf.octets);
     flat[15] = row.scf.length;
     flat
 }
 
-/// The row that is in a block for a detection point.
-fn row_of(flat: &FlatRow, detection_point: DetectionPoint) -> TdpRow {
-    let [k0, k1, k2, k3, _, handling, octets @ .., length] = *flat;
-    let handling = match handling {
-        0 => Handling::Continue,
-        _ => Handling::Release,
+fn flat_number(number: &Address) -> FlatNumber {
+    let mut flat = [0; 10];
+    flat[0] = number.octets[0];
+    flat[1] = number.digit_count() as u8;
+    flat[2..].copy_from_slice(&number.digits().to_be_bytes());
+    flat
+}
+
+fn row_of(flat: &FlatRow) -> Row {
+    let [k0, k1, k2, k3, dp, release, octets @ .., length] = *flat;
+    Row {
+        key: u32::from_le_bytes([k0, k1, k2, k3]),
+        dp,
+        is_release: release != 0,
+        scf: Address { octets, length },
+    }
+}
+
+/// The decision for a call at DP 2 over the block of its IMSI.
+#[inline]
+pub fn decide(block: Option<&[u8]>, event: &Event) -> Outcome {
+    let block = block.ok_or(Reason::Unknown)?;
+    let Some((&[rows, has_entry], rest)) = block.split_first_chunk() else {
+        return Err(Reason::Unknown);
     };
-    TdpRow {
-        service_key: u32::from_le_bytes([k0, k1, k2, k3]),
-        detection_point,
-        handling,
-        scf: IsdnAddress { octets, length },
+    if rows == ABSENT {
+        return Err(Reason::NoCsi);
     }
+    let (rows, rest) = rest.split_at(usize::from(rows) * size_of::<FlatRow>());
+    let (rows, _) = rows.as_chunks();
+    let mut rows = rows.iter();
+    let row = rows.find(|row: &&FlatRow| row[4] == COLLECTED_INFO);
+    let row = row.ok_or(Reason::NotArmed)?;
+    if !event.is_bearer && event.basic == EMERGENCY_CALLS {
+        return Err(Reason::Emergency);
+    }
+    if has_entry != 0 && !meets_entry(rest, &event.destination) {
+        return Err(Reason::Criteria);
+    }
+    Ok(row_of(row))
 }
 
-/// The O-CSI of a block.
-struct FlatCsi<'a> {
-    rows: &'a [FlatRow],
-    entries: u8,
-    /// The entries, and what comes behind them.
-    rest: &'a [u8],
-}
-
-impl FlatRecord {
-    fn o_csi(&self) -> Option<FlatCsi<'_>> {
-        let (&[rows, entries], rest) = self.0.split_first_chunk::<HEAD>()?;
-        if rows == ABSENT {
-            return None;
-        }
-        let (rows, rest) = rest.split_at(usize::from(rows) * size_of::<FlatRow>());
-        let (rows, _) = rows.as_chunks();
-        Some(FlatCsi {
-            rows,
-            entries,
-            rest,
-        })
+/// Whether a listed number has the nature of the destination, and digits that the destination begins with.
+#[inline]
+fn meets_entry(entry: &[u8], destination: &Address) -> bool {
+    let Some((head, rest)) = entry.split_first_chunk::<{ size_of::<EntryHead>() }>() else {
+        return false;
+    };
+    if head[1..] != [0; 7] {
+        return false;
     }
-}
-
-impl<'a> FlatCsi<'a> {
-    fn row(&self, detection_point: DetectionPoint) -> Option<TdpRow> {
-        let row = self
-            .rows
-            .iter()
-            .find(|row| row[4] == detection_point as u8)?;
-        Some(row_of(row, detection_point))
-    }
-
-    fn entry(&self, detection_point: DetectionPoint) -> Option<FlatEntry<'a>> {
-        let mut rest = self.rest;
-        for _ in 0..self.entries {
-            let (entry, behind) = FlatEntry::split(rest)?;
-            if entry.detection_point() == detection_point as u8 {
-                return Some(entry);
-            }
-            rest = behind;
-        }
-        None
-    }
+    let (numbers, _) = rest.as_chunks::<{ size_of::<FlatNumber>() }>();
+    let digits = destination.digits();
+    let mut numbers = numbers.iter().take(usize::from(head[0]));
+    numbers.any(|&[first_octet, count, listed @ ..]| {
+        let in_common = (u64::from_be_bytes(listed) ^ digits).leading_zeros() / 4;
+        (first_octet ^ destination.octets[0]) & 0x70 == 0 && in_common >= u32::from(count)
+    })
 }

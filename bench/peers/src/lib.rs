@@ -1,11 +1,10 @@
-//! Peer stores of subscribers, the workload that they are measured with, and the slow reference that their answers are
-//! compared with.
+//! Peer stores of subscribers, the scripts that they are measured by, and the protocol.
+pub mod data;
 pub mod fast_hash;
 pub mod flat;
 pub mod flat_table;
 pub mod harness;
 pub mod left_right;
-pub mod protocol;
-pub mod reference;
+pub mod script;
 pub mod stores;
 pub mod workload;

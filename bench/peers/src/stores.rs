@@ -1,43 +1,65 @@
-//! The peer stores. Each is a map from IMSI to record, with readers and one writer.
-mod dash_map;
-mod left_right_flat;
-mod left_right_hash;
-mod lock_tree;
+//! The stores. Each is a map from IMSI to record, with readers and one writer.
+pub mod dash_map;
+pub mod left_right_flat;
+pub mod left_right_hash;
+#[cfg(feature = "library")]
+pub mod library;
+pub mod lock_tree;
+pub mod urcu_qsbr;
 
-pub use dash_map::DashMapStore;
-pub use left_right_flat::LeftRightFlat;
-pub use left_right_hash::LeftRightHash;
-pub use lock_tree::LockTree;
-
-use crate::flat::FlatRecord;
-use crate::workload::{Change, Event, Imsi, Outcome, comers, imsi_of, record_of};
-
-/// An update in the form that the stores of blocks take.
-pub enum Update {
-    Put(Imsi, FlatRecord),
-    Cancel(Imsi),
-}
-
-impl From<Change> for Update {
-    fn from(change: Change) -> Update {
-        match change {
-            Change::Put {
-                subscriber,
-                version,
-            } => Update::Put(imsi_of(subscriber), flat_record(subscriber, version)),
-            Change::Cancel { subscriber } => Update::Cancel(imsi_of(subscriber)),
-        }
-    }
-}
+use crate::data::{Event, Imsi, Outcome, Update, said, weighed};
+use crate::flat::block_of;
 
 pub trait Reader: Send {
-    /// Looks up the record of the event's IMSI and decides over it.
+    /// Calls in the form that the store takes.
+    type Calls: Sync;
+
+    fn prepared(events: Vec<Event>) -> Self::Calls;
+
+    /// The thread begins to decide, or ends.
+    fn enter(&mut self) {}
+    fn leave(&mut self) {}
+
+    /// The sum of what the decisions of calls say, with these bits of the service key.
+    fn sum_of(&mut self, calls: &Self::Calls, key_bits: u32) -> u64;
+}
+
+/// A reader that decides each event by itself.
+pub trait Decide: Send {
     fn decide(&mut self, event: &Event) -> Outcome;
+    fn enter(&mut self) {}
+    fn leave(&mut self) {}
+}
+
+impl<D: Decide> Reader for D {
+    type Calls = Vec<Event>;
+
+    fn prepared(events: Vec<Event>) -> Vec<Event> {
+        events
+    }
+
+    fn enter(&mut self) {
+        Decide::enter(self);
+    }
+
+    fn leave(&mut self) {
+        Decide::leave(self);
+    }
+
+    #[inline]
+    fn sum_of(&mut self, calls: &Vec<Event>, key_bits: u32) -> u64 {
+        (0..).zip(calls).fold(0, |sum: u64, (place, event)| {
+            sum.wrapping_add(weighed(said(&self.decide(event), key_bits), place))
+        })
+    }
 }
 
 pub trait Writer: Send {
     /// In the form that the store takes. It is made before the time of its publication begins.
-    type Update: From<Change>;
+    type Update;
+
+    /// None if the store does nothing for the update.
+    fn prepared(update: Update) -> Option<Self::Update>;
 
     /// Each decision that begins afterwards is made over all updates of the batch, which is left empty.
     fn publish(&mut self, batch: &mut Vec<Self::Update>);
@@ -47,20 +69,22 @@ pub trait Store {
     type Reader: Reader;
     type Writer: Writer;
 
-    /// A store with so many known subscribers.
-    fn open(known: u64, readers: usize) -> (Self::Writer, Vec<Self::Reader>);
+    /// An empty store.
+    fn open(readers: usize) -> (Self::Writer, Vec<Self::Reader>);
 }
 
-fn flat_record(subscriber: u64, version: u32) -> FlatRecord {
-    FlatRecord::from(&record_of(subscriber, version))
+/// An update of a store of blocks. A Register changes nothing there: the Insert behind it puts the record.
+pub enum Change {
+    Put(Imsi, Box<[u8]>),
+    Remove(Imsi),
 }
 
-/// What a store holds at first.
-fn records(known: u64) -> impl Iterator<Item = (Imsi, FlatRecord)> {
-    (0..known).map(|subscriber| (imsi_of(subscriber), flat_record(subscriber, 0)))
-}
-
-/// The most subscribers that a store ever holds.
-fn capacity(known: u64) -> usize {
-    comers(known).count() + known as usize
+impl Change {
+    fn of(update: Update) -> Option<Change> {
+        match update {
+            Update::Register(_) => None,
+            Update::Insert(imsi, record) => Some(Change::Put(imsi, block_of(&record))),
+            Update::Cancel(imsi) => Some(Change::Remove(imsi)),
+        }
+    }
 }

@@ -1,10 +1,42 @@
 //! A flat table beside a map, with updates of so few subscribers that searches often pass one another.
-use peers::flat_table::{Form, Octets64, Octets80, Slot, Table};
-use peers::reference;
-use peers::workload::{Imsi, imsi_of, probe, record_of};
+use peers::data::{Address, COLLECTED_INFO, Event, INTERNATIONAL, Record, Row};
+use peers::flat::{block_of, decide};
+use peers::flat_table::{Slot, Table};
 use std::collections::BTreeMap;
 
 const SUBSCRIBERS: u64 = 61;
+
+fn imsi_of(subscriber: u64) -> u64 {
+    15 << 56 | (262_010_000_000_000 + subscriber)
+}
+
+fn address(digits: &[u8]) -> Address {
+    Address::of(&[&[INTERNATIONAL], digits].concat()).unwrap()
+}
+
+/// An O-CSI with a row at DP 2, whose key is a version, and these listed numbers.
+fn record_of(version: u32, numbers: &[&[u8]]) -> Record {
+    let row = Row {
+        key: version,
+        dp: COLLECTED_INFO,
+        is_release: true,
+        scf: address(&[0x94, 0x71, 0x16]),
+    };
+    Record {
+        o: vec![row],
+        vt: Vec::new(),
+        numbers: numbers.iter().map(|digits| address(digits)).collect(),
+    }
+}
+
+fn call(imsi: u64, digits: &[u8]) -> Event {
+    Event {
+        imsi,
+        destination: address(digits),
+        is_bearer: false,
+        basic: 0x11,
+    }
+}
 
 /// Puts and removals in no order. In the end more records are removed than put, so that the table becomes empty.
 fn choices() -> impl Iterator<Item = (u64, u32)> {
@@ -14,68 +46,60 @@ fn choices() -> impl Iterator<Item = (u64, u32)> {
     })
 }
 
-fn compared<F: Form>(capacity: usize) {
-    let mut table = Table::<F>::with_capacity(capacity);
-    let mut versions = BTreeMap::new();
-    for (choice, number) in choices() {
-        let (subscriber, version) = (choice % SUBSCRIBERS, number % 2048);
-        if choice >> 8 & 3 == 0 || number > 5500 {
-            table.remove(imsi_of(subscriber));
-            versions.remove(&subscriber);
+#[test]
+fn finds_what_is_put_and_not_removed() {
+    let (mut table, mut versions) = (Table::new(), BTreeMap::new());
+    for (choice, version) in choices() {
+        let imsi = imsi_of(choice % SUBSCRIBERS);
+        if choice >> 8 & 3 == 0 || version > 5500 {
+            table.remove(imsi);
+            versions.remove(&imsi);
         } else {
-            table.put(&Slot::new(
-                imsi_of(subscriber),
-                record_of(subscriber, version),
-            ));
-            versions.insert(subscriber, version);
+            table.put(&Slot::new(imsi, record_of(version, &[])));
+            versions.insert(imsi, version);
         }
-        for subscriber in 0..SUBSCRIBERS {
-            let version = versions.get(&subscriber);
-            assert_eq!(table.find(imsi_of(subscriber)).is_some(), version.is_some());
+        for imsi in (0..SUBSCRIBERS).map(imsi_of) {
+            let decided = table
+                .find(imsi)
+                .map(|slot| slot.decide(&call(imsi, &[0x21])));
+            let keys = decided.map(|outcome| outcome.unwrap().key);
+            assert_eq!(keys, versions.get(&imsi).copied());
         }
     }
     assert!(versions.is_empty());
 }
 
-/// The decision for the probe of each subscriber is that by the rules.
-fn decided<F: Form>(version: u32) {
-    for subscriber in 0..1000 {
-        let (record, event) = (record_of(subscriber, version), probe(subscriber));
-        assert_eq!(
-            Slot::<F>::new(event.imsi, record.clone()).decide(&event),
-            reference::decide(Some(&record), &event)
-        );
+#[test]
+fn a_slot_decides_as_a_block() {
+    let digits: [&[u8]; 6] = [
+        &[0x21],
+        &[0x21, 0x43],
+        &[0x21, 0xF3],
+        &[0x12],
+        &[0xF1],
+        &[0x21, 0x43, 0x65],
+    ];
+    for listed in digits {
+        for others in [&[][..], &[&[0x99][..], &[0x98]]] {
+            let numbers: Vec<_> = [&[listed][..], others].concat();
+            let record = record_of(7, &numbers);
+            let (block, slot) = (block_of(&record), Slot::new(imsi_of(0), record));
+            for dialled in digits {
+                let event = call(imsi_of(0), dialled);
+                assert_eq!(slot.decide(&event), decide(Some(&block), &event));
+            }
+        }
     }
 }
 
 #[test]
-fn finds_what_is_put_and_not_removed() {
-    for capacity in [0, 100] {
-        compared::<Octets64>(capacity);
-        compared::<Octets80>(capacity);
-    }
-}
-
-#[test]
-fn decides_by_what_is_put_last() {
-    decided::<Octets64>(0);
-    decided::<Octets80>(2047);
-    let event = probe(0);
-    let mut table = Table::<Octets64>::with_capacity(1);
-    for version in [0, 5, 2] {
-        let record = record_of(0, version);
-        table.put(&Slot::new(event.imsi, record.clone()));
-        let outcome = table.find(event.imsi).map(|slot| slot.decide(&event));
-        assert_eq!(outcome, Some(reference::decide(Some(&record), &event)));
-    }
-}
-
-#[test]
-fn no_subscriber_has_the_imsi_of_a_free_slot() {
-    assert!(
-        Table::<Octets64>::with_capacity(3)
-            .find(imsi_of(0))
-            .is_none()
-    );
-    assert!((0..1000).all(|subscriber| imsi_of(subscriber) != Imsi::NONE));
+fn a_destination_begins_with_a_listed_number() {
+    let meets = |listed: &[u8], dialled: &[u8]| {
+        let block = block_of(&record_of(7, &[listed]));
+        decide(Some(&block), &call(imsi_of(0), dialled)).is_ok()
+    };
+    assert!(meets(&[0x21, 0xF3], &[0x21, 0x43]));
+    assert!(meets(&[0x21, 0x43], &[0x21, 0x43]));
+    assert!(!meets(&[0x21, 0x43], &[0x21, 0xF3]));
+    assert!(!meets(&[0x21, 0xF4], &[0x21, 0x43]));
 }

@@ -1,44 +1,44 @@
-use super::{Reader, Store, Update, Writer, capacity, records};
+use super::{Change, Decide, Store, Writer};
+use crate::data::{Event, Imsi, Outcome, Reason, Update};
 use crate::fast_hash::FastState;
-use crate::flat::{FlatRecord, decide};
-use crate::workload::{Event, Imsi, Outcome, Reason};
+use crate::flat::decide;
 use dashmap::DashMap;
 use std::sync::Arc;
 
 /// A map of shards, each with a lock. The updates of a batch are seen one by one.
-#[derive(Clone)]
-pub struct DashMapStore(Arc<DashMap<Imsi, FlatRecord, FastState>>);
+#[derive(Clone, Default)]
+pub struct DashMapStore(Arc<DashMap<Imsi, Box<[u8]>, FastState>>);
 
 impl Store for DashMapStore {
     type Reader = DashMapStore;
     type Writer = DashMapStore;
 
-    fn open(known: u64, readers: usize) -> (DashMapStore, Vec<DashMapStore>) {
-        let map = DashMap::with_capacity_and_hasher(capacity(known), FastState::default());
-        records(known).for_each(|(imsi, record)| {
-            map.insert(imsi, record);
-        });
-        let store = DashMapStore(Arc::new(map));
+    fn open(readers: usize) -> (DashMapStore, Vec<DashMapStore>) {
+        let store = DashMapStore::default();
         (store.clone(), vec![store; readers])
     }
 }
 
-impl Reader for DashMapStore {
+impl Decide for DashMapStore {
     #[inline]
     fn decide(&mut self, event: &Event) -> Outcome {
-        let record = self.0.get(&event.imsi).ok_or(Reason::Unknown)?;
-        decide(Some(record.value()), event)
+        let block = self.0.get(&event.imsi).ok_or(Reason::Unknown)?;
+        decide(Some(block.value()), event)
     }
 }
 
 impl Writer for DashMapStore {
-    type Update = Update;
+    type Update = Change;
 
-    fn publish(&mut self, batch: &mut Vec<Update>) {
-        for update in batch.drain(..) {
-            match update {
-                Update::Put(imsi, record) => drop(self.0.insert(imsi, record)),
-                Update::Cancel(imsi) => drop(self.0.remove(&imsi)),
+    fn prepared(update: Update) -> Option<Change> {
+        Change::of(update)
+    }
+
+    fn publish(&mut self, batch: &mut Vec<Change>) {
+        for change in batch.drain(..) {
+            match change {
+                Change::Put(imsi, block) => drop(self.0.insert(imsi, block)),
+                Change::Remove(imsi) => drop(self.0.remove(&imsi)),
             }
         }
     }

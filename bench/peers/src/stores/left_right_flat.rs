@@ -1,48 +1,35 @@
-use super::{Reader, Store, Writer, capacity};
-use crate::flat_table::{Form, Slot, Table};
+use super::{Decide, Store, Writer};
+use crate::data::{Event, Imsi, Outcome, Reason, Update};
+use crate::flat_table::{Slot, Table};
 use crate::left_right::{self, Apply};
-use crate::workload::{Change, Event, Imsi, Outcome, Reason, imsi_of, record_of};
-use std::marker::PhantomData;
 
-/// Left-right publication of a flat table whose slots have this form.
-pub struct LeftRightFlat<F>(PhantomData<F>);
+/// Left-right publication of a flat table.
+pub struct LeftRightFlat;
 
-pub enum Update<F: Form> {
-    Put(Slot<F>),
-    Cancel(Imsi),
+pub enum Change {
+    Put(Slot),
+    Remove(Imsi),
 }
 
-impl<F: Form> From<Change> for Update<F> {
-    fn from(change: Change) -> Update<F> {
+impl Apply<Change> for Table {
+    fn apply(&mut self, change: &Change) {
         match change {
-            Change::Put {
-                subscriber,
-                version,
-            } => Update::Put(slot_of(subscriber, version)),
-            Change::Cancel { subscriber } => Update::Cancel(imsi_of(subscriber)),
+            Change::Put(slot) => self.put(slot),
+            Change::Remove(imsi) => self.remove(*imsi),
         }
     }
 }
 
-impl<F: Form> Apply<Update<F>> for Table<F> {
-    fn apply(&mut self, update: &Update<F>) {
-        match update {
-            Update::Put(slot) => self.put(slot),
-            Update::Cancel(imsi) => self.remove(*imsi),
-        }
+impl Store for LeftRightFlat {
+    type Reader = left_right::Reader<Table>;
+    type Writer = left_right::Writer<Table, Change>;
+
+    fn open(readers: usize) -> (Self::Writer, Vec<Self::Reader>) {
+        left_right::open(Table::new(), Table::new(), readers)
     }
 }
 
-impl<F: Form> Store for LeftRightFlat<F> {
-    type Reader = left_right::Reader<Table<F>>;
-    type Writer = left_right::Writer<Table<F>, Update<F>>;
-
-    fn open(known: u64, readers: usize) -> (Self::Writer, Vec<Self::Reader>) {
-        left_right::open(filled(known), filled(known), readers)
-    }
-}
-
-impl<F: Form> Reader for left_right::Reader<Table<F>> {
+impl Decide for left_right::Reader<Table> {
     #[inline]
     fn decide(&mut self, event: &Event) -> Outcome {
         self.look(|table| match table.find(event.imsi) {
@@ -52,22 +39,18 @@ impl<F: Form> Reader for left_right::Reader<Table<F>> {
     }
 }
 
-impl<F: Form> Writer for left_right::Writer<Table<F>, Update<F>> {
-    type Update = Update<F>;
+impl Writer for left_right::Writer<Table, Change> {
+    type Update = Change;
 
-    fn publish(&mut self, batch: &mut Vec<Update<F>>) {
+    fn prepared(update: Update) -> Option<Change> {
+        match update {
+            Update::Register(_) => None,
+            Update::Insert(imsi, record) => Some(Change::Put(Slot::new(imsi, record))),
+            Update::Cancel(imsi) => Some(Change::Remove(imsi)),
+        }
+    }
+
+    fn publish(&mut self, batch: &mut Vec<Change>) {
         left_right::Writer::publish(self, batch);
     }
-}
-
-fn slot_of<F: Form>(subscriber: u64, version: u32) -> Slot<F> {
-    Slot::new(imsi_of(subscriber), record_of(subscriber, version))
-}
-
-fn filled<F: Form>(known: u64) -> Table<F> {
-    let mut table = Table::with_capacity(capacity(known));
-    for subscriber in 0..known {
-        table.put(&slot_of(subscriber, 0));
-    }
-    table
 }

@@ -1,5 +1,5 @@
 //! The trigger rules, from nothing but the words of docs/RULES.md, over plain data. It is the one model of them that is
-//! not proved: the soak audits answers by it, and bench/peers has it as the reference of all programs.
+//! not proved: the soak audits answers by it.
 
 /// The place of a subscriber in the list of IMSIs. No rule asks for it.
 pub type Subscriber = usize;

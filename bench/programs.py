@@ -1,0 +1,111 @@
+"""What is measured: it is built, run over scripts, and what it prints is read."""
+
+import os
+import shutil
+import subprocess
+import sys
+import tempfile
+from pathlib import Path
+from typing import NamedTuple
+
+TOP = Path(__file__).resolve().parent.parent
+PEERS = TOP / "bench/peers"
+PEER = PEERS / "build/release/peers"
+OUT = TOP / "out/bench"
+CALLS = {"least": 1 << 14, "most": 1 << 20}
+
+
+class Answer(NamedTuple):
+    text: str
+    octets: int  # The most memory that the program had.
+
+
+def need(*tools, packages=()):
+    """Ends with status 2 if a tool or a Debian package is missing, before anything is built."""
+    missing = [tool for tool in tools if not shutil.which(tool)]
+    query = ["dpkg-query", "--show", "--showformat=${db:Status-Status}"]
+    for package in packages:
+        if subprocess.run([*query, package], capture_output=True, text=True, check=False).stdout != "installed":
+            missing.append(f"the Debian package {package}")
+    if missing:
+        sys.exit(f"run: missing: {', '.join(missing)}")
+
+
+def build(crate):
+    """The program of a crate, proved and built."""
+    subprocess.run(["scripts/build", crate, "some minutes"], cwd=TOP, check=True, stdout=sys.stderr)
+    return TOP / "crates" / crate / "out" / crate
+
+
+def library():
+    """The folder of the library in C."""
+    subprocess.run(["scripts/library"], cwd=TOP, check=True, stdout=sys.stderr)
+    return TOP / "out/library"
+
+
+def compiled(name, *words):
+    """The program that these words of the compiler make."""
+    OUT.mkdir(parents=True, exist_ok=True)
+    subprocess.run(["cc", "-std=gnu11", "-O2", "-Wall", "-Wextra", "-o", OUT / name, *words], cwd=TOP, check=True)
+    return OUT / name
+
+
+def build_peers(with_library=False):
+    need("cargo", packages=["librust-dashmap-dev", "liburcu-dev"])
+    features = []
+    if with_library:
+        folder = library()
+        flags = ["-std=gnu11", "-O3", "-Wall", "-Wextra", f"-I{folder}", "-c", "c/library.c"]
+        (PEERS / "build").mkdir(exist_ok=True)
+        subprocess.run(["cc", *flags, "-o", "build/library.o"], cwd=PEERS, check=True)
+        subprocess.run(["ar", "rcs", "build/liblibrary.a", "build/library.o"], cwd=PEERS, check=True)
+        features = ["--features", "library"]
+    subprocess.run(["cargo", "build", "--release", "--quiet", *features], cwd=PEERS, check=True)
+
+
+def script(*words):
+    """The script that the peers' program writes for these words. It is kept until the measurement ends."""
+    OUT.mkdir(parents=True, exist_ok=True)
+    path = OUT / ("-".join(map(str, words)) + ".csv")
+    if not path.exists():
+        with path.open("wb") as file:
+            subprocess.run([PEER, "script", *map(str, words)], stdout=file, check=True)
+    return path
+
+
+def drop_scripts():
+    for path in OUT.glob("*.csv"):
+        path.unlink()
+
+
+def call_count(known):
+    """How many calls a script of so many subscribers has."""
+    count = CALLS["least"]
+    while count < min(known, CALLS["most"]):
+        count *= 2
+    return count
+
+
+def answer(command, path):
+    """What a program prints over a script. It ends the measurement if the program fails, or takes ten minutes."""
+    with path.open("rb") as file, tempfile.TemporaryFile("w+") as printed:
+        words = ["timeout", "--foreground", "600", *map(str, command)]
+        process = subprocess.Popen(words, stdin=file, stdout=printed)
+        _, status, usage = os.wait4(process.pid, 0)
+        process.returncode = os.waitstatus_to_exitcode(status)
+        if process.returncode != 0:
+            sys.exit(f"run: {' '.join(words[3:])} over {path.name} ended with status {process.returncode}")
+        printed.seek(0)
+        return Answer(printed.read(), usage.ru_maxrss * 1024)
+
+
+def numbers_from(name, fallback):
+    """The numbers of a variable of the environment, which commas separate."""
+    return [int(word) for word in os.environ.get(name, fallback).split(",")]
+
+
+def rounded(figure):
+    """A figure with three digits, or a dash if there is none."""
+    if figure is None:
+        return "–"
+    return f"{figure:.0f}" if figure >= 100 else f"{figure:.1f}" if figure >= 10 else f"{figure:.2f}"

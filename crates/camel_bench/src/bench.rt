@@ -1,0 +1,215 @@
+//! The measurements.
+
+use crate::calls::{Call, Filled, Subject, decide, sum_of, weighed};
+use anyhow::{Context, Result, anyhow};
+use camel_rows::Update;
+use camel_script::{Record, Script};
+use camel_table::Seed;
+use camel_tbcd::Profile;
+use camel_vlr::{MAX_PLACES, MAX_UPDATES, Session, Vlr};
+use std::collections::VecDeque;
+use std::io;
+use std::io::Read;
+use std::rt::Clock;
+use std::sync::{Barrier, Wait};
+use std::thread::{Threads, join, map_vec};
+use std::time::Instant;
+
+/// What a measurement needs of the system.
+pub(crate) trait System: AllocGlobal + Clock + Print + Threads + Wait + Sync {}
+
+impl<R: AllocGlobal + Clock + Print + Threads + Wait + Sync> System for R {}
+
+/// The system, and what is still to be read of the script.
+#[derive(Drop)]
+pub(crate) struct Bench<'a, R, I: Read> {
+    pub(crate) rt: &'a R,
+    pub(crate) script: Script<I>,
+}
+
+/// The nanoseconds that something took, and the sum of what was found.
+type Timed = (u64, u64);
+
+impl<R: System, I: Read + Drop + Send> Bench<'_, R, I> {
+    /// Prints the nanoseconds of each publication of the script, and the sum of the calls behind it, which a further
+    /// publication ends: all that in the end, so that nothing is printed between two.
+    pub(crate) fn publish_each(&mut self) -> Result<()> {
+        let (mut store, mut sessions) = self.open(1)?;
+        let made = match sessions.first_mut() {
+            Some(session) => self.publish_into(&mut store, session),
+            None => Err(anyhow!("no session")),
+        };
+        store.end(self.rt);
+        for (nanoseconds, sum) in made? {
+            println!(self.rt; "{nanoseconds} {sum:016x}")?;
+        }
+        Ok(())
+    }
+
+    fn publish_into(&mut self, store: &mut Vlr, session: &mut Session) -> Result<Vec<Timed>> {
+        let mut batch = VecDeque::new(self.rt.alloc());
+        let mut made = Vec::new(self.rt.alloc());
+        for _ in 0..u64::MAX {
+            if !read_batch(&mut self.script, &mut batch)? {
+                break;
+            }
+            let nanoseconds = publish(self.rt, store, &mut batch)?;
+            made.push((nanoseconds, self.sum_of_decisions(session)?))?;
+        }
+        Ok(made)
+    }
+
+    /// Times looks into records with no store, or into a table with no records, for all calls and so many times.
+    pub(crate) fn look_into<S: Filled>(&mut self, looked: S, rounds: u64) -> Result<()> {
+        let mut looked = looked;
+        let mut batch = VecDeque::new(self.rt.alloc());
+        for _ in 0..u64::MAX {
+            if !read_batch(&mut self.script, &mut batch)? || batch.is_empty() {
+                break;
+            }
+            for update in batch.drain(..) {
+                looked.fill(&update)?;
+            }
+        }
+        let calls = self.read_calls()?;
+        let (nanoseconds, sum) = find_all(self.rt, &mut looked, &calls, rounds)?;
+        println!(self.rt; "reader {nanoseconds} {sum:016x}")?;
+        Ok(())
+    }
+
+    /// Fills a store by the script, has readers in threads of their own decide its calls so many times, and a writer
+    /// make its further publications beside them. Prints what each took, and the sum of the calls in the end.
+    pub(crate) fn run(&mut self, readers: usize, rounds: u64) -> Result<()> {
+        // One session more looks at the data in the end.
+        let (mut store, sessions) = self.open(readers.saturating_add(1))?;
+        let ran = self.run_over(&mut store, sessions, rounds);
+        store.end(self.rt);
+        ran
+    }
+
+    fn run_over(&mut self, store: &mut Vlr, sessions: Vec<Session>, rounds: u64) -> Result<()> {
+        let mut sessions = sessions;
+        let mut last = sessions.pop().context("no session is left")?;
+        self.publish_all(store)?;
+        let calls = self.read_calls()?;
+        let (rt, start) = (self.rt, Barrier::new(sessions.len().saturating_add(1)));
+        let read = |session: Session| -> Result<Timed> {
+            let mut session = session;
+            start.wait(rt);
+            find_all(rt, &mut session, &calls, rounds)
+        };
+        let (read, published) = join(
+            rt,
+            || map_vec(rt, sessions, &read),
+            || {
+                start.wait(rt);
+                self.publish_all(store)
+            },
+        );
+        for timed in read? {
+            let (nanoseconds, sum) = timed?;
+            println!(rt; "reader {nanoseconds} {sum:016x}")?;
+        }
+        let data = self.sum_of_decisions(&mut last)?;
+        println!(rt; "writer {} {data:016x}", published?)?;
+        Ok(())
+    }
+
+    /// Makes the publications of the script, up to one of nothing, which leaves the second copy as the first one is.
+    /// Returns the nanoseconds within them. Updates are read before that time, and submitted in it.
+    fn publish_all(&mut self, store: &mut Vlr) -> Result<u64> {
+        let mut batch = VecDeque::new(self.rt.alloc());
+        let mut nanoseconds: u64 = 0;
+        for _ in 0..u64::MAX {
+            let goes_on = read_batch(&mut self.script, &mut batch)? && !batch.is_empty();
+            nanoseconds = nanoseconds.saturating_add(publish(self.rt, store, &mut batch)?);
+            if !goes_on {
+                break;
+            }
+        }
+        Ok(nanoseconds)
+    }
+
+    /// An empty store, and its sessions.
+    fn open(&self, sessions: usize) -> Result<(Vlr, Vec<Session>)> {
+        if sessions == 0 || sessions > MAX_PLACES {
+            return Err(anyhow!("a store has not so many sessions"));
+        }
+        let (alloc, seed) = (self.rt.alloc(), Seed::fixed());
+        Ok(Vlr::open_seeded(self.rt, alloc, sessions, MAX_UPDATES, Profile::One, seed)?)
+    }
+
+    /// The next calls of the script, up to a publication or its end.
+    fn read_calls(&mut self) -> Result<Vec<Call>> {
+        let mut calls = Vec::new(self.rt.alloc());
+        for _ in 0..u64::MAX {
+            match self.script.read_record()? {
+                Some(Record::Call(event)) => calls.push(Call::of(&event)?)?,
+                _ => break,
+            }
+        }
+        Ok(calls)
+    }
+
+    /// The sum of all that the decisions of the next calls of the script say.
+    fn sum_of_decisions(&mut self, session: &mut Session) -> Result<u64> {
+        let mut sum: u64 = 0;
+        let mut place: u64 = 0;
+        for call in self.read_calls()? {
+            let said = decide(session, &call, u32::MAX).ok().context("no look")?;
+            sum = sum.wrapping_add(weighed(said, place));
+            place = place.wrapping_add(1);
+        }
+        Ok(sum)
+    }
+}
+
+/// Looks for all calls so many times.
+fn find_all<R: Clock, S: Subject>(
+    rt: &R,
+    looked: &mut S,
+    calls: &[Call],
+    rounds: u64,
+) -> Result<Timed> {
+    let begin = Instant::now(rt)?;
+    let mut sum: u64 = 0;
+    for _ in 0..rounds {
+        sum = sum.wrapping_add(sum_of(looked, calls).ok().context("no look")?);
+    }
+    Ok((nanoseconds_since(rt, begin)?, sum))
+}
+
+/// Puts the updates up to the next publication of the script into a batch. Whether there is one.
+fn read_batch<I: Read + Drop>(
+    script: &mut Script<I>,
+    batch: &mut VecDeque<Update>,
+) -> Result<bool> {
+    for _ in 0..u64::MAX {
+        match script.read_record()? {
+            Some(Record::Update(update)) => batch.push_back(update.into_inner())?,
+            Some(Record::Publish) => return Ok(true),
+            Some(_) => return Err(anyhow!("no update and no publication")),
+            None => return Ok(false),
+        }
+    }
+    Ok(false)
+}
+
+/// Publishes a batch of updates, and leaves it empty. Each decision that begins afterwards is made over them all.
+/// Returns the nanoseconds that this took.
+#[inline(never)]
+fn publish<R: Clock + Wait>(rt: &R, store: &mut Vlr, batch: &mut VecDeque<Update>) -> Result<u64> {
+    let begin = Instant::now(rt)?;
+    for _ in 0..batch.len() {
+        if let Some(update) = batch.pop_front() {
+            store.submit(update)?;
+        }
+    }
+    store.publish(rt)?;
+    Ok(nanoseconds_since(rt, begin)?)
+}
+
+/// The time since then. It is less than 2^64 nanoseconds, which are centuries.
+fn nanoseconds_since<R: Clock>(rt: &R, start: Instant) -> io::Result<u64> {
+    Ok(u64::try_from(start.elapsed(rt)?.as_nanos()).unwrap_or(u64::MAX))
+}
