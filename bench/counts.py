@@ -43,7 +43,7 @@ def of_an_update(program, known, batch, publications):
 
 
 def jumps(program):
-    """The jumps by which a destination is compared with three listed numbers, each of which a processor has to guess."""
+    """The jumps by which a destination is compared with three numbers, each of which a processor has to guess."""
     words = ["objdump", "--disassemble", "--demangle", "--no-show-raw-insn", program]
     listing = subprocess.run(words, capture_output=True, text=True, check=True).stdout
     bodies = re.findall(r"^[0-9a-f]+ <[^\n]*FewNumbers::has_front_of.*?(?=^$)", listing, re.M | re.S)
@@ -71,7 +71,7 @@ def count_store():
 def least_look(command, known, turns):
     """The nanoseconds of a look, the least of all turns, and the sum."""
     path, looks = script("run", known, 0, 0), call_count(known) * max(1, (1 << 21) // call_count(known))
-    printed = [answer(command(looks // call_count(known)), path).text.split() for _ in range(turns)]
+    printed = [answer(command(looks // call_count(known)), path).split() for _ in range(turns)]
     return min(int(words[1]) for words in printed) / looks, printed[0][2]
 
 

@@ -5,19 +5,14 @@ import shutil
 import subprocess
 import sys
 import tempfile
+import time
 from pathlib import Path
-from typing import NamedTuple
 
 TOP = Path(__file__).resolve().parent.parent
 PEERS = TOP / "bench/peers"
 PEER = PEERS / "build/release/peers"
 OUT = TOP / "out/bench"
 CALLS = {"least": 1 << 14, "most": 1 << 20}
-
-
-class Answer(NamedTuple):
-    text: str
-    octets: int  # The most memory that the program had.
 
 
 def need(*tools, packages=()):
@@ -90,13 +85,26 @@ def answer(command, path):
     """What a program prints over a script. It ends the measurement if the program fails, or takes ten minutes."""
     with path.open("rb") as file, tempfile.TemporaryFile("w+") as printed:
         words = ["timeout", "--foreground", "600", *map(str, command)]
-        process = subprocess.Popen(words, stdin=file, stdout=printed)
-        _, status, usage = os.wait4(process.pid, 0)
-        process.returncode = os.waitstatus_to_exitcode(status)
-        if process.returncode != 0:
-            sys.exit(f"run: {' '.join(words[3:])} over {path.name} ended with status {process.returncode}")
+        status = subprocess.run(words, stdin=file, stdout=printed, check=False).returncode
+        if status != 0:
+            sys.exit(f"run: {' '.join(words[3:])} over {path.name} ended with status {status}")
         printed.seek(0)
-        return Answer(printed.read(), usage.ru_maxrss * 1024)
+        return printed.read()
+
+
+def octets_held(command, path):
+    """The memory of a program that has read a script, and waits for more."""
+    with subprocess.Popen([*map(str, command)], stdin=subprocess.PIPE, stdout=subprocess.DEVNULL) as process:
+        with path.open("rb") as file:
+            shutil.copyfileobj(file, process.stdin)
+        process.stdin.flush()
+        waited = 0
+        while waited < 10 and process.poll() is None:
+            time.sleep(0.02)
+            state = Path(f"/proc/{process.pid}/stat").read_text().rpartition(")")[2].split()[0]
+            waited = waited + 1 if state == "S" else 0
+        pages = Path(f"/proc/{process.pid}/statm").read_text().split()[1]
+        return int(pages) * os.sysconf("SC_PAGE_SIZE")
 
 
 def numbers_from(name, fallback):

@@ -9,7 +9,9 @@ import statistics
 import sys
 from typing import NamedTuple
 
-from programs import PEER, TOP, answer, build, build_peers, call_count, drop_scripts, numbers_from, rounded, script
+from programs import (
+    PEER, TOP, answer, build, build_peers, call_count, drop_scripts, numbers_from, octets_held, rounded, script
+)
 
 LOOKS = 1 << 21
 PUBLICATIONS = {1: 20000, 10: 5000, 1000: 100}
@@ -70,7 +72,7 @@ class Figures:
 
 def run(program, sums, words, readers, rounds):
     """The nanoseconds of each reader, and those of the writer."""
-    printed = answer([*program.command, "run", readers, rounds], script("run", *words)).text
+    printed = answer([*program.command, "run", readers, rounds], script("run", *words))
     lines = [line.split() for line in printed.splitlines()]
     sums.compare(program, ("run", *words, readers, rounds), [line[2] for line in lines])
     return [int(line[1]) for line in lines[:-1]], int(lines[-1][1])
@@ -79,7 +81,7 @@ def run(program, sums, words, readers, rounds):
 def check(program, sums):
     """Decisions behind each of many publications, and readers beside a writer."""
     for words in (1000, 10, 100), (40, 7, 400):
-        printed = answer([*program.command, "each"], script("check", *words)).text
+        printed = answer([*program.command, "each"], script("check", *words))
         sums.compare(program, ("check", *words), [line.split()[1] for line in printed.splitlines()])
     run(program, sums, (1000, 10, 2000), 2, 20)
 
@@ -94,7 +96,7 @@ def turn(program, known, figures, sums):
     for batch, publications in PUBLICATIONS.items():
         _, nanoseconds = run(program, sums, (known, batch, publications), 0, 0)
         figures.note(program, batch, nanoseconds / publications / 1000)
-    empty, full = (answer([*program.command, "run", 0, 0], script("data", count)).octets for count in (1, known))
+    empty, full = (octets_held([*program.command, "run", 0, 0], script("data", count)) for count in (1, known))
     figures.note(program, "octets", (full - empty) / known)
 
 
@@ -110,7 +112,7 @@ def registers(program):
     path = script("registers", REGISTERS)
     turns = []
     for _ in range(6):
-        printed = answer([*program.command, "each"], path).text
+        printed = answer([*program.command, "each"], path)
         turns.append([int(line.split()[0]) for line in printed.splitlines()])
     least = [min(times) for times in zip(*turns)]
     return max(least) / statistics.median(least)
