@@ -93,18 +93,10 @@ impl<R: System, I: Read + Drop + Send> Bench<'_, R, I> {
         self.publish_all(store)?;
         let calls = self.read_calls()?;
         let (rt, start) = (self.rt, Barrier::new(sessions.len().saturating_add(1)));
-        let read = |session: Session| -> Result<Timed> {
-            let mut session = session;
-            start.wait(rt);
-            find_all(rt, &mut session, &calls, rounds)
-        };
         let (read, published) = join(
             rt,
-            || map_vec(rt, sessions, &read),
-            || {
-                start.wait(rt);
-                self.publish_all(store)
-            },
+            || decide_all(rt, &start, sessions, &calls, rounds),
+            || self.publish_from(&start, store),
         );
         for timed in read? {
             let (nanoseconds, sum) = timed?;
@@ -113,6 +105,12 @@ impl<R: System, I: Read + Drop + Send> Bench<'_, R, I> {
         let data = self.sum_of_decisions(&mut last)?;
         println!(rt; "writer {} {data:016x}", published?)?;
         Ok(())
+    }
+
+    // As a thread beside the readers.
+    fn publish_from(&mut self, start: &Barrier, store: &mut Vlr) -> Result<u64> {
+        start.wait(self.rt);
+        self.publish_all(store)
     }
 
     /// Makes the publications of the script, up to one of nothing, which leaves the second copy as the first one is.
@@ -162,6 +160,32 @@ impl<R: System, I: Read + Drop + Send> Bench<'_, R, I> {
         }
         Ok(sum)
     }
+}
+
+/// Has each session decide all calls so many times, in a thread of its own.
+fn decide_all<R: System>(
+    rt: &R,
+    start: &Barrier,
+    sessions: Vec<Session>,
+    calls: &[Call],
+    rounds: u64,
+) -> Result<Vec<Result<Timed>>> {
+    let read = |session: Session| -> Result<Timed> {
+        decide_from(rt, start, session, calls, rounds)
+    };
+    Ok(map_vec(rt, sessions, &read)?)
+}
+
+fn decide_from<R: System>(
+    rt: &R,
+    start: &Barrier,
+    session: Session,
+    calls: &[Call],
+    rounds: u64,
+) -> Result<Timed> {
+    let mut session = session;
+    start.wait(rt);
+    find_all(rt, &mut session, calls, rounds)
 }
 
 /// Looks for all calls so many times.

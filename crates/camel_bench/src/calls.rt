@@ -119,7 +119,7 @@ pub(crate) fn decide(session: &mut Session, call: &Call, key_bits: u32) -> Resul
 // which two reads make a number of: so no branch depends on how many octets there are.
 fn said(decision: &Decision, key_bits: u32) -> u64 {
     match decision {
-        Decision::NoTrigger(reason) => mixed(u64::MAX - (*reason as u64), 0),
+        Decision::NoTrigger(reason) => mixed(!(*reason as u64), 0),
         Decision::Trigger { row, .. } => {
             let scf = row.scf().bytes();
             let (Some(first), Some(last)) = (scf.first_chunk::<4>(), scf.last_chunk::<4>()) else {
