@@ -141,10 +141,11 @@ impl<R: System, I: Read + Drop + Send> Bench<'_, R, I> {
     fn read_calls(&mut self) -> Result<Vec<Call>> {
         let mut calls = Vec::new(self.rt.alloc());
         for _ in 0..u64::MAX {
-            match self.script.read_record()? {
-                Some(Record::Call(event)) => calls.push(Call::of(&event)?)?,
-                _ => break,
-            }
+            let record = self.script.read_record()?;
+            let Some(Record::Call(event)) = &record else {
+                break;
+            };
+            calls.push(Call::of(event)?)?;
         }
         Ok(calls)
     }
