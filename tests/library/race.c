@@ -1,8 +1,9 @@
 /* A race between two threads of a switch, in a function whose name begins as those of the calls: tools that look for
- * races are to report it, also with the files by which they are silent about the library. */
+ * races are to report it, also with the files by which they are silent about the library. It is volatile, so that each
+ * thread counts 1000 times: of one sum in each, at the same moment, ThreadSanitizer may see none. */
 #include <pthread.h>
 
-static unsigned camel_calls;
+static volatile unsigned camel_calls;
 
 static void *camel_worker(void *argument)
 {
