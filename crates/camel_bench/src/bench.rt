@@ -62,18 +62,21 @@ impl<R: System, I: Read + Drop + Send> Bench<'_, R, I> {
     /// Times looks into records with no store, or into a table with no records, for all calls and so many times.
     pub(crate) fn look_into<S: Filled>(&mut self, looked: S, rounds: u64) -> Result<()> {
         let mut looked = looked;
+        self.fill(&mut looked)?;
+        let calls = self.read_calls()?;
+        let (nanoseconds, sum) = find_all(self.rt, &mut looked, &calls, rounds)?;
+        println!(self.rt; "reader {nanoseconds} {sum:016x}")?;
+        Ok(())
+    }
+
+    fn fill<S: Filled>(&mut self, looked: &mut S) -> Result<()> {
         let mut batch = VecDeque::new(self.rt.alloc());
         for _ in 0..u64::MAX {
             if !read_batch(&mut self.script, &mut batch)? || batch.is_empty() {
                 break;
             }
-            for update in batch.drain(..) {
-                looked.fill(&update)?;
-            }
+            fill_from(&mut batch, looked)?;
         }
-        let calls = self.read_calls()?;
-        let (nanoseconds, sum) = find_all(self.rt, &mut looked, &calls, rounds)?;
-        println!(self.rt; "reader {nanoseconds} {sum:016x}")?;
         Ok(())
     }
 
@@ -91,20 +94,33 @@ impl<R: System, I: Read + Drop + Send> Bench<'_, R, I> {
         let mut sessions = sessions;
         let mut last = sessions.pop().context("no session is left")?;
         self.publish_all(store)?;
-        let calls = self.read_calls()?;
-        let (rt, start) = (self.rt, Barrier::new(sessions.len().saturating_add(1)));
-        let (read, published) = join(
-            rt,
-            || decide_all(rt, &start, sessions, &calls, rounds),
-            || self.publish_from(&start, store),
-        );
-        for timed in read? {
-            let (nanoseconds, sum) = timed?;
-            println!(rt; "reader {nanoseconds} {sum:016x}")?;
-        }
+        let nanoseconds = self.run_beside(store, sessions, rounds)?;
         let data = self.sum_of_decisions(&mut last)?;
-        println!(rt; "writer {} {data:016x}", published?)?;
+        println!(self.rt; "writer {nanoseconds} {data:016x}")?;
         Ok(())
+    }
+
+    /// Prints what the readers took, and returns what the writer did.
+    fn run_beside(&mut self, store: &mut Vlr, sessions: Vec<Session>, rounds: u64) -> Result<u64> {
+        let calls = self.read_calls()?;
+        let (read, published) = self.join_all(store, sessions, &calls, rounds);
+        print_readers(self.rt, read?)?;
+        published
+    }
+
+    fn join_all(
+        &mut self,
+        store: &mut Vlr,
+        sessions: Vec<Session>,
+        calls: &[Call],
+        rounds: u64,
+    ) -> (Result<Vec<Result<Timed>>>, Result<u64>) {
+        let (rt, start) = (self.rt, Barrier::new(sessions.len().saturating_add(1)));
+        join(
+            rt,
+            || decide_all(rt, &start, sessions, calls, rounds),
+            || self.publish_from(&start, store),
+        )
     }
 
     // As a thread beside the readers.
@@ -161,6 +177,24 @@ impl<R: System, I: Read + Drop + Send> Bench<'_, R, I> {
         }
         Ok(sum)
     }
+}
+
+/// Fills something with a batch of updates, and leaves the batch empty.
+fn fill_from<S: Filled>(batch: &mut VecDeque<Update>, looked: &mut S) -> Result<()> {
+    for _ in 0..batch.len() {
+        if let Some(update) = batch.pop_front() {
+            looked.fill(&update)?;
+        }
+    }
+    Ok(())
+}
+
+fn print_readers<R: AllocGlobal + Print>(rt: &R, read: Vec<Result<Timed>>) -> Result<()> {
+    for timed in read {
+        let (nanoseconds, sum) = timed?;
+        println!(rt; "reader {nanoseconds} {sum:016x}")?;
+    }
+    Ok(())
 }
 
 /// Has each session decide all calls so many times, in a thread of its own.

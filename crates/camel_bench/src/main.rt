@@ -10,6 +10,7 @@ use anyhow::{Context, Result, anyhow};
 use camel_rows::Records;
 use camel_script::Script;
 use camel_table::{Seed, Table};
+use std::alloc::Global;
 use std::io::Read;
 use std::process::ExitCode;
 
@@ -31,17 +32,30 @@ fn answer<R: System, I: Read + Drop + Send>(rt: &R, stdin: I, words: &[String]) 
     let Some(what) = words.get(1) else {
         return Ok(());
     };
-    let mut numbers = Vec::new(rt.alloc());
-    for word in words.iter().skip(2) {
-        numbers.push(word.parse::<u64>().ok().context("a word is no number")?)?;
-    }
+    let numbers = numbers_in(rt.alloc(), words.get(2..).unwrap_or(&[]))?;
     let script = Script::new(rt.alloc(), stdin, u64::MAX).ok();
     let script = script.context("out of memory")?;
-    let mut bench = Bench { rt, script };
-    match (what.as_str(), numbers.as_slice()) {
+    measure(&mut Bench { rt, script }, what, &numbers)
+}
+
+fn numbers_in(alloc: Global, words: &[String]) -> Result<Vec<u64>> {
+    let mut numbers = Vec::new(alloc);
+    for word in words {
+        numbers.push(word.parse::<u64>().ok().context("a word is no number")?)?;
+    }
+    Ok(numbers)
+}
+
+fn measure<R: System, I: Read + Drop + Send>(
+    bench: &mut Bench<'_, R, I>,
+    what: &str,
+    numbers: &[u64],
+) -> Result<()> {
+    let alloc = bench.rt.alloc();
+    match (what, numbers) {
         ("each", []) => bench.publish_each(),
-        ("records", [rounds]) => bench.look_into(Records::new(rt.alloc()), *rounds),
-        ("table", [rounds]) => bench.look_into(Table::new(rt.alloc(), Seed::fixed()), *rounds),
+        ("records", [rounds]) => bench.look_into(Records::new(alloc), *rounds),
+        ("table", [rounds]) => bench.look_into(Table::new(alloc, Seed::fixed()), *rounds),
         ("run", [readers, rounds]) => bench.run(*readers as usize, *rounds),
         _ => Err(anyhow!("these are no words of the protocol")),
     }
