@@ -34,7 +34,7 @@ struct update {
     camel_row o[2], vt[2];
     camel_criteria criteria;
 };
-_Static_assert(sizeof(struct update) <= 512 && sizeof(camel_event) == 40, "src/stores/library.rs has these sizes");
+_Static_assert(sizeof(struct update) == 248 && sizeof(camel_event) == 40, "src/stores/library.rs has these sizes");
 
 /* A call may write the handle of its session. So each has cache lines of its own, which a processor takes in pairs. */
 struct session {

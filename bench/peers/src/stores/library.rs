@@ -13,7 +13,7 @@ pub struct CamelEvent([u64; 5]);
 
 /// A `struct update`.
 #[repr(C)]
-pub struct CamelUpdate([u64; 64]);
+pub struct CamelUpdate([u64; 31]);
 
 #[derive(Clone, Copy)]
 pub struct Handle(*mut c_void);
@@ -89,7 +89,7 @@ impl Writer for Handle {
             Update::Cancel(imsi) => (4, imsi, Record::default()),
         };
         let (o, vt, numbers) = (&record.o, &record.vt, &record.numbers);
-        let mut made = CamelUpdate([0; 64]);
+        let mut made = CamelUpdate([0; 31]);
         // SAFETY: the call reads so many rows, at most two, and numbers, and writes the update.
         unsafe {
             library_update(
