@@ -146,11 +146,12 @@ map-check:
 	@COUNT=$(COUNT) SEED=$(SEED) $(PYTEST) -rP tests/map
 
 # It makes so many DECISIONS, or goes on for so many SECONDS. Another SEED gives other calls and updates.
-soak: DECISIONS ?= 10000000
+soak: DECISIONS ?= 100000000
 soak:
 	@scripts/need $@
 	@scripts/library
-	@DECISIONS=$(DECISIONS) SECONDS=$(SECONDS) SUBSCRIBERS=$(SUBSCRIBERS) SEED=$(SEED) $(PYTEST) -s tests/soak
+	@scripts/soak $(if $(SECONDS),--seconds $(SECONDS),--decisions $(DECISIONS)) --subscribers $(SUBSCRIBERS) \
+		--seed $(SEED)
 
 # As root, with the network. The fresh Debian is SUITE, trixie if it is not given, of the package sources of MIRROR.
 deb-check:
