@@ -1,5 +1,5 @@
-//! Subscribers, updates and calls that tests and measurements are made of, and what tests compare of the data that are
-//! borrowed from a store.
+//! Subscribers, updates and calls that tests are made of, and what tests compare of the data that are borrowed from a
+//! store.
 #![tactic(auto)]
 
 mod calls;

@@ -1,6 +1,6 @@
-//! Makes each call of the libraries in a run in which memory is refused. `scripts/refusals` starts it with the name of
-//! a call, refuses one request for memory in each run, and compares what the runs print. Without a name it lists the
-//! calls.
+//! Makes each call of the libraries in a run in which memory is refused. A test in `tests/refused` starts it with the
+//! name of a call, refuses one request for memory in each run, and compares what the runs print. Without a name it
+//! lists the calls.
 //!
 //! Each run sets a stage, makes its call there, and prints what is present in the end. A step that was refused memory
 //! is checked to leave all as it was, and is made again. Which step that was, and its answer, comes on standard error.
