@@ -1,1 +1,1 @@
-"""The wrong bodies of crates/NAME/wrong-bodies/: how they are tried, and the record of those that were refused."""
+"""The wrong bodies of crates/NAME/wrong-bodies.txt: how they are tried, and the record of those that were refused."""

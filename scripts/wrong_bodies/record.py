@@ -4,7 +4,7 @@ import hashlib
 import re
 from pathlib import Path
 
-from wrong_bodies.edit import edits_of
+from wrong_bodies.edit import Edit, edits_of
 from wrong_bodies.layout import stated, without_bodies
 
 DEFINITIONS = re.compile(r"\bRattle\.(\w+)\.specs\.")
@@ -21,7 +21,7 @@ REASON = 100
 
 
 def file_of(crate):
-    return Path("crates", crate, "wrong-bodies/refused.txt")
+    return Path("crates", crate, "refused.txt")
 
 
 def definitions_of(crate):
@@ -94,16 +94,18 @@ def write(crate, refused):
 
 
 def faults_of(crate):
-    """What is to be tried again, or cannot be tried, of the edits of a crate."""
+    """What is to be tried again, or cannot be tried, of the edits of a crate and of those that `rt must-fail` tries."""
     edits, file = edits_of(crate), file_of(crate)
-    for edit in [*edits, *edits_of(crate, "must-fail")]:
+    tried_by_rt = sorted(Path("crates", crate, "must-fail").glob("*.edit"))
+    for edit in [*edits, *(Edit(crate, it.stem, it.read_text()) for it in tried_by_rt)]:
         if edit.fault:
             yield f"{crate}: {edit.name}: {edit.fault}"
-    known = dict(line.split(" ")[:2] for line in file.read_text().splitlines()) if file.is_file() else {}
-    own = {edit.name: sum_of(edit.text) for edit in edits}
+    refused = {tuple(line.split(" ")[:2]) for line in file.read_text().splitlines()} if file.is_file() else set()
+    own = {(edit.name, sum_of(edit.text)) for edit in edits}
+    rests_on = {("contracts", statements_sum(crate))} if edits else set()
     again = f"is to be tried by `make edits CRATE={crate}`"
-    if edits and known.pop("contracts", None) != statements_sum(crate):
+    if not rests_on <= refused:
         yield f"{crate}: a contract, a signature or a definition has changed since its edits were refused: each {again}"
     else:
-        changed = sorted(name for name in {*known, *own} if known.get(name) != own.get(name))
+        changed = sorted({name for name, _ in (refused - rests_on) ^ own})
         yield from (f"{crate}: {name}: this edit was not refused so: it {again}" for name in changed)

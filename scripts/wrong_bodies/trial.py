@@ -109,12 +109,12 @@ class Trial:
         function and the edit of each copy, by its name."""
         texts, copies = {}, {}
         for function, edits in sorted(functions, key=lambda it: -it[0].head):
-            lines = (texts.get(function.path) or Path("crates", self.crate, function.path).read_text()).split("\n")
+            own = Path("crates", self.crate, function.path).read_text()
+            lines = texts.get(function.path, own).split("\n")
             for edit in [None, *edits]:
                 name = f"{function.name}_edit_{len(copies)}"
-                body = lines[function.first : function.last + 1]
-                for start, end, new in sorted(edit.hunks, reverse=True) if edit else []:
-                    body[start - function.first : end - function.first] = new
+                text = edit.texts[function.path] if edit else own
+                body = text.split("\n")[function.first : function.last + 1]
                 head = function.head - function.first
                 body[head] = re.sub(r"\bfn \w+", f"fn {name}", body[head])
                 lines[function.last + 1 : function.last + 1] = ["", *body]
