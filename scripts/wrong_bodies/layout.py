@@ -5,10 +5,9 @@ from typing import NamedTuple
 
 HEAD = re.compile(r'( *)(?:pub(?:\([\w ]+\))? )?(?:(?:const|unsafe|extern "C") )*fn (\w+)')
 METHODS = re.compile(r"impl(?:<.*?>)? (\w+)(?!.* for )")
-# A comment, and advice to the tactics and to the compiler: none changes what is stated.
-UNSTATED = re.compile(r"\s*(?://|--|#\[(?:tactic\(|inline))")
-IMPORT = re.compile(r"(?m)^ *(?:pub(?:\(crate\))? )?(?:unfoldable )?(?:ghost )?use (\w+(?:::|\.))"
-                    r"(?:(\w+\.(?:specs|proofs)\.)\w+\.)?([^{;\n]*(?:\{[^}]*\})?);?$")
+# A comment, advice to the tactics and to the compiler, and the name of a file of definitions state nothing.
+UNSTATED = re.compile(r"\s*(?://|--|#\[(?:tactic\(|inline)|(?:pub )?mod \w+$)")
+IMPORT = re.compile(r"(?m)^ *(?:pub(?:\(crate\))? |unfoldable |ghost )*use ([^{;\n]+)(?:\{([^}]*?),?\s*\})?;?$")
 
 
 class Function(NamedTuple):
@@ -47,22 +46,17 @@ def functions_in(path, text):
 
 
 def imported(text):
-    """The names that a file imports, each with the crate that it is of. In which of its files it stands says nothing."""
-    for root, specs, path in IMPORT.findall(text):
-        where, braces, names = path.rstrip("}").rpartition("{")
-        within = where if specs or root == "Rattle." else ""
-        yield from (f"{root}{specs}{within}{name.strip()}" for name in names.rsplit("::")[-1].split(",") if name.strip())
+    """The names that a file imports. In which file of its crate a definition stands says nothing."""
+    for path, names in IMPORT.findall(text):
+        crate = re.sub(r"(\.(?:specs|proofs)\.)\w+\.", r"\1", path, count=1)
+        yield from (crate + name.strip() for name in names.split(","))
 
 
 def stated(text):
-    """What the text of a file states: its words but for bodies, comments and advice, paragraph by paragraph, and what
-    it imports."""
-    paragraphs = re.split(r"\n\s*\n", IMPORT.sub("", without_bodies(text)))
-    return {*imported(text)}, [words for words in map(" ".join, map(str.split, paragraphs)) if words]
-
-
-def without_bodies(text):
-    """A file but for bodies, comments and advice."""
+    """What the text of a file states: what it imports, and its words but for bodies, comments and advice, paragraph by
+    paragraph."""
     lines = text.split("\n")
     inside = {line for _, _, brace, last in bodies_in(lines) for line in range(brace + 1, last)}
-    return "\n".join(line for at, line in enumerate(lines) if at not in inside and not UNSTATED.match(line))
+    outside = "\n".join(line for at, line in enumerate(lines) if at not in inside and not UNSTATED.match(line))
+    paragraphs = re.split(r"\n\s*\n", IMPORT.sub("", outside))
+    return [*sorted({*imported(text)}), *filter(None, (" ".join(it.split()) for it in paragraphs))]
