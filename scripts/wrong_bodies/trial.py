@@ -11,46 +11,61 @@ import os
 import re
 import shutil
 import subprocess
+import sys
 from collections import defaultdict
 from pathlib import Path
+from threading import Lock
 
-from wrong_bodies.edit import PARTS
+from wrong_bodies import crates_below
+from wrong_bodies.edit import PARTS, edits_of
 from wrong_bodies.verdict import PROVED, refusal_of_whole, verdicts_of
 
+# One crate at a time is proved at its place, by several processes, which build those below it too.
+PROVING = Lock()
 
-def copy_tree(folder, to, link=False):
-    """Copies a folder if it is there. What the prover has kept gets a second name: it replaces such a file, and changes
-    none."""
 
-    def copy(file, other):
-        if link and not file.endswith(".rt"):
-            return os.link(file, other)
-        return shutil.copy2(file, other)
+def check(folder, *words):
+    """Has the prover check the crate in this folder."""
+    return subprocess.run(["rt", "check", *words], cwd=folder, stdin=subprocess.DEVNULL, stdout=subprocess.PIPE,
+                          stderr=subprocess.STDOUT, text=True, errors="replace")
 
-    if folder.is_dir():
-        shutil.rmtree(to, ignore_errors=True)
-        shutil.copytree(folder, to, copy_function=copy)
+
+def copy_sources(crate, to):
+    for part in PARTS:
+        if (folder := Path("crates", crate, part)).is_dir():
+            shutil.copytree(folder, to / part)
+
+
+def link_tree(folder, to):
+    """Gives what the prover has kept second names: it replaces such a file, and changes none."""
+    copy = lambda file, other: shutil.copy2(file, other) if file.endswith(".rt") else os.link(file, other)
+    shutil.copytree(folder, to, copy_function=copy)
 
 
 class Trial:
     """A crate's edits, and a copy of the crate and of those below it, in which they are tried. Each check begins with
     what a check of the crate as it stands has kept."""
 
-    def __init__(self, crate, below, edits, room):
-        self.crate, self.below, self.edits = crate, below, edits
-        self.room = Path(room, crate).resolve()
+    def __init__(self, crate, room):
+        self.crate, self.room = crate, Path(room, crate).resolve()
         self.inside = self.room / "crates" / crate
-        self.refused, self.faults, self.checks = {}, {}, 0
+        self.edits, self.refused, self.faults, self.checks = [], {}, {}, 0
 
     def run(self):
-        """Tries each edit, and notes those that are refused, and the faults of the others."""
-        self.fill_room()
-        ended = self.check({})
+        """Tries each edit, and notes those that are refused, and the faults of the others. Returns why none is tried,
+        if the crate is not proved as it stands."""
+        with PROVING:
+            print(f"edits: proves {self.crate}", file=sys.stderr, flush=True)
+            ended = check(Path("crates", self.crate))
+            if ended.returncode == 0:
+                self.fill_room()
+                self.edits = edits_of(self.crate)
+        if ended.returncode == 0:
+            ended = self.check({})
         if ended.returncode:
-            said = f"NOT TRIED: {self.crate} is not proved as it stands: {ended.stdout[-300:]}"
-            self.faults = dict.fromkeys(self.edits, said)
-            return
-        copy_tree(self.inside / "out/incremental", self.room / "kept", link=True)
+            return f"{ended.stdout[-2000:]}\n{self.crate} is not proved as it stands"
+        shutil.rmtree(self.room / "kept")
+        os.rename(self.inside / "out/incremental", self.room / "kept")
         of_function = defaultdict(list)
         for edit in self.edits:
             if edit.function:
@@ -60,34 +75,31 @@ class Trial:
             if edit not in self.refused:
                 self.try_whole(edit)
         shutil.rmtree(self.room)
+        return None
 
     def fill_room(self):
         """Copies the crates below, as they are built, and what was kept of the crate."""
-        self.room.mkdir(parents=True)
-        for name in self.below:
-            for part in PARTS:
-                copy_tree(Path("crates", name, part), self.room / "crates" / name / part)
-            copy_tree(Path("crates", name, "out/rlib"), self.room / "crates" / name / "out/rlib", link=True)
-        copy_tree(Path("crates", self.crate, "out/incremental"), self.room / "kept", link=True)
+        *below, _ = crates_below(self.crate)
+        for name in below:
+            copy_sources(name, self.room / "crates" / name)
+            link_tree(Path("crates", name, "out/rlib"), self.room / "crates" / name / "out/rlib")
+        link_tree(Path("crates", self.crate, "out/incremental"), self.room / "kept")
         shutil.copy("HANDLES", self.room)
         rows = Path("crates.txt").read_text().splitlines()
-        listed = [row for row in rows if re.split("[ :]", row)[0] in [*self.below, self.crate]]
+        listed = [row for row in rows if re.split("[ :]", row)[0] in [*below, self.crate]]
         (self.room / "crates.txt").write_text("".join(f"{row}\n" for row in listed))
 
     def check(self, texts, *words):
         """Checks the crate with these texts in place of its own."""
         self.checks += 1
         shutil.rmtree(self.inside, ignore_errors=True)
-        for part in PARTS:
-            copy_tree(Path("crates", self.crate, part), self.inside / part)
-        copy_tree(self.room / "kept", self.inside / "out/incremental", link=True)
+        copy_sources(self.crate, self.inside)
+        link_tree(self.room / "kept", self.inside / "out/incremental")
         for path, text in texts.items():
             file = self.inside / path
             file.parent.mkdir(parents=True, exist_ok=True)
             file.write_text(text)
-        command = ["rt", "check", "--jobs", "1", *words]
-        return subprocess.run(command, cwd=self.inside, stdin=subprocess.DEVNULL, stdout=subprocess.PIPE,
-                              stderr=subprocess.STDOUT, text=True, errors="replace")
+        return check(self.inside, "--jobs", "1", *words)
 
     def try_copies(self, functions):
         """Tries functions with the edits of each in one check, and notes what is refused."""
