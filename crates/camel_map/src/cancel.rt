@@ -6,11 +6,11 @@ ghost use Rattle.camel_reading.specs.Reading.{ReadsAs};
 ghost use Rattle.camel_map.specs.Update.{cancel_in, cancelled_in, first_identity_in, identity_in, imsi_of_pair};
 
 use crate::field::{identified, is_identified};
-use crate::identifier::{CONSTRUCTED, OCTET_STRING, SEQUENCE};
 use crate::imsi::read_own_imsi;
 use crate::map_fault::MapFault;
 use crate::reading::read_elements;
 use crate::row::first_of;
+use crate::tag::{CANCEL_LOCATION_ARG, OCTET_STRING, SEQUENCE};
 use camel_ber::Element;
 use camel_rows::Update;
 use camel_tbcd::Imsi;
@@ -69,7 +69,7 @@ fn read_cancelled(
 ) -> Result<Imsi, MapFault>
     ensures { ReadsAs IsMemory result (cancelled_in dialogue_imsi (view argument.now)) }
 {
-    if is_identified(argument, CONSTRUCTED + 3) {
+    if is_identified(argument, CANCEL_LOCATION_ARG) {
         read_first_identity(alloc, dialogue_imsi, argument)
     } else {
         read_identity(alloc, dialogue_imsi, argument)

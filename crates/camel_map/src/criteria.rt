@@ -11,11 +11,11 @@ ghost use Rattle.camel_map.specs.declared.map_fault.MapFault.{MapFault};
 ghost use Rattle.camel_rows.specs.TdpRow.{kept_of};
 
 use crate::field::{find_field, mandatory};
-use crate::identifier::{CONSTRUCTED, PRIMITIVE};
 use crate::item::{MapItem, read_item};
 use crate::items::{ReceivedList, read_items};
 use crate::map_fault::MapFault;
 use crate::reading::{or_refused_at, read_elements};
+use crate::tag::{DESTINATION_NUMBER_LENGTH_LIST, DESTINATION_NUMBER_LIST, MATCH_TYPE};
 use crate::value::{read_length, read_match_type, read_number};
 use camel_ber::Element;
 use camel_criteria::{CriteriaEntry, NumberCriterion};
@@ -48,9 +48,17 @@ pub(crate) fn read_number_criterion(
     ensures { ReadsAs IsMemory result (number_criterion_in (view criterion.now)) }
 {
     let fields = read_elements(alloc, criterion.content)?;
-    let match_type = read_match_type(&mandatory(criterion, PRIMITIVE, &fields)?)?;
-    let numbers = read_listed(alloc, find_field(&fields, CONSTRUCTED + 1)?, read_number)?;
-    let lengths = read_listed(alloc, find_field(&fields, CONSTRUCTED + 2)?, read_length)?;
+    let match_type = read_match_type(&mandatory(criterion, MATCH_TYPE, &fields)?)?;
+    let numbers = read_listed(
+        alloc,
+        find_field(&fields, DESTINATION_NUMBER_LIST)?,
+        read_number,
+    )?;
+    let lengths = read_listed(
+        alloc,
+        find_field(&fields, DESTINATION_NUMBER_LENGTH_LIST)?,
+        read_length,
+    )?;
     let made = NumberCriterion::new(alloc, match_type, &numbers, &lengths);
     or_refused_at(criterion.place, made)
 }

@@ -8,9 +8,9 @@ ghost use Rattle.camel_reading.specs.Reading.{ReadsAs};
 ghost use Rattle.camel_map.specs.Update.{delete_in, is_bit_set, is_bit_string, is_named, unused_bits, withdrawal_with};
 
 use crate::field::{find_field, identified, mandatory};
-use crate::identifier::{PRIMITIVE, SEQUENCE};
 use crate::imsi::read_own_imsi;
 use crate::reading::read_elements;
+use crate::tag::{CAMEL_SUBSCRIPTION_INFO_WITHDRAW, IMSI, SEQUENCE, SPECIFIC_CSI_WITHDRAW};
 use crate::{MapFault, MapFaultKind};
 use camel_ber::Element;
 use camel_rows::{Update, Withdrawal};
@@ -89,8 +89,8 @@ pub(crate) fn read_delete(
 {
     let argument = identified(*element, SEQUENCE)?;
     let fields = read_elements(alloc, argument.content)?;
-    let imsi = read_own_imsi(dialogue_imsi, &mandatory(&argument, PRIMITIVE, &fields)?)?;
-    let everything = read_null(find_field(&fields, PRIMITIVE + 9)?)?;
-    let what = read_withdrawal(everything, find_field(&fields, PRIMITIVE + 15)?)?;
+    let imsi = read_own_imsi(dialogue_imsi, &mandatory(&argument, IMSI, &fields)?)?;
+    let everything = read_null(find_field(&fields, CAMEL_SUBSCRIPTION_INFO_WITHDRAW)?)?;
+    let what = read_withdrawal(everything, find_field(&fields, SPECIFIC_CSI_WITHDRAW)?)?;
     Ok(Update::Delete { imsi, what })
 }

@@ -11,10 +11,13 @@ use crate::encoding::list::{put_any, put_some};
 use crate::encoding::value::{CallTypeField, Cause, NumberField, Service};
 use crate::encoding::writer::{TooLong, Writer};
 use crate::field::{find_field, mandatory, read_present};
-use crate::identifier::{CONSTRUCTED, ENUMERATED, PRIMITIVE};
 use crate::item::MapItem;
 use crate::map_fault::MapFault;
 use crate::reading::or_refused_at;
+use crate::tag::{
+    CALL_TYPE_CRITERIA, DESTINATION_NUMBER_CRITERIA, ENUMERATED, O_BASIC_SERVICE_CRITERIA,
+    O_CAUSE_VALUE_CRITERIA, T_BASIC_SERVICE_CRITERIA, T_CAUSE_VALUE_CRITERIA,
+};
 use crate::value::{read_basic_service, read_call_type, read_cause, read_detection_point};
 use camel_ber::Element;
 use camel_criteria::{BasicService, CallType, NumberCriterion, OCriteria, TCriteria};
@@ -36,16 +39,20 @@ impl MapItem for OCriteria {
     ) -> Result<OCriteria, MapFault> {
         let dp = read_detection_point(&mandatory(item, ENUMERATED, fields)?)?;
         let number = read_present(
-            find_field(fields, CONSTRUCTED)?,
+            find_field(fields, DESTINATION_NUMBER_CRITERIA)?,
             |field| read_number_criterion(alloc, field),
         )?;
         let basic = read_listed(
             alloc,
-            find_field(fields, CONSTRUCTED + 1)?,
+            find_field(fields, O_BASIC_SERVICE_CRITERIA)?,
             read_basic_service,
         )?;
-        let call_type = read_present(find_field(fields, PRIMITIVE + 2)?, read_call_type)?;
-        let causes = read_listed(alloc, find_field(fields, CONSTRUCTED + 3)?, read_cause)?;
+        let call_type = read_present(find_field(fields, CALL_TYPE_CRITERIA)?, read_call_type)?;
+        let causes = read_listed(
+            alloc,
+            find_field(fields, O_CAUSE_VALUE_CRITERIA)?,
+            read_cause,
+        )?;
         let made = OCriteria::new(alloc, dp, number, &basic, call_type, &causes);
         or_refused_at(item.place, made)
     }
@@ -69,10 +76,10 @@ fn put_behind_number(writer: &mut Writer, entry: &OCriteria) -> Result<(), TooLo
         ++ if_any (λ call_type. leaf (primitive 2) (call_type_number call_type ∷ [])) entry.now.call_type
         ++ if_some (constructed 3) cause_element entry.now.causes) writer.old) }
 {
-    put_some::<Cause, u8>(writer, CONSTRUCTED + 3, entry.causes())?;
+    put_some::<Cause, u8>(writer, O_CAUSE_VALUE_CRITERIA, entry.causes())?;
     let call_type = entry.call_type();
     put_any::<CallTypeField, CallType>(writer, call_type.as_ref())?;
-    put_some::<Service, BasicService>(writer, CONSTRUCTED + 1, entry.basic())
+    put_some::<Service, BasicService>(writer, O_BASIC_SERVICE_CRITERIA, entry.basic())
 }
 
 impl MapItem for TCriteria {
@@ -90,8 +97,16 @@ impl MapItem for TCriteria {
         fields: &[Element<'_>],
     ) -> Result<TCriteria, MapFault> {
         let dp = read_detection_point(&mandatory(item, ENUMERATED, fields)?)?;
-        let basic = read_listed(alloc, find_field(fields, CONSTRUCTED)?, read_basic_service)?;
-        let causes = read_listed(alloc, find_field(fields, CONSTRUCTED + 1)?, read_cause)?;
+        let basic = read_listed(
+            alloc,
+            find_field(fields, T_BASIC_SERVICE_CRITERIA)?,
+            read_basic_service,
+        )?;
+        let causes = read_listed(
+            alloc,
+            find_field(fields, T_CAUSE_VALUE_CRITERIA)?,
+            read_cause,
+        )?;
         or_refused_at(item.place, TCriteria::new(dp, &basic, &causes))
     }
 
@@ -101,8 +116,8 @@ impl MapItem for TCriteria {
 
     #[tactic(auto, using(crate::proofs::Written::Elements::before_append))]
     fn put_fields(&self, writer: &mut Writer) -> Result<(), TooLong> {
-        put_some::<Cause, u8>(writer, CONSTRUCTED + 1, self.causes())?;
-        put_some::<Service, BasicService>(writer, CONSTRUCTED, self.basic())?;
+        put_some::<Cause, u8>(writer, T_CAUSE_VALUE_CRITERIA, self.causes())?;
+        put_some::<Service, BasicService>(writer, T_BASIC_SERVICE_CRITERIA, self.basic())?;
         put_number_leaf(writer, ENUMERATED, u32::from(self.dp()))
     }
 }

@@ -11,11 +11,14 @@ ghost use Rattle.camel_rows.specs.TdpRow.{kept_of};
 
 use crate::criteria::read_criteria;
 use crate::field::{find_field, identified};
-use crate::identifier::{CONSTRUCTED, PRIMITIVE, SEQUENCE};
 use crate::imsi::read_imsi_or_of_dialogue;
 use crate::item::MapItem;
 use crate::reading::read_elements;
 use crate::row::{ReceivedLists, read_csi};
+use crate::tag::{
+    IMSI, O_BCSM_CAMEL_TDP_CRITERIA_LIST, O_CSI, SEQUENCE, VLR_CAMEL_SUBSCRIPTION_INFO,
+    VT_BCSM_CAMEL_TDP_CRITERIA_LIST, VT_CSI,
+};
 use crate::{Arrival, MapFault};
 use camel_ber::Element;
 use camel_criteria::CriteriaEntry;
@@ -69,8 +72,8 @@ fn read_insert_fields(
 ) -> Result<Arrival, MapFault>
     ensures { ReadsAs IsMemory result (insert_of_fields imsi (views fields.now)) }
 {
-    let o = read_lists(alloc, CONSTRUCTED, CONSTRUCTED + 4, fields)?;
-    let vt = read_lists(alloc, CONSTRUCTED + 7, CONSTRUCTED + 8, fields)?;
+    let o = read_lists(alloc, O_CSI, O_BCSM_CAMEL_TDP_CRITERIA_LIST, fields)?;
+    let vt = read_lists(alloc, VT_CSI, VT_BCSM_CAMEL_TDP_CRITERIA_LIST, fields)?;
     Ok(Arrival::insert_of(imsi, o, vt))
 }
 
@@ -85,7 +88,7 @@ pub(crate) fn read_insert(
 {
     let argument = identified(*element, SEQUENCE)?;
     let fields = read_elements(alloc, argument.content)?;
-    let imsi = read_imsi_or_of_dialogue(&argument, dialogue_imsi, find_field(&fields, PRIMITIVE)?)?;
-    let camel = read_camel_fields(alloc, find_field(&fields, CONSTRUCTED + 13)?)?;
+    let imsi = read_imsi_or_of_dialogue(&argument, dialogue_imsi, find_field(&fields, IMSI)?)?;
+    let camel = read_camel_fields(alloc, find_field(&fields, VLR_CAMEL_SUBSCRIPTION_INFO)?)?;
     read_insert_fields(alloc, imsi, &camel)
 }

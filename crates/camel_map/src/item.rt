@@ -10,9 +10,9 @@ use crate::encoding::element::close;
 use crate::encoding::list::Part;
 use crate::encoding::writer::{TooLong, Writer};
 use crate::field::identified;
-use crate::identifier::SEQUENCE;
 use crate::map_fault::MapFault;
 use crate::reading::read_elements;
+use crate::tag::SEQUENCE;
 use camel_ber::Element;
 use std::alloc::{AllocError, Global};
 

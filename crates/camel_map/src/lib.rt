@@ -14,7 +14,6 @@ mod delete;
 mod encoding;
 mod entry;
 mod field;
-mod identifier;
 mod imsi;
 mod insert;
 mod item;
@@ -24,6 +23,7 @@ mod map_fault;
 mod operation;
 mod reading;
 mod row;
+mod tag;
 mod value;
 
 pub use argument::decode;

@@ -11,10 +11,13 @@ use crate::encoding::element::{put_leaf, put_number_leaf};
 use crate::encoding::value::handling_number;
 use crate::encoding::writer::{TooLong, Writer};
 use crate::field::{find_field, identified, mandatory, read_present};
-use crate::identifier::{ENUMERATED, INTEGER, PRIMITIVE, SEQUENCE};
 use crate::item::{MapItem, read_item};
 use crate::items::{ReceivedList, read_items};
 use crate::reading::{or_refused_at, read_elements};
+use crate::tag::{
+    CAMEL_CAPABILITY_HANDLING, DEFAULT_CALL_HANDLING, ENUMERATED, GSM_SCF_ADDRESS, INTEGER,
+    SEQUENCE,
+};
 use crate::value::{read_detection_point, read_isdn_address, read_unsigned};
 use crate::{MapFault, MapFaultKind};
 use camel_ber::Element;
@@ -56,8 +59,8 @@ impl MapItem for TdpRow {
     ) -> Result<TdpRow, MapFault> {
         let dp = read_detection_point(&mandatory(item, ENUMERATED, fields)?)?;
         let key = read_unsigned(&mandatory(item, INTEGER, fields)?)?;
-        let scf = read_isdn_address(&mandatory(item, PRIMITIVE, fields)?)?;
-        let received = read_unsigned(&mandatory(item, PRIMITIVE + 1, fields)?)?;
+        let scf = read_isdn_address(&mandatory(item, GSM_SCF_ADDRESS, fields)?)?;
+        let received = read_unsigned(&mandatory(item, DEFAULT_CALL_HANDLING, fields)?)?;
         let handling = Handling::of_received(received);
         or_refused_at(item.place, TdpRow::new(dp, key, scf, handling))
     }
@@ -67,8 +70,12 @@ impl MapItem for TdpRow {
     }
 
     fn put_fields(&self, writer: &mut Writer) -> Result<(), TooLong> {
-        put_leaf(writer, PRIMITIVE + 1, &[handling_number(self.handling())])?;
-        put_leaf(writer, PRIMITIVE, self.scf().bytes())?;
+        put_leaf(
+            writer,
+            DEFAULT_CALL_HANDLING,
+            &[handling_number(self.handling())],
+        )?;
+        put_leaf(writer, GSM_SCF_ADDRESS, self.scf().bytes())?;
         put_number_leaf(writer, INTEGER, self.key())?;
         put_number_leaf(writer, ENUMERATED, u32::from(self.dp()))
     }
@@ -106,6 +113,9 @@ pub(crate) fn read_csi<K: CsiKind, const MOST: usize>(
     };
     Ok(ReceivedCsi {
         rows,
-        capability: read_present(find_field(&fields, PRIMITIVE)?, read_unsigned)?,
+        capability: read_present(
+            find_field(&fields, CAMEL_CAPABILITY_HANDLING)?,
+            read_unsigned,
+        )?,
     })
 }

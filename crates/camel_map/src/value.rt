@@ -9,7 +9,7 @@ ghost use Rattle.camel_map.specs.Reading.{isdn_address_in, length_in, match_type
 ghost use Rattle.camel_map.specs.Reading.{unsigned_in};
 
 use crate::field::{identified, is_identified};
-use crate::identifier::{INTEGER, OCTET_STRING, PRIMITIVE};
+use crate::tag::{EXT_BEARER_SERVICE, EXT_TELESERVICE, INTEGER, OCTET_STRING};
 use crate::{MapFault, MapFaultKind};
 use camel_ber::Element;
 use camel_criteria::{BasicService, CallType, MatchType, Refusal};
@@ -151,10 +151,10 @@ fn read_service_code(item: &Element<'_>) -> Result<u8, MapFault>
 pub(crate) fn read_basic_service(item: &Element<'_>) -> Result<BasicService, MapFault>
     ensures { result ≡ basic_service_in (view item.now) }
 {
-    if is_identified(item, PRIMITIVE + 2) {
+    if is_identified(item, EXT_BEARER_SERVICE) {
         return Ok(BasicService::Bearer(read_service_code(item)?));
     }
-    if is_identified(item, PRIMITIVE + 3) {
+    if is_identified(item, EXT_TELESERVICE) {
         return Ok(BasicService::Tele(read_service_code(item)?));
     }
     Err(MapFault::at(item.place, MapFaultKind::WrongTag))

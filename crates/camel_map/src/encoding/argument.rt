@@ -10,8 +10,12 @@ use crate::encoding::csi::{put_csi, put_csi_criteria};
 use crate::encoding::element::{close, put_leaf};
 use crate::encoding::imsi::put_imsi;
 use crate::encoding::writer::{TooLong, Writer};
-use crate::identifier::{CONSTRUCTED, OCTET_STRING, PRIMITIVE, SEQUENCE};
 use crate::operation::Operation;
+use crate::tag::{
+    CAMEL_SUBSCRIPTION_INFO_WITHDRAW, CANCEL_LOCATION_ARG, IMSI, O_BCSM_CAMEL_TDP_CRITERIA_LIST,
+    O_CSI, OCTET_STRING, SEQUENCE, SPECIFIC_CSI_WITHDRAW, VLR_CAMEL_SUBSCRIPTION_INFO,
+    VT_BCSM_CAMEL_TDP_CRITERIA_LIST, VT_CSI,
+};
 use camel_criteria::{OCriteria, TCriteria};
 use camel_rows::{
     OCriteriaSet, OCsi, Originating, TCriteriaSet, Update, VmscTerminating, VtCsi, Withdrawal,
@@ -30,10 +34,14 @@ fn put_camel_fields(
     ensures { OnOk result (writer.new ≡ before (camel_parts (option_copied o.entry) (option_copied o_criteria.entry)
         (option_copied vt.entry) (option_copied t_criteria.entry)) writer.old) }
 {
-    put_csi_criteria::<VmscTerminating, TCriteria>(writer, CONSTRUCTED + 8, t_criteria)?;
-    put_csi(writer, CONSTRUCTED + 7, vt)?;
-    put_csi_criteria::<Originating, OCriteria>(writer, CONSTRUCTED + 4, o_criteria)?;
-    put_csi(writer, CONSTRUCTED, o)
+    put_csi_criteria::<VmscTerminating, TCriteria>(
+        writer,
+        VT_BCSM_CAMEL_TDP_CRITERIA_LIST,
+        t_criteria,
+    )?;
+    put_csi(writer, VT_CSI, vt)?;
+    put_csi_criteria::<Originating, OCriteria>(writer, O_BCSM_CAMEL_TDP_CRITERIA_LIST, o_criteria)?;
+    put_csi(writer, O_CSI, o)
 }
 
 /// InsertSubscriberDataArg.
@@ -53,8 +61,8 @@ fn put_insert(
 {
     let behind = writer.len();
     put_camel_fields(writer, o, o_criteria, vt, t_criteria)?;
-    close(writer, CONSTRUCTED + 13, behind)?;
-    put_imsi(writer, PRIMITIVE, imsi)?;
+    close(writer, VLR_CAMEL_SUBSCRIPTION_INFO, behind)?;
+    put_imsi(writer, IMSI, imsi)?;
     close(writer, SEQUENCE, behind)
 }
 
@@ -64,9 +72,9 @@ fn put_specific(writer: &mut Writer, o: bool, vt: bool) -> Result<(), TooLong>
 {
     match (o, vt) {
         (false, false) => Ok(()),
-        (true, false) => put_leaf(writer, PRIMITIVE + 15, &[0, 0x80]),
-        (false, true) => put_leaf(writer, PRIMITIVE + 15, &[0, 0x08]),
-        (true, true) => put_leaf(writer, PRIMITIVE + 15, &[0, 0x88]),
+        (true, false) => put_leaf(writer, SPECIFIC_CSI_WITHDRAW, &[0, 0x80]),
+        (false, true) => put_leaf(writer, SPECIFIC_CSI_WITHDRAW, &[0, 0x08]),
+        (true, true) => put_leaf(writer, SPECIFIC_CSI_WITHDRAW, &[0, 0x88]),
     }
 }
 
@@ -75,7 +83,7 @@ fn put_everything(writer: &mut Writer, everything: bool) -> Result<(), TooLong>
     ensures { OnOk result (writer.new ≡ before (everything_parts everything) writer.old) }
 {
     if everything {
-        return put_leaf(writer, PRIMITIVE + 9, &[]);
+        return put_leaf(writer, CAMEL_SUBSCRIPTION_INFO_WITHDRAW, &[]);
     }
     Ok(())
 }
@@ -89,7 +97,7 @@ fn put_delete(writer: &mut Writer, imsi: &Imsi, what: Withdrawal) -> Result<(), 
     let behind = writer.len();
     put_specific(writer, what.o, what.vt)?;
     put_everything(writer, what.everything)?;
-    put_imsi(writer, PRIMITIVE, imsi)?;
+    put_imsi(writer, IMSI, imsi)?;
     close(writer, SEQUENCE, behind)
 }
 
@@ -100,7 +108,7 @@ fn put_cancel(writer: &mut Writer, imsi: &Imsi) -> Result<(), TooLong>
 {
     let behind = writer.len();
     put_imsi(writer, OCTET_STRING, imsi)?;
-    close(writer, CONSTRUCTED + 3, behind)
+    close(writer, CANCEL_LOCATION_ARG, behind)
 }
 
 /// The argument that says an update, with its operation; nothing for a Register and a ClearAll.

@@ -8,8 +8,8 @@ ghost use Rattle.camel_map.specs.Encoding.{ignored_row, ignored_t_entry, item_el
 use crate::encoding::element::close;
 use crate::encoding::list::put_each;
 use crate::encoding::writer::{TooLong, Writer};
-use crate::identifier::SEQUENCE;
 use crate::item::{Item, MapItem};
+use crate::tag::SEQUENCE;
 use camel_criteria::{CriteriaEntry, OCriteria, TCriteria};
 use camel_rows::{CriteriaSet, Csi, Originating, TdpRow, VmscTerminating};
 

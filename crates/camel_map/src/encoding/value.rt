@@ -8,7 +8,11 @@ ghost use Rattle.camel_map.specs.Reading.{integer, octet_string, primitive};
 use crate::encoding::element::{close, put_leaf};
 use crate::encoding::list::{Part, put_some};
 use crate::encoding::writer::{TooLong, Writer};
-use crate::identifier::{CONSTRUCTED, INTEGER, OCTET_STRING, PRIMITIVE};
+use crate::tag::{
+    CALL_TYPE_CRITERIA, DESTINATION_NUMBER_CRITERIA, DESTINATION_NUMBER_LENGTH_LIST,
+    DESTINATION_NUMBER_LIST, EXT_BEARER_SERVICE, EXT_TELESERVICE, INTEGER, MATCH_TYPE,
+    OCTET_STRING,
+};
 use camel_criteria::{BasicService, CallType, Handling, MatchType, NumberCriterion};
 use camel_tbcd::IsdnAddress;
 
@@ -83,8 +87,8 @@ impl Part<BasicService> for Service {
 
     fn put(writer: &mut Writer, service: &BasicService) -> Result<(), TooLong> {
         match *service {
-            BasicService::Bearer(octet) => put_leaf(writer, PRIMITIVE + 2, &[octet]),
-            BasicService::Tele(octet) => put_leaf(writer, PRIMITIVE + 3, &[octet]),
+            BasicService::Bearer(octet) => put_leaf(writer, EXT_BEARER_SERVICE, &[octet]),
+            BasicService::Tele(octet) => put_leaf(writer, EXT_TELESERVICE, &[octet]),
         }
     }
 }
@@ -96,7 +100,7 @@ impl Part<CallType> for CallTypeField {
     ghost element_of = { λ call_type. leaf (primitive 2) (call_type_number call_type ∷ []) };
 
     fn put(writer: &mut Writer, call_type: &CallType) -> Result<(), TooLong> {
-        put_leaf(writer, PRIMITIVE + 2, &[call_type_number(*call_type)])
+        put_leaf(writer, CALL_TYPE_CRITERIA, &[call_type_number(*call_type)])
     }
 }
 
@@ -109,13 +113,13 @@ impl Part<NumberCriterion> for NumberField {
 
     fn put(writer: &mut Writer, criterion: &NumberCriterion) -> Result<(), TooLong> {
         let behind = writer.len();
-        put_some::<Length, u8>(writer, CONSTRUCTED + 2, criterion.lengths())?;
-        put_some::<Number, IsdnAddress>(writer, CONSTRUCTED + 1, criterion.numbers())?;
+        put_some::<Length, u8>(writer, DESTINATION_NUMBER_LENGTH_LIST, criterion.lengths())?;
+        put_some::<Number, IsdnAddress>(writer, DESTINATION_NUMBER_LIST, criterion.numbers())?;
         put_leaf(
             writer,
-            PRIMITIVE,
+            MATCH_TYPE,
             &[match_type_number(criterion.match_type())],
         )?;
-        close(writer, CONSTRUCTED, behind)
+        close(writer, DESTINATION_NUMBER_CRITERIA, behind)
     }
 }
