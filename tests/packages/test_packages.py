@@ -45,3 +45,8 @@ def test_program_by_pkg_config(kind, root, tmp_path):
 
 def test_tools(root):
     output(TOP / "tests/packages/tools", root)
+
+
+@pytest.mark.needs("tshark")
+def test_tools_over_a_capture(root):
+    output(TOP / "tests/packages/tools", root, TOP / "tests/map")
