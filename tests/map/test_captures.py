@@ -19,7 +19,8 @@ from wenqolo.captures.messages import readings_in
 from wenqolo.captures.pdml import trees_of
 from wenqolo.captures.spools import Spool
 from wenqolo.sent import packets, sample
-from wenqolo.sent.exchanges import location_update
+from wenqolo.sent.exchanges import argument, location_update, outgoing_rows
+from wenqolo.sent.transactions import invoke
 from wenqolo.updates import Insert
 
 pytestmark = [pytest.mark.needs("tshark"), pytest.mark.usefixtures("map_check", "replay")]
@@ -29,7 +30,9 @@ CAPTURE, SAID, TOOL = FOLDER / "dialogues.pcap", FOLDER / "dialogues.txt", FOLDE
 # How many operations and messages it has, and the status of what is cut off, or with --strict gives no record.
 OPERATIONS, MESSAGES, PARTIAL, ENDED = 65, 136, 1, 2
 SUMMARY = "map2script: {} records; {} of {} operations gave none; {} packets can't be read\n"
-HEADER = 24
+# Octets before the first packet of a capture, and before the protocol in a header of IP.
+HEADER, IP_PROTOCOL = 24, 9
+INSERT = Insert("262010000000001", outgoing_rows(700), False)
 
 # A number that the criteria of the first subscriber list.
 LISTED = "919421436587"
@@ -140,7 +143,8 @@ def written(records, most=1 << 16):
         struct.pack("<IIII", *time, min(len(packet), most), len(packet)) + packet[:most] for time, packet in records)
 
 
-@pytest.mark.parametrize("most", (60, 120, 150))
+# In 16 and 28 octets nothing shows that a packet is of SCTP.
+@pytest.mark.parametrize("most", (16, 28, 60, 120, 150))
 def test_each_packet_that_is_cut_is_named_and_no_other(most, path):
     records = records_of(CAPTURE.read_bytes())
     path.write_bytes(written(records, most))
@@ -150,6 +154,38 @@ def test_each_packet_that_is_cut_is_named_and_no_other(most, path):
     lengths = [(number, len(packet)) for number, (_, packet) in enumerate(records, 1)]
     assert told == [said.format(number, most, length) for number, length in lengths if length > most]
     assert ended.status == PARTIAL
+
+
+def test_cut_packet_of_another_protocol_is_not_named(path):
+    (time, packet), *_ = records_of(CAPTURE.read_bytes())
+    path.write_bytes(written([(time, packet[:IP_PROTOCOL] + b"\x06" + packet[IP_PROTOCOL + 1 :])], 30))
+    assert converted(path) == (0, [], SUMMARY.format(0, 0, 0, 0))
+
+
+def written_insert(path, at, octet):
+    """Writes a capture of a location update, in whose insert the component has another octet at this place."""
+    component = invoke(1, "insertSubscriberData", argument(INSERT))
+    begin, (sender, receiver, octets), *rest = location_update(1, INSERT.imsi, [(INSERT, None)])
+    at += octets.index(component)
+    messages = [begin, (sender, receiver, octets[:at] + bytes([octet]) + octets[at + 1 :]), *rest]
+    carried = [packets.carried(number, *parts) for number, parts in enumerate(messages, 1)]
+    path.write_bytes(packets.capture(packets.RAW_IP, carried))
+
+
+@pytest.mark.parametrize("at, octet, why", [(0, 0x05, "its TCAP message is malformed"), (1, 0x7F, "it is malformed")],
+                         ids=["no_component", "component_without_an_end"])
+def test_malformed_packet_is_named(at, octet, why, path):
+    written_insert(path, at, octet)
+    ended = converted(path)
+    assert f"map2script: frame 2: the packet can't be read: {why}" in ended.said.splitlines()
+    assert (ended.status, ended.script) == (PARTIAL, [])
+
+
+def test_malformed_argument_is_a_fault_of_its_operation(path):
+    written_insert(path, len(invoke(1, "insertSubscriberData", b"")) + 1, 0x7F)
+    ended = converted(path)
+    said = "map2script: frame 2: insertSubscriberData: malformedOctets at octet 2 of the argument\n"
+    assert ended == (0, [], said + SUMMARY.format(0, 1, 2, 0))
 
 
 def test_capture_that_is_cut_off_gives_what_is_whole(path):

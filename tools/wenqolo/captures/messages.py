@@ -26,9 +26,11 @@ FIELDS = {"num", "len", "caplen", "timestamp", ORIGIN, DESTINATION, COMPONENTS, 
           *SUBSYSTEMS, *(name for names in (TITLES, CODES) for side in names.values() for name in side),
           "tcap.dialogueRequest_element", "gsm_map.old.Component", "gsm_old.returnError_element"}
 
-# The packets that are looked at. Of others than those of signalling it is not said that they can't be read.
+# The packets that are looked at. Of others than those of signalling it is not said that they can't be read. One that is
+# cut right behind a carrier doesn't show yet what it is, and may be one of signalling.
 PACKETS = "tcap or frame.cap_len < frame.len or _ws.short or _ws.malformed"
 SIGNALLING = {"m2pa", "m2ua", "m3ua", "mtp2", "mtp3", "sua", "sccp", "tcap"}
+CARRIERS = {"frame", "raw", "eth", "vlan", "sll", "ip", "ipv6", "sctp"}
 CUT, MALFORMED = "_ws.short", "_ws.malformed"
 
 
@@ -102,7 +104,7 @@ def faults_of(packet, is_whole):
     names = [tree.name for tree in packet.inner]
     length, kept = (packet.named(name).show for name in ("len", "caplen"))
     for before, name in zip(names, names[1:]):
-        if name == CUT and (before == "sctp" or SIGNALLING.intersection(names)):
+        if name == CUT and (before in CARRIERS or SIGNALLING.intersection(names)):
             yield f"only {kept} of its {length} octets are in the capture"
         elif name == MALFORMED and SIGNALLING.intersection(names) and not (before == "gsm_map" and is_whole):
             yield "it is malformed"

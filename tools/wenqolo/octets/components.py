@@ -17,9 +17,9 @@ REQUESTS = (*LOCATION_UPDATES, "purgeMS")
 # roamingNotAllowed (TS 29.002). Any other says nothing of it, as systemFailure.
 UNKNOWN_SUBSCRIBER, UNKNOWN_EQUIPMENT, ROAMING_NOT_ALLOWED = GONE = (1, 7, 8)
 
-# Identifiers of TCAP: the components, a linked id, an INTEGER, which an id and a local code are, and what stands for
+# Identifiers of TCAP: the components, of which the last one counts nothing here, a linked id, an INTEGER, which an id and a local code are, and what stands for
 # an id that is not known.
-INVOKE, RESULT, ERROR, REJECT = 0xA1, 0xA2, 0xA3, 0xA4
+INVOKE, RESULT, ERROR, REJECT, RESULT_NOT_LAST = 0xA1, 0xA2, 0xA3, 0xA4, 0xA7
 LINKED, INTEGER, NULL = 0x80, 0x02, 0x05
 # Identifiers of MAP: arguments, and an IMSI.
 SEQUENCE, PURGE_MS, UNTAGGED_IMSI, TAGGED_IMSI = 0x30, 0xA3, 0x04, 0x80
@@ -106,4 +106,6 @@ def components_of(octets):
             found.append(invoke_of(content))
         elif identifier in (RESULT, ERROR, REJECT):
             found.append(answer_of(identifier, content))
-    return [*filter(None, found)], octets[read : read + 2] in (b"", END_OF_CONTENTS)
+        elif identifier != RESULT_NOT_LAST:
+            found.append(None)
+    return [*filter(None, found)], None not in found and octets[read : read + 2] in (b"", END_OF_CONTENTS)
