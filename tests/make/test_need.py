@@ -1,5 +1,8 @@
 """What is said of tools that are missing, before anything begins, and what the gate leaves out then."""
 
+import subprocess
+import sys
+
 import pytest
 
 OTHERS = "c++ rustc pkg-config cmake tshark shellcheck pytest-3 apt-get dpkg-source".split()
@@ -59,7 +62,16 @@ def test_installed_library_needs_no_toolchain(gate, yard):
     assert gate("scripts/need", "osmo-check", LIBRARY="/").returncode == 0
     ran = gate("scripts/osmo-check", "source", LIBRARY="/no library")
     said = "osmo-check: LIBRARY=/no library has no lib/pkgconfig/wenqolo.pc that names a folder with libwenqolo.a\n"
-    assert (ran.returncode, ran.stderr) == (2, said)
+    assert (ran.returncode, ran.stdout, ran.stderr) == (2, "", said)
+
+
+@pytest.mark.parametrize("program", ["tools/map2script", "conformance/run"])
+def test_program_in_python_says_that_it_needs_a_later_one(program, top):
+    older = "import runpy, sys; sys.version_info = (3, 9, 2); runpy.run_path(sys.argv.pop(1))"
+    words = [sys.executable, "-c", older, top / program, "--help"]
+    ran = subprocess.run(words, capture_output=True, text=True, check=False)
+    said = f"{top / program}: Python 3.10 or later is needed, and this is "
+    assert (ran.returncode, ran.stdout, ran.stderr.startswith(said)) == (2, "", True)
 
 
 def test_gate_passes_all_parts_up_to_one_that_fails(gate):
