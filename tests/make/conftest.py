@@ -92,6 +92,22 @@ class Yard:
         waits.unlink()
         return run, number
 
+    def processes(self):
+        """The processes that commands have begun."""
+        for process in Path("/proc").glob("[0-9]*"):
+            try:
+                if f"STAGE={self.stage}".encode() in (process / "environ").read_bytes().split(b"\0"):
+                    yield (process / "cmdline").read_text()
+            except OSError:
+                continue
+
+    def left(self):
+        """The processes that commands have left, once they had the time to end."""
+        end = time.monotonic() + 120
+        while (still := list(self.processes())) and time.monotonic() < end:
+            time.sleep(0.02)
+        return still
+
 
 @pytest.fixture
 def yard(tmp_path, top):

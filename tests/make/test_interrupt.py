@@ -3,20 +3,8 @@ toolchain goes on then, as `rt ci` does until its checks are done."""
 
 import os
 import signal
-import time
-from pathlib import Path
 
 import pytest
-
-
-def left(yard):
-    """The processes that a command has left."""
-    for process in Path("/proc").glob("[0-9]*"):
-        try:
-            if f"STAGE={yard.stage}".encode() in (process / "environ").read_bytes().split(b"\0"):
-                yield (process / "cmdline").read_text()
-        except OSError:
-            continue
 
 
 @pytest.mark.parametrize("words", [
@@ -28,7 +16,4 @@ def test_ctrl_c_ends_at_once_what_a_script_has_begun(yard, words):
     os.killpg(run.pid, signal.SIGINT)
     # GNU make 4.3 ends with 2 if its line has ended before make has met the signal.
     assert run.wait(120) in ([-signal.SIGINT, 130, 2] if words[0] == "make" else [130])
-    end = time.monotonic() + 120
-    while (still := list(left(yard))) and time.monotonic() < end:
-        time.sleep(0.02)
-    assert (still, len(yard.asked())) == ([], 1)
+    assert (yard.left(), len(yard.asked())) == ([], 1)

@@ -49,6 +49,7 @@ def test_try_that_is_ended_leaves_nothing(yard, number):
     tried(yard, 1)
     if not is_told:
         os.kill(compiler, signal.SIGTERM)
+    assert yard.left() == []
 
 
 def test_try_where_nothing_can_be_written_keeps_below_tmpdir(yard, tmp_path):
