@@ -350,21 +350,31 @@ static void refuse_full_handles(void)
     IS(blocks == 0);
 }
 
-/* Memory is refused amid data: for what comes before a fault, which is told otherwise. */
+/* Memory is refused amid data, of lists or of octets: for what comes before a fault, which is told otherwise. */
 static void refuse_amid_data(void)
 {
     camel_criteria entries[] = { o_criteria_of(2, 3), { .dp = 4, .basic = { .count = 6 } } };
     camel_change change = { .kind = CAMEL_UPDATE_INSERT, .imsi = imsi_of(1) };
+    struct argument sent = ARGUMENT[ALL_LISTS];
     camel_update update = CAMEL_EMPTY;
+    uint64_t place = 99;
     change.insert.o = CSI(NULL, 0, entries, 2);
+    sent.octets[sent.count - 3] = 0x05; /* the tag of the last list of causes */
     RETURNS(CAMEL_MALFORMED, camel_update_of(&change, &update));
     RETURNS(CAMEL_MALFORMED, camel_submit_change(&store, &change));
-    for (int is_submitted = 0; is_submitted < 2; is_submitted++) {
+    RETURNS(CAMEL_WRONG_TAG,
+            camel_update_of_map(sent.operation, &change.imsi, sent.octets, sent.count, &update, &place));
+    IS(place == sent.count - 3);
+    for (int call = 0; call < 3; call++) {
         refused_from = refused_to = requests + 1;
-        RETURNS(CAMEL_OUT_OF_MEMORY, COUNTED(is_submitted ? camel_submit_change(&store, &change)
-                                                          : camel_update_of(&change, &update)));
+        RETURNS(CAMEL_OUT_OF_MEMORY,
+                COUNTED(call == 0   ? camel_update_of(&change, &update)
+                        : call == 1 ? camel_submit_change(&store, &change)
+                                    : camel_update_of_map(sent.operation, &change.imsi, sent.octets, sent.count,
+                                                          &update, &place)));
         IS(requests == refused_to && !update.is_full && blocks == 0);
     }
+    IS(place == CAMEL_NO_OCTET);
 }
 
 static void make_data(void)
