@@ -92,11 +92,14 @@ extern "C" {
 #define CAMEL_CALL
 #endif
 
-/* What this header has in itself. */
-#ifdef __cplusplus
-#define CAMEL_INLINE inline
-#else
+/* What this header has in itself. Of C++ each shared object has its own: a name that several have in common would keep
+ * one loaded, and be that of another version of this header. */
+#ifndef __cplusplus
 #define CAMEL_INLINE static inline
+#elif defined(__GNUC__)
+#define CAMEL_INLINE __attribute__((visibility("hidden"))) inline
+#else
+#define CAMEL_INLINE inline
 #endif
 
 /* What a call returns: CAMEL_OK, or why it did nothing. */
@@ -903,7 +906,7 @@ CAMEL_OF_EACH_HANDLE(imsis)
 #undef CAMEL_OF
 
 #ifdef __cplusplus
-inline void camel_free(decltype(nullptr)) {}
+CAMEL_INLINE void camel_free(decltype(nullptr)) {}
 #else
 /* Another pointer does not compile, such as a void pointer, which may be to anything. NULL is told from one by the type
  * that a conditional expression has with it. */

@@ -247,7 +247,7 @@ private:
 
 /* Where a list lies, or null if it did not come. A vector of none may lie nowhere, and comes all the same. */
 template <class Item>
-const Item *items_of(const std::optional<std::vector<Item>> &list) noexcept
+CAMEL_INLINE const Item *items_of(const std::optional<std::vector<Item>> &list) noexcept
 {
     static constexpr Item none{};
     if (!list)

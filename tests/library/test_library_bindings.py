@@ -2,10 +2,11 @@
 
 import os
 import shutil
+import sys
 
 import pytest
 
-from support.compiling import TOP, output
+from support.compiling import TOP, compiler_of, output
 
 CPP = pytest.mark.parametrize("standard", ["c++17", "c++20"])
 RUST = pytest.mark.needs("cc", "cargo", "rustc")
@@ -20,6 +21,19 @@ def text_of(example):
 @pytest.mark.parametrize("name", ["test", "test_updates"])
 def test_header_in_cpp(name, standard, compiled):
     output(compiled(f"bindings/cpp/{name}.cpp", f"-std={standard}"))
+
+
+@CPP
+@pytest.mark.needs("c++", "nm")
+def test_shared_object_in_cpp_can_be_unloaded(standard, library, tmp_path):
+    """What camel.h has inline is its own."""
+    source, shared = TOP / "bindings/cpp/test_updates.cpp", tmp_path / "shared.so"
+    words = [f"-std={standard}", f"-I{library}", "-shared", "-fPIC", "-Wl,--exclude-libs,libwenqolo.a", "-o", shared]
+    output(*compiler_of(source), *words, source, library / "libwenqolo.a")
+    unload = "import _ctypes, sys; _ctypes.dlclose(_ctypes.dlopen(sys.argv[1], 2)); print(open('/proc/self/maps').read())"
+    assert str(shared) not in output(sys.executable, "-c", unload, shared)
+    names = [line.split()[-1] for line in output("nm", "-D", "--defined-only", shared).splitlines()]
+    assert [name for name in names if name.startswith("camel_")] == []
 
 
 @CPP
