@@ -14,10 +14,11 @@ import pytest
 from support.map_checking.dissection import marks_of
 from support.map_checking.programs import CHECK, REPLAY, output_of
 from support.processes import LIMIT
-from wenqolo.captures.dialogues import steps_of
-from wenqolo.captures.messages import readings_in
+from wenqolo.captures.dialogues import Dialogues, steps_of, steps_of_message
+from wenqolo.captures.messages import TITLE, Message, readings_in
 from wenqolo.captures.pdml import trees_of
 from wenqolo.captures.spools import Spool
+from wenqolo.octets.components import Invoke
 from wenqolo.sent import packets, sample
 from wenqolo.sent.exchanges import argument, location_update, outgoing_rows
 from wenqolo.sent.transactions import invoke
@@ -224,6 +225,34 @@ def peak_of(path, count):
 
 def test_memory_does_not_grow_with_the_messages(path):
     assert peak_of(path, 1200) <= 1.5 * peak_of(path, 300)
+
+
+def instructions_of(count):
+    """How many instructions it takes to end so many dialogues, while as many others are open."""
+    dialogues, names, taken = Dialogues(), ((TITLE, "1"),), 0
+
+    def message(number, kind, origin="", destination="", components=()):
+        return Message(number, number / 1000, kind, names, names, origin, destination, components, {}, "")
+
+    def trace(frame, event, _):
+        nonlocal taken
+        frame.f_trace_opcodes, frame.f_trace_lines = True, False
+        taken += event == "opcode"
+        return trace
+
+    for number in range(2 * count):
+        asked = Invoke(b"\1", "updateLocation", "26201", b"")
+        assert [*steps_of_message(dialogues, message(number, "begin", str(number), components=(asked,)))]
+    sys.settrace(trace)
+    for number in range(count):
+        steps = [*steps_of_message(dialogues, message(2 * count + number, "end", destination=str(number)))]
+    sys.settrace(None)
+    assert len(steps) == 2 and len(dialogues.open) == count
+    return taken
+
+
+def test_end_of_a_dialogue_goes_through_no_others():
+    assert instructions_of(160) <= 4.1 * instructions_of(40)
 
 
 # Machines with another tshark, or a full disk.
