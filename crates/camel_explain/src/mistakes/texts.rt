@@ -253,8 +253,9 @@ fn say_imsi(out: &mut String, text: &[u8]) -> Result<(), AllocError> {
     if !is_in_range {
         write!(
             out,
-            "{} characters, and an IMSI has {MIN_IMSI_DIGITS} to {MAX_IMSI_DIGITS} digits",
-            text.len()
+            "{} character{}, and an IMSI has {MIN_IMSI_DIGITS} to {MAX_IMSI_DIGITS} digits",
+            text.len(),
+            if text.len() == 1 { "" } else { "s" }
         )?;
     }
     match text.iter().position(|octet| !octet.is_ascii_digit()) {
