@@ -114,10 +114,10 @@ test:
 ## Looks up what the pages name, compares numbers, crates and figures, and says which `edits` to try: seconds
 pages:
 	@scripts/need $@
-	@scripts/pages
+	@tests/pages/names
 	@scripts/edits --recorded
-	@scripts/numbers
-	@scripts/standard lines
+	@tests/pages/numbers
+	@tests/pages/standard lines
 	@scripts/ffi --check
 	@bench/plot --check
 
@@ -156,25 +156,25 @@ soak:
 # As root, with the network. The fresh Debian is SUITE, trixie if it is not given, of the package sources of MIRROR.
 deb-check:
 	@scripts/need $@
-	@scripts/deb-check root
+	@packaging/check root
 	@$(MAKE) --no-print-directory library tools
-	@scripts/deb-check run
+	@packaging/check run
 
 # It says which packages are missing that osmo-msc is built with, and fetches the source once. LIBRARY=/usr takes the
 # library that is installed there. SANITIZE=1 builds osmo-msc with its sanitizers, by so many JOBS.
 osmo-check:
 	@scripts/need $@
-	@scripts/osmo-check source
+	@examples/osmo-msc/check source
 	@$(if $(LIBRARY),,scripts/library)
-	@scripts/osmo-check run
+	@examples/osmo-msc/check run
 
 # It needs the network, and fetches the source packages once.
 standard-check:
 	@scripts/need $@
 	@scripts/fetch-source wireshark out/standard
-	@scripts/standard quotations
+	@tests/pages/standard quotations
 	@scripts/fetch-source libosmo-sccp out/sccp --tar-only
-	@scripts/standard messages
+	@tests/pages/standard messages
 
 ##@ Develop
 

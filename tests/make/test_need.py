@@ -60,7 +60,7 @@ def test_installed_library_needs_no_toolchain(gate, yard):
     (yard.tools / "rt").unlink()
     assert gate("scripts/need", "osmo-check").returncode == 2
     assert gate("scripts/need", "osmo-check", LIBRARY="/").returncode == 0
-    ran = gate("scripts/osmo-check", "source", LIBRARY="/no library")
+    ran = gate("examples/osmo-msc/check", "source", LIBRARY="/no library")
     said = "osmo-check: LIBRARY=/no library has no lib/pkgconfig/wenqolo.pc that names a folder with libwenqolo.a\n"
     assert (ran.returncode, ran.stdout, ran.stderr) == (2, "", said)
 

@@ -28,7 +28,7 @@ def root(library, tmp_path_factory):
 
 @pytest.mark.parametrize("package", ["libwenqolo-dev", "wenqolo-tools"])
 def test_links_of_the_pages(package, root):
-    output(TOP / "scripts/pages", root / "usr/share/doc" / package)
+    output(TOP / "tests/pages/names", root / "usr/share/doc" / package)
 
 
 @pytest.mark.parametrize("name", ["switch", "event_loop"])
