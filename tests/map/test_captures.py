@@ -209,6 +209,12 @@ def test_what_is_no_capture_gives_nothing(octets, path):
     assert converted(path)[:2] == (ENDED, [])
 
 
+def test_name_of_a_capture_is_printed_with_escapes(tmp_path):
+    path = tmp_path / "red\x1b[31m"
+    path.touch()
+    assert converted(path) == (ENDED, [], f"map2script: {tmp_path}/red\\x1b[31m is too short for a capture\n")
+
+
 def peak_of(path, count):
     """The most memory that is taken while a capture is read of so many location updates."""
     messages = [parts for number in range(count) for parts in location_update(
