@@ -58,6 +58,14 @@ def event_of_call(point, imsi, basic, *rest):
     return event_of([point, imsi, basic, destination or "-", forwarded, cause])
 
 
+def item_at(items, point):
+    """The row or the entry of a detection point, or None."""
+    for item in items:
+        if item.point == point:
+            return item
+    return None
+
+
 class Model:
     """The subscriber data, and what the rules make of updates and events. A wrong model has another decoder, or one
     that tolerates what these rules refuse."""
@@ -158,14 +166,19 @@ class Model:
             return "emergency"
         return "criteria" if entry and not self.meets(event, entry) else None
 
-    def decide(self, event):
-        csi = self.records.get(event.imsi, {}).get(self.csi_of(event.point))
-        row, entry = (next((item for item in items if item.point == event.point), None) for items in csi or ((), ()))
-        reason = self.reason(event, csi, row, entry)
-        if reason:
-            return f"none {reason}"
+    def stored(self, record, point):
+        """The CSI of a record that is tested at a detection point, with its row and its entry there, each or None."""
+        csi = record.get(self.csi_of(point))
+        return (csi, item_at(csi.rows, point), item_at(csi.entries, point)) if csi else (None, None, None)
+
+    def trigger(self, row):
         action = "release" if self.is_release(row.handling) else "continue"
         return f"trigger {row.point} {row.key} {row.address.hex()} {action}"
+
+    def decide(self, event):
+        csi, row, entry = self.stored(self.records.get(event.imsi, {}), event.point)
+        reason = self.reason(event, csi, row, entry)
+        return f"none {reason}" if reason else self.trigger(row)
 
     # Updates
 
@@ -195,7 +208,8 @@ class Model:
 
     def kept(self, lists, name):
         """The items of a list that count, in their order."""
-        return [item for item in lists.get(name, ()) if item.point in updates.points_of(name)]
+        points = updates.points_of(name)
+        return [item for item in lists.get(name, ()) if item.point in points]
 
     def put(self, record, lists, csi):
         """A CSI that comes is in the place of the stored one, with its criteria; criteria that come without it are in

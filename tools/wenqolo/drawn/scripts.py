@@ -15,14 +15,19 @@ def fitting(items):
     return kept
 
 
-def draw_update_of(source, imsi):
-    """An update of this subscriber, whose lists have only items that a script can hold."""
-    update = draw_update(source)
-    update.imsi = imsi
+def fitted(update):
+    """The update, whose lists have only items that a script can hold."""
     if isinstance(update, updates.Insert):
         lists = {name: fitting(items) for name, items in update.lists.items()}
         update.lists = {name: items for name, items in lists.items() if items}
     return update
+
+
+def draw_update_of(source, imsi):
+    """An update of this subscriber, whose lists have only items that a script can hold."""
+    update = draw_update(source)
+    update.imsi = imsi
+    return fitted(update)
 
 
 def draw_call(source, imsi, addresses):
