@@ -146,12 +146,11 @@ map-check:
 	@COUNT=$(COUNT) SEED=$(SEED) $(PYTEST) -rP tests/map
 
 # It makes so many DECISIONS, or goes on for so many SECONDS. Another SEED gives other calls and updates.
-soak: DECISIONS ?= 100000000
+soak: DECISIONS ?= 30000000
 soak:
-	@scripts/need $@
-	@scripts/library
-	@scripts/soak $(if $(SECONDS),--seconds $(SECONDS),--decisions $(DECISIONS)) --subscribers $(SUBSCRIBERS) \
-		--seed $(SEED)
+	@scripts/need $@ && scripts/library
+	@DECISIONS=$(DECISIONS) SECONDS=$(SECONDS) SUBSCRIBERS=$(SUBSCRIBERS) SEED=$(SEED) \
+		$(PYTEST) -rP tests/library/test_soak.py
 
 # As root, with the network. The fresh Debian is SUITE, trixie if it is not given, of the package sources of MIRROR.
 deb-check:

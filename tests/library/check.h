@@ -8,7 +8,7 @@
 #include <stdlib.h>
 #include <string.h>
 
-static int failed;
+static _Atomic int failed;
 
 /* Counts a call that does not return this status. */
 #define RETURNS(wanted, call)                                                                                       \

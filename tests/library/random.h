@@ -6,7 +6,7 @@
 
 #include <sys/mman.h>
 
-static uint64_t state;
+static _Thread_local uint64_t state;
 
 static inline uint64_t next(void)
 {

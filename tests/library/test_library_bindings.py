@@ -1,4 +1,4 @@
-"""The library in C++ and in Rust: the tests of the header and of the crate, the examples, and a soak."""
+"""The library in C++ and in Rust: the tests of the header and of the crate, and the examples."""
 
 import os
 import shutil
@@ -41,11 +41,6 @@ def test_shared_object_in_cpp_can_be_unloaded(standard, library, tmp_path):
 def test_event_loop_in_cpp(standard, compiled, sanitizers):
     program = compiled("examples/event_loop.cpp", f"-std={standard}", *sanitizers)
     assert output(program, input=text_of("event_loop")) == text_of("event_loop")
-
-
-@RUST
-def test_soak_in_rust(library):
-    output(TOP / "scripts/soak", "--decisions", os.environ.get("DECISIONS", "1000000"))
 
 
 @pytest.fixture
