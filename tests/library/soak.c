@@ -15,6 +15,8 @@
 
 enum { CALLERS = 4, COPIES = 8, LONG = 400 };
 
+_Static_assert(sizeof(camel_row) == 24 && sizeof(camel_criteria) == 127 && sizeof(camel_event) == 40, "as in plan.py");
+
 /* An update of a plan: octets of MAP, or, without an operation, a change with so many items in its lists: rows of the
  * O-CSI and of the VT-CSI, and then their criteria. */
 struct update {
