@@ -177,14 +177,18 @@ def test_output_that_refuses_what_does_not_fit_is_208(begin):
     assert_208(process, len(found), len(found))
 
 
-def test_input_that_holds_nothing_and_says_so_is_206(begin):
-    source, sink = os.pipe()
-    os.set_blocking(source, False)
-    process = begin(stdin=source)
-    assert receive(process.stdout.fileno()) == b""
-    assert_end(process, 1, AT_206)
-    os.close(source)
-    os.close(sink)
+def test_input_that_holds_no_more_and_says_so_is_206(replay):
+    """Behind any octet. The lines of the records before are written."""
+    for octets in range(len(SCRIPT) + 1):
+        count = SCRIPT[:octets].count(b"\n")
+        source, sink = os.pipe()
+        os.set_blocking(source, False)
+        os.write(sink, SCRIPT[:octets])
+        left = run(replay, stdin=source)
+        os.close(source)
+        os.close(sink)
+        assert left.stdout == b"".join(LINES[:count])
+        assert (left.returncode, left.stderr) == (1, b"camel_replay: record %d: fault 206\n" % (count + 1))
 
 
 AT_LIMIT = {
@@ -194,21 +198,32 @@ AT_LIMIT = {
 }
 
 
+def limit_files(most):
+    resource.setrlimit(resource.RLIMIT_CORE, (0, 0))
+    resource.setrlimit(resource.RLIMIT_FSIZE, (most, most))
+
+
 @pytest.mark.parametrize("words, ignored, end, error", AT_LIMIT.values(), ids=AT_LIMIT)
 def test_file_at_its_limit_has_what_there_is_room_for(words, ignored, end, error, begin):
     """A file that may hold 30 octets, in which the third line has room for a part of it."""
-
-    def limit():
-        resource.setrlimit(resource.RLIMIT_CORE, (0, 0))
-        resource.setrlimit(resource.RLIMIT_FSIZE, (30, 30))
-
     with tempfile.TemporaryFile() as file:
-        process = begin(*words, stdout=file, restore_signals=not ignored, preexec_fn=limit)
+        process = begin(*words, stdout=file, restore_signals=not ignored, preexec_fn=partial(limit_files, 30))
         send(process, SCRIPT)
         process.stdin.close()
         assert_end(process, end, error)
         file.seek(0)
         assert file.read() == OUTPUT[:30]
+
+
+def test_write_that_fails_behind_any_octet_is_208(replay):
+    for most in range(len(OUTPUT)):
+        record = OUTPUT[:most].count(b"\n") + 1
+        with tempfile.TemporaryFile() as file:
+            limit = partial(limit_files, most)
+            left = run(replay, octets=SCRIPT, stdout=file, restore_signals=False, preexec_fn=limit)
+            file.seek(0)
+            assert file.read() == OUTPUT[:most]
+        assert (left.returncode, left.stderr) == (1, b"camel_replay: record %d: fault 208\n" % record)
 
 
 def send_slowly(process, octets):

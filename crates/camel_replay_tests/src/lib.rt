@@ -1,19 +1,11 @@
-//! The tests of `camel_script` and `camel_replay_lib`, which call them from outside, as their users do. Whole scripts
-//! with what they leave are in `tests/scripts`, beside the crates, and what is stored of the items of an insert is in
-//! `tests/explain`; here are readers, writers and gates that no script has, and what takes long.
+//! What the scripts of `tests/`, beside the crates, do not show of `camel_script`, `camel_audit` and
+//! `camel_replay_lib`, which are called from outside here, as their users do: gates, a flush that fails, and the
+//! texts of errors.
 #![tactic(auto)]
 
 #[cfg(test)]
-mod failing;
+mod flush;
 #[cfg(test)]
-mod fixtures;
+mod gated;
 #[cfg(test)]
-mod given;
-#[cfg(test)]
-mod lines;
-#[cfg(test)]
-mod reads;
-#[cfg(test)]
-mod steps;
-#[cfg(test)]
-mod threads;
+mod texts;

@@ -1,4 +1,3 @@
-use camel_fixtures::imsi_of;
 use camel_table::Table;
 use camel_tbcd::Imsi;
 use std::alloc::Global;
@@ -21,6 +20,13 @@ impl BuildHasher for Counted<'_> {
         self.made.set(self.made.get().wrapping_add(1));
         self.hasher
     }
+}
+
+// The number of the IMSI 262010000000000.
+const FIRST: u64 = 15 << 56 | 262_010_000_000_000;
+
+fn imsi_of(number: u64) -> Option<Imsi> {
+    Imsi::from_number(FIRST.wrapping_add(number))
 }
 
 type CountedTable<'a> = Table<u64, Counted<'a>>;
@@ -52,7 +58,7 @@ fn in_order_of_hashes(alloc: Global) -> Option<Vec<Option<Imsi>>> {
         found.push(None).ok()?;
     }
     for number in 0..TRIED {
-        let imsi = imsi_of(number).ok()?;
+        let imsi = imsi_of(number)?;
         let mut hasher = FoldHasher::default();
         hasher.write_u64(imsi.number());
         let end = hasher.finish() as usize % ORDERED;
@@ -109,7 +115,7 @@ fn hashes_of_replacements(alloc: Global) -> Option<u64> {
 
 fn insert_all(table: &mut CountedTable) -> Option<()> {
     for number in 0..REPLACED {
-        table.insert(&imsi_of(number).ok()?, 0).ok()?;
+        table.insert(&imsi_of(number)?, 0).ok()?;
     }
     Some(())
 }
@@ -130,9 +136,9 @@ fn hashes_of_random_ones(alloc: Global) -> Option<(u64, u64)> {
     let mut table = counted_table(alloc, &made);
     let mut most = 0;
     for number in 0..RANDOM {
-        most = most.max(hashes_of_insert(&mut table, &made, &imsi_of(number).ok()?)?);
+        most = most.max(hashes_of_insert(&mut table, &made, &imsi_of(number)?)?);
     }
-    let last = imsi_of(RANDOM).ok()?;
+    let last = imsi_of(RANDOM)?;
     table.insert(&last, 0).ok()?;
     made.set(0);
     table.get(&last).filter(|value| **value == 0)?;

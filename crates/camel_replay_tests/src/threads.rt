@@ -1,7 +1,0 @@
-//! The tests of `replay_threads`.
-
-mod failing;
-mod gated;
-mod gates;
-mod rounds;
-mod runs;
