@@ -1,4 +1,5 @@
-/* What the tests of the library share: a check of a status, and of a condition. */
+/* What the tests of the library share: a check of a status, and of a condition, a store with its sessions, and what is
+ * sent to it. */
 #ifndef CHECK_H
 #define CHECK_H
 
@@ -29,7 +30,12 @@ static _Atomic int failed;
         }                                                                                                           \
     } while (0)
 
-static const uint8_t SCF[] = { 0x91, 0x94, 0x71, 0x16, 0x00, 0x00 };
+#define COUNT_OF(list) (sizeof (list) / sizeof *(list))
+
+/* Data. */
+
+#define SCF_OCTETS { 0x91, 0x94, 0x71, 0x16, 0x00, 0x00 }
+static const uint8_t SCF[] = SCF_OCTETS;
 static const uint8_t DESTINATION[] = { 0x91, 0x34, 0x61, 0x05 };
 
 static inline camel_imsi imsi_of(unsigned number)
@@ -48,10 +54,22 @@ static inline camel_isdn_address isdn_of(const uint8_t *octets, size_t count)
     return address;
 }
 
+static inline bool is_same_isdn(const camel_isdn_address *one, const camel_isdn_address *other)
+{
+    return one->length == other->length && memcmp(one->octets, other->octets, one->length) == 0;
+}
+
 static inline camel_row row_of(uint8_t dp, uint32_t key)
 {
     camel_row row = { .dp = dp, .key = key, .scf = isdn_of(SCF, sizeof SCF), .handling = 1 };
     return row;
+}
+
+/* Whether two rows are the same, one of them as it comes back. */
+static inline bool is_same_row(const camel_row *one, const camel_row *other)
+{
+    return one->key == other->key && one->handling == other->handling && one->dp == other->dp
+        && is_same_isdn(&one->scf, &other->scf);
 }
 
 static inline camel_event event_of(unsigned number, uint8_t dp)
@@ -62,137 +80,119 @@ static inline camel_event event_of(unsigned number, uint8_t dp)
     return event;
 }
 
-/* Submits a change of one kind, or fills a handle with it. */
-static inline camel_status submit_register(camel_store *store, const camel_imsi *imsi)
-{
-    return camel_submit_change(store, &(camel_change){ .kind = CAMEL_UPDATE_REGISTER, .imsi = *imsi });
-}
-
-static inline camel_status submit_insert(camel_store *store, const camel_imsi *imsi, const camel_insert *sent)
-{
-    return camel_submit_change(store, &(camel_change){ .kind = CAMEL_UPDATE_INSERT, .imsi = *imsi, .insert = *sent });
-}
-
-static inline camel_change delete_of(const camel_imsi *imsi, const camel_withdrawal *what)
-{
-    camel_change change = { .kind = CAMEL_UPDATE_DELETE, .imsi = *imsi };
-    memcpy(&change.withdrawal, what, sizeof *what); /* a bool may be any octet */
-    return change;
-}
-
-static inline camel_status submit_delete(camel_store *store, const camel_imsi *imsi, const camel_withdrawal *what)
-{
-    camel_change change = delete_of(imsi, what);
-    return camel_submit_change(store, &change);
-}
-
-static inline camel_status submit_cancel(camel_store *store, const camel_imsi *imsi)
-{
-    return camel_submit_change(store, &(camel_change){ .kind = CAMEL_UPDATE_CANCEL, .imsi = *imsi });
-}
-
-static inline camel_status submit_clear_all(camel_store *store)
-{
-    return camel_submit_change(store, &(camel_change){ .kind = CAMEL_UPDATE_CLEAR_ALL });
-}
-
-static inline camel_status update_of_register(const camel_imsi *imsi, camel_update *update)
-{
-    return camel_update_of(&(camel_change){ .kind = CAMEL_UPDATE_REGISTER, .imsi = *imsi }, update);
-}
-
-static inline camel_status update_of_insert(const camel_imsi *imsi, const camel_insert *sent, camel_update *update)
-{
-    return camel_update_of(&(camel_change){ .kind = CAMEL_UPDATE_INSERT, .imsi = *imsi, .insert = *sent }, update);
-}
-
-/* An Insert of entries of the O-CSI, with these detection points. */
-static inline camel_update criteria_in(const uint8_t *dps, size_t count)
-{
-    camel_criteria entries[10] = { { .dp = 0 } };
-    camel_insert sent = { .o = { .criteria = entries, .criteria_count = count } };
-    camel_update update = CAMEL_EMPTY;
-    camel_imsi imsi = imsi_of(1);
-
-    for (size_t at = 0; at < count; at++)
-        entries[at].dp = dps[at];
-    RETURNS(CAMEL_OK, update_of_insert(&imsi, &sent, &update));
-    return update;
-}
-
-static inline camel_status update_of_delete(const camel_imsi *imsi, const camel_withdrawal *what, camel_update *update)
-{
-    camel_change change = delete_of(imsi, what);
-    return camel_update_of(&change, update);
-}
-
-static inline camel_status update_of_cancel(const camel_imsi *imsi, camel_update *update)
-{
-    return camel_update_of(&(camel_change){ .kind = CAMEL_UPDATE_CANCEL, .imsi = *imsi }, update);
-}
-
-static inline camel_status update_of_clear_all(camel_update *update)
-{
-    return camel_update_of(&(camel_change){ .kind = CAMEL_UPDATE_CLEAR_ALL }, update);
-}
-
-/* The same of an Insert, with a bool of its own for each list, as the inline calls make it. */
-static inline camel_status submit_lists(camel_store *store, const camel_imsi *imsi, const camel_lists *lists)
-{
-    camel_withdrawal none = { false };
-    return camel_submit_change_nonnull(store, CAMEL_UPDATE_INSERT, imsi, &none, lists);
-}
-
-static inline camel_status update_of_lists(const camel_imsi *imsi, const camel_lists *lists, camel_update *update)
-{
-    camel_withdrawal none = { false };
-    return camel_update_of_nonnull(CAMEL_UPDATE_INSERT, imsi, &none, lists, update);
-}
+/* Changes. */
 
 /* What is sent of a CSI: rows and criteria, each with its count. A list that is NULL is not sent. */
 #define CSI(...) ((camel_sent_csi){ __VA_ARGS__ })
 #define ROWS(rows, count) CSI(rows, count, NULL, 0)
 #define NO_CSI ROWS(NULL, 0)
 
-static inline camel_status insert(camel_store *store, unsigned number, camel_sent_csi o, camel_sent_csi vt)
+/* A change that is no Insert. A Delete is of the O-CSI. */
+static inline camel_change change_of(uint8_t kind, unsigned number)
 {
-    camel_imsi imsi = imsi_of(number);
-    return submit_insert(store, &imsi, &(camel_insert){ o, vt });
+    return (camel_change){ .kind = kind, .imsi = imsi_of(number), .withdrawal = { .o = true } };
 }
 
-static inline camel_counts counts_of(const camel_store *store)
+static inline camel_change insert_of(unsigned number, camel_sent_csi o, camel_sent_csi vt)
+{
+    return (camel_change){ .kind = CAMEL_UPDATE_INSERT, .imsi = imsi_of(number), .insert = { o, vt } };
+}
+
+static inline camel_update update_of(camel_change change)
+{
+    camel_update update = CAMEL_EMPTY;
+    RETURNS(CAMEL_OK, camel_update_of(&change, &update));
+    return update;
+}
+
+/* The store. */
+
+static camel_store store;
+static camel_session sessions[CAMEL_MAX_SESSIONS];
+
+static inline void open_store(size_t session_count, uint64_t limit)
+{
+    RETURNS(CAMEL_OK, camel_open(&store, sessions, session_count, limit, CAMEL_PROFILE_1, 1));
+}
+
+static inline void close_store(void)
+{
+    for (size_t at = 0; at < CAMEL_MAX_SESSIONS; at++)
+        camel_free(&sessions[at]);
+    RETURNS(CAMEL_OK, camel_close(&store));
+}
+
+static inline camel_status submit_to(camel_store *to, uint8_t kind, unsigned number)
+{
+    camel_change change = change_of(kind, number);
+    return camel_submit_change(to, &change);
+}
+
+static inline camel_status submit(uint8_t kind, unsigned number)
+{
+    return submit_to(&store, kind, number);
+}
+
+static inline void register_subscriber(unsigned number)
+{
+    RETURNS(CAMEL_OK, submit(CAMEL_UPDATE_REGISTER, number));
+}
+
+static inline camel_status insert(unsigned number, camel_sent_csi o, camel_sent_csi vt)
+{
+    camel_change change = insert_of(number, o, vt);
+    return camel_submit_change(&store, &change);
+}
+
+/* Publishes all that is pending, and has so many sessions see it. */
+static inline void publish_to(size_t session_count)
+{
+    RETURNS(CAMEL_OK, camel_publish_to(&store, sessions, session_count));
+}
+
+static inline camel_counts counts_of(const camel_store *of)
 {
     camel_counts counts = { 0 };
-    RETURNS(CAMEL_OK, camel_counts_of(store, &counts));
+    RETURNS(CAMEL_OK, camel_counts_of(of, &counts));
     return counts;
 }
 
-static inline camel_receipt receipt_of(const camel_store *store)
+/* Whether the store counts so many subscribers, and updates published and pending, and publications that were held. */
+static inline bool counts_are(uint64_t subscribers, uint64_t published, uint64_t pending, uint64_t held)
+{
+    camel_counts counts = counts_of(&store);
+    return counts.subscribers == subscribers && counts.published == published && counts.pending == pending
+        && counts.held == held;
+}
+
+static inline camel_receipt receipt_of(const camel_store *of)
 {
     camel_receipt receipt = { 0 };
-    RETURNS(CAMEL_OK, camel_receipt_of(store, &receipt));
+    RETURNS(CAMEL_OK, camel_receipt_of(of, &receipt));
     return receipt;
 }
 
-/* The front of a session, that of the look which has begun or of a look of its own. */
+/* What a session decides of a call of a subscriber, over the look that has begun or by a look of its own. */
+static inline camel_answer decided(camel_session *session, unsigned number, uint8_t dp)
+{
+    camel_event event = event_of(number, dp);
+    camel_answer answer = { .front = UINT64_MAX, .reason = 99 };
+    RETURNS(CAMEL_OK, camel_decide(session, &event, &answer));
+    return answer;
+}
+
 static inline uint64_t front_of(camel_session *session)
 {
-    camel_event event = event_of(1, 2);
-    camel_answer answer = { .front = UINT64_MAX };
-    RETURNS(CAMEL_OK, camel_decide(session, &event, &answer));
-    return answer.front;
+    return decided(session, 1, 2).front;
 }
+
+/* What came with an update. */
 
 /* How many items came in each list, side by side: the rows and the criteria of each CSI. */
 enum { LISTS = 4 };
 static inline uint8_t *counts_in(camel_update_parts *parts)
 {
     return (uint8_t *)parts + offsetof(camel_update_parts, o_rows);
-}
-
-static inline bool came(camel_update_parts *parts, uint8_t o, uint8_t of_o, uint8_t vt, uint8_t of_vt)
-{
-    return memcmp(counts_in(parts), (uint8_t[LISTS]){ o, of_o, vt, of_vt }, LISTS) == 0;
 }
 
 /* Whether what came with two updates is the same: all octets but those between has_vt_capability and the numbers, and

@@ -6,14 +6,16 @@
 
 enum { IMSI_OCTETS = 8, IMSI_AT = 4, LONGEST = 107 };
 
-/* Each has the IMSI 262010000000001, of which the octets begin at IMSI_AT. */
+/* Of those with an IMSI, 262010000000001, its octets begin at IMSI_AT. */
 struct argument {
     uint8_t operation;
     size_t count;
     uint8_t octets[LONGEST];
 };
 
-enum { O_CSI, ALL_LISTS, EVERYTHING, BOTH_CSIS, CANCELLED, ARGUMENTS };
+enum {
+    O_CSI, ALL_LISTS, EVERYTHING, BOTH_CSIS, CANCELLED, NO_FIELDS, NO_ROWS, NO_VT_CSI, UNKNOWN_OPERATION, ARGUMENTS
+};
 
 static const struct argument ARGUMENT[ARGUMENTS] = {
     /* InsertSubscriberDataArg: the O-CSI with a row at detection point 2, whose serviceKey begins at 23 */
@@ -38,15 +40,12 @@ static const struct argument ARGUMENT[ARGUMENTS] = {
     /* CancelLocationArg: the IMSI */
     [CANCELLED] = { CAMEL_CANCEL_LOCATION, 12, {
         0xa3, 0x0a, 0x04, 0x08, 0x62, 0x02, 0x01, 0x00, 0x00, 0x00, 0x00, 0xf1 } },
+    /* InsertSubscriberDataArg: nothing, an O-CSI without rows, and criteria of the VT-CSI at 13 without their CSI */
+    [NO_FIELDS] = { CAMEL_INSERT_SUBSCRIBER_DATA, 2, { 0x30, 0x00 } },
+    [NO_ROWS] = { CAMEL_INSERT_SUBSCRIBER_DATA, 8, { 0x30, 0x06, 0xad, 0x04, 0xa0, 0x02, 0x30, 0x00 } },
+    [NO_VT_CSI] = { CAMEL_INSERT_SUBSCRIBER_DATA, 11, {
+        0x30, 0x09, 0xad, 0x07, 0xa8, 0x05, 0x30, 0x03, 0x0a, 0x01, 0x0d } },
+    [UNKNOWN_OPERATION] = { 6, 2, { 0x30, 0x00 } },
 };
-
-/* Writes the TBCD octets of the IMSI that imsi_of has for a number. */
-static inline void write_tbcd(unsigned number, uint8_t *octets)
-{
-    char digits[17];
-    snprintf(digits, sizeof digits, "26201%010u?", number); /* ? has the filler, 15, as its low bits */
-    for (int at = 0; at < IMSI_OCTETS; at++)
-        octets[at] = (uint8_t)((digits[2 * at] & 15) | (digits[2 * at + 1] & 15) << 4);
-}
 
 #endif
