@@ -12,26 +12,25 @@
 enum { SESSIONS = 5, SUBSCRIBERS = 1000, THREADS = 4 };
 
 /* A store with so many subscribers, published. */
-static void open_filled(camel_store *store, camel_session *sessions, size_t count, unsigned subscribers)
+static void open_filled(size_t session_count, unsigned subscribers)
 {
     camel_row row = row_of(2, 7);
 
-    RETURNS(CAMEL_OK, camel_open(store, sessions, count, CAMEL_MAX_UPDATES, 1, 0x5eed));
+    open_store(session_count, CAMEL_MAX_UPDATES);
     for (unsigned number = 0; number < subscribers; number++) {
-        camel_imsi imsi = imsi_of(number);
-        RETURNS(CAMEL_OK, submit_register(store, &imsi));
-        RETURNS(CAMEL_OK, insert(store, number, ROWS(&row, 1), NO_CSI));
+        register_subscriber(number);
+        RETURNS(CAMEL_OK, insert(number, ROWS(&row, 1), NO_CSI));
     }
-    RETURNS(CAMEL_OK, camel_publish(store));
+    RETURNS(CAMEL_OK, camel_publish(&store));
 }
 
-/* A publication of one update more. */
-static void publish(camel_store *store)
+/* Publications of one update more each. */
+static void publish(unsigned times)
 {
-    camel_imsi imsi = imsi_of(0);
-
-    RETURNS(CAMEL_OK, submit_register(store, &imsi));
-    RETURNS(CAMEL_OK, camel_publish(store));
+    while (times-- > 0) {
+        register_subscriber(0);
+        RETURNS(CAMEL_OK, camel_publish(&store));
+    }
 }
 
 static void finds_the_end(camel_session *session, const camel_receipt *receipt)
@@ -49,19 +48,14 @@ static void finds_the_end(camel_session *session, const camel_receipt *receipt)
 /* A store ends while a look is held at one of its places, with publications before it and after it began. */
 static void ends_beside_a_look(size_t holder, unsigned before, unsigned after, bool is_closed)
 {
-    camel_store store = CAMEL_EMPTY;
-    camel_session sessions[SESSIONS] = { CAMEL_EMPTY };
-    camel_event event = event_of(1, 2);
     camel_answer answer;
     camel_receipt receipt;
     size_t with_data, without;
 
-    open_filled(&store, sessions, SESSIONS, SUBSCRIBERS);
-    for (unsigned at = 0; at < before; at++)
-        publish(&store);
+    open_filled(SESSIONS, SUBSCRIBERS);
+    publish(before);
     RETURNS(CAMEL_OK, camel_look(&sessions[holder]));
-    for (unsigned at = 0; at < after; at++)
-        publish(&store);
+    publish(after);
     receipt = receipt_of(&store);
     if (is_closed)
         RETURNS(CAMEL_HELD, camel_close(&store));
@@ -72,7 +66,7 @@ static void ends_beside_a_look(size_t holder, unsigned before, unsigned after, b
         if (at != holder)
             finds_the_end(&sessions[at], &receipt);
     RETURNS(CAMEL_HELD, camel_learn(&sessions[holder], &receipt));
-    RETURNS(CAMEL_OK, camel_decide(&sessions[holder], &event, &answer));
+    answer = decided(&sessions[holder], 1, 2);
     IS(answer.is_trigger && answer.front == 2 * SUBSCRIBERS + before);
     with_data = mallinfo2().uordblks;
     RETURNS(CAMEL_OK, camel_leave(&sessions[holder]));
@@ -87,15 +81,14 @@ static void ends_beside_a_look(size_t holder, unsigned before, unsigned after, b
     IS(without - mallinfo2().uordblks < 20000);
 }
 
-/* What the ending thread and the threads that decide have in common. */
+/* What the ending thread and the threads that decide have in common, beside the sessions. */
 static pthread_barrier_t barrier;
-static camel_session shared[THREADS];
 static atomic_uint late;
 
 /* Decides until the store has ended, by looks that are held for a while or by none, and then once more. */
 static void *decide_to_the_end(void *given)
 {
-    size_t at = *(const size_t *)given;
+    camel_session *session = given;
     camel_event event = event_of(1, 2);
 
     for (;;) {
@@ -103,16 +96,16 @@ static void *decide_to_the_end(void *given)
         camel_answer answer;
 
         pthread_barrier_wait(&barrier);
-        if (!shared[at].is_full)
+        if (!session->is_full)
             return NULL;
         for (unsigned turn = 0; status == CAMEL_OK && turn < 10000000; turn++) {
-            if ((turn + at) % 4 == 0 && (status = camel_look(&shared[at])) != CAMEL_OK)
+            if ((turn + (size_t)(session - sessions)) % 4 == 0 && (status = camel_look(session)) != CAMEL_OK)
                 break;
-            status = camel_decide(&shared[at], &event, &answer);
-            if (camel_leave(&shared[at]) != CAMEL_OK)
+            status = camel_decide(session, &event, &answer);
+            if (camel_leave(session) != CAMEL_OK)
                 status = CAMEL_WRONG_HANDLE;
         }
-        if (status != CAMEL_NO_LOOK || camel_decide(&shared[at], &event, &answer) != CAMEL_NO_LOOK)
+        if (status != CAMEL_NO_LOOK || camel_decide(session, &event, &answer) != CAMEL_NO_LOOK)
             late++;
         pthread_barrier_wait(&barrier);
     }
@@ -120,16 +113,13 @@ static void *decide_to_the_end(void *given)
 
 static void ends_beside_threads(unsigned ends)
 {
-    static const size_t places[THREADS] = { 0, 1, 2, 3 };
     pthread_t threads[THREADS];
 
     IS(pthread_barrier_init(&barrier, NULL, THREADS + 1) == 0);
     for (size_t at = 0; at < THREADS; at++)
-        IS(pthread_create(&threads[at], NULL, decide_to_the_end, (void *)&places[at]) == 0);
+        IS(pthread_create(&threads[at], NULL, decide_to_the_end, &sessions[at]) == 0);
     for (unsigned end = 0; end < ends; end++) {
-        camel_store store = CAMEL_EMPTY;
-
-        open_filled(&store, shared, THREADS, 2);
+        open_filled(THREADS, 2);
         pthread_barrier_wait(&barrier);
         for (unsigned turn = 0; turn < end % 3; turn++)
             IS(camel_publish(&store) != CAMEL_OUT_OF_MEMORY);
@@ -139,7 +129,7 @@ static void ends_beside_threads(unsigned ends)
         camel_free(&store);
         pthread_barrier_wait(&barrier);
         for (size_t at = 0; at < THREADS; at++)
-            camel_free(&shared[at]);
+            camel_free(&sessions[at]);
     }
     pthread_barrier_wait(&barrier);
     for (size_t at = 0; at < THREADS; at++)
@@ -149,14 +139,8 @@ static void ends_beside_threads(unsigned ends)
 
 int main(int count, char **words)
 {
-    static const size_t holders[] = { 0, SESSIONS / 2, SESSIONS - 1 };
-
-    for (size_t at = 0; at < 3; at++)
-        for (unsigned before = 0; before < 3; before++)
-            for (unsigned after = 0; after < 2; after++) {
-                ends_beside_a_look(holders[at], before, after, false);
-                ends_beside_a_look(holders[at], before, after, true);
-            }
+    for (unsigned at = 0; at < 3 * 3 * 2 * 2; at++)
+        ends_beside_a_look(at / 12 * (SESSIONS / 2), at / 4 % 3, at / 2 % 2, at % 2);
     ends_beside_threads(count > 1 ? (unsigned)atoi(words[1]) : 10000);
-    return ended("ending.c");
+    return ended("ending");
 }
