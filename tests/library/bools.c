@@ -1,263 +1,158 @@
-/* Each bool of the data that a call is passed is true if it is any octet but 0. */
+/* Each bool of the data that a call is passed is true if it is any octet but 0: with each the calls do what they do
+ * with 1, and with 0 something else. */
 #include "check.h"
 
-static const uint8_t TRUE[] = { 1, 2, 128, 255 };
-enum { TRUES = sizeof TRUE };
+/* What is sent of a subscriber in an Insert and a Delete, and a call. */
+struct sent {
+    camel_criteria o, vt;
+    camel_lists lists;
+    camel_withdrawal what;
+    camel_event event;
+};
 
-/* Writes an octet in the place of a bool. */
-static void put(void *data, size_t at, uint8_t octet)
-{
-    ((uint8_t *)data)[at] = octet;
-}
+/* What becomes of it. Lists are a bit each, in the order of their bools. */
+struct shown {
+    camel_status status;                 /* of the Insert */
+    unsigned came, left;                 /* the lists in its handle, and those of the subscriber in the end */
+    camel_withdrawal withdrawn;          /* in the handle of the Delete */
+    camel_criteria o, vt;                /* as they come back */
+    bool is_trigger;
+};
 
-/* Gives a subscriber an empty record. */
-static void begin(camel_store *store, unsigned number)
+static unsigned lists_came(const camel_lists *lists, camel_status *status)
 {
-    camel_imsi imsi = imsi_of(number);
-    RETURNS(CAMEL_OK, submit_register(store, &imsi));
-}
-
-/* Publishes, and has the session see that. */
-static void publish(camel_store *store, camel_session *session)
-{
-    camel_receipt receipt;
-    RETURNS(CAMEL_OK, camel_publish(store));
-    receipt = receipt_of(store);
-    RETURNS(CAMEL_OK, camel_learn(session, &receipt));
-}
-
-/* An entry comes back with 1 in the place of a bool that is any octet but 0. */
-static void bool_of_criteria(camel_store *store, camel_session *session, const camel_criteria *wanted, size_t place)
-{
-    camel_row row = row_of(wanted->dp, 100);
+    static const camel_withdrawal nothing;
     camel_imsi imsi = imsi_of(1);
+    camel_update update = CAMEL_EMPTY;
+    camel_update_parts parts = { .kind = 0 };
+    unsigned came = 0;
 
-    for (int octet = 0; octet < TRUES; octet++) {
-        camel_criteria sent = *wanted, found = { 0 };
-        camel_sent_csi csi = { &row, 1, &sent, 1 };
-        bool is_there = false, is_of_o = wanted->dp < 12;
-        begin(store, 1);
-        put(&sent, place, TRUE[octet]);
-        RETURNS(CAMEL_OK, insert(store, 1, is_of_o ? csi : NO_CSI, is_of_o ? NO_CSI : csi));
-        publish(store, session);
-        RETURNS(CAMEL_OK, camel_criteria_at(session, &imsi, wanted->dp, &found, &is_there));
-        IS(is_there && memcmp(&found, wanted, sizeof found) == 0);
-    }
-}
-
-/* So does each bool of an entry, of both CSIs. */
-static void bools_of_criteria(camel_store *store, camel_session *session)
-{
-    static const size_t places[] = {
-        offsetof(camel_criteria, has_number), offsetof(camel_criteria, number.is_enabling),
-        offsetof(camel_criteria, basic.services[0].is_bearer), offsetof(camel_criteria, has_call_type),
-        offsetof(camel_criteria, is_forwarded),
-    };
-    static const uint8_t listed[] = { 0x91, 0x34 };
-    camel_criteria busy = { .dp = 13, .basic = { 2, { { false, 0x60 }, { true, 0x18 } } } };
-    camel_criteria wanted = {
-        .dp = 2, .has_number = true, .has_call_type = true, .is_forwarded = true, .basic = { 1, { { true, 0x18 } } },
-        .number = { .is_enabling = true, .number_count = 1 },
-    };
-
-    wanted.number.numbers[0] = isdn_of(listed, sizeof listed);
-    for (size_t at = 0; at < sizeof places / sizeof places[0]; at++)
-        bool_of_criteria(store, session, &wanted, places[at]);
-    bool_of_criteria(store, session, &busy, offsetof(camel_criteria, basic.services[1].is_bearer));
-}
-
-/* Criteria of the VT-CSI have neither a number nor a call type, whatever octet says that they have, and whichever
- * detection point they are of. */
-static void bools_of_no_t_criteria(camel_store *store, camel_session *session)
-{
-    static const size_t places[] = { offsetof(camel_criteria, has_number), offsetof(camel_criteria, has_call_type) };
-    static const camel_criteria plain = { .dp = 13 }, ignored = { .dp = 3, .has_call_type = true }, none;
-    camel_row row = row_of(13, 100);
-    camel_imsi imsi = imsi_of(1);
-
-    for (size_t at = 0; at < 2; at++)
-        for (int octet = -1; octet < TRUES; octet++) {
-            camel_criteria sent = { .dp = 13, .number = { .length_count = 1, .lengths = { 4 } } }, found = { 0 };
-            bool is_there = false;
-            begin(store, 1);
-            put(&sent, places[at], octet < 0 ? 0 : TRUE[octet]);
-            put(&sent, offsetof(camel_criteria, is_forwarded), 255);
-            RETURNS(octet < 0 ? CAMEL_OK : CAMEL_UNEXPECTED_DATA_VALUE,
-                    insert(store, 1, NO_CSI, CSI(&row, 1, &sent, 1)));
-            publish(store, session);
-            RETURNS(CAMEL_OK, camel_criteria_at(session, &imsi, 13, &found, &is_there));
-            IS(is_there == (octet < 0) && memcmp(&found, is_there ? &plain : &none, sizeof found) == 0);
-        }
-    RETURNS(CAMEL_UNEXPECTED_DATA_VALUE, insert(store, 1, NO_CSI, CSI(&row, 1, &ignored, 1)));
-}
-
-/* Which of the four lists a subscriber has: a bit each, in the order of their bools. */
-static unsigned lists_of(camel_session *session, unsigned number)
-{
-    camel_imsi imsi = imsi_of(number);
-    camel_row row;
-    camel_criteria criteria;
-    bool has[4] = { false };
-
-    RETURNS(CAMEL_OK, camel_row_at(session, &imsi, 2, &row, &has[0]));
-    RETURNS(CAMEL_OK, camel_criteria_at(session, &imsi, 2, &criteria, &has[1]));
-    RETURNS(CAMEL_OK, camel_row_at(session, &imsi, 13, &row, &has[2]));
-    RETURNS(CAMEL_OK, camel_criteria_at(session, &imsi, 13, &criteria, &has[3]));
-    return has[0] | has[1] * 2u | has[2] * 4u | has[3] * 8u;
-}
-
-/* All four lists of an Insert, with this octet in the place of one of their bools. */
-static camel_status send_lists(camel_store *store, unsigned number, size_t at, uint8_t octet)
-{
-    camel_row rows[] = { row_of(2, 100), row_of(13, 101) };
-    camel_criteria entries[] = { { .dp = 2, .has_call_type = true }, { .dp = 13, .causes = { 1, { 17 } } } };
-    camel_imsi imsi = imsi_of(number);
-    camel_lists lists = { { rows, 1, entries, 1, true, true }, { rows + 1, 1, entries + 1, 1, true, true } };
-
-    put(&lists, at, octet);
-    return submit_lists(store, &imsi, &lists);
-}
-
-/* A list came if the bool that says so is any octet but 0. Criteria without rows are rejected: none are stored. */
-static void bools_of_inserts(camel_store *store, camel_session *session)
-{
-    static const struct { size_t at; camel_status without; unsigned left; } lists[] = {
-        { offsetof(camel_lists, o.has_rows), CAMEL_DATA_MISSING, 0 },
-        { offsetof(camel_lists, o.has_criteria), CAMEL_OK, 13 },
-        { offsetof(camel_lists, vt.has_rows), CAMEL_DATA_MISSING, 0 },
-        { offsetof(camel_lists, vt.has_criteria), CAMEL_OK, 7 },
-    };
-
-    for (size_t at = 0; at < 4; at++) {
-        for (int octet = 0; octet < TRUES; octet++) {
-            begin(store, 1);
-            RETURNS(CAMEL_OK, send_lists(store, 1, lists[at].at, TRUE[octet]));
-            publish(store, session);
-            IS(lists_of(session, 1) == 15);
-        }
-        begin(store, 1);
-        RETURNS(lists[at].without, send_lists(store, 1, lists[at].at, 0));
-        publish(store, session);
-        IS(lists_of(session, 1) == lists[at].left);
-    }
-}
-
-/* What a Delete removes: the lists of the O-CSI, those of the VT-CSI, and all. */
-static void bools_of_deletes(camel_store *store, camel_session *session)
-{
-    static const struct { size_t at; unsigned left; } names[] = {
-        { offsetof(camel_withdrawal, o), 12 }, { offsetof(camel_withdrawal, vt), 3 },
-        { offsetof(camel_withdrawal, everything), 0 },
-    };
-    camel_imsi imsi = imsi_of(1);
-
-    for (size_t at = 0; at < 3; at++)
-        for (int octet = -1; octet < TRUES; octet++) {
-            camel_withdrawal what = { 0 };
-            begin(store, 1);
-            RETURNS(CAMEL_OK, send_lists(store, 1, offsetof(camel_lists, o.has_rows), 1));
-            put(&what, names[at].at, octet < 0 ? 0 : TRUE[octet]);
-            RETURNS(CAMEL_OK, submit_delete(store, &imsi, &what));
-            publish(store, session);
-            IS(lists_of(session, 1) == (octet < 0 ? 15 : names[at].left));
-        }
-}
-
-/* What came with an Insert in a handle: a list came if the bool that says so is any octet but 0. */
-static void bools_of_held_inserts(const camel_imsi *imsi, size_t place, unsigned list)
-{
-    camel_row rows[] = { row_of(2, 100), row_of(13, 101) };
-    camel_criteria entries[] = { { .dp = 2 }, { .dp = 13 } };
-
-    for (int octet = -1; octet < TRUES; octet++) {
-        camel_lists lists = { { rows, 1, entries, 1, false, false }, { rows + 1, 1, entries + 1, 1, false, false } };
-        camel_update update = CAMEL_EMPTY;
-        camel_update_parts parts = { .kind = 7 };
-        put(&lists, place, octet < 0 ? 0 : TRUE[octet]);
-        RETURNS(CAMEL_OK, update_of_lists(imsi, &lists, &update));
+    *status = camel_submit_change_nonnull(&store, CAMEL_UPDATE_INSERT, &imsi, &nothing, lists);
+    if (camel_update_of_nonnull(CAMEL_UPDATE_INSERT, &imsi, &nothing, lists, &update) == CAMEL_OK)
         RETURNS(CAMEL_OK, camel_update_parts_of(&update, &parts));
-        for (unsigned at = 0; at < LISTS; at++)
-            IS(counts_in(&parts)[at] == (list == at && octet >= 0));
-        camel_free(&update);
-    }
+    for (unsigned list = 0; list < LISTS; list++)
+        came |= (unsigned)(counts_in(&parts)[list] == 1) << list;
+    camel_free(&update);
+    return came;
 }
 
-/* What a Delete in a handle names, comes back as 1. */
-static void bools_of_held_deletes(const camel_imsi *imsi, size_t place)
+static camel_withdrawal withdrawn(const camel_withdrawal *what)
 {
-    for (int octet = -1; octet < TRUES; octet++) {
-        camel_withdrawal what = { 0 };
-        camel_update update = CAMEL_EMPTY;
-        camel_update_parts parts = { .kind = 7 };
-        uint8_t named[sizeof what] = { 0 }, wanted[sizeof what] = { 0 };
-        put(&what, place, octet < 0 ? 0 : TRUE[octet]);
-        wanted[place] = octet >= 0;
-        RETURNS(CAMEL_OK, update_of_delete(imsi, &what, &update));
-        RETURNS(CAMEL_OK, camel_update_parts_of(&update, &parts));
-        memcpy(named, &parts.withdrawal, sizeof named);
-        IS(memcmp(named, wanted, sizeof named) == 0);
-        camel_free(&update);
-    }
+    camel_change change = { .kind = CAMEL_UPDATE_DELETE, .imsi = imsi_of(1) };
+    camel_update update;
+    camel_update_parts parts;
+
+    memcpy(&change.withdrawal, what, sizeof *what); /* C reads no bool that is neither 0 nor 1 */
+    RETURNS(CAMEL_OK, camel_submit_change(&store, &change));
+    update = update_of(change);
+    RETURNS(CAMEL_OK, camel_update_parts_of(&update, &parts));
+    camel_free(&update);
+    return parts.withdrawal;
 }
 
-static void bools_of_updates(void)
+/* Sends all to a subscriber who has just registered, with this octet in the place of a bool. */
+static void show(struct sent sent, size_t place, uint8_t octet, struct shown *shown)
 {
-    static const size_t lists[] = {
-        offsetof(camel_lists, o.has_rows), offsetof(camel_lists, o.has_criteria),
-        offsetof(camel_lists, vt.has_rows), offsetof(camel_lists, vt.has_criteria),
-    };
-    camel_imsi imsi = imsi_of(1);
-
-    for (unsigned list = 0; list < 4; list++)
-        bools_of_held_inserts(&imsi, lists[list], list);
-    bools_of_held_deletes(&imsi, offsetof(camel_withdrawal, o));
-    bools_of_held_deletes(&imsi, offsetof(camel_withdrawal, vt));
-    bools_of_held_deletes(&imsi, offsetof(camel_withdrawal, everything));
-}
-
-/* The subscriber has a row at 2, for forwarded calls of the bearer service 0x18. */
-static void bools_of_events(camel_store *store, camel_session *session)
-{
-    static const size_t places[] = { offsetof(camel_event, is_forwarded), offsetof(camel_event, basic.is_bearer) };
-    camel_row row = row_of(2, 100);
-    camel_criteria entry = { .dp = 2, .has_call_type = true, .is_forwarded = true };
+    camel_row rows[] = { row_of(2, 100), row_of(13, 101) }, row;
     camel_imsi imsi = imsi_of(1);
     camel_subscriber kept = CAMEL_EMPTY;
-    bool is_there = false;
+    camel_answer answer, by_kept;
+    bool has[LISTS] = { false }, is_there = false;
 
-    entry.basic = (camel_basic_services){ 1, { { true, 0x18 } } };
-    begin(store, 1);
-    RETURNS(CAMEL_OK, insert(store, 1, CSI(&row, 1, &entry, 1), NO_CSI));
-    publish(store, session);
-    RETURNS(CAMEL_OK, camel_keep(session, &imsi, &kept, &is_there));
-    IS(is_there);
-    for (size_t at = 0; at < 2; at++)
-        for (int octet = -1; octet < TRUES; octet++) {
-            camel_event event = event_of(1, 2);
-            camel_answer answer = { 0 }, by_kept = { 0 };
-            event.basic = (camel_basic_service){ true, 0x18 };
-            event.is_forwarded = true;
-            put(&event, places[at], octet < 0 ? 0 : TRUE[octet]);
-            RETURNS(CAMEL_OK, camel_decide(session, &event, &answer));
-            RETURNS(CAMEL_OK, camel_decide_kept(session, &kept, &event, &by_kept));
-            IS(answer.is_trigger == (octet >= 0) && by_kept.is_trigger == (octet >= 0));
-        }
+    ((uint8_t *)&sent)[place] = octet;
+    sent.lists.o.rows = &rows[0], sent.lists.vt.rows = &rows[1];
+    sent.lists.o.criteria = &sent.o, sent.lists.vt.criteria = &sent.vt;
+    memset(shown, 0, sizeof *shown);
+    register_subscriber(1);
+    shown->came = lists_came(&sent.lists, &shown->status);
+    shown->withdrawn = withdrawn(&sent.what);
+    publish_to(1);
+    RETURNS(CAMEL_OK, camel_row_at(sessions, &imsi, 2, &row, &has[0]));
+    RETURNS(CAMEL_OK, camel_criteria_at(sessions, &imsi, 2, &shown->o, &has[1]));
+    RETURNS(CAMEL_OK, camel_row_at(sessions, &imsi, 13, &row, &has[2]));
+    RETURNS(CAMEL_OK, camel_criteria_at(sessions, &imsi, 13, &shown->vt, &has[3]));
+    for (unsigned list = 0; list < LISTS; list++)
+        shown->left |= (unsigned)has[list] << list;
+    RETURNS(CAMEL_OK, camel_decide(sessions, &sent.event, &answer));
+    RETURNS(CAMEL_OK, camel_keep(sessions, &imsi, &kept, &is_there));
+    RETURNS(CAMEL_OK, camel_decide_kept(sessions, &kept, &sent.event, &by_kept));
+    IS(is_there && by_kept.is_trigger == answer.is_trigger);
+    shown->is_trigger = answer.is_trigger;
     camel_free(&kept);
 }
 
+/* The bools: whether each is true in what is sent else, and what comes of the other value. Criteria without rows are
+ * rejected, and those of the VT-CSI with a number or a call type. */
+static const struct {
+    size_t place;
+    bool is_usual;
+    camel_status status;
+    unsigned came, left;
+    bool is_trigger;
+} BOOLS[] = {
+#define AT(field) offsetof(struct sent, field)
+    { AT(o.has_number), true, CAMEL_OK, 15, 15, true },
+    { AT(o.number.is_enabling), true, CAMEL_OK, 15, 15, false },
+    { AT(o.basic.services[0].is_bearer), true, CAMEL_OK, 15, 15, false },
+    { AT(o.has_call_type), true, CAMEL_OK, 15, 15, true },
+    { AT(o.is_forwarded), true, CAMEL_OK, 15, 15, false },
+    { AT(vt.basic.services[1].is_bearer), true, CAMEL_OK, 15, 15, true },
+    { AT(vt.has_number), false, CAMEL_UNEXPECTED_DATA_VALUE, 0, 0, false },
+    { AT(vt.has_call_type), false, CAMEL_UNEXPECTED_DATA_VALUE, 0, 0, false },
+    { AT(lists.o.has_rows), true, CAMEL_DATA_MISSING, 14, 0, false },
+    { AT(lists.o.has_criteria), true, CAMEL_OK, 13, 13, true },
+    { AT(lists.vt.has_rows), true, CAMEL_DATA_MISSING, 11, 0, false },
+    { AT(lists.vt.has_criteria), true, CAMEL_OK, 7, 7, true },
+    { AT(what.o), false, CAMEL_OK, 15, 12, false },
+    { AT(what.vt), false, CAMEL_OK, 15, 3, true },
+    { AT(what.everything), false, CAMEL_OK, 15, 0, false },
+    { AT(event.is_forwarded), true, CAMEL_OK, 15, 15, false },
+    { AT(event.basic.is_bearer), true, CAMEL_OK, 15, 15, false },
+};
+
 int main(void)
 {
-    camel_store store = CAMEL_EMPTY;
-    camel_session session = CAMEL_EMPTY;
+    static const uint8_t listed[] = { 0x91, 0x34 }, octets[] = { 2, 128, 255 };
+    static const camel_criteria not_t = { .dp = 3, .has_call_type = true };
+    struct sent sent = {
+        .o = { .dp = 2, .has_number = true, .number = { .is_enabling = true, .number_count = 1 },
+               .basic = { 1, { { true, 0x18 } } }, .has_call_type = true, .is_forwarded = true },
+        .vt = { .dp = 13, .basic = { 2, { { false, 0x60 }, { true, 0x18 } } } },
+        .lists = { { .row_count = 1, .criteria_count = 1, .has_rows = true, .has_criteria = true },
+                   { .row_count = 1, .criteria_count = 1, .has_rows = true, .has_criteria = true } },
+        .event = event_of(1, 2),
+    };
+    camel_criteria vt = sent.vt;
+    camel_row row = row_of(13, 100);
+    struct shown usual, yes, no, by_octet;
 
-    RETURNS(CAMEL_OK, camel_open(&store, &session, 1, CAMEL_MAX_UPDATES, 1, 1));
-    bools_of_criteria(&store, &session);
-    bools_of_no_t_criteria(&store, &session);
-    bools_of_inserts(&store, &session);
-    bools_of_deletes(&store, &session);
-    bools_of_events(&store, &session);
-    bools_of_updates();
-    camel_free(&session);
-    RETURNS(CAMEL_OK, camel_close(&store));
+    sent.o.number.numbers[0] = isdn_of(listed, sizeof listed);
+    sent.event.is_forwarded = true;
+    sent.event.basic = (camel_basic_service){ true, 0x18 };
+    sent.vt.number = (camel_number_criterion){ .length_count = 1, .lengths = { 4 } }; /* has no effect, nor has this: */
+    open_store(1, CAMEL_MAX_UPDATES);
+    show(sent, AT(vt.is_forwarded), 255, &usual);
+    IS(usual.status == CAMEL_OK && usual.came == 15 && usual.left == 15 && usual.is_trigger);
+    IS(memcmp(&usual.o, &sent.o, sizeof sent.o) == 0 && memcmp(&usual.vt, &vt, sizeof vt) == 0);
+    for (size_t at = 0; at < COUNT_OF(BOOLS); at++) {
+        const struct shown *other = BOOLS[at].is_usual ? &no : &yes;
+        size_t place = BOOLS[at].place;
+        camel_withdrawal named = { false };
+        show(sent, place, 0, &no);
+        show(sent, place, 1, &yes);
+        IS(memcmp(BOOLS[at].is_usual ? &yes : &no, &usual, sizeof usual) == 0);
+        IS(memcmp(other, &usual, sizeof usual) != 0 && other->status == BOOLS[at].status);
+        IS(other->came == BOOLS[at].came && other->left == BOOLS[at].left && other->is_trigger == BOOLS[at].is_trigger);
+        if (place >= AT(what) && place < AT(what) + sizeof named)
+            ((bool *)&named)[place - AT(what)] = true;
+        IS(memcmp(&other->withdrawn, &named, sizeof named) == 0);
+        for (size_t octet = 0; octet < COUNT_OF(octets); octet++) {
+            show(sent, place, octets[octet], &by_octet);
+            IS(memcmp(&by_octet, &yes, sizeof yes) == 0);
+        }
+    }
+    /* Whichever detection point it is of. */
+    RETURNS(CAMEL_UNEXPECTED_DATA_VALUE, insert(1, NO_CSI, CSI(&row, 1, &not_t, 1)));
+    close_store();
     return ended("bools");
 }
