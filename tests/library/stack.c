@@ -7,29 +7,19 @@
 
 enum { ROOM = 1 << 20, PAINT = 0xc3, SESSIONS = CAMEL_MAX_SESSIONS, ITEMS = 10, DEPTH = 16 };
 
-static camel_store store;
-static camel_session sessions[SESSIONS];
 static camel_update whole, originating, terminating, joined, decoded;
 static camel_subscriber kept;
 static camel_imsis listed;
-static camel_change inserted;
+static camel_change registered, inserted, of_o, of_vt, cleared;
 static camel_argument argument;
 static uint8_t nested[DEPTH * 5 - 1];
 static camel_receipt receipt;
 static camel_event event;
 
-/* What the calls write, and nothing looks at. */
-static camel_imsi imsi;
-static camel_address address;
-static camel_isdn_address isdn;
-static camel_answer answer;
-static camel_row row;
-static camel_criteria criteria;
-static camel_update_parts parts;
-static camel_counts counts;
-static camel_decisions decisions;
-static uint64_t mask, place;
-static uint32_t sizes[32];
+/* What the calls write, and nothing looks at: what is of the greatest size has room for all. */
+static camel_decisions written;
+static void *const out = &written;
+static uint64_t place;
 static size_t rejected;
 static bool is_there;
 
@@ -47,24 +37,24 @@ static camel_criteria longest_entry(bool is_of_o, uint8_t dp)
     return entry;
 }
 
-/* An Insert with ten items in each list, of which those at detection point 3 are ignored. */
+/* An Insert with ten items in each list, of which those at detection point 3 are ignored, and its halves. */
 static void make_longest(void)
 {
     static camel_row rows[2][ITEMS];
     static camel_criteria entries[2][ITEMS];
     static const uint8_t points[2][ITEMS] = { { 2, 4, 3, 3, 3, 3, 3, 3, 3, 3 }, { 12, 13, 14, 3, 3, 3, 3, 3, 3, 3 } };
-    camel_sent_csi *sent[2] = { &inserted.insert.o, &inserted.insert.vt };
 
-    for (size_t csi = 0; csi < 2; csi++) {
+    for (size_t csi = 0; csi < 2; csi++)
         for (size_t at = 0; at < ITEMS; at++) {
             rows[csi][at] = (camel_row){ .dp = points[csi][at], .key = 2147483647, .scf.length = 9 };
             entries[csi][at] = longest_entry(csi == 0, points[csi][at]);
         }
-        *sent[csi] = (camel_sent_csi){ rows[csi], ITEMS, entries[csi], ITEMS };
-    }
-    inserted.kind = CAMEL_UPDATE_INSERT;
-    inserted.imsi = event.imsi = imsi_of(1);
-    event.dp = 12;
+    registered = change_of(CAMEL_UPDATE_REGISTER, 1);
+    inserted = insert_of(1, CSI(rows[0], ITEMS, entries[0], ITEMS), CSI(rows[1], ITEMS, entries[1], ITEMS));
+    of_o = insert_of(1, inserted.insert.o, NO_CSI);
+    of_vt = insert_of(1, NO_CSI, inserted.insert.vt);
+    cleared = change_of(CAMEL_UPDATE_CLEAR_ALL, 1);
+    event = event_of(1, 12);
 }
 
 /* An Insert of one unknown field, in as many elements of indefinite length within one another as may be. */
@@ -76,62 +66,52 @@ static void make_nested(void)
         memcpy(&nested[3 * at - 1], "\xbf\x64\x80", 3);
 }
 
-/* The part of the Insert that is of one CSI. */
-static camel_status update_of_half(const camel_sent_csi *sent, camel_update *update)
-{
-    camel_change half = inserted;
-
-    memset(&half.insert, 0, sizeof half.insert);
-    *(sent == &inserted.insert.o ? &half.insert.o : &half.insert.vt) = *sent;
-    return camel_update_of(&half, update);
-}
-
 /* The calls, in the order of the life of a store. */
 #define CALLS(X)                                                                                                    \
     X(nothing, 0)                                                                                                   \
     X(camel_abi_version, camel_abi_version() != CAMEL_ABI_VERSION)                                                  \
-    X(camel_layouts, camel_layouts(sizes, 32) == 0)                                                                 \
-    X(camel_imsi_of_tbcd, camel_imsi_of_tbcd((const uint8_t *)"\x62\x02\x11\x11\x11\x11\x11\xf1", 8, &imsi))        \
-    X(camel_imsi_of_digits, camel_imsi_of_digits((const uint8_t *)"262010000000001", 15, &imsi))                    \
-    X(camel_address_of, camel_address_of(DESTINATION, sizeof DESTINATION, &address))                                \
-    X(camel_isdn_address_of, camel_isdn_address_of(SCF, sizeof SCF, &isdn))                                         \
+    X(camel_layouts, camel_layouts(out, 32) == 0)                                                                   \
+    X(camel_imsi_of_tbcd, camel_imsi_of_tbcd((const uint8_t *)"\x62\x02\x11\x11\x11\x11\x11\xf1", 8, out))          \
+    X(camel_imsi_of_digits, camel_imsi_of_digits((const uint8_t *)"262010000000001", 15, out))                      \
+    X(camel_address_of, camel_address_of(DESTINATION, sizeof DESTINATION, out))                                     \
+    X(camel_isdn_address_of, camel_isdn_address_of(SCF, sizeof SCF, out))                                           \
     X(camel_open, camel_open(&store, sessions, SESSIONS, CAMEL_MAX_UPDATES, 1, 5))                                  \
-    X(camel_submit_change_of_register, submit_register(&store, &inserted.imsi))                                     \
+    X(camel_submit_change_of_register, camel_submit_change(&store, &registered))                                    \
     X(camel_submit_change, camel_submit_change(&store, &inserted))                                                  \
     X(camel_publish_to, camel_publish_to(&store, sessions, SESSIONS))                                               \
     X(camel_update_of, camel_update_of(&inserted, &whole))                                                          \
-    X(camel_update_of_o, update_of_half(&inserted.insert.o, &originating))                                          \
-    X(camel_update_of_vt, update_of_half(&inserted.insert.vt, &terminating))                                        \
+    X(camel_update_of_o, camel_update_of(&of_o, &originating))                                                      \
+    X(camel_update_of_vt, camel_update_of(&of_vt, &terminating))                                                    \
     X(camel_update_join, camel_update_join(&originating, &terminating, &joined))                                    \
-    X(camel_update_parts_of, camel_update_parts_of(&joined, &parts))                                                \
+    X(camel_update_parts_of, camel_update_parts_of(&joined, out))                                                   \
     X(camel_commit, camel_commit(&store, &joined, 1, sessions, SESSIONS, &rejected))                                \
     X(camel_submit_all, camel_submit_all(&store, &whole, 1, &rejected))                                             \
     X(camel_drop_pending, camel_drop_pending(&store))                                                               \
-    X(camel_submit_change_of_clear_all, submit_clear_all(&store))                                                   \
+    X(camel_submit_change_of_clear_all, camel_submit_change(&store, &cleared))                                      \
     X(camel_drop_pending_of_clear_all, camel_drop_pending(&store))                                                  \
     X(camel_encode_record, camel_encode_record(&sessions[0], &event.imsi, &argument, &is_there))                    \
     X(camel_submit_map, camel_submit_map(&store, 7, &event.imsi, argument.octets, argument.count, &place))          \
     X(camel_submit_map_of_nested, camel_submit_map(&store, 7, &event.imsi, nested, sizeof nested, &place))          \
     X(camel_update_of_map, camel_update_of_map(7, &event.imsi, argument.octets, argument.count, &decoded, &place))  \
     X(camel_publish, camel_publish(&store))                                                                         \
-    X(camel_holders, camel_holders(&store, &mask))                                                                  \
-    X(camel_counts_of, camel_counts_of(&store, &counts))                                                            \
+    X(camel_holders, camel_holders(&store, out))                                                                    \
+    X(camel_counts_of, camel_counts_of(&store, out))                                                                \
     X(camel_receipt_of, camel_receipt_of(&store, &receipt))                                                         \
     X(camel_learn, camel_learn(&sessions[0], &receipt))                                                             \
     X(camel_look, camel_look(&sessions[0]))                                                                         \
-    X(camel_decide_in_a_look, camel_decide(&sessions[0], &event, &answer))                                          \
+    X(camel_decide_in_a_look, camel_decide(&sessions[0], &event, out))                                              \
     X(camel_leave, camel_leave(&sessions[0]))                                                                       \
-    X(camel_decide, camel_decide(&sessions[0], &event, &answer))                                                    \
-    X(camel_decisions_of, camel_decisions_of(&sessions[0], &decisions))                                             \
-    X(camel_row_at, camel_row_at(&sessions[0], &event.imsi, 2, &row, &is_there))                                    \
-    X(camel_criteria_at, camel_criteria_at(&sessions[0], &event.imsi, 4, &criteria, &is_there))                     \
+    X(camel_decide, camel_decide(&sessions[0], &event, out))                                                        \
+    X(camel_decisions_of, camel_decisions_of(&sessions[0], out))                                                    \
+    X(camel_row_at, camel_row_at(&sessions[0], &event.imsi, 2, out, &is_there))                                     \
+    X(camel_criteria_at, camel_criteria_at(&sessions[0], &event.imsi, 4, out, &is_there))                           \
     X(camel_keep, camel_keep(&sessions[0], &event.imsi, &kept, &is_there))                                          \
-    X(camel_decide_kept, camel_decide_kept(&sessions[0], &kept, &event, &answer))                                   \
-    X(camel_kept_row_at, camel_kept_row_at(&kept, 2, &row, &is_there))                                              \
+    X(camel_decide_kept, camel_decide_kept(&sessions[0], &kept, &event, out))                                       \
+    X(camel_kept_row_at, camel_kept_row_at(&kept, 2, out, &is_there))                                               \
     X(camel_empty, (camel_free(&kept), 0))                                                                          \
-    X(camel_set_up, camel_set_up(&sessions[0], &event, &answer, &kept, &is_there))                                  \
+    X(camel_set_up, camel_set_up(&sessions[0], &event, out, &kept, &is_there))                                      \
     X(camel_imsis_of, camel_imsis_of(&sessions[0], &listed))                                                        \
-    X(camel_next_imsi, camel_next_imsi(&listed, &imsi, &is_there))                                                  \
+    X(camel_next_imsi, camel_next_imsi(&listed, out, &is_there))                                                    \
     X(camel_close, camel_close(&store))
 
 #define DEFINE(name, call) static camel_status of_##name(void) { return (camel_status)(call); }
@@ -174,13 +154,13 @@ int main(int count, char **words)
         return 2;
     make_longest();
     make_nested();
-    for (size_t at = 1; at < sizeof steps / sizeof steps[0]; at++) {
+    for (size_t at = 1; at < COUNT_OF(steps); at++) {
         bool is_open = strcmp(steps[at].name, "camel_open") == 0;
-        size_t taken = taken_by(&steps[at], stack) - of_thread;
+        size_t taken = taken_by(&steps[at], stack) - of_thread, limit = strtoul(words[is_open ? 2 : 1], NULL, 10);
         RETURNS(CAMEL_OK, returned);
-        if (taken > strtoul(words[is_open ? 2 : 1], NULL, 10) || is_open)
+        if (taken > limit || is_open)
             printf("%s: %zu octets of a stack\n", steps[at].name, taken);
-        failed += taken > strtoul(words[is_open ? 2 : 1], NULL, 10);
+        failed += taken > limit;
         if (!is_open && taken > most) {
             most = taken;
             name = steps[at].name;
@@ -188,11 +168,11 @@ int main(int count, char **words)
     }
     printf("%s: %zu octets of a stack, the most of the other calls\n", name, most);
     IS(argument.count == 582); /* of the longest record */
+    camel_update *updates[] = { &whole, &originating, &terminating, &joined, &decoded };
+    for (size_t at = 0; at < COUNT_OF(updates); at++)
+        camel_free(updates[at]);
     for (size_t at = 0; at < SESSIONS; at++)
         camel_free(&sessions[at]);
-    camel_update *updates[] = { &whole, &originating, &terminating, &joined, &decoded };
-    for (size_t at = 0; at < sizeof updates / sizeof updates[0]; at++)
-        camel_free(updates[at]);
     camel_free(&kept);
     camel_free(&listed);
     free(stack);
