@@ -2,7 +2,7 @@
  * moves. */
 #include "check.h"
 
-/* Each status, and what the table of docs/MAP.md has for it. */
+/* What the table of docs/MAP.md has for a status, if it is not the switch's own trouble, as of all others. */
 static const struct {
     camel_status status;
     uint16_t answer;
@@ -11,10 +11,6 @@ static const struct {
     { CAMEL_UNIDENTIFIED_SUBSCRIBER, 5 },
     { CAMEL_DATA_MISSING, 35 },
     { CAMEL_UNEXPECTED_DATA_VALUE, 36 },
-    { CAMEL_HISTORY_FULL, 0x103 },
-    { CAMEL_OUT_OF_MEMORY, 0x103 },
-    { CAMEL_NO_PLACE, 0x103 },
-    { CAMEL_NO_LOOK, 0x103 },
     { CAMEL_MALFORMED_OCTETS, 0x102 },
     { CAMEL_MISSING_FIELD, 0x102 },
     { CAMEL_FIELD_TWICE, 0x102 },
@@ -22,20 +18,20 @@ static const struct {
     { CAMEL_WRONG_LENGTH, 0x102 },
     { CAMEL_NO_IMSI, 0x102 },
     { CAMEL_OTHER_IMSI, 36 },
-    { CAMEL_NO_INSERT, 0x103 },
     { CAMEL_OTHER_SUBSCRIBER, 36 },
-    { CAMEL_HELD, 0x103 },
     { CAMEL_MALFORMED, 36 },
-    { CAMEL_WRONG_HANDLE, 0x103 },
-    { CAMEL_FULL_HANDLE, 0x103 },
-    { CAMEL_OTHER_STORE, 0x103 },
-    { CAMEL_OTHER_VERSION, 0x103 },
 };
 
 static void answer_hlr(void)
 {
-    for (size_t at = 0; at < sizeof ANSWERS / sizeof *ANSWERS; at++)
-        IS(camel_map_error_of(ANSWERS[at].status) == ANSWERS[at].answer);
+    size_t at = 0;
+
+    for (camel_status status = 0; status <= CAMEL_OTHER_VERSION; status++) {
+        bool is_listed = at < COUNT_OF(ANSWERS) && ANSWERS[at].status == status;
+        IS(camel_map_error_of(status) == (is_listed ? ANSWERS[at].answer : 0x103));
+        at += is_listed;
+    }
+    IS(at == COUNT_OF(ANSWERS));
 }
 
 /* Bearer capabilities of TS 24.008 from octet 3 on, and the codes of TS 29.002. */
@@ -60,51 +56,51 @@ static const struct {
     { { 0xa1 }, 1, true, 0x1f },
 };
 
+static bool is_service(camel_basic_service service, bool is_bearer, uint8_t code)
+{
+    return service.is_bearer == is_bearer && service.code == code;
+}
+
 static void tell_services(void)
 {
     static const uint8_t speech[] = { 0xa0 }, fax[] = { 0xa3 }, data[] = { 0xa1 };
-    camel_basic_service service;
 
-    for (size_t at = 0; at < sizeof CAPABILITIES / sizeof *CAPABILITIES; at++) {
+    for (size_t at = 0; at < COUNT_OF(CAPABILITIES); at++) {
         const uint8_t *octets = CAPABILITIES[at].octets;
         size_t count = CAPABILITIES[at].count;
-        service = camel_basic_service_of(count > 0 ? octets : NULL, count);
-        IS(service.is_bearer == CAPABILITIES[at].is_bearer && service.code == CAPABILITIES[at].code);
-        service = camel_basic_service_of_two(octets, count, NULL, 0);
-        IS(service.is_bearer == CAPABILITIES[at].is_bearer && service.code == CAPABILITIES[at].code);
+        bool is_bearer = CAPABILITIES[at].is_bearer;
+        uint8_t code = CAPABILITIES[at].code;
+        IS(is_service(camel_basic_service_of(count > 0 ? octets : NULL, count), is_bearer, code));
+        IS(is_service(camel_basic_service_of_two(octets, count, NULL, 0), is_bearer, code));
     }
-    service = camel_basic_service_of_two(speech, 1, fax, 1);
-    IS(!service.is_bearer && service.code == 0x61);
-    service = camel_basic_service_of_two(fax, 1, speech, 1);
-    IS(!service.is_bearer && service.code == 0x61);
-    service = camel_basic_service_of_two(speech, 1, data, 1);
-    IS(!service.is_bearer && service.code == 0x11);
-    service = camel_basic_service_of_two(data, 1, fax, 1);
-    IS(service.is_bearer && service.code == 0x1f);
+    IS(is_service(camel_basic_service_of_two(speech, 1, fax, 1), false, 0x61));
+    IS(is_service(camel_basic_service_of_two(fax, 1, speech, 1), false, 0x61));
+    IS(is_service(camel_basic_service_of_two(speech, 1, data, 1), false, 0x11));
+    IS(is_service(camel_basic_service_of_two(data, 1, fax, 1), true, 0x1f));
 }
 
 /* A session that was moved goes on with its look, and its old handle is empty. */
 static void move(void)
 {
-    camel_store store = CAMEL_EMPTY, other = CAMEL_EMPTY;
-    camel_session session = CAMEL_EMPTY, moved = CAMEL_EMPTY;
+    camel_store other = CAMEL_EMPTY;
+    camel_session moved = CAMEL_EMPTY;
 
-    RETURNS(CAMEL_OK, camel_open(&store, &session, 1, 10, CAMEL_PROFILE_1, 1));
-    RETURNS(CAMEL_OK, camel_look(&session));
-    RETURNS(CAMEL_OK, camel_move(&moved, &session));
-    IS(!session.is_full && !session.at && moved.is_full);
+    open_store(1, 10);
+    RETURNS(CAMEL_OK, camel_look(sessions));
+    RETURNS(CAMEL_OK, camel_move(&moved, sessions));
+    IS(!sessions[0].is_full && !sessions[0].at && moved.is_full);
     RETURNS(CAMEL_HELD, camel_look(&moved));
-    RETURNS(CAMEL_WRONG_HANDLE, camel_look(&session));
+    RETURNS(CAMEL_WRONG_HANDLE, camel_look(sessions));
     RETURNS(CAMEL_OK, camel_move(&other, &store));
-    RETURNS(CAMEL_OK, camel_move(&session, &moved));
-    RETURNS(CAMEL_FULL_HANDLE, camel_move(&session, &moved));
-    IS(session.is_full && !moved.is_full);
+    RETURNS(CAMEL_OK, camel_move(sessions, &moved));
+    RETURNS(CAMEL_FULL_HANDLE, camel_move(sessions, &moved));
+    IS(sessions[0].is_full && !moved.is_full);
     RETURNS(CAMEL_OK, camel_move(&moved, &(camel_session)CAMEL_EMPTY));
     IS(!moved.is_full);
-    camel_free(&session);
-    RETURNS(CAMEL_OK, camel_close(&other));
-    camel_free(&store);
+    RETURNS(CAMEL_OK, camel_move(&store, &other));
+    camel_free(&other);
     camel_free(NULL);
+    close_store();
 }
 
 int main(void)

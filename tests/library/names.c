@@ -2,39 +2,25 @@
  * the linker tells them apart. */
 #include "check.h"
 
-int rattle_alloc(void);
-int rattle_realloc(void);
-int rattle_dealloc(void);
-
 static int called;
 
-int rattle_alloc(void)
-{
-    return ++called;
-}
-
-int rattle_realloc(void)
-{
-    return ++called;
-}
-
-int rattle_dealloc(void)
-{
-    return ++called;
-}
+#define DEFINE(name)                                                                                                \
+    int name(void);                                                                                                 \
+    int name(void)                                                                                                  \
+    {                                                                                                               \
+        return ++called;                                                                                            \
+    }
+DEFINE(rattle_alloc)
+DEFINE(rattle_realloc)
+DEFINE(rattle_dealloc)
 
 int main(void)
 {
-    camel_store store = CAMEL_EMPTY;
-    camel_session session = CAMEL_EMPTY;
-    camel_imsi imsi = imsi_of(1);
-
     IS(camel_abi_version() == CAMEL_ABI_VERSION);
-    RETURNS(CAMEL_OK, camel_open(&store, &session, 1, 10, 1, 1));
-    RETURNS(CAMEL_OK, submit_register(&store, &imsi));
-    RETURNS(CAMEL_OK, camel_publish(&store));
-    camel_free(&session);
-    RETURNS(CAMEL_OK, camel_close(&store));
+    open_store(1, 10);
+    register_subscriber(1);
+    publish_to(1);
+    close_store();
     IS(called == 0);
     return ended("names");
 }
