@@ -1,7 +1,7 @@
 /* A restart: the records of a store go into a file, a line each, IMSI,HEX, and a new store that is made of the lines
- * decides as the first one. RECORDS random records, EVENTS random events, SEED, and FILE if the dump is to be kept; a
- * line that is none is refused with its number, and nothing of it is stored. What dumps and restores is there to be
- * copied. Prints counts and times. */
+ * decides as the first one, which is made of such lines from standard input. EVENTS random events of each subscriber,
+ * SEED, and DUMP and AGAIN, the files that get the records of both. A line that is none is refused with its number, and
+ * nothing of it is stored. What dumps and restores is there to be copied. Prints counts and times. */
 #define _DEFAULT_SOURCE
 #include "random.h"
 
@@ -93,7 +93,7 @@ static camel_status restore_line(camel_store *store, const char *line)
     if (status == CAMEL_OK)
         status = read_octets(comma + 1, &argument);
     if (status == CAMEL_OK)
-        status = update_of_register(&imsi, &updates[0]);
+        status = camel_update_of(&(camel_change){ .kind = CAMEL_UPDATE_REGISTER, .imsi = imsi }, &updates[0]);
     if (status == CAMEL_OK)
         status = camel_update_of_map(CAMEL_INSERT_SUBSCRIBER_DATA, &imsi, argument.octets, argument.count,
                                      &updates[1], &place);
@@ -104,31 +104,30 @@ static camel_status restore_line(camel_store *store, const char *line)
     return status;
 }
 
-/* A line that is refused. */
-struct refusal {
-    unsigned long line;
-    camel_status status;
-};
-
-/* Submits the lines of a file, and publishes them in parts. Tells which lines are refused, the first ones of them, and
- * how many they are. No look holds a publication up meanwhile. */
-static unsigned long restore(camel_store *store, FILE *file, struct refusal *refusals, unsigned long room)
+/* Submits the lines of a file, and publishes them in parts. Tells how many lines are refused, and prints which. No look
+ * holds a publication up meanwhile. */
+static unsigned long restore(camel_store *to, FILE *file)
 {
     char line[LINE + 1];
     unsigned long count = 0, refused = 0;
     while (fgets(line, sizeof line, file)) {
-        camel_status status = strchr(line, '\n') ? restore_line(store, line) : CAMEL_MALFORMED;
+        camel_status status = strchr(line, '\n') ? restore_line(to, line) : CAMEL_MALFORMED;
         count++;
-        if (status != CAMEL_OK && refused++ < room)
-            refusals[refused - 1] = (struct refusal){ count, status };
+        if (status != CAMEL_OK) {
+            printf("line %lu is refused: %s\n", count, camel_status_name(status));
+            refused++;
+        }
         if (count % LINES_OF_A_PART == 0)
-            RETURNS(CAMEL_OK, camel_publish(store));
+            RETURNS(CAMEL_OK, camel_publish(to));
     }
-    RETURNS(CAMEL_OK, camel_publish(store));
+    RETURNS(CAMEL_OK, camel_publish(to));
     return refused;
 }
 
 /* The test. */
+
+static camel_store restored;
+static camel_session of_restored;
 
 static double seconds(void)
 {
@@ -137,35 +136,9 @@ static double seconds(void)
     return (double)now.tv_sec + (double)now.tv_nsec / 1e9;
 }
 
-/* Each number is another IMSI: those of each count of digits go through their values in steps. */
-static camel_imsi imsi_at(uint64_t number)
+static void see_all(camel_store *of, camel_session *session)
 {
-    uint64_t count = 5 + number % 11, values = 1;
-    for (uint64_t digit = 0; digit < count; digit++)
-        values *= 10;
-    return (camel_imsi){ count << 56 | number / 11 * 99991 % values };
-}
-
-/* Registers a subscriber, and sends random lists some times, of which a part is accepted. */
-static void come(camel_store *store, uint64_t number)
-{
-    camel_imsi imsi = imsi_at(number);
-    RETURNS(CAMEL_OK, submit_register(store, &imsi));
-    for (int times = 0; times < 8; times++) {
-        camel_lists lists = any_lists();
-        if (submit_lists(store, &imsi, &lists) == CAMEL_OK && toss())
-            return;
-    }
-}
-
-static void open_store(camel_store *store, camel_session *session, uint64_t seed)
-{
-    RETURNS(CAMEL_OK, camel_open(store, session, 1, CAMEL_MAX_UPDATES, CAMEL_PROFILE_2, seed));
-}
-
-static void see_all(camel_store *store, camel_session *session)
-{
-    camel_receipt receipt = receipt_of(store);
+    camel_receipt receipt = receipt_of(of);
     RETURNS(CAMEL_OK, camel_learn(session, &receipt));
 }
 
@@ -173,162 +146,69 @@ static void see_all(camel_store *store, camel_session *session)
 static bool is_same_answer(const camel_answer *one, const camel_answer *other)
 {
     return one->key == other->key && one->dp == other->dp && one->is_release == other->is_release
-        && one->is_trigger == other->is_trigger && one->reason == other->reason
-        && one->scf.length == other->scf.length && memcmp(one->scf.octets, other->scf.octets, one->scf.length) == 0;
+        && one->is_trigger == other->is_trigger && one->reason == other->reason && is_same_isdn(&one->scf, &other->scf);
 }
 
-/* Decides so many random events in both stores. One in eleven is of no subscriber. */
-static void compare(camel_session *session, camel_session *restored, uint64_t records, unsigned long events)
+/* Decides so many random events of each subscriber in both stores, now and then of an IMSI without a record. */
+static unsigned long compare(unsigned long events)
 {
-    unsigned long by_reason[CAMEL_REASONS] = { 0 };
-    for (unsigned long decided = 0; decided < events && !failed;) {
-        camel_event event = any_event();
-        camel_answer answer = { .front = 0 }, other = { .front = 0 };
-        event.imsi = imsi_at(next() % (records + records / 10 + 1));
-        camel_status status = camel_decide(session, &event, &answer);
-        RETURNS(status, camel_decide(restored, &event, &other));
-        if (status != CAMEL_OK)
-            continue;
-        IS(is_same_answer(&answer, &other));
-        by_reason[answer.reason]++;
-        decided++;
-    }
-    IS(by_reason[CAMEL_REASON_NONE] > 0);
-    for (uint8_t reason = 0; reason < CAMEL_REASONS; reason++)
+    camel_imsis imsis = CAMEL_EMPTY;
+    camel_imsi imsi;
+    unsigned long by_reason[CAMEL_REASONS] = { 0 }, count = 0;
+    bool is_there = true;
+    RETURNS(CAMEL_OK, camel_imsis_of(sessions, &imsis));
+    while (camel_next_imsi(&imsis, &imsi, &is_there) == CAMEL_OK && is_there && !failed)
+        for (unsigned long event = 0; event < events; event++) {
+            camel_imsi none = { 15ULL << 56 | next() % 1000000000000000 };
+            camel_event any = any_event(below(11) ? imsi : none);
+            camel_answer answer = { .front = 0 }, other = { .front = 0 };
+            camel_status status = camel_decide(sessions, &any, &answer);
+            RETURNS(status, camel_decide(&of_restored, &any, &other));
+            if (status != CAMEL_OK)
+                continue;
+            IS(is_same_answer(&answer, &other));
+            by_reason[answer.reason]++;
+            count++;
+        }
+    camel_free(&imsis);
+    for (uint8_t reason = 0; reason < CAMEL_REASONS; reason++) {
+        IS(by_reason[reason] > 0);
         printf("%s: %lu\n", camel_reason_name(reason), by_reason[reason]);
-}
-
-static int compare_lines(const void *one, const void *other)
-{
-    return strcmp(*(char *const *)one, *(char *const *)other);
-}
-
-/* The lines of a file, sorted. */
-static char **sorted_lines(FILE *file, unsigned long count)
-{
-    char **lines = malloc((count + 1) * sizeof *lines), line[LINE + 1];
-    if (!lines)
-        abort();
-    rewind(file);
-    for (unsigned long at = 0; at < count; at++)
-        if (!fgets(line, sizeof line, file) || !(lines[at] = strdup(line)))
-            abort();
-    qsort(lines, count, sizeof *lines, compare_lines);
-    return lines;
-}
-
-/* Whether two files have the same lines, in any order. */
-static void have_same_lines(FILE *one, FILE *other, unsigned long count)
-{
-    char **lines = sorted_lines(one, count), **others = sorted_lines(other, count);
-    unsigned long differing = 0;
-    for (unsigned long at = 0; at < count; at++) {
-        differing += strcmp(lines[at], others[at]) != 0;
-        free(lines[at]);
-        free(others[at]);
     }
-    IS(differing == 0);
-    free(lines);
-    free(others);
-}
-
-/* Lines that are none, between two that are. */
-static void refuse_lines(void)
-{
-    static const char lines[] = "26201,300a80084f4f4f4f4f4f4f4f\n" /* an IMSI that is none in the argument */
-                                "26201,3000\n"
-                                "26201\n"
-                                "26201,30x0\n"
-                                "26201,300\n"
-                                "26201,\n"
-                                "26201,3001\n"
-                                "2620x,3000\n"
-                                "26201,300580036220f2\n" /* 26022 */
-                                "26201,3000ff\n"
-                                "26202,3000\n"
-                                "26203,3000";
-    static const struct refusal wanted[] = {
-        { 1, CAMEL_UNEXPECTED_DATA_VALUE }, { 3, CAMEL_MALFORMED }, { 4, CAMEL_MALFORMED }, { 5, CAMEL_MALFORMED },
-        { 6, CAMEL_MISSING_FIELD }, { 7, CAMEL_MALFORMED_OCTETS }, { 8, CAMEL_MALFORMED }, { 9, CAMEL_OTHER_IMSI },
-        { 10, CAMEL_MALFORMED_OCTETS }, { 12, CAMEL_MALFORMED },
-    };
-    enum { WANTED = sizeof wanted / sizeof wanted[0] };
-    struct refusal refusals[WANTED + 1];
-    camel_store store = CAMEL_EMPTY;
-    camel_session session = CAMEL_EMPTY;
-    FILE *file = tmpfile();
-    unsigned long count;
-    camel_counts counts;
-
-    if (!file || fwrite(lines, 1, sizeof lines - 1, file) != sizeof lines - 1)
-        abort();
-    rewind(file);
-    open_store(&store, &session, 3);
-    count = restore(&store, file, refusals, WANTED + 1);
-    IS(count == WANTED);
-    for (unsigned long at = 0; at < count && at < WANTED; at++) {
-        if (refusals[at].line != wanted[at].line || refusals[at].status != wanted[at].status)
-            failed++;
-        printf("line %lu is refused: %s\n", refusals[at].line, camel_status_name(refusals[at].status));
-    }
-    counts = counts_of(&store);
-    IS(counts.subscribers == 2 && counts.published == 4 && counts.pending == 0);
-    fclose(file);
-    camel_free(&session);
-    RETURNS(CAMEL_OK, camel_close(&store));
-}
-
-/* Fills a store with random records. */
-static void fill_store(camel_store *store, camel_session *session, uint64_t records)
-{
-    open_store(store, session, 1);
-    for (uint64_t number = 0; number < records; number++) {
-        come(store, number);
-        if (number % LINES_OF_A_PART == 0)
-            RETURNS(CAMEL_OK, camel_publish(store));
-    }
-    RETURNS(CAMEL_OK, camel_publish(store));
-    see_all(store, session);
-    IS(counts_of(store).subscribers == records);
+    return count;
 }
 
 int main(int argc, char **argv)
 {
-    uint64_t records = argc > 1 ? strtoul(argv[1], NULL, 10) : 100000;
-    unsigned long events = argc > 2 ? strtoul(argv[2], NULL, 10) : 1000000, count = 0, same = 0;
-    camel_store store = CAMEL_EMPTY, restored = CAMEL_EMPTY;
-    camel_session session = CAMEL_EMPTY, other = CAMEL_EMPTY;
-    FILE *file = argc > 4 ? fopen(argv[4], "w+") : tmpfile(), *again = tmpfile();
+    unsigned long events = argc > 1 ? strtoul(argv[1], NULL, 10) : 0, count = 0;
+    FILE *file = argc > 3 ? fopen(argv[3], "w+") : NULL, *again = argc > 4 ? fopen(argv[4], "w") : NULL;
     double start, dumped, ended_at;
 
-    state = (argc > 3 ? strtoul(argv[3], NULL, 10) : 1) * 0x9e3779b97f4a7c15u + 1;
     if (!file || !again)
-        abort();
-    refuse_lines();
-    fill_store(&store, &session, records);
-    open_store(&restored, &other, 2);
+        return 2;
+    state = strtoul(argv[2], NULL, 10) * 0x9e3779b97f4a7c15u + 1;
+    RETURNS(CAMEL_OK, camel_open(&store, sessions, 1, CAMEL_MAX_UPDATES, CAMEL_PROFILE_2, 1));
+    RETURNS(CAMEL_OK, camel_open(&restored, &of_restored, 1, CAMEL_MAX_UPDATES, CAMEL_PROFILE_2, 2));
+    restore(&store, stdin);
+    see_all(&store, sessions);
     start = seconds();
-    RETURNS(CAMEL_OK, dump(&session, file, &count));
+    RETURNS(CAMEL_OK, dump(sessions, file, &count));
     dumped = seconds();
-    IS(count == records);
     rewind(file);
-    IS(restore(&restored, file, NULL, 0) == 0);
+    IS(restore(&restored, file) == 0);
     ended_at = seconds();
-    see_all(&restored, &other);
+    see_all(&restored, &of_restored);
     printf("%lu records: dumped in %.2f s, restored in %.2f s\n", count, dumped - start, ended_at - dumped);
-    IS(counts_of(&restored).subscribers == records && counts_of(&restored).published == 2 * records);
+    IS(counts_of(&store).subscribers == count && counts_of(&store).pending == 0);
+    IS(counts_of(&restored).subscribers == count && counts_of(&restored).published == 2 * count);
     start = seconds();
-    compare(&session, &other, records, events);
-    printf("%lu events: decided in both stores in %.2f s\n", events, seconds() - start);
-    RETURNS(CAMEL_OK, dump(&other, again, &same));
-    IS(same == count);
-    if (!failed)
-        have_same_lines(file, again, count);
+    count = compare(events);
+    printf("%lu events: decided in both stores in %.2f s\n", count, seconds() - start);
+    RETURNS(CAMEL_OK, dump(&of_restored, again, &count));
     fclose(file);
     fclose(again);
-    camel_free(&session);
-    camel_free(&other);
-    RETURNS(CAMEL_OK, camel_close(&store));
+    camel_free(&of_restored);
     RETURNS(CAMEL_OK, camel_close(&restored));
+    close_store();
     return ended("restart");
 }

@@ -1,12 +1,15 @@
-/* What a test of random calls knows of each handle and of its store, and the statuses that a call may return. */
+/* What a test of random calls knows of each handle and of its store, the statuses that a call may return, and what it
+ * is passed: each at an edge of memory that may not be touched. */
 #ifndef SLOTS_H
 #define SLOTS_H
 
 #include "random.h"
 
+#include <sys/mman.h>
+
 /* Handles. */
 
-enum { STORE, SESSION, KEPT = SESSION + 4, SPARE, UPDATE, IMSIS = UPDATE + 4, SLOTS, RECEIPTS = 4 };
+enum { STORE, SESSION, KEPT = SESSION + 4, SPARE, UPDATE, IMSIS = UPDATE + 4, SLOTS, RECEIPTS = 4, SUBSCRIBERS = 40 };
 
 static struct slot {
     unsigned of;              /* the store that it is of, or is */
@@ -22,10 +25,9 @@ static struct slot {
     uint64_t listed;          /* of IMSIs: how many were given */
     bool is_through;          /* of IMSIs: whether all were */
 } slots[SLOTS];
-static camel_session handles[SLOTS];
+static camel_session handles[SLOTS], handles_before[SLOTS];
 static uint64_t published[1 << 16]; /* by store: how many updates */
 static uint64_t numbers[1 << 16];   /* by store: that of its receipts, or 0 */
-static camel_receipt receipts[RECEIPTS];
 static unsigned opened;
 
 #define AS(kind, slot) ((camel_##kind *)&handles[slot])
@@ -51,6 +53,67 @@ static unsigned pick_session(void)
     return pick(SESSION + below(4));
 }
 
+static unsigned pick_update(void)
+{
+    return pick(UPDATE + below(4));
+}
+
+/* A handle to fill, or now and then another one, but no empty one of a store or a session. */
+static unsigned pick_to_fill(unsigned meant)
+{
+    unsigned slot = pick(meant);
+    return slot < KEPT && !handles[slot].is_full ? meant : slot;
+}
+
+static bool holds_update(unsigned slot)
+{
+    return handles[slot].is_full && slots[slot].parts.kind != 0;
+}
+
+static bool is_among(unsigned slot, unsigned first, unsigned count)
+{
+    return first <= slot && slot < first + count;
+}
+
+/* What is passed. */
+
+enum { EDGES = 12, ROOM = 1 << 16, OUTS = 2 };
+
+static unsigned edges, outs; /* how many the call has */
+static struct { void *at; size_t size; uint8_t before[sizeof(camel_argument)]; } written[OUTS];
+
+/* A copy of what is passed, whose end no call may go beyond. */
+static void *at_edge(const void *from, size_t size)
+{
+    static uint8_t *rooms[EDGES];
+    uint8_t **room = &rooms[edges++];
+    if (!*room) {
+        *room = mmap(NULL, 2 * ROOM, PROT_READ | PROT_WRITE, MAP_PRIVATE | MAP_ANONYMOUS, -1, 0);
+        if (*room == MAP_FAILED || mprotect(*room + ROOM, ROOM, PROT_NONE) != 0)
+            abort();
+    }
+    return memcpy(*room + ROOM - size, from, size);
+}
+
+#define PASSED(data) at_edge(&(data), sizeof (data))
+
+/* Random octets that a call may write to, which are as before unless it returns CAMEL_OK. */
+static void *out(size_t size)
+{
+    fill(written[outs].before, size);
+    written[outs].size = size;
+    written[outs].at = at_edge(written[outs].before, size);
+    return written[outs++].at;
+}
+
+static bool is_left(const void *at)
+{
+    for (unsigned of = 0; of < outs; of++)
+        if (written[of].at == at)
+            return memcmp(at, written[of].before, written[of].size) == 0;
+    return false;
+}
+
 /* Statuses. */
 
 enum {
@@ -68,11 +131,15 @@ static const camel_status STATUS[STATUSES] = {
     CAMEL_OTHER_STORE, CAMEL_OTHER_VERSION, CAMEL_NO_INSERT, CAMEL_OTHER_SUBSCRIBER
 };
 
-static unsigned long counts[STATUSES]; /* of the function that is called */
+static unsigned long *counts; /* of the function that is called, by these */
 
-/* Whether a call returned CAMEL_OK, which is one of its statuses. */
+/* Whether a call returned CAMEL_OK, which is one of its statuses. Any other has left what it may write, and all
+ * handles. */
 static bool is_ok(unsigned allowed, camel_status status)
 {
+    for (unsigned of = 0; of < outs && status != CAMEL_OK; of++)
+        IS(is_left(written[of].at));
+    IS(status == CAMEL_OK || memcmp(handles, handles_before, sizeof handles) == 0);
     for (int at = 0; at < STATUSES; at++)
         if (STATUS[at] == status && (allowed >> at & 1)) {
             counts[at]++;
@@ -82,14 +149,5 @@ static bool is_ok(unsigned allowed, camel_status status)
     failed++;
     return false;
 }
-
-/* A call that writes to `out`, which is as before unless the call returns CAMEL_OK. */
-#define WRITES(is_written, out, allowed, call)                                                                      \
-    do {                                                                                                            \
-        uint8_t before_[sizeof *(out)];                                                                             \
-        memcpy(before_, (out), sizeof before_);                                                                     \
-        (is_written) = is_ok((allowed), (call));                                                                    \
-        IS((is_written) || memcmp(before_, (out), sizeof before_) == 0);                                            \
-    } while (0)
 
 #endif

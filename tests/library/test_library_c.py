@@ -2,18 +2,38 @@
 that both libraries have."""
 
 import os
+import random
 import re
 import shutil
 import subprocess
+from itertools import count, islice
 
 import pytest
 
 from support.compiling import TOP, compiler_of, output
 from support.tools import command_of
+from wenqolo.drawn.lines import line_of, mutated_line
+from wenqolo.drawn.styles import STYLES
+from wenqolo.drawn.updates import draw_list, draw_update
+from wenqolo.octets.ber import length_octets
+from wenqolo.octets.encoding import TAGS, list_element
 
 pytestmark = pytest.mark.needs("cc", "nm")
-PROGRAMS = "bools commit counts ending imsis inline layouts names receipts restart seeds set_ups statuses updates"
-WORDS = {"ending": ["10000"], "restart": ["100000", "1000000"]}
+PROGRAMS = "bools commit counts ending imsis inline layouts names receipts records seeds statuses updates"
+STYLED = [*STYLES.values()]
+OPERATIONS = {"insertSubscriberData": 7, "deleteSubscriberData": 8, "cancelLocation": 3}
+# What is no line of a dump, and why it is refused.
+NO_LINES = {
+    "26201,300a80084f4f4f4f4f4f4f4f": "UNEXPECTED_DATA_VALUE",
+    "26201": "MALFORMED",
+    "26201,30x0": "MALFORMED",
+    "26201,300": "MALFORMED",
+    "26201,": "MISSING_FIELD",
+    "26201,3001": "MALFORMED_OCTETS",
+    "2620x,3000": "MALFORMED",
+    "26201,300580036220f2": "OTHER_IMSI",
+    "26201,3000ff": "MALFORMED_OCTETS",
+}
 RACES = ["-g", "-fsanitize=thread"]
 # A pointer that is to no handle does not compile here, nor a move between handles of two kinds.
 KINDS = """#include "camel.h"
@@ -29,7 +49,36 @@ OTHER_KINDS = ["camel_free((void *)store);", "camel_free(imsi);", "(void)camel_m
 
 @pytest.mark.parametrize("name", PROGRAMS.split())
 def test_program(name, compiled):
-    output(compiled(f"tests/library/{name}.c"), *WORDS.get(name, []))
+    output(compiled(f"tests/library/{name}.c"))
+
+
+def drawn_records(source):
+    """Lines IMSI,HEX, each of another subscriber, whose lists are of those that are drawn, in any style: of each CSI
+    none, rows, or rows and criteria. The IMSIs of each count of digits go through their values in steps."""
+    lists = {name: [source.choice(STYLED).octets(source, list_element(name, draw_list(source, name)))
+                    for _ in range(500)] for name in TAGS}
+    numbers = count()
+    while True:
+        names = [name for csi in (("o", "oc"), ("t", "tc")) for name in csi[: source.choice((0, 1, 2, 2))]]
+        content = b"".join(source.choice(lists[name]) for name in names)
+        content = b"\xad" + length_octets(len(content)) + content
+        if len(content) <= 1194:
+            number, digits = divmod(next(numbers), 11)
+            imsi = f"{number * 99991 % 10**(5 + digits):0{5 + digits}}"
+            yield f"{imsi},{(b'0' + length_octets(len(content)) + content).hex()}"
+
+
+def test_restart(compiled, tmp_path):
+    """The first store is made of drawn records, behind lines that are none, and before one that is not ended."""
+    lines = [*NO_LINES, *islice(drawn_records(random.Random("restart")), 100000), "26203,3000"]
+    dumps = [tmp_path / "dump", tmp_path / "again"]
+    said = output(compiled("tests/library/restart.c"), "11", "1", *dumps, input="\n".join(lines))
+    refused = re.findall(r"^line (\d+) is refused: CAMEL_(\w+)$", said, re.M)
+    wanted = [*enumerate(NO_LINES.values(), 1), (len(lines), "MALFORMED")]
+    assert refused == [(f"{number}", status) for number, status in wanted]
+    one, other = (sorted(dump.read_text().splitlines()) for dump in dumps)
+    assert one == other
+    assert [line.split(",")[0] for line in one] == sorted(line.split(",")[0] for line in lines[len(NO_LINES) : -1])
 
 
 @pytest.mark.parametrize("name", ["names", "statuses", "updates"])
@@ -93,10 +142,25 @@ def test_shared_library_of_the_whole_archive(library, tmp_path):
     output(*command_of("cc"), "-shared", "-Wl,-z,text,-z,defs", "-o", tmp_path / "shared.so", *archive)
 
 
-def test_random_calls(compiled, library, functions, sanitizers):
+def drawn_arguments(seed, arguments):
+    """The items of an array in C: arguments of two subscribers, every second one with edits."""
+    for number in range(arguments):
+        source = random.Random(f"{seed} {number}")
+        update = draw_update(source)
+        update.imsi = f"26201000000000{source.randrange(2)}"
+        line = line_of(source, update, source.choice(STYLED))
+        operation, imsi, octets = mutated_line(source, line) if number % 2 else line
+        dialogue = f"{len(imsi)}ULL << 56 | {int(imsi or 0)}"
+        text = "".join(f"\\x{octet:02x}" for octet in octets)
+        yield f'    {{ {OPERATIONS[operation]}, {{ {dialogue} }}, "{text}", {len(octets)} }},\n'
+
+
+def test_random_calls(compiled, library, functions, sanitizers, tmp_path):
     """COUNT calls with the random fields of SEED make all functions, and all in the header that return a status."""
-    words = os.environ.get("COUNT", "100000"), os.environ.get("SEED", "1")
-    said = output(compiled("tests/library/fuzz.c", *sanitizers), *words)
+    calls, seed = os.environ.get("COUNT", "100000"), os.environ.get("SEED", "1")
+    arguments = "".join(drawn_arguments(seed, 400))
+    (tmp_path / "drawn.h").write_text(f"static const struct drawn DRAWN[] = {{\n{arguments}}};\n")
+    said = output(compiled("tests/library/fuzz.c", f"-I{tmp_path}", *sanitizers), calls, seed)
     inline = re.findall(r"^CAMEL_INLINE camel_status (camel_[a-z_]+)\(", (library / "camel.h").read_text(), re.M)
     assert sorted(re.findall(r"^(camel_[a-z_]+): ", said, re.M)) == sorted(functions + inline)
 
