@@ -60,7 +60,6 @@ static struct caller {
     camel_imsi copied[COPIES]; /* whose record each is */
 } callers[CALLERS];
 
-static camel_store store = CAMEL_EMPTY;
 static uint64_t number_of_store; /* in its receipts */
 static uint32_t next_step;
 static FILE *writer_log;
@@ -224,7 +223,7 @@ static void *call(void *at)
 
 /* The writer. */
 
-static camel_status submit(const struct step *step)
+static camel_status submit_step(const struct step *step)
 {
     const struct update *sent = (const void *)((const uint8_t *)plan + step->place);
     const uint8_t *counts = sent->counts;
@@ -248,7 +247,7 @@ static void submit_some(void)
         struct entry entry = { .subject = next_step++ % (uint32_t)plan->step_count, .what = SENT };
         if (plan->steps[entry.subject].place == 0)
             return;
-        entry.number = submit(&plan->steps[entry.subject]);
+        entry.number = submit_step(&plan->steps[entry.subject]);
         note(writer_log, entry, NULL, 0);
     }
 }
