@@ -81,9 +81,7 @@ impl Reason {
 
 /// How many events a session has decided at each detection point with each outcome, each count modulo 2^64.
 #[derive(Clone, Copy, Debug, PartialEq, Eq)]
-pub struct Decisions {
-    by: [[u64; ffi::REASONS]; ffi::POINTS],
-}
+pub struct Decisions(pub(crate) ffi::Decisions);
 
 impl Decisions {
     /// How many triggered at a detection point: a service was invoked.
@@ -103,15 +101,11 @@ impl Decisions {
 
     /// How many there are, modulo 2^64.
     pub fn total(&self) -> u64 {
-        sum(self.by.as_flattened())
+        sum(self.0.by.as_flattened())
     }
 
-    fn by_reason(&self, dp: DetectionPoint) -> &[u64; ffi::REASONS] {
-        &self.by[usize::from(dp.number())]
-    }
-
-    pub(crate) fn of_raw(decisions: ffi::Decisions) -> Decisions {
-        Decisions { by: decisions.by }
+    fn by_reason(&self, dp: DetectionPoint) -> &[u64] {
+        &self.0.by[usize::from(dp.number())]
     }
 }
 
@@ -122,25 +116,21 @@ fn sum(counts: &[u64]) -> u64 {
 
 impl Answer {
     #[inline]
-    pub(crate) fn of_raw(answer: &ffi::Answer) -> Result<Answer, Error> {
+    pub(crate) fn of_raw(answer: ffi::Answer) -> Result<Answer, Error> {
+        let unknown = |number: u8| Error::Unknown(number.into());
         let outcome = if answer.is_trigger {
-            let dp =
-                DetectionPoint::of_number(answer.dp).ok_or(Error::Unknown(u32::from(answer.dp)))?;
-            let on_failure = if answer.is_release {
-                OnFailure::Release
-            } else {
-                OnFailure::Continue
-            };
             Outcome::Trigger {
-                dp,
+                dp: DetectionPoint::of_number(answer.dp).ok_or(unknown(answer.dp))?,
                 key: answer.key,
-                scf: IsdnAddress::of_raw(answer.scf),
-                on_failure,
+                scf: IsdnAddress(answer.scf),
+                on_failure: if answer.is_release {
+                    OnFailure::Release
+                } else {
+                    OnFailure::Continue
+                },
             }
         } else {
-            Outcome::NoTrigger(
-                Reason::of_code(answer.reason).ok_or(Error::Unknown(u32::from(answer.reason)))?,
-            )
+            Outcome::NoTrigger(Reason::of_code(answer.reason).ok_or(unknown(answer.reason))?)
         };
         Ok(Answer {
             front: answer.front,
@@ -155,27 +145,27 @@ mod tests {
 
     #[test]
     fn answers_of_unknown_numbers_are_errors() {
-        for reason in 1..=5 {
-            let answer = Answer::of_raw(&ffi::Answer {
+        for reason in 0..=255 {
+            let answer = ffi::Answer {
                 reason,
-                ..ffi::Answer::NONE
+                ..Default::default()
+            };
+            let known = Answer::of_raw(answer).map(|answer| match answer.outcome {
+                Outcome::NoTrigger(why) => why.code(),
+                Outcome::Trigger { .. } => 0,
             });
-            assert!(
-                matches!(answer, Ok(Answer { outcome: Outcome::NoTrigger(why), .. }) if why.code() == reason)
-            );
+            let wanted = if (1..=5).contains(&reason) {
+                Ok(reason)
+            } else {
+                Err(Error::Unknown(reason.into()))
+            };
+            assert_eq!(known, wanted);
         }
-        assert_eq!(
-            Answer::of_raw(&ffi::Answer {
-                reason: 6,
-                ..ffi::Answer::NONE
-            }),
-            Err(Error::Unknown(6))
-        );
         let trigger = ffi::Answer {
             is_trigger: true,
             dp: 3,
-            ..ffi::Answer::NONE
+            ..Default::default()
         };
-        assert_eq!(Answer::of_raw(&trigger), Err(Error::Unknown(3)));
+        assert_eq!(Answer::of_raw(trigger), Err(Error::Unknown(3)));
     }
 }

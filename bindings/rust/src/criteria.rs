@@ -1,22 +1,22 @@
 //! The rows of a CSI, and the criteria of its detection points.
-use crate::numbers::first;
+use crate::ffi::first;
 use crate::{BasicService, Cause, DetectionPoint, Error, IsdnAddress, ffi};
 use std::fmt;
 
 /// A row of a CSI: the service that is invoked at a detection point.
-#[derive(Clone, Copy)]
+#[derive(Clone, Copy, PartialEq, Eq)]
 #[repr(transparent)]
-pub struct Row(ffi::Row);
+pub struct Row(pub(crate) ffi::Row);
 
 impl Row {
     /// A row whose default call handling is 0, continue. The detection point is any that was received: one that is not
     /// of the CSI is ignored, and counts. Service keys are at most 2147483647, which is looked at when it is submitted.
     pub fn new(dp: impl Into<u8>, key: u32, scf: IsdnAddress) -> Row {
         Row(ffi::Row {
-            key,
-            scf: scf.raw(),
             dp: dp.into(),
-            ..ffi::Row::NONE
+            key,
+            scf: scf.0,
+            handling: 0,
         })
     }
 
@@ -40,36 +40,18 @@ impl Row {
 
     /// The address of the gsmSCF.
     pub fn scf(&self) -> IsdnAddress {
-        IsdnAddress::of_raw(self.0.scf)
+        IsdnAddress(self.0.scf)
     }
 
     /// The default call handling. That of a row that a session gives is what it comes to: 0, continue, or 1, release.
     pub fn handling(&self) -> u32 {
         self.0.handling
     }
-
-    pub(crate) fn of_raw(row: ffi::Row) -> Row {
-        Row(row)
-    }
 }
-
-impl PartialEq for Row {
-    fn eq(&self, other: &Row) -> bool {
-        (self.dp(), self.key(), self.scf(), self.handling())
-            == (other.dp(), other.key(), other.scf(), other.handling())
-    }
-}
-
-impl Eq for Row {}
 
 impl fmt::Debug for Row {
     fn fmt(&self, out: &mut fmt::Formatter<'_>) -> fmt::Result {
-        out.debug_struct("Row")
-            .field("dp", &self.dp())
-            .field("key", &self.key())
-            .field("scf", &self.scf())
-            .field("handling", &self.handling())
-            .finish()
+        self.0.fmt(out)
     }
 }
 
@@ -83,7 +65,7 @@ pub enum MatchType {
 }
 
 /// A destination number criterion: numbers that the destination begins with, and lengths that it has.
-#[derive(Clone, Copy)]
+#[derive(Clone, Copy, PartialEq, Eq)]
 pub struct NumberCriterion(ffi::NumberCriterion);
 
 impl NumberCriterion {
@@ -97,13 +79,15 @@ impl NumberCriterion {
         numbers: &[IsdnAddress],
         lengths: &[u8],
     ) -> Result<NumberCriterion, Error> {
-        let mut raw = ffi::NumberCriterion {
+        let (number_count, numbers) = filled(numbers, |number| number.0)?;
+        let (length_count, lengths) = filled(lengths, |length| length)?;
+        Ok(NumberCriterion(ffi::NumberCriterion {
             is_enabling: match_type == MatchType::Enabling,
-            ..ffi::NumberCriterion::NONE
-        };
-        raw.number_count = fill(&mut raw.numbers, numbers.iter().map(|number| number.raw()))?;
-        raw.length_count = fill(&mut raw.lengths, lengths.iter().copied())?;
-        Ok(NumberCriterion(raw))
+            number_count,
+            length_count,
+            lengths,
+            numbers,
+        }))
     }
 
     /// Whether listed destinations meet it.
@@ -117,10 +101,8 @@ impl NumberCriterion {
 
     /// The listed numbers, in their order.
     pub fn numbers(&self) -> impl Iterator<Item = IsdnAddress> + '_ {
-        first(&self.0.numbers, self.0.number_count)
-            .iter()
-            .copied()
-            .map(IsdnAddress::of_raw)
+        let numbers = first(&self.0.numbers, self.0.number_count);
+        numbers.iter().copied().map(IsdnAddress)
     }
 
     /// The listed lengths, in their order.
@@ -128,16 +110,6 @@ impl NumberCriterion {
         first(&self.0.lengths, self.0.length_count)
     }
 }
-
-impl PartialEq for NumberCriterion {
-    fn eq(&self, other: &NumberCriterion) -> bool {
-        self.match_type() == other.match_type()
-            && self.numbers().eq(other.numbers())
-            && self.lengths() == other.lengths()
-    }
-}
-
-impl Eq for NumberCriterion {}
 
 impl fmt::Debug for NumberCriterion {
     fn fmt(&self, out: &mut fmt::Formatter<'_>) -> fmt::Result {
@@ -159,7 +131,7 @@ pub enum CallType {
 }
 
 /// The criteria of a detection point of the O-CSI. An event meets them if it meets each one that is there.
-#[derive(Clone, Copy)]
+#[derive(Clone, Copy, PartialEq, Eq)]
 #[repr(transparent)]
 pub struct OCriteria(ffi::Criteria);
 
@@ -197,7 +169,7 @@ impl OCriteria {
 }
 
 /// The criteria of a detection point of the VT-CSI. An event meets them if it meets each one that is there.
-#[derive(Clone, Copy)]
+#[derive(Clone, Copy, PartialEq, Eq)]
 #[repr(transparent)]
 pub struct TCriteria(ffi::Criteria);
 
@@ -208,8 +180,7 @@ macro_rules! criteria {
         impl $name {
             /// Criteria of a detection point, any that was received, with none in them.
             pub fn new(dp: impl Into<u8>) -> $name {
-                let dp = dp.into();
-                $name(ffi::Criteria { dp, ..ffi::Criteria::NONE })
+                $name(ffi::Criteria { dp: dp.into(), ..Default::default() })
             }
 
             /// With a basic service criterion of at most 5 codes; none are no criterion.
@@ -217,7 +188,8 @@ macro_rules! criteria {
             /// # Errors
             /// [`Error::Malformed`] if there are more.
             pub fn with_basic(mut self, services: &[BasicService]) -> Result<$name, Error> {
-                self.0.basic = basic_of(services)?;
+                let (count, services) = filled(services, BasicService::raw)?;
+                self.0.basic = ffi::BasicServices { count, services };
                 Ok(self)
             }
 
@@ -227,7 +199,8 @@ macro_rules! criteria {
             /// # Errors
             /// [`Error::Malformed`] if there are more.
             pub fn with_causes(mut self, causes: &[Cause]) -> Result<$name, Error> {
-                self.0.causes = causes_of(causes)?;
+                let (count, causes) = filled(causes, Cause::value)?;
+                self.0.causes = ffi::Causes { count, causes };
                 Ok(self)
             }
 
@@ -238,26 +211,16 @@ macro_rules! criteria {
 
             /// The codes of the basic service criterion; none if there is none.
             pub fn basic(&self) -> impl Iterator<Item = BasicService> + '_ {
-                services_in(&self.0.basic)
+                let services = first(&self.0.basic.services, self.0.basic.count);
+                services.iter().copied().map(BasicService::of_raw)
             }
 
             /// The causes of the cause criterion; none if there is none.
             pub fn causes(&self) -> impl Iterator<Item = Cause> + '_ {
-                causes_in(&self.0.causes)
+                let causes = first(&self.0.causes.causes, self.0.causes.count);
+                causes.iter().copied().map(Cause::of_octet)
             }
         }
-
-        impl PartialEq for $name {
-            fn eq(&self, other: &$name) -> bool {
-                self.dp() == other.dp()
-                    $(&& self.$before() == other.$before())?
-                    && self.basic().eq(other.basic())
-                    $(&& self.$behind() == other.$behind())?
-                    && self.causes().eq(other.causes())
-            }
-        }
-
-        impl Eq for $name {}
 
         impl fmt::Debug for $name {
             fn fmt(&self, out: &mut fmt::Formatter<'_>) -> fmt::Result {
@@ -299,42 +262,15 @@ impl Criteria {
     }
 }
 
-/// Puts items into an array, and tells how many; more than it has room for are refused.
-fn fill<T>(array: &mut [T], items: impl ExactSizeIterator<Item = T>) -> Result<u8, Error> {
-    let count = items.len();
-    let places = array.get_mut(..count).ok_or(Error::Malformed)?;
-    places
-        .iter_mut()
-        .zip(items)
-        .for_each(|(place, item)| *place = item);
-    Ok(count as u8)
-}
-
-fn basic_of(services: &[BasicService]) -> Result<ffi::BasicServices, Error> {
-    let mut basic = ffi::BasicServices::NONE;
-    basic.count = fill(
-        &mut basic.services,
-        services.iter().map(|service| service.raw()),
-    )?;
-    Ok(basic)
-}
-
-fn causes_of(causes: &[Cause]) -> Result<ffi::Causes, Error> {
-    let mut raw = ffi::Causes::NONE;
-    raw.count = fill(&mut raw.causes, causes.iter().map(|cause| cause.value()))?;
-    Ok(raw)
-}
-
-fn services_in(basic: &ffi::BasicServices) -> impl Iterator<Item = BasicService> + '_ {
-    first(&basic.services, basic.count)
-        .iter()
-        .copied()
-        .map(BasicService::of_raw)
-}
-
-fn causes_in(causes: &ffi::Causes) -> impl Iterator<Item = Cause> + '_ {
-    first(&causes.causes, causes.count)
-        .iter()
-        .copied()
-        .map(Cause::of_octet)
+/// The count of items, and an array of the library with them; more than it has room for are refused.
+fn filled<Item: Copy, Raw: Copy + Default, const ROOM: usize>(
+    items: &[Item],
+    raw: impl Fn(Item) -> Raw,
+) -> Result<(u8, [Raw; ROOM]), Error> {
+    let mut array = [Raw::default(); ROOM];
+    let places = array.get_mut(..items.len()).ok_or(Error::Malformed)?;
+    for (place, item) in places.iter_mut().zip(items) {
+        *place = raw(*item);
+    }
+    Ok((items.len() as u8, array))
 }

@@ -1,5 +1,5 @@
 //! What `camel.h` declares. `scripts/ffi` makes this file of it.
-use super::{Imsis, Session, Status, Store, Subscriber, Update};
+use super::{Imsis, Octets, Session, Status, Store, Subscriber, Update};
 use std::ffi::c_void;
 
 pub const ABI_VERSION: u32 = 4;
@@ -10,197 +10,118 @@ pub const UPDATE_INSERT: u8 = 2;
 pub const UPDATE_DELETE: u8 = 3;
 pub const UPDATE_CANCEL: u8 = 4;
 pub const UPDATE_CLEAR_ALL: u8 = 5;
-pub const REASONS: usize = 6;
 
-#[repr(C)]
-#[derive(Clone, Copy, PartialEq, Eq, Hash)]
-pub struct Receipt {
-    pub store: u64,
-    pub front: u64,
+pub type Address = Octets<20>;
+pub type IsdnAddress = Octets<9>;
+
+structures! {
+    pub struct Receipt {
+        pub store: u64,
+        pub front: u64,
+    }
+    pub struct Imsi {
+        pub number: u64,
+    }
+    pub struct BasicService {
+        pub is_bearer: bool,
+        pub code: u8,
+    }
+    pub struct Row {
+        pub dp: u8,
+        pub key: u32,
+        pub scf: IsdnAddress,
+        pub handling: u32,
+    }
+    pub struct BasicServices {
+        pub count: u8,
+        pub services: [BasicService; 5],
+    }
+    pub struct Causes {
+        pub count: u8,
+        pub causes: [u8; 5],
+    }
+    pub struct NumberCriterion {
+        pub is_enabling: bool,
+        pub number_count: u8,
+        pub length_count: u8,
+        pub lengths: [u8; 3],
+        pub numbers: [IsdnAddress; 10],
+    }
+    pub struct Criteria {
+        pub dp: u8,
+        pub has_number: bool,
+        pub number: NumberCriterion,
+        pub basic: BasicServices,
+        pub has_call_type: bool,
+        pub is_forwarded: bool,
+        pub causes: Causes,
+    }
+    pub struct Withdrawal {
+        pub o: bool,
+        pub vt: bool,
+        pub everything: bool,
+    }
+    pub struct Event {
+        pub imsi: Imsi,
+        pub destination: Address,
+        pub basic: BasicService,
+        pub dp: u8,
+        pub is_forwarded: bool,
+        pub cause: u8,
+    }
+    pub struct Answer {
+        pub front: u64,
+        pub key: u32,
+        pub scf: IsdnAddress,
+        pub dp: u8,
+        pub is_release: bool,
+        pub is_trigger: bool,
+        pub reason: u8,
+    }
+    pub struct Counts {
+        pub subscribers: u64,
+        pub published: u64,
+        pub pending: u64,
+        pub held: u64,
+    }
+    pub struct Decisions {
+        pub by: [[u64; 6]; 15],
+    }
+    pub struct UpdateParts {
+        pub imsi: Imsi,
+        pub kind: u8,
+        pub o_rows: u8,
+        pub o_criteria: u8,
+        pub vt_rows: u8,
+        pub t_criteria: u8,
+        pub has_o_capability: bool,
+        pub has_vt_capability: bool,
+        pub o_capability: u32,
+        pub vt_capability: u32,
+        pub withdrawal: Withdrawal,
+    }
+    pub struct Argument {
+        pub count: u16,
+        pub octets: [u8; 1198],
+    }
+    pub struct CsiLists {
+        pub rows: *const Row,
+        pub row_count: usize,
+        pub criteria: *const Criteria,
+        pub criteria_count: usize,
+        pub has_rows: bool,
+        pub has_criteria: bool,
+    }
+    pub struct Lists {
+        pub o: CsiLists,
+        pub vt: CsiLists,
+    }
 }
 
-#[repr(C)]
-#[derive(Clone, Copy, PartialEq, Eq, Hash)]
-pub struct Imsi {
-    pub number: u64,
+sizes! {
+    Receipt Imsi Address IsdnAddress BasicService Row BasicServices Causes NumberCriterion Criteria
+    CsiLists Lists Withdrawal Event Answer Counts Decisions UpdateParts Argument Store
 }
-
-#[repr(C)]
-#[derive(Clone, Copy, PartialEq, Eq, Hash)]
-pub struct Address {
-    pub length: u8,
-    pub octets: [u8; 20],
-}
-
-#[repr(C)]
-#[derive(Clone, Copy, PartialEq, Eq, Hash)]
-pub struct IsdnAddress {
-    pub length: u8,
-    pub octets: [u8; 9],
-}
-
-#[repr(C)]
-#[derive(Clone, Copy, PartialEq, Eq, Hash)]
-pub struct BasicService {
-    pub is_bearer: bool,
-    pub code: u8,
-}
-
-#[repr(C)]
-#[derive(Clone, Copy, PartialEq, Eq, Hash)]
-pub struct Row {
-    pub dp: u8,
-    pub key: u32,
-    pub scf: IsdnAddress,
-    pub handling: u32,
-}
-
-#[repr(C)]
-#[derive(Clone, Copy, PartialEq, Eq, Hash)]
-pub struct BasicServices {
-    pub count: u8,
-    pub services: [BasicService; 5],
-}
-
-#[repr(C)]
-#[derive(Clone, Copy, PartialEq, Eq, Hash)]
-pub struct Causes {
-    pub count: u8,
-    pub causes: [u8; 5],
-}
-
-#[repr(C)]
-#[derive(Clone, Copy, PartialEq, Eq, Hash)]
-pub struct NumberCriterion {
-    pub is_enabling: bool,
-    pub number_count: u8,
-    pub length_count: u8,
-    pub lengths: [u8; 3],
-    pub numbers: [IsdnAddress; 10],
-}
-
-#[repr(C)]
-#[derive(Clone, Copy, PartialEq, Eq, Hash)]
-pub struct Criteria {
-    pub dp: u8,
-    pub has_number: bool,
-    pub number: NumberCriterion,
-    pub basic: BasicServices,
-    pub has_call_type: bool,
-    pub is_forwarded: bool,
-    pub causes: Causes,
-}
-
-#[repr(C)]
-#[derive(Clone, Copy, PartialEq, Eq, Hash)]
-pub struct Withdrawal {
-    pub o: bool,
-    pub vt: bool,
-    pub everything: bool,
-}
-
-#[repr(C)]
-#[derive(Clone, Copy, PartialEq, Eq, Hash)]
-pub struct Event {
-    pub imsi: Imsi,
-    pub destination: Address,
-    pub basic: BasicService,
-    pub dp: u8,
-    pub is_forwarded: bool,
-    pub cause: u8,
-}
-
-#[repr(C)]
-#[derive(Clone, Copy, PartialEq, Eq, Hash)]
-pub struct Answer {
-    pub front: u64,
-    pub key: u32,
-    pub scf: IsdnAddress,
-    pub dp: u8,
-    pub is_release: bool,
-    pub is_trigger: bool,
-    pub reason: u8,
-}
-
-#[repr(C)]
-#[derive(Clone, Copy, PartialEq, Eq, Hash)]
-pub struct Counts {
-    pub subscribers: u64,
-    pub published: u64,
-    pub pending: u64,
-    pub held: u64,
-}
-
-#[repr(C)]
-#[derive(Clone, Copy, PartialEq, Eq, Hash)]
-pub struct Decisions {
-    pub by: [[u64; 6]; 15],
-}
-
-#[repr(C)]
-#[derive(Clone, Copy, PartialEq, Eq, Hash)]
-pub struct UpdateParts {
-    pub imsi: Imsi,
-    pub kind: u8,
-    pub o_rows: u8,
-    pub o_criteria: u8,
-    pub vt_rows: u8,
-    pub t_criteria: u8,
-    pub has_o_capability: bool,
-    pub has_vt_capability: bool,
-    pub o_capability: u32,
-    pub vt_capability: u32,
-    pub withdrawal: Withdrawal,
-}
-
-#[repr(C)]
-#[derive(Clone, Copy, PartialEq, Eq, Hash)]
-pub struct Argument {
-    pub count: u16,
-    pub octets: [u8; 1198],
-}
-
-#[repr(C)]
-#[derive(Clone, Copy, PartialEq, Eq, Hash)]
-pub struct CsiLists {
-    pub rows: *const Row,
-    pub row_count: usize,
-    pub criteria: *const Criteria,
-    pub criteria_count: usize,
-    pub has_rows: bool,
-    pub has_criteria: bool,
-}
-
-#[repr(C)]
-#[derive(Clone, Copy, PartialEq, Eq, Hash)]
-pub struct Lists {
-    pub o: CsiLists,
-    pub vt: CsiLists,
-}
-
-/// As `camel_layouts` tells them.
-pub const SIZES: [usize; 20] = [
-    size_of::<Receipt>(),
-    size_of::<Imsi>(),
-    size_of::<Address>(),
-    size_of::<IsdnAddress>(),
-    size_of::<BasicService>(),
-    size_of::<Row>(),
-    size_of::<BasicServices>(),
-    size_of::<Causes>(),
-    size_of::<NumberCriterion>(),
-    size_of::<Criteria>(),
-    size_of::<CsiLists>(),
-    size_of::<Lists>(),
-    size_of::<Withdrawal>(),
-    size_of::<Event>(),
-    size_of::<Answer>(),
-    size_of::<Counts>(),
-    size_of::<Decisions>(),
-    size_of::<UpdateParts>(),
-    size_of::<Argument>(),
-    size_of::<Store>(),
-];
 
 unsafe extern "C" {
     pub fn camel_abi_version() -> u32;

@@ -1,4 +1,4 @@
-//! Why a call did nothing.
+//! Why a call did nothing, and calls of the library that answer so.
 use crate::ffi;
 use std::fmt;
 
@@ -99,6 +99,46 @@ impl fmt::Display for Error {
 
 impl std::error::Error for Error {}
 
+/// An error that may be at a place of what was handed in, and becomes its [`Error`] by `?`.
+macro_rules! error_at_place {
+    ($(#[$docs:meta])+ $name:ident { $(#[$place_docs:meta])+ $place:ident: $of:literal }) => {
+        $(#[$docs])+
+        #[derive(Clone, Copy, Debug, PartialEq, Eq, Hash)]
+        pub struct $name {
+            /// Why.
+            pub error: Error,
+            $(#[$place_docs])+
+            pub $place: Option<usize>,
+        }
+
+        impl $name {
+            /// The number of the error, as [`Error::code`].
+            pub const fn code(self) -> u32 {
+                self.error.code()
+            }
+        }
+
+        impl std::fmt::Display for $name {
+            fn fmt(&self, out: &mut std::fmt::Formatter<'_>) -> std::fmt::Result {
+                match self.$place {
+                    None => self.error.fmt(out),
+                    Some(place) => write!(out, concat!("{} at ", $of, " {}"), self.error, place),
+                }
+            }
+        }
+
+        impl std::error::Error for $name {}
+
+        impl From<$name> for Error {
+            fn from(fault: $name) -> Error {
+                fault.error
+            }
+        }
+    };
+}
+
+pub(crate) use error_at_place;
+
 /// Ok for `CAMEL_OK`, else the error of the status.
 #[inline]
 pub(crate) fn done(status: ffi::Status) -> Result<(), Error> {
@@ -106,6 +146,23 @@ pub(crate) fn done(status: ffi::Status) -> Result<(), Error> {
         ffi::OK => Ok(()),
         other => Err(Error::of_status(other)),
     }
+}
+
+/// What a call of the library writes.
+#[inline]
+pub(crate) fn read<T: Default>(call: impl FnOnce(&mut T) -> ffi::Status) -> Result<T, Error> {
+    let mut value = T::default();
+    done(call(&mut value))?;
+    Ok(value)
+}
+
+/// What a call of the library writes if it is there.
+pub(crate) fn find<T: Default>(
+    call: impl FnOnce(&mut T, &mut bool) -> ffi::Status,
+) -> Result<Option<T>, Error> {
+    let mut is_there = false;
+    let value = read(|value| call(value, &mut is_there))?;
+    Ok(is_there.then_some(value))
 }
 
 #[cfg(test)]

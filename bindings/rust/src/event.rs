@@ -63,16 +63,11 @@ impl BasicService {
     }
 
     pub(crate) fn raw(self) -> ffi::BasicService {
-        match self {
-            BasicService::Tele(code) => ffi::BasicService {
-                is_bearer: false,
-                code,
-            },
-            BasicService::Bearer(code) => ffi::BasicService {
-                is_bearer: true,
-                code,
-            },
-        }
+        let (is_bearer, code) = match self {
+            BasicService::Tele(code) => (false, code),
+            BasicService::Bearer(code) => (true, code),
+        };
+        ffi::BasicService { is_bearer, code }
     }
 }
 
@@ -107,22 +102,20 @@ impl Cause {
 /// A call event, made by the function of its detection point. The IMSI is that of the served subscriber: the calling or
 /// forwarding one at DP 2 and 4, the called one at DP 12, 13 and 14.
 #[derive(Clone, Copy)]
-pub struct Event(ffi::Event);
+pub struct Event(pub(crate) ffi::Event);
 
 impl Event {
     fn at(dp: DetectionPoint, imsi: Imsi, basic: BasicService) -> Event {
         Event(ffi::Event {
             imsi: imsi.raw(),
-            destination: Address::NONE,
             basic: basic.raw(),
             dp: dp.number(),
-            is_forwarded: false,
-            cause: 0,
+            ..Default::default()
         })
     }
 
     fn with_destination(mut self, destination: Address) -> Event {
-        self.0.destination = destination.raw();
+        self.0.destination = destination.0;
         self
     }
 
@@ -174,11 +167,6 @@ impl Event {
     pub fn dp(&self) -> u8 {
         self.0.dp
     }
-
-    #[inline]
-    pub(crate) fn raw(&self) -> &ffi::Event {
-        &self.0
-    }
 }
 
 impl fmt::Debug for Event {
@@ -190,7 +178,7 @@ impl fmt::Debug for Event {
         }
         fields
             .field("basic", &BasicService::of_raw(self.0.basic))
-            .field("destination", &Address::of_raw(self.0.destination))
+            .field("destination", &Address(self.0.destination))
             .field("is_forwarded", &self.0.is_forwarded)
             .field("cause", &self.0.cause)
             .finish()

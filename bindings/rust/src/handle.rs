@@ -1,6 +1,7 @@
 //! Handles that are freed when they are dropped.
 use crate::ffi::{self, Handle};
 use std::cell::UnsafeCell;
+use std::fmt;
 
 /// A handle that only this value has. It is never copied: a move copies its bytes and forgets the old ones.
 ///
@@ -10,13 +11,8 @@ use std::cell::UnsafeCell;
 pub(crate) struct Owned<T: Handle>(UnsafeCell<T>);
 
 impl<T: Handle> Owned<T> {
-    /// An empty handle.
-    pub const fn empty() -> Owned<T> {
-        Owned::of(T::EMPTY)
-    }
-
     /// Takes over a handle that is empty, or as the library left it.
-    pub const fn of(handle: T) -> Owned<T> {
+    pub fn of(handle: T) -> Owned<T> {
         Owned(UnsafeCell::new(handle))
     }
 
@@ -25,6 +21,20 @@ impl<T: Handle> Owned<T> {
     /// read it: no other thread has a reference to it else, and the library calls nothing back.
     pub fn at(&self) -> *mut T {
         self.0.get()
+    }
+}
+
+/// An empty handle.
+impl<T: Handle> Default for Owned<T> {
+    fn default() -> Owned<T> {
+        Owned::of(T::EMPTY)
+    }
+}
+
+/// What the library keeps behind a handle is not shown.
+impl<T: Handle> fmt::Debug for Owned<T> {
+    fn fmt(&self, out: &mut fmt::Formatter<'_>) -> fmt::Result {
+        out.write_str("..")
     }
 }
 

@@ -1,5 +1,6 @@
 //! IMSIs and addresses.
-use crate::error::done;
+use crate::error::read;
+use crate::ffi::first;
 use crate::{Error, ffi};
 use std::fmt;
 use std::num::NonZeroU64;
@@ -20,10 +21,10 @@ impl Imsi {
     /// # Errors
     /// [`Error::Malformed`] if they are no IMSI of 5 to 15 digits.
     pub fn from_tbcd(octets: &[u8]) -> Result<Imsi, Error> {
-        let mut imsi = ffi::Imsi { number: 0 };
         // SAFETY: the pointer and the length are of one slice, and the IMSI is apart from it.
-        done(unsafe { ffi::camel_imsi_of_tbcd_nonnull(octets.as_ptr(), octets.len(), &mut imsi) })?;
-        Imsi::of_raw(imsi)
+        Imsi::of_raw(read(|imsi| unsafe {
+            ffi::camel_imsi_of_tbcd_nonnull(octets.as_ptr(), octets.len(), imsi)
+        })?)
     }
 
     /// The IMSI of 5 to 15 characters `0` to `9`, as a `&str` or as octets. A `&str` may also be parsed.
@@ -32,12 +33,10 @@ impl Imsi {
     /// [`Error::Malformed`] if they are none.
     pub fn from_digits(digits: impl AsRef<[u8]>) -> Result<Imsi, Error> {
         let digits = digits.as_ref();
-        let mut imsi = ffi::Imsi { number: 0 };
         // SAFETY: the pointer and the length are of one slice, and the IMSI is apart from it.
-        done(unsafe {
-            ffi::camel_imsi_of_digits_nonnull(digits.as_ptr(), digits.len(), &mut imsi)
-        })?;
-        Imsi::of_raw(imsi)
+        Imsi::of_raw(read(|imsi| unsafe {
+            ffi::camel_imsi_of_digits_nonnull(digits.as_ptr(), digits.len(), imsi)
+        })?)
     }
 
     /// Its 5 to 15 digits, as characters.
@@ -147,104 +146,27 @@ impl fmt::Debug for ImsiTbcd {
     }
 }
 
-/// An AddressString of TS 29.002, as the destination of a call: 1 to 20 octets, octet 1 with the nature of address and
-/// the numbering plan. It is written in hexadecimal.
-#[derive(Clone, Copy)]
-pub struct Address(ffi::Address);
+/// An address of the most octets that it has, which the call of the library makes.
+macro_rules! address {
+    ($(#[$docs:meta])+ $name:ident, $most:literal, $call:ident) => {
+        $(#[$docs])+
+        #[derive(Clone, Copy, PartialEq, Eq, Hash)]
+        pub struct $name(pub(crate) ffi::$name);
 
-impl Address {
-    /// The address of these octets.
-    ///
-    /// # Errors
-    /// [`Error::Malformed`] if there are none, or more than 20.
-    pub fn new(octets: &[u8]) -> Result<Address, Error> {
-        let mut address = Address::NONE;
-        // SAFETY: the pointer and the length are of one slice, and the address is apart from it.
-        done(unsafe {
-            ffi::camel_address_of_nonnull(octets.as_ptr(), octets.len(), &mut address)
-        })?;
-        Ok(Address(address))
-    }
-
-    /// Its octets.
-    pub fn octets(&self) -> &[u8] {
-        first(&self.0.octets, self.0.length)
-    }
-
-    pub(crate) const NONE: ffi::Address = ffi::Address {
-        length: 0,
-        octets: [0; 20],
-    };
-
-    pub(crate) fn of_raw(address: ffi::Address) -> Address {
-        Address(address)
-    }
-
-    pub(crate) fn raw(self) -> ffi::Address {
-        self.0
-    }
-}
-
-/// An ISDN-AddressString, as a gsmSCF address or a number of a criterion: 1 to 9 octets. It is written in hexadecimal.
-#[derive(Clone, Copy)]
-pub struct IsdnAddress(ffi::IsdnAddress);
-
-impl IsdnAddress {
-    /// The address of these octets.
-    ///
-    /// # Errors
-    /// [`Error::Malformed`] if there are none, or more than 9.
-    pub fn new(octets: &[u8]) -> Result<IsdnAddress, Error> {
-        let mut address = ffi::IsdnAddress::NONE;
-        // SAFETY: the pointer and the length are of one slice, and the address is apart from it.
-        done(unsafe {
-            ffi::camel_isdn_address_of_nonnull(octets.as_ptr(), octets.len(), &mut address)
-        })?;
-        Ok(IsdnAddress(address))
-    }
-
-    /// Its octets.
-    pub fn octets(&self) -> &[u8] {
-        first(&self.0.octets, self.0.length)
-    }
-
-    pub(crate) fn of_raw(address: ffi::IsdnAddress) -> IsdnAddress {
-        IsdnAddress(address)
-    }
-
-    pub(crate) fn raw(self) -> ffi::IsdnAddress {
-        self.0
-    }
-}
-
-/// A forwarded-to number is the destination of the forwarded call.
-impl From<IsdnAddress> for Address {
-    fn from(number: IsdnAddress) -> Address {
-        let mut address = Address::NONE;
-        address.length = number.octets().len() as u8;
-        address.octets[..number.octets().len()].copy_from_slice(number.octets());
-        Address(address)
-    }
-}
-
-/// The first so many octets of an array, or all of it.
-pub(crate) fn first<T>(items: &[T], count: u8) -> &[T] {
-    items.get(..usize::from(count)).unwrap_or(items)
-}
-
-macro_rules! as_its_octets {
-    ($name:ident) => {
-        impl PartialEq for $name {
-            fn eq(&self, other: &$name) -> bool {
-                self.octets() == other.octets()
+        impl $name {
+            /// The address of these octets.
+            ///
+            /// # Errors
+            #[doc = concat!("[`Error::Malformed`] if there are none, or more than ", $most, ".")]
+            pub fn new(octets: &[u8]) -> Result<$name, Error> {
+                // SAFETY: the pointer and the length are of one slice, and the address is apart from it.
+                read(|address| unsafe { ffi::$call(octets.as_ptr(), octets.len(), address) })
+                    .map($name)
             }
-        }
 
-        impl Eq for $name {}
-
-        impl std::hash::Hash for $name {
-            fn hash<H: std::hash::Hasher>(&self, state: &mut H) {
-                self.octets().hash(state);
+            /// Its octets.
+            pub fn octets(&self) -> &[u8] {
+                self.0.get()
             }
         }
 
@@ -258,9 +180,7 @@ macro_rules! as_its_octets {
 
         impl fmt::Display for $name {
             fn fmt(&self, out: &mut fmt::Formatter<'_>) -> fmt::Result {
-                self.octets()
-                    .iter()
-                    .try_for_each(|octet| write!(out, "{octet:02x}"))
+                fmt::Debug::fmt(&self.0, out)
             }
         }
 
@@ -272,5 +192,21 @@ macro_rules! as_its_octets {
     };
 }
 
-as_its_octets!(Address);
-as_its_octets!(IsdnAddress);
+address! {
+    /// An AddressString of TS 29.002, as the destination of a call: 1 to 20 octets, octet 1 with the nature of address
+    /// and the numbering plan. It is written in hexadecimal.
+    Address, 20, camel_address_of_nonnull
+}
+
+address! {
+    /// An ISDN-AddressString, as a gsmSCF address or a number of a criterion: 1 to 9 octets. It is written in
+    /// hexadecimal.
+    IsdnAddress, 9, camel_isdn_address_of_nonnull
+}
+
+/// A forwarded-to number is the destination of the forwarded call.
+impl From<IsdnAddress> for Address {
+    fn from(number: IsdnAddress) -> Address {
+        Address(ffi::Octets::of(number.octets()))
+    }
+}

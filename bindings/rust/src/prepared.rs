@@ -1,7 +1,7 @@
 //! Updates that are made before they are submitted: decoded, joined, and submitted together.
-use crate::error::done;
+use crate::error::{done, error_at_place, read};
 use crate::handle::Owned;
-use crate::{Error, Imsi, MapFault, Operation, Update, Withdrawal, ffi, map};
+use crate::{Error, Imsi, MapFault, Operation, Update, Withdrawal, ffi};
 use std::fmt;
 
 /// An update that the library has read or decoded, and that is of no store. It may be submitted to any, and more than
@@ -28,34 +28,26 @@ use std::fmt;
 /// }
 /// ```
 #[repr(transparent)]
-pub struct PreparedUpdate {
-    handle: Owned<ffi::Update>,
-}
+pub struct PreparedUpdate(Owned<ffi::Update>);
 
 // SAFETY: the calls that are made by a shared reference take the handle as const, and several such calls may be made
 // with it at the same time.
 unsafe impl Sync for PreparedUpdate {}
 
 impl PreparedUpdate {
-    /// One that is still to be filled.
-    fn empty() -> PreparedUpdate {
-        PreparedUpdate {
-            handle: Owned::empty(),
-        }
-    }
-
     /// Reads an update.
     ///
     /// # Errors
     /// [`Error::DataMissing`] and [`Error::UnexpectedDataValue`] of its data, as those of
     /// [`Store::submit`](crate::Store::submit). [`Error::OutOfMemory`]: try again.
     pub fn new(update: &Update) -> Result<PreparedUpdate, Error> {
-        let made = PreparedUpdate::empty();
         // SAFETY: the handle is empty, and in no other call; `taken` hands over all else, apart from it.
-        update.taken(|kind, imsi, what, lists| unsafe {
-            ffi::camel_update_of_nonnull(kind, imsi, what, lists, made.handle.at())
-        })?;
-        Ok(made)
+        read(|made: &mut Owned<_>| {
+            update.taken(|kind, imsi, what, lists| unsafe {
+                ffi::camel_update_of_nonnull(kind, imsi, what, lists, made.at())
+            })
+        })
+        .map(PreparedUpdate)
     }
 
     /// Decodes what an operation of MAP brings, from the octets of its argument, as
@@ -69,9 +61,12 @@ impl PreparedUpdate {
         imsi: Option<Imsi>,
         argument: &[u8],
     ) -> Result<PreparedUpdate, MapFault> {
-        let mut made = PreparedUpdate::empty();
-        map::prepare(&mut made.handle, operation, imsi, argument)?;
-        Ok(made)
+        let made = Owned::default();
+        // SAFETY: the handle is empty, and in no other call; `taken` hands over all else, apart from it.
+        operation.taken(imsi, argument, |code, imsi, octets, count, place| unsafe {
+            ffi::camel_update_of_map_nonnull(code, imsi, octets, count, made.at(), place)
+        })?;
+        Ok(PreparedUpdate(made))
     }
 
     /// The join of this Insert and the next one of the same dialogue: what one operation brings that has the lists of
@@ -84,13 +79,12 @@ impl PreparedUpdate {
     /// different subscribers. [`Error::UnexpectedDataValue`]: criteria have more than 10 entries then, or two of a
     /// detection point of the CSI. [`Error::OutOfMemory`]: try again.
     pub fn join(&self, next: &PreparedUpdate) -> Result<PreparedUpdate, Error> {
-        let joined = PreparedUpdate::empty();
         // SAFETY: the handles are fit for a call that reads them, as `Owned` says, and the one to be filled is apart
         // from both.
-        done(unsafe {
-            ffi::camel_update_join(self.handle.at(), next.handle.at(), joined.handle.at())
-        })?;
-        Ok(joined)
+        read(|joined: &mut Owned<_>| unsafe {
+            ffi::camel_update_join(self.0.at(), next.0.at(), joined.at())
+        })
+        .map(PreparedUpdate)
     }
 
     /// What came with it: of an Insert, which lists and how many items, and the camelCapabilityHandling of each CSI.
@@ -98,10 +92,10 @@ impl PreparedUpdate {
     /// # Errors
     /// [`Error::Unknown`] only, which safe code does not meet.
     pub fn parts(&self) -> Result<UpdateParts, Error> {
-        let mut parts = ffi::UpdateParts::NONE;
         // SAFETY: the handle is fit for a call, as `Owned` says, and the parts are apart from it.
-        done(unsafe { ffi::camel_update_parts_of(self.handle.at(), &mut parts) })?;
-        UpdateParts::of_raw(&parts)
+        UpdateParts::of_raw(read(|parts| unsafe {
+            ffi::camel_update_parts_of(self.0.at(), parts)
+        })?)
     }
 }
 
@@ -180,15 +174,12 @@ pub struct CapabilityHandling {
 }
 
 impl UpdateParts {
-    fn of_raw(parts: &ffi::UpdateParts) -> Result<UpdateParts, Error> {
-        if parts.kind == ffi::UPDATE_CLEAR_ALL {
-            return Ok(UpdateParts::ClearAll);
-        }
-        let imsi = Imsi::of_raw(parts.imsi)?;
+    fn of_raw(parts: ffi::UpdateParts) -> Result<UpdateParts, Error> {
+        let imsi = Imsi::of_raw(parts.imsi);
         match parts.kind {
-            ffi::UPDATE_REGISTER => Ok(UpdateParts::Register { imsi }),
+            ffi::UPDATE_REGISTER => Ok(UpdateParts::Register { imsi: imsi? }),
             ffi::UPDATE_INSERT => Ok(UpdateParts::Insert {
-                imsi,
+                imsi: imsi?,
                 counts: ItemCounts {
                     o: parts.o_rows,
                     o_criteria: parts.o_criteria,
@@ -201,45 +192,22 @@ impl UpdateParts {
                 },
             }),
             ffi::UPDATE_DELETE => Ok(UpdateParts::Delete {
-                imsi,
+                imsi: imsi?,
                 what: Withdrawal::of_raw(parts.withdrawal),
             }),
-            ffi::UPDATE_CANCEL => Ok(UpdateParts::Cancel { imsi }),
-            other => Err(Error::Unknown(u32::from(other))),
+            ffi::UPDATE_CANCEL => Ok(UpdateParts::Cancel { imsi: imsi? }),
+            ffi::UPDATE_CLEAR_ALL => Ok(UpdateParts::ClearAll),
+            other => Err(Error::Unknown(other.into())),
         }
     }
 }
 
-/// Why updates were not submitted, or not committed, and which one the store rejects. It becomes its [`Error`] by `?`.
-#[derive(Clone, Copy, Debug, PartialEq, Eq, Hash)]
-pub struct Rejected {
-    /// Why.
-    pub error: Error,
-    /// The index of the update that the store rejects; None if it rejects none of them, as when memory is refused.
-    pub at: Option<usize>,
-}
-
-impl Rejected {
-    /// The number of the error, as [`Error::code`].
-    pub const fn code(self) -> u32 {
-        self.error.code()
-    }
-}
-
-impl fmt::Display for Rejected {
-    fn fmt(&self, out: &mut fmt::Formatter<'_>) -> fmt::Result {
-        match self.at {
-            None => self.error.fmt(out),
-            Some(at) => write!(out, "{} at update {at}", self.error),
-        }
-    }
-}
-
-impl std::error::Error for Rejected {}
-
-impl From<Rejected> for Error {
-    fn from(rejected: Rejected) -> Error {
-        rejected.error
+error_at_place! {
+    /// Why updates were not submitted, or not committed, and which one the store rejects. It becomes its [`Error`] by
+    /// `?`.
+    Rejected {
+        /// The index of the update that the store rejects; None if it rejects none of them, as when memory is refused.
+        at: "update"
     }
 }
 
@@ -264,24 +232,17 @@ mod tests {
 
     #[test]
     fn parts_of_unknown_kinds_are_errors() {
-        let imsi = ffi::Imsi {
-            number: 5 << 56 | 26201,
+        let of_kind = |kind, number| {
+            UpdateParts::of_raw(ffi::UpdateParts {
+                kind,
+                imsi: ffi::Imsi { number },
+                ..Default::default()
+            })
         };
         for kind in [0, 6, 255] {
-            let parts = ffi::UpdateParts {
-                imsi,
-                kind,
-                ..ffi::UpdateParts::NONE
-            };
-            assert_eq!(
-                UpdateParts::of_raw(&parts),
-                Err(Error::Unknown(u32::from(kind)))
-            );
+            let unknown = Err(Error::Unknown(kind.into()));
+            assert_eq!(of_kind(kind, 5 << 56 | 26201), unknown);
         }
-        let parts = ffi::UpdateParts {
-            kind: ffi::UPDATE_REGISTER,
-            ..ffi::UpdateParts::NONE
-        };
-        assert_eq!(UpdateParts::of_raw(&parts), Err(Error::Malformed));
+        assert_eq!(of_kind(ffi::UPDATE_REGISTER, 0), Err(Error::Malformed));
     }
 }

@@ -1,5 +1,5 @@
 //! What sessions are told of a publication by, and what a call keeps.
-use crate::error::done;
+use crate::error::{find, read};
 use crate::handle::Owned;
 use crate::{Answer, DetectionPoint, Error, Event, Row, Session, ffi};
 use std::fmt;
@@ -7,23 +7,16 @@ use std::fmt;
 /// A receipt of all that was published when it was made: plain data, which may be copied and shared. Any number of
 /// sessions may learn it.
 #[derive(Clone, Copy, PartialEq, Eq, Hash)]
-pub struct Receipt(ffi::Receipt);
+pub struct Receipt(pub(crate) ffi::Receipt);
 
 impl Receipt {
     /// How many updates it is of.
     pub fn front(&self) -> u64 {
         self.0.front
     }
-
-    pub(crate) fn of_raw(receipt: ffi::Receipt) -> Receipt {
-        Receipt(receipt)
-    }
-
-    pub(crate) fn raw(&self) -> &ffi::Receipt {
-        &self.0
-    }
 }
 
+/// The secret seed of the store is not shown.
 impl fmt::Debug for Receipt {
     fn fmt(&self, out: &mut fmt::Formatter<'_>) -> fmt::Result {
         out.debug_struct("Receipt")
@@ -34,9 +27,8 @@ impl fmt::Debug for Receipt {
 
 /// The record of a subscriber, which a call keeps from its set-up to its later detection points, whatever the HLR sends
 /// meanwhile. It holds nobody up, and outlives the store. Threads may share it, and decide by it at the same time.
-pub struct Subscriber {
-    pub(crate) handle: Owned<ffi::Subscriber>,
-}
+#[derive(Debug)]
+pub struct Subscriber(pub(crate) Owned<ffi::Subscriber>);
 
 // SAFETY: the calls that are made by a shared reference take the handle as const, and several such calls may be made
 // with it at the same time.
@@ -51,12 +43,10 @@ impl Subscriber {
     /// The record and the session are as before: [`Error::Unknown`] only, which safe code does not meet.
     #[inline]
     pub fn decide(&self, session: &mut Session, event: &Event) -> Result<Answer, Error> {
-        let mut answer = ffi::Answer::NONE;
         // SAFETY: both handles are fit for a call, as `Owned` says; the event and the answer are apart from them.
-        done(unsafe {
-            ffi::camel_decide_kept(session.handle(), self.handle.at(), event.raw(), &mut answer)
-        })?;
-        Answer::of_raw(&answer)
+        Answer::of_raw(read(|answer| unsafe {
+            ffi::camel_decide_kept(session.handle.at(), self.0.at(), &event.0, answer)
+        })?)
     }
 
     /// The row of the record at a detection point, as [`Session::row`]; None if there is none.
@@ -64,18 +54,10 @@ impl Subscriber {
     /// # Errors
     /// As [`decide`](Subscriber::decide).
     pub fn row(&self, dp: DetectionPoint) -> Result<Option<Row>, Error> {
-        let mut row = ffi::Row::NONE;
-        let mut is_there = false;
         // SAFETY: the handle is fit for a call that reads it, as `Owned` says; what is written is apart from it.
-        done(unsafe {
-            ffi::camel_kept_row_at(self.handle.at(), dp.number(), &mut row, &mut is_there)
+        let row = find(|row, is_there| unsafe {
+            ffi::camel_kept_row_at(self.0.at(), dp.number(), row, is_there)
         })?;
-        Ok(is_there.then(|| Row::of_raw(row)))
-    }
-}
-
-impl fmt::Debug for Subscriber {
-    fn fmt(&self, out: &mut fmt::Formatter<'_>) -> fmt::Result {
-        out.debug_struct("Subscriber").finish_non_exhaustive()
+        Ok(row.map(Row))
     }
 }

@@ -1,12 +1,12 @@
 //! Sessions: what call-control threads decide their calls by.
-use crate::error::done;
+use crate::error::{done, find, read};
 use crate::handle::Owned;
 use crate::{
     Answer, Argument, Criteria, Decisions, DetectionPoint, Error, Event, Imsi, Imsis, MAX_SESSIONS,
     Receipt, Row, Subscriber, ffi,
 };
-use std::fmt;
 use std::marker::PhantomData;
+use std::{array, mem};
 
 /// What one call-control thread decides its calls by. No call takes a lock, waits or yields, and none but
 /// [`keep`](Session::keep), [`set_up`](Session::set_up), [`imsis`](Session::imsis) and
@@ -31,8 +31,9 @@ use std::marker::PhantomData;
 /// fn is_shared<T: Sync>() {}
 /// is_shared::<camel::Session>();
 /// ```
+#[derive(Debug)]
 pub struct Session {
-    handle: Owned<ffi::Session>,
+    pub(crate) handle: Owned<ffi::Session>,
     /// Whether a look has begun and is not left. No call of this type finds it so, except behind a forgotten [`Look`].
     is_looking: bool,
 }
@@ -51,8 +52,7 @@ impl Session {
     /// The session is as before. [`Error::NoLook`]: the store has ended.
     #[inline]
     pub fn decide(&mut self, event: &Event) -> Result<Answer, Error> {
-        self.leave_forgotten()?;
-        self.decide_over(event)
+        self.looking()?.decide(event)
     }
 
     /// Begins a look, which holds one front until it is left or dropped. It lets the next publication go through, and
@@ -61,14 +61,11 @@ impl Session {
     /// # Errors
     /// As [`decide`](Session::decide).
     pub fn look(&mut self) -> Result<Look<'_>, Error> {
-        self.leave_forgotten()?;
+        let look = self.looking()?;
         // SAFETY: the handle is fit for a call, as `Owned` says.
-        done(unsafe { ffi::camel_look(self.handle.at()) })?;
-        self.is_looking = true;
-        Ok(Look {
-            session: self,
-            stays: PhantomData,
-        })
+        done(unsafe { ffi::camel_look(look.at()) })?;
+        look.session.is_looking = true;
+        Ok(look)
     }
 
     /// Learns a receipt: from then on the session sees at least what it is of. Any number of sessions may learn it.
@@ -79,16 +76,14 @@ impl Session {
     pub fn learn(&mut self, receipt: &Receipt) -> Result<(), Error> {
         self.leave_forgotten()?;
         // SAFETY: the handle is fit for a call, as `Owned` says, and the receipt is apart from it.
-        done(unsafe { ffi::camel_learn(self.handle.at(), receipt.raw()) })
+        done(unsafe { ffi::camel_learn(self.handle.at(), &receipt.0) })
     }
 
     /// How many events the session, its looks and the records that were asked with it have decided, by detection point
     /// and reason. It fails only as the library does of itself, which safe code does not meet.
     pub fn decisions(&self) -> Result<Decisions, Error> {
-        let mut decisions = ffi::Decisions::NONE;
         // SAFETY: the handle is fit for a call, as `Owned` says, and the counts are apart from it.
-        done(unsafe { ffi::camel_decisions_of(self.handle.at(), &mut decisions) })?;
-        Ok(Decisions::of_raw(decisions))
+        read(|counts| unsafe { ffi::camel_decisions_of(self.handle.at(), counts) }).map(Decisions)
     }
 
     /// The row that is stored for a subscriber at a detection point; None if there is none.
@@ -96,8 +91,7 @@ impl Session {
     /// # Errors
     /// As [`decide`](Session::decide).
     pub fn row(&mut self, imsi: Imsi, dp: DetectionPoint) -> Result<Option<Row>, Error> {
-        self.leave_forgotten()?;
-        self.row_over(imsi, dp)
+        self.looking()?.row(imsi, dp)
     }
 
     /// The criteria that are stored for a subscriber at a detection point; None if there are none. They are there even
@@ -106,8 +100,7 @@ impl Session {
     /// # Errors
     /// As [`decide`](Session::decide).
     pub fn criteria(&mut self, imsi: Imsi, dp: DetectionPoint) -> Result<Option<Criteria>, Error> {
-        self.leave_forgotten()?;
-        self.criteria_over(imsi, dp)
+        self.looking()?.criteria(imsi, dp)
     }
 
     /// Keeps the record of a subscriber, for the later detection points of a call; None if there is no record.
@@ -115,8 +108,7 @@ impl Session {
     /// # Errors
     /// As [`decide`](Session::decide), and [`Error::OutOfMemory`]: ask again; the session may have seen a later front.
     pub fn keep(&mut self, imsi: Imsi) -> Result<Option<Subscriber>, Error> {
-        self.leave_forgotten()?;
-        self.keep_over(imsi)
+        self.looking()?.keep(imsi)
     }
 
     /// Decides the event of a call's set-up, at detection point 2 or 12, and keeps the record of its subscriber, over
@@ -125,8 +117,7 @@ impl Session {
     /// # Errors
     /// As [`keep`](Session::keep). Nothing is decided.
     pub fn set_up(&mut self, event: &Event) -> Result<(Answer, Option<Subscriber>), Error> {
-        self.leave_forgotten()?;
-        self.set_up_over(event)
+        self.looking()?.set_up(event)
     }
 
     /// Lists the IMSIs that have a record, of one front. The list has memory of its own, and holds nobody up.
@@ -134,8 +125,7 @@ impl Session {
     /// # Errors
     /// As [`keep`](Session::keep).
     pub fn imsis(&mut self) -> Result<Imsis, Error> {
-        self.leave_forgotten()?;
-        self.imsis_over()
+        self.looking()?.imsis()
     }
 
     /// Encodes the record of a subscriber, as the argument of the InsertSubscriberData that makes it where the
@@ -145,129 +135,27 @@ impl Session {
     /// # Errors
     /// As [`keep`](Session::keep).
     pub fn encode_record(&mut self, imsi: Imsi) -> Result<Option<Argument>, Error> {
-        self.leave_forgotten()?;
-        self.encode_record_over(imsi)
+        self.looking()?.encode_record(imsi)
     }
 
-    /// The handle for one call of the library, as [`Owned::at`] says.
+    /// A look that has not begun: each of its calls has a look of its own in the library.
     #[inline]
-    pub(crate) fn handle(&mut self) -> *mut ffi::Session {
-        self.handle.at()
+    fn looking(&mut self) -> Result<Look<'_>, Error> {
+        self.leave_forgotten()?;
+        Ok(Look {
+            session: self,
+            stays: PhantomData,
+        })
     }
 
     /// Leaves the look of a [`Look`] that was forgotten, so that each look is of its own call again.
     #[inline]
     fn leave_forgotten(&mut self) -> Result<(), Error> {
-        if self.is_looking {
-            self.leave()
-        } else {
-            Ok(())
+        if mem::take(&mut self.is_looking) {
+            // SAFETY: the handle is fit for a call, as `Owned` says.
+            done(unsafe { ffi::camel_leave(self.handle.at()) })?;
         }
-    }
-
-    fn leave(&mut self) -> Result<(), Error> {
-        self.is_looking = false;
-        // SAFETY: the handle is fit for a call, as `Owned` says.
-        done(unsafe { ffi::camel_leave(self.handle.at()) })
-    }
-
-    // The calls over the look that has begun, or else by a look of their own.
-
-    #[inline]
-    fn decide_over(&self, event: &Event) -> Result<Answer, Error> {
-        let mut answer = ffi::Answer::NONE;
-        // SAFETY: the handle is fit for a call, as `Owned` says; the event and the answer are apart from it.
-        done(unsafe { ffi::camel_decide(self.handle.at(), event.raw(), &mut answer) })?;
-        Answer::of_raw(&answer)
-    }
-
-    fn row_over(&self, imsi: Imsi, dp: DetectionPoint) -> Result<Option<Row>, Error> {
-        let row = self.find_over(ffi::camel_row_at, imsi, dp, ffi::Row::NONE)?;
-        Ok(row.map(Row::of_raw))
-    }
-
-    fn criteria_over(&self, imsi: Imsi, dp: DetectionPoint) -> Result<Option<Criteria>, Error> {
-        let found = self.find_over(ffi::camel_criteria_at, imsi, dp, ffi::Criteria::NONE)?;
-        Ok(found.map(|criteria| Criteria::of_raw(criteria, dp)))
-    }
-
-    fn find_over<T>(
-        &self,
-        find: ffi::FindAt<T>,
-        imsi: Imsi,
-        dp: DetectionPoint,
-        none: T,
-    ) -> Result<Option<T>, Error> {
-        let mut found = none;
-        let mut is_there = false;
-        // SAFETY: the handle is fit for a call, as `Owned` says; what is read and written is apart from it.
-        done(unsafe {
-            find(
-                self.handle.at(),
-                &imsi.raw(),
-                dp.number(),
-                &mut found,
-                &mut is_there,
-            )
-        })?;
-        Ok(is_there.then_some(found))
-    }
-
-    fn keep_over(&self, imsi: Imsi) -> Result<Option<Subscriber>, Error> {
-        let subscriber = Subscriber {
-            handle: Owned::empty(),
-        };
-        let mut is_there = false;
-        // SAFETY: both handles are fit for a call, as `Owned` says, and that of the subscriber is empty; the others are
-        // apart from them.
-        done(unsafe {
-            ffi::camel_keep(
-                self.handle.at(),
-                &imsi.raw(),
-                subscriber.handle.at(),
-                &mut is_there,
-            )
-        })?;
-        Ok(is_there.then_some(subscriber))
-    }
-
-    fn set_up_over(&self, event: &Event) -> Result<(Answer, Option<Subscriber>), Error> {
-        let mut answer = ffi::Answer::NONE;
-        let subscriber = Subscriber {
-            handle: Owned::empty(),
-        };
-        let mut is_there = false;
-        // SAFETY: both handles are fit for a call, as `Owned` says, and that of the subscriber is empty; the others are
-        // apart from them.
-        done(unsafe {
-            ffi::camel_set_up(
-                self.handle.at(),
-                event.raw(),
-                &mut answer,
-                subscriber.handle.at(),
-                &mut is_there,
-            )
-        })?;
-        Ok((Answer::of_raw(&answer)?, is_there.then_some(subscriber)))
-    }
-
-    fn imsis_over(&self) -> Result<Imsis, Error> {
-        let imsis = Imsis {
-            handle: Owned::empty(),
-        };
-        // SAFETY: both handles are fit for a call, as `Owned` says, and that of the list is empty.
-        done(unsafe { ffi::camel_imsis_of(self.handle.at(), imsis.handle.at()) })?;
-        Ok(imsis)
-    }
-
-    fn encode_record_over(&self, imsi: Imsi) -> Result<Option<Argument>, Error> {
-        let mut argument = ffi::Argument::NONE;
-        let mut is_there = false;
-        // SAFETY: the handle is fit for a call, as `Owned` says; what is read and written is apart from it.
-        done(unsafe {
-            ffi::camel_encode_record(self.handle.at(), &imsi.raw(), &mut argument, &mut is_there)
-        })?;
-        Ok(is_there.then(|| Argument::of_raw(argument)))
+        Ok(())
     }
 }
 
@@ -287,12 +175,12 @@ pub(crate) fn with_handles<R>(
     sessions: &mut [Session],
     call: impl FnOnce(*mut ffi::Session, usize) -> R,
 ) -> Result<R, Error> {
-    let mut handles = [const { Owned::<ffi::Session>::empty() }; MAX_SESSIONS];
+    let mut handles: [Owned<ffi::Session>; MAX_SESSIONS] = array::from_fn(|_| Owned::default());
     let places = handles.get_mut(..sessions.len()).ok_or(Error::Malformed)?;
     sessions.iter_mut().try_for_each(Session::leave_forgotten)?;
     let swap = |places: &mut [Owned<ffi::Session>], sessions: &mut [Session]| {
         for (place, session) in places.iter_mut().zip(sessions) {
-            std::mem::swap(place, &mut session.handle);
+            mem::swap(place, &mut session.handle);
         }
     };
     swap(places, sessions);
@@ -301,13 +189,11 @@ pub(crate) fn with_handles<R>(
     Ok(answer)
 }
 
-impl fmt::Debug for Session {
-    fn fmt(&self, out: &mut fmt::Formatter<'_>) -> fmt::Result {
-        out.debug_struct("Session").finish_non_exhaustive()
-    }
-}
-
 /// A look of a session: all that it returns is of one front. It is left when it is dropped.
+///
+/// Its calls are those of a [`Session`], over its front. After an error it is as before: [`Error::Unknown`], which safe
+/// code does not meet, and of [`keep`](Look::keep), [`set_up`](Look::set_up), [`imsis`](Look::imsis) and
+/// [`encode_record`](Look::encode_record) also [`Error::OutOfMemory`]: ask again.
 ///
 /// A look holds up the writer, so it stays in its thread: no future that may move to another thread holds one over an
 /// `await`. The compiler counts a look until the end of the block in which it has a name, also behind
@@ -345,62 +231,73 @@ pub struct Look<'s> {
 }
 
 impl Look<'_> {
-    /// Decides an event over the front of the look.
-    ///
-    /// # Errors
-    /// The look is as before: [`Error::Unknown`] only, which safe code does not meet.
+    /// The handle for one call of the library, as [`Owned::at`] says.
+    #[inline]
+    fn at(&self) -> *mut ffi::Session {
+        self.session.handle.at()
+    }
+
+    /// Decides an event, as [`Session::decide`].
     #[inline]
     pub fn decide(&self, event: &Event) -> Result<Answer, Error> {
-        self.session.decide_over(event)
+        // SAFETY: the handle is fit for a call; the event and the answer are apart from it.
+        Answer::of_raw(read(|answer| unsafe {
+            ffi::camel_decide(self.at(), &event.0, answer)
+        })?)
     }
 
-    /// The row that is stored for a subscriber at a detection point; None if there is none.
-    ///
-    /// # Errors
-    /// As [`decide`](Look::decide).
+    /// The row of a subscriber at a detection point, as [`Session::row`].
     pub fn row(&self, imsi: Imsi, dp: DetectionPoint) -> Result<Option<Row>, Error> {
-        self.session.row_over(imsi, dp)
+        // SAFETY: the handle is fit for a call; what is read and written is apart from it.
+        let found = find(|row, is_there| unsafe {
+            ffi::camel_row_at(self.at(), &imsi.raw(), dp.number(), row, is_there)
+        })?;
+        Ok(found.map(Row))
     }
 
-    /// The criteria that are stored for a subscriber at a detection point; None if there are none.
-    ///
-    /// # Errors
-    /// As [`decide`](Look::decide).
+    /// The criteria of a subscriber at a detection point, as [`Session::criteria`].
     pub fn criteria(&self, imsi: Imsi, dp: DetectionPoint) -> Result<Option<Criteria>, Error> {
-        self.session.criteria_over(imsi, dp)
+        // SAFETY: the handle is fit for a call; what is read and written is apart from it.
+        let found = find(|criteria, is_there| unsafe {
+            ffi::camel_criteria_at(self.at(), &imsi.raw(), dp.number(), criteria, is_there)
+        })?;
+        Ok(found.map(|criteria| Criteria::of_raw(criteria, dp)))
     }
 
-    /// Keeps the record of a subscriber, of the front of the look; None if there is no record.
-    ///
-    /// # Errors
-    /// As [`decide`](Look::decide), and [`Error::OutOfMemory`]: ask again, the look is as before.
+    /// Keeps the record of a subscriber, as [`Session::keep`].
     pub fn keep(&self, imsi: Imsi) -> Result<Option<Subscriber>, Error> {
-        self.session.keep_over(imsi)
+        // SAFETY: the handles are fit for a call, and that of the record is empty; all else is apart from them.
+        let kept = find(|record: &mut Owned<_>, is_there| unsafe {
+            ffi::camel_keep(self.at(), &imsi.raw(), record.at(), is_there)
+        })?;
+        Ok(kept.map(Subscriber))
     }
 
-    /// Decides the event of a call's set-up, at detection point 2 or 12, and keeps the record of its subscriber, both
-    /// of the front of the look.
-    ///
-    /// # Errors
-    /// As [`keep`](Look::keep). Nothing is decided.
+    /// Decides the event of a call's set-up and keeps the record of its subscriber, as [`Session::set_up`].
     pub fn set_up(&self, event: &Event) -> Result<(Answer, Option<Subscriber>), Error> {
-        self.session.set_up_over(event)
+        let (record, mut is_there) = (Owned::default(), false);
+        // SAFETY: the handles are fit for a call, and that of the record is empty; all else is apart from them.
+        let answer = read(|answer| unsafe {
+            ffi::camel_set_up(self.at(), &event.0, answer, record.at(), &mut is_there)
+        })?;
+        let kept = is_there.then_some(Subscriber(record));
+        Ok((Answer::of_raw(answer)?, kept))
     }
 
-    /// Lists the IMSIs that have a record, of the front of the look. The list does not hold the look.
-    ///
-    /// # Errors
-    /// As [`keep`](Look::keep).
+    /// Lists the IMSIs that have a record, as [`Session::imsis`]. The list does not hold the look.
     pub fn imsis(&self) -> Result<Imsis, Error> {
-        self.session.imsis_over()
+        // SAFETY: the handles are fit for a call, and that of the list is empty.
+        read(|imsis: &mut Owned<_>| unsafe { ffi::camel_imsis_of(self.at(), imsis.at()) })
+            .map(Imsis)
     }
 
-    /// Encodes the record of a subscriber, of the front of the look; None if there is no record.
-    ///
-    /// # Errors
-    /// As [`keep`](Look::keep).
+    /// Encodes the record of a subscriber, as [`Session::encode_record`].
     pub fn encode_record(&self, imsi: Imsi) -> Result<Option<Argument>, Error> {
-        self.session.encode_record_over(imsi)
+        // SAFETY: the handle is fit for a call; what is read and written is apart from it.
+        let argument = find(|argument, is_there| unsafe {
+            ffi::camel_encode_record(self.at(), &imsi.raw(), argument, is_there)
+        })?;
+        Ok(argument.map(Argument))
     }
 
     /// Leaves the look, as a drop does.

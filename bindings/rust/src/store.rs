@@ -1,12 +1,11 @@
 //! The store: its one writer.
-use crate::error::done;
+use crate::error::{done, read};
 use crate::ffi::Handle;
 use crate::handle::Owned;
 use crate::{
-    Error, Imsi, MapFault, Operation, PreparedUpdate, Receipt, Rejected, Session, Update, ffi, map,
+    Error, Imsi, MapFault, Operation, PreparedUpdate, Receipt, Rejected, Session, Update, ffi,
     prepared, session,
 };
-use std::fmt;
 use std::slice;
 
 /// The most sessions of a store.
@@ -76,9 +75,8 @@ impl ExactSizeIterator for Holders {}
 /// fn is_shared<T: Sync>() {}
 /// is_shared::<camel::Store>();
 /// ```
-pub struct Store {
-    handle: Owned<ffi::Store>,
-}
+#[derive(Debug)]
+pub struct Store(Owned<ffi::Store>);
 
 impl Store {
     /// Opens a store of 1 to [`MAX_SESSIONS`] sessions, which takes 1 to [`MAX_UPDATES`] updates in its life; a great
@@ -99,15 +97,13 @@ impl Store {
         if !(1..=MAX_SESSIONS).contains(&session_count) {
             return Err(Error::Malformed);
         }
-        let store = Store {
-            handle: Owned::empty(),
-        };
+        let store = Store(Owned::default());
         let mut handles = [const { ffi::Session::EMPTY }; MAX_SESSIONS];
         // SAFETY: all handles are empty, and the array has at least as many as are said.
         let status = unsafe {
             ffi::camel_open_version(
                 ffi::ABI_VERSION,
-                store.handle.at(),
+                store.0.at(),
                 handles.as_mut_ptr(),
                 session_count,
                 limit,
@@ -134,7 +130,10 @@ impl Store {
     /// two of a detection point of the CSI. [`Error::HistoryFull`]: the store has accepted as many updates as its
     /// limit; publications and looks go on. [`Error::OutOfMemory`]: submit it again.
     pub fn submit(&mut self, update: &Update) -> Result<(), Error> {
-        update.submit(&mut self.handle)
+        // SAFETY: the handle is fit for a call, as `Owned` says; `taken` hands over all else, apart from it.
+        done(update.taken(|kind, imsi, what, lists| unsafe {
+            ffi::camel_submit_change_nonnull(self.0.at(), kind, imsi, what, lists)
+        }))
     }
 
     /// Submits what an operation of MAP brings, by the octets of its argument: the parameter of the TCAP invoke, in BER
@@ -152,7 +151,10 @@ impl Store {
         imsi: Option<Imsi>,
         argument: &[u8],
     ) -> Result<(), MapFault> {
-        map::submit(&mut self.handle, operation, imsi, argument)
+        // SAFETY: the handle is fit for a call, as `Owned` says; `taken` hands over all else, apart from it.
+        operation.taken(imsi, argument, |code, imsi, octets, count, place| unsafe {
+            ffi::camel_submit_map_nonnull(self.0.at(), code, imsi, octets, count, place)
+        })
     }
 
     /// Submits a copy of an update that is made already. It may be submitted again. No call sees it before it is
@@ -176,7 +178,7 @@ impl Store {
         // SAFETY: the handle is fit for a call, as `Owned` says, and so are those of the updates, which are only read;
         // `taken` hands over all else, apart from them.
         prepared::taken(updates, |updates, count, rejected| unsafe {
-            ffi::camel_submit_all_nonnull(self.handle.at(), updates, count, rejected)
+            ffi::camel_submit_all_nonnull(self.0.at(), updates, count, rejected)
         })
     }
 
@@ -203,7 +205,7 @@ impl Store {
         // SAFETY: each handle is fit for a call, as `Owned` says, and in no other, since this has them by `&mut`; the
         // pointer and the count are as `with_handles` says.
         done(session::with_handles(sessions, |sessions, count| unsafe {
-            ffi::camel_publish_to_nonnull(self.handle.at(), sessions, count)
+            ffi::camel_publish_to_nonnull(self.0.at(), sessions, count)
         })?)
     }
 
@@ -229,7 +231,7 @@ impl Store {
         session::with_handles(sessions, |sessions, session_count| {
             prepared::taken(updates, |updates, count, rejected| unsafe {
                 ffi::camel_commit_nonnull(
-                    self.handle.at(),
+                    self.0.at(),
                     updates,
                     count,
                     sessions,
@@ -250,32 +252,28 @@ impl Store {
     /// All is pending as before. [`Error::OutOfMemory`]: drop it again later.
     pub fn drop_pending(&mut self) -> Result<(), Error> {
         // SAFETY: the handle is fit for a call, as `Owned` says.
-        done(unsafe { ffi::camel_drop_pending(self.handle.at()) })
+        done(unsafe { ffi::camel_drop_pending(self.0.at()) })
     }
 
     /// A receipt of all that is published. It fails only as the library does of itself, which safe code does not meet.
     pub fn receipt(&self) -> Result<Receipt, Error> {
-        let mut receipt = ffi::Receipt::NONE;
         // SAFETY: the handle is fit for a call, as `Owned` says, and the receipt is apart from it.
-        done(unsafe { ffi::camel_receipt_of(self.handle.at(), &mut receipt) })?;
-        Ok(Receipt::of_raw(receipt))
+        read(|receipt| unsafe { ffi::camel_receipt_of(self.0.at(), receipt) }).map(Receipt)
     }
 
     /// The sessions whose looks hold the next publication up; none if it goes through now. It fails as
     /// [`receipt`](Store::receipt) does.
     pub fn holders(&mut self) -> Result<Holders, Error> {
-        let mut sessions = 0;
         // SAFETY: the handle is fit for a call, as `Owned` says, and the bits are apart from it.
-        done(unsafe { ffi::camel_holders(self.handle.at(), &mut sessions) })?;
-        Ok(Holders(sessions))
+        read(|sessions| unsafe { ffi::camel_holders(self.0.at(), sessions) }).map(Holders)
     }
 
     /// How many subscribers and updates there are, and how often a publication was held. It fails as
     /// [`receipt`](Store::receipt) does.
     pub fn counts(&self) -> Result<Counts, Error> {
-        let mut counts = ffi::Counts::NONE;
         // SAFETY: the handle is fit for a call, as `Owned` says, and the counts are apart from it.
-        done(unsafe { ffi::camel_counts_of(self.handle.at(), &mut counts) })?;
+        let counts: ffi::Counts =
+            read(|counts| unsafe { ffi::camel_counts_of(self.0.at(), counts) })?;
         Ok(Counts {
             subscribers: counts.subscribers,
             published: counts.published,
@@ -292,16 +290,7 @@ impl Store {
     pub fn close(self) -> Result<(), Closing> {
         // SAFETY: the handle is fit for a call, as `Owned` says. After an error it is full still, and goes on into the
         // Closing.
-        match done(unsafe { ffi::camel_close(self.handle.at()) }) {
-            Ok(()) => Ok(()),
-            Err(why) => Err(Closing { store: self, why }),
-        }
-    }
-}
-
-impl fmt::Debug for Store {
-    fn fmt(&self, out: &mut fmt::Formatter<'_>) -> fmt::Result {
-        out.debug_struct("Store").finish_non_exhaustive()
+        done(unsafe { ffi::camel_close(self.0.at()) }).map_err(|why| Closing { store: self, why })
     }
 }
 

@@ -1,7 +1,5 @@
 //! Updates: what the HLR sends.
-use crate::error::done;
-use crate::handle::Owned;
-use crate::{Error, Imsi, OCriteria, Row, TCriteria, ffi};
+use crate::{Imsi, OCriteria, Row, TCriteria, ffi};
 
 /// An update of the subscriber data.
 #[derive(Clone, Debug, PartialEq, Eq)]
@@ -73,25 +71,16 @@ impl Update {
             *const ffi::Withdrawal,
             *const ffi::Lists,
         ) -> ffi::Status,
-    ) -> Result<(), Error> {
-        let no_imsi = ffi::Imsi { number: 0 };
-        let (none, no_csis) = (ffi::Withdrawal::NONE, Csis::default());
+    ) -> ffi::Status {
+        let (none, no_csis) = (ffi::Withdrawal::default(), Csis::default());
         let (kind, imsi, what, csis) = match self {
             Update::Register { imsi } => (ffi::UPDATE_REGISTER, imsi.raw(), none, &no_csis),
             Update::Insert { imsi, csis } => (ffi::UPDATE_INSERT, imsi.raw(), none, csis),
             Update::Delete { imsi, what } => (ffi::UPDATE_DELETE, imsi.raw(), what.raw(), &no_csis),
             Update::Cancel { imsi } => (ffi::UPDATE_CANCEL, imsi.raw(), none, &no_csis),
-            Update::ClearAll => (ffi::UPDATE_CLEAR_ALL, no_imsi, none, &no_csis),
+            Update::ClearAll => (ffi::UPDATE_CLEAR_ALL, Default::default(), none, &no_csis),
         };
-        done(call(kind, &imsi, &what, &csis.raw()))
-    }
-
-    pub(crate) fn submit(&self, store: &mut Owned<ffi::Store>) -> Result<(), Error> {
-        // SAFETY: the handle is as the library left it, and in no other call, since this has it by `&mut`; `taken`
-        // hands over all else, apart from it.
-        self.taken(|kind, imsi, what, lists| unsafe {
-            ffi::camel_submit_change_nonnull(store.at(), kind, imsi, what, lists)
-        })
+        call(kind, &imsi, &what, &csis.raw())
     }
 }
 
@@ -123,18 +112,12 @@ fn lists_of<C>(rows: &Option<Vec<Row>>, criteria: &Option<Vec<C>>) -> ffi::CsiLi
 
 impl Withdrawal {
     pub(crate) fn of_raw(what: ffi::Withdrawal) -> Withdrawal {
-        Withdrawal {
-            o: what.o,
-            vt: what.vt,
-            everything: what.everything,
-        }
+        let ffi::Withdrawal { o, vt, everything } = what;
+        Withdrawal { o, vt, everything }
     }
 
-    pub(crate) fn raw(self) -> ffi::Withdrawal {
-        ffi::Withdrawal {
-            o: self.o,
-            vt: self.vt,
-            everything: self.everything,
-        }
+    fn raw(self) -> ffi::Withdrawal {
+        let Withdrawal { o, vt, everything } = self;
+        ffi::Withdrawal { o, vt, everything }
     }
 }

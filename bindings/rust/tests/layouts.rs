@@ -12,8 +12,8 @@ fn types_have_the_sizes_of_the_library() {
     let mut of_library = [0; 32];
     // SAFETY: the array has at least as many places as are said.
     let count = unsafe { ffi::camel_layouts(of_library.as_mut_ptr(), of_library.len()) };
-    let own = ffi::SIZES.map(|size| size as u32);
-    assert_eq!(of_library[..count as usize], own);
+    let of_library: Vec<_> = of_library.map(|size| size as usize).into();
+    assert_eq!(of_library[..count as usize], *ffi::SIZES);
 }
 
 #[test]
