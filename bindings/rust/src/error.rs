@@ -168,23 +168,22 @@ pub(crate) fn find<T: Default>(
 #[cfg(test)]
 mod tests {
     use super::*;
+    use std::collections::BTreeSet;
 
     #[test]
     fn statuses_become_errors_of_their_number() {
-        let mut words: Vec<_> = (1..600)
-            .filter_map(|status| {
-                let error = done(status).unwrap_err();
-                assert_eq!(error.code(), status);
-                (error != Error::Unknown(status)).then(|| error.words())
-            })
-            .collect();
-        let known = words.len();
-        words.sort_unstable();
-        words.dedup();
-        assert_eq!(words.len(), known, "each error has words of its own");
+        let of_map = [5, 35, 36].into_iter().chain(401..=409);
+        let known: Vec<u32> = of_map.chain(101..=104).chain(501..=506).collect();
         assert_eq!(done(0), Ok(()));
-        assert_eq!(done(507), Err(Error::Unknown(507)));
-        let error: Box<dyn std::error::Error> = Box::new(done(501).unwrap_err());
+        for status in 1..600 {
+            let error = done(status).unwrap_err();
+            assert_eq!(error.code(), status);
+            assert_eq!(error != Error::Unknown(status), known.contains(&status));
+        }
+        let words = known.iter().map(|status| Error::of_status(*status).words());
+        let apart: BTreeSet<_> = words.collect();
+        assert_eq!(apart.len(), known.len(), "each has words of its own");
+        let error: Box<dyn std::error::Error> = Box::new(Error::Held);
         assert_eq!(error.to_string(), "a look is held (501)");
     }
 }

@@ -1,42 +1,12 @@
-//! IMSIs, addresses, rows and criteria: what is made, what is refused, and what a store gives back.
+//! IMSIs, addresses, rows, criteria and records: what is made, what is refused, and what a store gives back.
 use camel::{
-    Address, BasicService, Cause, Criteria, Csis, DetectionPoint, Error, Event, Imsi, IsdnAddress,
-    MatchType, NumberCriterion, OCriteria, Outcome, Profile, Reason, Row, Session, Store,
-    TCriteria, Update,
+    Address, BasicService, CallType, Cause, Criteria, Csis, Error, Event, Imsi, IsdnAddress,
+    MAX_ARGUMENT, MatchType, NumberCriterion, OCriteria, Outcome, PreparedUpdate, Profile, Reason,
+    Row, Session, Store, TCriteria, Update,
 };
-use entries::o_criteria_of;
-use points::POINTS;
+use shared::{POINTS, imsi, inserted, other_imsi, register, scf};
 
-mod entries;
-mod points;
-
-#[test]
-fn an_imsi_is_its_digits() {
-    let digits = Imsi::from_digits("262010000000001").unwrap();
-    let octets = Imsi::from_tbcd(&[0x62, 0x02, 0x01, 0, 0, 0, 0, 0xf1]).unwrap();
-    assert_eq!(digits, octets);
-    assert_eq!("262010000000001".parse(), Ok(digits));
-    let imsis =
-        ["00001", "99999", "000001", "000002"].map(|digits| Imsi::from_digits(digits).unwrap());
-    assert!(imsis.is_sorted_by(|one, next| one < next));
-    for wrong in ["", "2620", "2620100000000011", "26201000000000a"] {
-        assert_eq!(Imsi::from_digits(wrong), Err(Error::Malformed), "{wrong}");
-    }
-    for wrong in [
-        &[][..],
-        &[0x62, 0x02],
-        &[0x62, 0xf2, 0x01],
-        &[0x62, 0x02, 0xa1],
-        &[0; 8],
-        &[0; 9],
-    ] {
-        assert_eq!(
-            Imsi::from_tbcd(wrong),
-            Err(Error::Malformed),
-            "{wrong:02x?}"
-        );
-    }
-}
+mod shared;
 
 #[test]
 fn an_imsi_gives_its_digits_back() {
@@ -52,34 +22,29 @@ fn an_imsi_gives_its_digits_back() {
     let imsi = Imsi::from_digits("26201").unwrap();
     assert_eq!(*imsi.tbcd(), [0x62, 0x02, 0xf1]);
     assert_eq!(format!("[{imsi:>7}]"), "[  26201]");
+    assert_eq!("26201".parse(), Ok(imsi));
+    assert_eq!("2620a".parse::<Imsi>(), Err(Error::Malformed));
+    assert_eq!(Imsi::from_tbcd(&[0x62, 0x02]), Err(Error::Malformed));
+    let imsis = ["00001", "99999", "000001", "000002"];
+    let imsis = imsis.map(|digits| Imsi::from_digits(digits).unwrap());
+    assert!(imsis.is_sorted_by(|one, next| one < next));
 }
 
 #[test]
 fn an_address_is_its_octets() {
     for count in 0..=21 {
         let octets = vec![0x91; count];
-        let is_address = (1..=20).contains(&count);
-        assert_eq!(
-            Address::new(&octets)
-                .ok()
-                .map(|address| address.octets().to_vec()),
-            is_address.then(|| octets.clone())
-        );
-        let is_isdn = (1..=9).contains(&count);
-        assert_eq!(
-            IsdnAddress::new(&octets)
-                .ok()
-                .map(|address| address.octets().to_vec()),
-            is_isdn.then_some(octets)
-        );
+        let (address, number) = (Address::new(&octets), IsdnAddress::new(&octets));
+        let made = |most| match count {
+            count if (1..=most).contains(&count) => Ok(&octets[..]),
+            _ => Err(&Error::Malformed),
+        };
+        assert_eq!(address.as_ref().map(Address::octets), made(20));
+        assert_eq!(number.as_ref().map(IsdnAddress::octets), made(9));
     }
-    let number = IsdnAddress::new(&[0x91, 0x94, 0x71]).unwrap();
-    assert_eq!(number.to_string(), "919471");
-    assert_eq!(
-        Address::from(number),
-        Address::new(&[0x91, 0x94, 0x71]).unwrap()
-    );
-    assert_eq!(Address::new(&[]), Err(Error::Malformed));
+    assert_eq!(scf().to_string(), "919471");
+    assert_eq!(Address::try_from(scf().octets()), Ok(Address::from(scf())));
+    assert_ne!(Address::new(&[0x91, 0x94, 0x72]), Ok(Address::from(scf())));
 }
 
 #[test]
@@ -91,127 +56,80 @@ fn causes_have_seven_bits() {
 
 #[test]
 fn lists_have_their_room() {
-    let number = IsdnAddress::new(&[0x91]).unwrap();
-    let cause = Cause::of_octet(16);
-    let tele = BasicService::Tele(0x11);
-    let criterion = |numbers, lengths: &[u8]| {
-        NumberCriterion::new(MatchType::Enabling, &vec![number; numbers], lengths)
-    };
-    assert!(criterion(10, &[1, 2, 3]).is_ok());
-    assert_eq!(criterion(11, &[]).err(), Some(Error::Malformed));
-    assert_eq!(criterion(1, &[1, 2, 3, 4]).err(), Some(Error::Malformed));
-    assert!(OCriteria::new(4).with_basic(&[tele; 5]).is_ok());
-    assert_eq!(
-        OCriteria::new(4).with_basic(&[tele; 6]).err(),
-        Some(Error::Malformed)
-    );
-    assert_eq!(
-        OCriteria::new(4).with_causes(&[cause; 6]).err(),
-        Some(Error::Malformed)
-    );
-    assert_eq!(
-        TCriteria::new(13).with_basic(&[tele; 6]).err(),
-        Some(Error::Malformed)
-    );
-    assert_eq!(
-        TCriteria::new(13).with_causes(&[cause; 6]).err(),
-        Some(Error::Malformed)
-    );
+    let malformed = |is_refused: bool| is_refused.then_some(Error::Malformed);
+    let (numbers, lengths) = ([scf(); 11], [1; 4]);
+    for (number_count, length_count) in [(10, 3), (11, 3), (10, 4)] {
+        let lists = (&numbers[..number_count], &lengths[..length_count]);
+        let criterion = NumberCriterion::new(MatchType::Enabling, lists.0, lists.1);
+        assert_eq!(criterion.err(), malformed(number_count + length_count > 13));
+    }
+    let (services, causes) = ([BasicService::Tele(0x11); 6], [Cause::of_octet(16); 6]);
+    let (o, t) = (OCriteria::new(4), TCriteria::new(13));
+    for count in 5..=6 {
+        let (services, causes) = (&services[..count], &causes[..count]);
+        let of_o = [o.with_basic(services), o.with_causes(causes)];
+        let of_t = [t.with_basic(services), t.with_causes(causes)];
+        assert_eq!(of_o.map(Result::err), [malformed(count > 5); 2]);
+        assert_eq!(of_t.map(Result::err), [malformed(count > 5); 2]);
+    }
 }
 
-fn number(octets: &[u8]) -> IsdnAddress {
-    IsdnAddress::new(octets).unwrap()
-}
-
+/// Rows of both CSIs, and criteria: at 4 met by a forwarded call of the services to what is not listed.
 fn all_lists() -> Csis {
-    let scf = number(&[0x91, 0x94, 0x71]);
-    let o_criteria = o_criteria_of(4)
-        .with_causes(&[Cause::of_octet(17), Cause::of_octet(31)])
-        .unwrap();
+    let listed = [&[0x91, 0x21][..], &[0xa1, 0x43, 0xf5]];
+    let listed = listed.map(|octets| IsdnAddress::new(octets).unwrap());
+    let number = NumberCriterion::new(MatchType::Inhibiting, &listed, &[3, 15]).unwrap();
+    let (busy, other) = (Cause::of_octet(17), Cause::of_octet(31));
+    let o_criteria = OCriteria::new(4)
+        .with_number(number)
+        .with_call_type(CallType::Forwarded)
+        .with_basic(&[BasicService::Tele(0x10), BasicService::Bearer(0x18)])
+        .and_then(|criteria| criteria.with_causes(&[busy, other]));
     let t_criteria = TCriteria::new(13)
         .with_basic(&[BasicService::Tele(0x60)])
-        .and_then(|criteria| criteria.with_causes(&[Cause::of_octet(17)]))
-        .unwrap();
+        .and_then(|criteria| criteria.with_causes(&[busy]));
+    let continues = Row::new(3, 8, scf());
     Csis {
-        o: Some(vec![
-            Row::new(4, 7, scf).with_handling(1),
-            Row::new(3, 8, scf),
+        o: Some(vec![Row::new(4, 7, scf()).with_handling(1), continues]),
+        o_criteria: Some(vec![o_criteria.unwrap()]),
+        vt: Some(vec![
+            Row::new(13, 0x7fff_ffff, scf()),
+            Row::new(12, 9, scf()),
         ]),
-        o_criteria: Some(vec![o_criteria]),
-        vt: Some(vec![Row::new(13, 0x7fff_ffff, scf), Row::new(12, 9, scf)]),
-        t_criteria: Some(vec![t_criteria]),
+        t_criteria: Some(vec![t_criteria.unwrap()]),
     }
 }
 
 /// A session that sees these lists of its one subscriber.
-fn session_of(imsi: Imsi, csis: Csis) -> (Store, Session) {
+fn session_of(csis: Csis) -> (Store, Session) {
     let (mut store, mut sessions) = Store::open(1, 9, Profile::Two, 1).unwrap();
-    store.submit(&Update::Register { imsi }).unwrap();
-    store.submit(&Update::Insert { imsi, csis }).unwrap();
-    let mut session = sessions.remove(0);
-    session.learn(&store.publish().unwrap()).unwrap();
-    (store, session)
+    let insert = Update::Insert { imsi: imsi(), csis };
+    let updates = [register(imsi()), PreparedUpdate::new(&insert).unwrap()];
+    store.commit(&updates, &mut sessions).unwrap();
+    (store, sessions.remove(0))
 }
 
 #[test]
-fn a_store_gives_back_the_rows_that_came() {
-    let (imsi, csis) = (Imsi::from_digits("26201").unwrap(), all_lists());
-    let (_store, mut session) = session_of(imsi, csis.clone());
+fn a_store_gives_back_what_came() {
+    let csis = all_lists();
+    let (_store, mut session) = session_of(csis.clone());
+    let kept = session.keep(imsi()).unwrap().unwrap();
     for dp in POINTS {
-        let list = if dp.number() < 12 { &csis.o } else { &csis.vt };
-        let rows = list.as_deref().unwrap();
-        let came = rows.iter().copied().find(|row| row.dp() == dp.number());
-        assert_eq!(session.row(imsi, dp), Ok(came));
-    }
-    let other = Imsi::from_digits("26202").unwrap();
-    assert_eq!(session.row(other, DetectionPoint::CollectedInfo), Ok(None));
-    assert!(matches!(session.keep(other), Ok(None)));
-}
-
-#[test]
-fn a_record_that_is_kept_has_the_rows_of_its_look() {
-    let imsi = Imsi::from_digits("26201").unwrap();
-    let (mut store, mut session) = session_of(imsi, all_lists());
-    let kept = session.keep(imsi).unwrap().unwrap();
-    let rows = POINTS.map(|dp| session.row(imsi, dp).unwrap());
-    assert_eq!(rows.iter().flatten().count(), 3);
-    store.submit(&Update::Cancel { imsi }).unwrap();
-    session.learn(&store.publish().unwrap()).unwrap();
-    assert!(store.close().is_ok());
-    assert_eq!(POINTS.map(|dp| kept.row(dp).unwrap()), rows);
-}
-
-#[test]
-fn a_store_gives_back_the_criteria_that_came() {
-    let (imsi, csis) = (Imsi::from_digits("26201").unwrap(), all_lists());
-    let (_store, mut session) = session_of(imsi, csis.clone());
-    for dp in POINTS {
-        let of_o = csis.o_criteria.as_deref().unwrap().iter().copied();
-        let of_t = csis.t_criteria.as_deref().unwrap().iter().copied();
-        let came_of_o = of_o.clone().find(|entry| entry.dp() == dp.number());
-        let came_of_t = of_t.clone().find(|entry| entry.dp() == dp.number());
-        let came = came_of_o.map(Criteria::O).or(came_of_t.map(Criteria::T));
-        assert_eq!(came.is_some(), [4, 13].contains(&dp.number()));
-        assert_eq!(session.criteria(imsi, dp), Ok(came));
-        assert_eq!(session.look().unwrap().criteria(imsi, dp), Ok(came));
-    }
-}
-
-#[test]
-fn a_row_that_is_given_back_has_handling_0_or_1() {
-    let imsi = Imsi::from_digits("26201").unwrap();
-    for (came, given) in [(0, 0), (1, 1), (2, 0), (31, 0), (32, 1), (u32::MAX, 1)] {
-        let row = Row::new(2, 5, number(&[0x91])).with_handling(came);
-        let csis = Csis {
-            o: Some(vec![row]),
-            ..Csis::default()
-        };
-        let (_store, mut session) = session_of(imsi, csis);
-        assert_eq!(
-            session.row(imsi, DetectionPoint::CollectedInfo),
-            Ok(Some(row.with_handling(given))),
-            "{came}"
-        );
+        let mut rows = csis.o.iter().chain(&csis.vt).flatten().copied();
+        let mut of_o = csis.o_criteria.iter().flatten().copied();
+        let mut of_t = csis.t_criteria.iter().flatten().copied();
+        let row = rows.find(|row| row.dp() == dp.number());
+        let of_o = of_o.find(|entry| entry.dp() == dp.number());
+        let of_t = of_t.find(|entry| entry.dp() == dp.number());
+        let criteria = of_o.map(Criteria::O).or(of_t.map(Criteria::T));
+        assert_eq!(criteria.is_some(), [4, 13].contains(&dp.number()));
+        assert_eq!(session.row(imsi(), dp), Ok(row));
+        assert_eq!(session.criteria(imsi(), dp), Ok(criteria));
+        assert_eq!(kept.row(dp), Ok(row));
+        let look = session.look().unwrap();
+        assert_eq!(look.row(imsi(), dp), Ok(row));
+        assert_eq!(look.criteria(imsi(), dp), Ok(criteria));
+        assert_eq!(look.row(other_imsi(), dp), Ok(None));
     }
 }
 
@@ -224,116 +142,94 @@ fn decided(session: &mut Session, event: &Event) -> Result<u32, Reason> {
 }
 
 #[test]
-fn criteria_of_the_o_csi_are_those_that_came() {
-    let imsi = Imsi::from_digits("26201").unwrap();
-    let (_store, mut session) = session_of(imsi, all_lists());
-    let mut decide = |basic, destination: &[u8], cause, is_forwarded| {
-        let destination = Address::new(destination).unwrap();
-        let event =
-            Event::route_select_failure(imsi, basic, destination, Cause::new(cause).unwrap());
-        decided(
-            &mut session,
-            &if is_forwarded {
-                event.forwarded()
-            } else {
-                event
-            },
-        )
-    };
-    let (tele, bearer) = (BasicService::Tele(0x11), BasicService::Bearer(0x19));
-    let (free, unmet) = (&[0x91, 0x31, 0x54][..], Err(Reason::Criteria));
-    assert_eq!(decide(tele, free, 17, true), Ok(7));
-    assert_eq!(decide(bearer, free, 31, true), Ok(7));
-    assert_eq!(decide(tele, free, 17, false), unmet, "the call type");
-    assert_eq!(decide(tele, free, 18, true), unmet, "the cause");
-    for basic in [BasicService::Bearer(0x11), BasicService::Tele(0x61)] {
-        assert_eq!(decide(basic, free, 17, true), unmet, "{basic:?}");
-    }
-    for listed in [
-        &[0x91, 0x21, 0x43][..],
-        &[0xa1, 0x43, 0x65],
-        &[0x91, 0x31, 0xf4],
-    ] {
-        assert_eq!(decide(tele, listed, 17, true), unmet, "{listed:02x?}");
-    }
-    assert_eq!(
-        decide(tele, &[0x91, 0x43, 0x65], 17, true),
-        Ok(7),
-        "another nature of address"
-    );
-}
-
-#[test]
-fn criteria_of_the_vt_csi_are_those_that_came() {
-    let imsi = Imsi::from_digits("26201").unwrap();
-    let (_store, mut session) = session_of(imsi, all_lists());
-    let mut busy = |basic, cause| {
-        let event = Event::busy(imsi, basic, Cause::new(cause).unwrap());
-        decided(&mut session, &event)
-    };
-    assert_eq!(busy(BasicService::Tele(0x61), 17), Ok(0x7fff_ffff));
+fn each_field_of_an_event_is_asked() {
+    let (_store, mut session) = session_of(all_lists());
+    let (tele, bearer) = (BasicService::Tele, BasicService::Bearer);
+    let (free, listed) = (&[0x91, 0x31, 0x54][..], &[0xa1, 0x43, 0x65][..]);
     let unmet = Err(Reason::Criteria);
-    assert_eq!(busy(BasicService::Tele(0x61), 18), unmet);
-    assert_eq!(busy(BasicService::Tele(0x11), 17), unmet);
-    assert_eq!(busy(BasicService::Bearer(0x61), 17), unmet);
-    let attempt = Event::terminating_attempt(imsi, BasicService::Bearer(0x61));
-    assert_eq!(decided(&mut session, &attempt), Ok(9));
+    for (basic, destination, cause, is_forwarded, wanted) in [
+        (tele(0x11), free, 17, true, Ok(7)),
+        (bearer(0x19), free, 31, true, Ok(7)),
+        (tele(0x61), free, 17, true, unmet),
+        (bearer(0x11), free, 17, true, unmet),
+        (tele(0x11), listed, 17, true, unmet),
+        (tele(0x11), &free[..2], 17, true, Ok(7)),
+        (tele(0x11), &[0x91, 0x31, 0xf4], 17, true, unmet),
+        (tele(0x11), free, 18, true, unmet),
+        (tele(0x11), free, 17, false, unmet),
+    ] {
+        let (destination, cause) = (Address::new(destination).unwrap(), Cause::of_octet(cause));
+        let event = Event::route_select_failure(imsi(), basic, destination, cause);
+        let event = if is_forwarded {
+            event.forwarded()
+        } else {
+            event
+        };
+        assert_eq!(decided(&mut session, &event), wanted, "{event:?}");
+    }
+    for (event, wanted) in [
+        (
+            Event::busy(imsi(), tele(0x61), Cause::of_octet(17)),
+            Ok(0x7fff_ffff),
+        ),
+        (Event::busy(imsi(), tele(0x61), Cause::of_octet(18)), unmet),
+        (Event::busy(imsi(), tele(0x11), Cause::of_octet(17)), unmet),
+        (Event::terminating_attempt(imsi(), bearer(0x61)), Ok(9)),
+        (
+            Event::no_answer(imsi(), tele(0x61), Cause::of_octet(17)),
+            Err(Reason::NotArmed),
+        ),
+    ] {
+        assert_eq!(decided(&mut session, &event), wanted, "{event:?}");
+    }
 }
 
 #[test]
-fn data_are_refused() {
-    let (mut store, _sessions) = Store::open(1, 3, Profile::One, 1).unwrap();
-    let imsi = Imsi::from_digits("26201").unwrap();
-    let scf = number(&[0x91]);
-    let mut insert = |csis: Csis| store.submit(&Update::Insert { imsi, csis });
-    let rows = |rows: Vec<Row>| Csis {
-        o: Some(rows),
-        ..Csis::default()
+fn records_are_listed_and_encoded() {
+    let (mut store, session) = session_of(all_lists());
+    let mut sessions = [session];
+    let look = sessions[0].look().unwrap();
+    let argument = look.encode_record(imsi()).unwrap().unwrap();
+    let mut imsis = look.imsis().unwrap();
+    assert_eq!(look.encode_record(other_imsi()), Ok(None));
+    look.leave();
+    let lists_of = |session: &mut Session| {
+        let look = session.look().unwrap();
+        POINTS.map(|dp| {
+            (
+                look.row(imsi(), dp).unwrap(),
+                look.criteria(imsi(), dp).unwrap(),
+            )
+        })
     };
-    let criteria = |item: OCriteria| Csis {
-        o_criteria: Some(vec![item]),
-        ..Csis::default()
-    };
-    let numbers = |lengths| NumberCriterion::new(MatchType::Enabling, &[], lengths).unwrap();
-    let causes = OCriteria::new(2)
-        .with_causes(&[Cause::of_octet(1)])
+    let lists = lists_of(&mut sessions[0]);
+    for update in [Update::ClearAll, Update::Register { imsi: imsi() }] {
+        store.submit(&update).unwrap();
+    }
+    store.publish_to(&mut sessions).unwrap();
+    assert_ne!(
+        sessions[0].encode_record(imsi()),
+        Ok(Some(argument.clone()))
+    );
+    store
+        .commit(&[inserted(imsi(), &argument)], &mut sessions)
         .unwrap();
-    let (missing, unexpected) = (Err(Error::DataMissing), Err(Error::UnexpectedDataValue));
-    assert_eq!(insert(rows(vec![])), missing);
-    assert_eq!(insert(rows(vec![Row::new(3, 1, scf); 11])), unexpected);
-    assert_eq!(insert(rows(vec![Row::new(2, 1, scf); 2])), unexpected);
     assert_eq!(
-        insert(rows(vec![Row::new(2, 0x8000_0000, scf)])),
-        unexpected
+        sessions[0].encode_record(imsi()),
+        Ok(Some(argument.clone()))
     );
+    assert_eq!(lists_of(&mut sessions[0]), lists);
+    assert_eq!(sessions[0].imsis().unwrap().count(), 1);
+    assert!(store.close().is_ok());
+    assert!(matches!(sessions[0].imsis(), Err(Error::NoLook)));
     assert_eq!(
-        insert(criteria(OCriteria::new(4).with_number(numbers(&[])))),
-        missing
+        [imsis.next(), imsis.next(), imsis.next()],
+        [Some(imsi()), None, None]
     );
-    assert_eq!(
-        insert(criteria(OCriteria::new(4).with_number(numbers(&[16])))),
-        unexpected
-    );
-    assert_eq!(insert(criteria(causes)), unexpected);
-    assert_eq!(insert(Csis::default()), Err(Error::UnidentifiedSubscriber));
-}
 
-#[test]
-fn updates_count_for_the_limit() {
-    let (mut store, _sessions) = Store::open(1, 3, Profile::One, 1).unwrap();
-    let imsi = Imsi::from_digits("26201").unwrap();
-    store.submit(&Update::Register { imsi }).unwrap();
-    let csis = Csis {
-        o_criteria: Some(vec![OCriteria::new(4)]),
-        ..Csis::default()
-    };
-    assert_eq!(
-        store.submit(&Update::Insert { imsi, csis }),
-        Err(Error::DataMissing)
-    );
-    store.submit(&Update::Cancel { imsi }).unwrap();
-    store.submit(&Update::ClearAll).unwrap();
-    assert_eq!(store.submit(&Update::ClearAll), Err(Error::HistoryFull));
-    let counts = store.counts().unwrap();
-    assert_eq!((counts.published, counts.pending), (0, 3));
+    assert!(argument[0] == 0x30 && argument.len() < MAX_ARGUMENT);
+    let text = argument.to_string();
+    assert!(text.starts_with("30") && text.len() == 2 * argument.len());
+    assert_eq!(format!("{argument:?}"), format!("Argument({text})"));
+    assert_eq!(argument.as_ref(), &*argument);
 }

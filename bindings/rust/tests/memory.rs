@@ -1,6 +1,9 @@
-//! That the data of a store which is gone are freed with the last look. It is a program of its own, so that no other test
-//! asks for memory meanwhile.
-use camel::{Address, BasicService, Error, Event, Imsi, MAX_UPDATES, Profile, Store, Update};
+//! All that handles hold is freed when they are dropped. It is a program of its own, so that no other test asks for
+//! memory meanwhile.
+use camel::{Error, MAX_UPDATES, Profile, Store, Update};
+use shared::{CRITERIA, ROWS, event, imsi, inserted, register};
+
+mod shared;
 
 /// What `mallinfo2` of the GNU C library returns.
 #[repr(C)]
@@ -15,32 +18,29 @@ unsafe extern "C" {
     safe fn mallinfo2() -> Mallinfo2;
 }
 
-const SUBSCRIBERS: usize = 1000;
-
-#[test]
-fn the_last_look_frees_the_data() {
-    let imsi = |subscriber: usize| Imsi::from_digits(format!("{subscriber:015}")).unwrap();
-    let (mut store, mut sessions) = Store::open(1, MAX_UPDATES, Profile::One, 1).unwrap();
-    for subscriber in 0..SUBSCRIBERS {
-        let update = Update::Register {
-            imsi: imsi(subscriber),
-        };
-        store.submit(&update).unwrap();
-    }
-    store.publish().unwrap();
-    let session = &mut sessions[0];
-    let look = session.look().unwrap();
-    store
-        .submit(&Update::Register {
-            imsi: imsi(SUBSCRIBERS),
-        })
-        .unwrap();
+/// The life of a store, whose data a look holds to the end.
+fn live() {
+    let (mut store, mut sessions) = Store::open(2, MAX_UPDATES, Profile::One, 1).unwrap();
+    let joined = inserted(imsi(), ROWS).join(&inserted(imsi(), CRITERIA));
+    let updates = [register(imsi()), joined.unwrap()];
+    store.commit(&updates, &mut sessions).unwrap();
+    let [one, two] = &mut sessions[..] else {
+        panic!("there are two")
+    };
+    let look = one.look().unwrap();
+    let _held = (look.keep(imsi()), look.imsis(), look.set_up(&event()));
+    store.submit(&Update::ClearAll).unwrap();
     store.publish().unwrap();
     drop(store);
-    let with_data = mallinfo2().counts[IN_USE];
-    look.leave();
-    assert!(with_data - mallinfo2().counts[IN_USE] > 100 * SUBSCRIBERS);
-    let destination = Address::new(&[0x91, 0x21]).unwrap();
-    let event = Event::collected_info(imsi(0), BasicService::Tele(0x11), destination);
-    assert_eq!(session.decide(&event), Err(Error::NoLook));
+    assert_eq!(two.decide(&event()), Err(Error::NoLook));
+}
+
+#[test]
+fn what_is_dropped_is_freed() {
+    let in_use = || mallinfo2().counts[IN_USE];
+    // Behind the first ones malloc has what it keeps for itself.
+    (0..100).for_each(|_| live());
+    let before = in_use();
+    (0..1000).for_each(|_| live());
+    assert!(in_use() < before + 1000, "one octet for each life");
 }
