@@ -26,7 +26,7 @@ def test_header_in_cpp(standard, compiled):
 @pytest.mark.needs("c++", "nm")
 def test_shared_object_in_cpp_can_be_unloaded(standard, library, tmp_path):
     """What camel.h has inline is its own."""
-    source, shared = TOP / "bindings/cpp/test_updates.cpp", tmp_path / "shared.so"
+    source, shared = TOP / "bindings/cpp/test.cpp", tmp_path / "shared.so"
     words = [f"-std={standard}", f"-I{library}", "-shared", "-fPIC", "-Wl,--exclude-libs,libwenqolo.a", "-o", shared]
     output(*compiler_of(source), *words, source, library / "libwenqolo.a")
     unload = "import _ctypes, sys; _ctypes.dlclose(_ctypes.dlopen(sys.argv[1], 2)); print(open('/proc/self/maps').read())"

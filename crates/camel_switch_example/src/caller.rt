@@ -7,7 +7,7 @@ use std::alloc::Global;
 use std::sync::{Arc, Mutex, Wait};
 
 /// One receipt on its way to a caller: the writer puts it there, and the caller takes it. A later one says more.
-pub(crate) type Queue<S> = Arc<Mutex<Option<Of<S, Receipt>>>, Global>;
+pub(crate) type Latest<S> = Arc<Mutex<Option<Of<S, Receipt>>>, Global>;
 
 /// A call that is set up.
 #[derive(Drop)]
@@ -23,15 +23,15 @@ pub struct Call {
 pub(crate) fn decide_calls<S: StoreName, R: Wait>(
     rt: &R,
     session: &mut Of<S, Session>,
-    queue: &Queue<S>,
+    latest: &Latest<S>,
     calls: &Receiver<Call>,
 ) {
     for _ in rt.forever() {
         let Ok(call) = calls.recv(rt) else {
             return;
         };
-        let latest = queue.lock(rt).take();
-        if let Some(receipt) = latest {
+        let receipt = latest.lock(rt).take();
+        if let Some(receipt) = receipt {
             session.value.learn(receipt.value);
         }
         // Nobody waits for the call if its receiver is gone.

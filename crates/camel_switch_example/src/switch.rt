@@ -93,17 +93,17 @@ fn run_threads<S: StoreName, R: Threads + Wait + Sync>(
         thread::scope_env(),
         rt,
         |scope| -> Result<(), SwitchFault> {
-            let mut queues = Vec::new(alloc);
+            let mut receipts = Vec::new(alloc);
             for session in sessions {
-                let queue = Arc::new(alloc, Mutex::new(None))?;
-                queues.push(Arc::try_clone(&queue)?)?;
+                let latest = Arc::new(alloc, Mutex::new(None))?;
+                receipts.push(Arc::try_clone(&latest)?)?;
                 let (mut session, calls) = (session, calls.clone()?);
-                let thread = scope.spawn(move || decide_calls(rt, &mut session, &queue, &calls));
+                let thread = scope.spawn(move || decide_calls(rt, &mut session, &latest, &calls));
                 if thread.is_err() {
                     return Err(SwitchFault::NoThread);
                 }
             }
-            run_writer(rt, store, &requests, &queues);
+            run_writer(rt, store, &requests, &receipts);
             Ok(())
         },
     )

@@ -1,4 +1,4 @@
-use crate::caller::Queue;
+use crate::caller::Latest;
 use crate::change::Change;
 use crate::map_error::MapError;
 use camel_criteria::Refusal;
@@ -20,13 +20,13 @@ pub(crate) fn run_writer<S: StoreName, R: Wait>(
     rt: &R,
     store: &mut Of<S, Vlr>,
     requests: &Receiver<Request>,
-    queues: &[Queue<S>],
+    receipts: &[Latest<S>],
 ) {
     for _ in rt.forever() {
         let Ok(Request { change, reply }) = requests.recv(rt) else {
             return;
         };
-        let done = carry_out(rt, store, change, queues);
+        let done = carry_out(rt, store, change, receipts);
         // Nobody waits for the answer if its receiver is gone.
         let _ = reply.send(rt, done.map_err(MapError::from));
     }
@@ -36,13 +36,13 @@ fn carry_out<S: StoreName, R: Wait>(
     rt: &R,
     store: &mut Of<S, Vlr>,
     change: Change,
-    queues: &[Queue<S>],
+    receipts: &[Latest<S>],
 ) -> Result<(), Refusal> {
     match change {
         Change::LocationUpdate(updates) => submit_all(store, updates)?,
         Change::One(update) => store.value.submit(update)?,
     };
-    publish_to(rt, store, queues)
+    publish_to(rt, store, receipts)
 }
 
 /// Accepts all the updates of a location update, or none of them.
@@ -63,15 +63,15 @@ fn submit_all<S: StoreName>(store: &mut Of<S, Vlr>, updates: Vec<Update>) -> Res
 fn publish_to<S: StoreName, R: Wait>(
     rt: &R,
     store: &mut Of<S, Vlr>,
-    queues: &[Queue<S>],
+    receipts: &[Latest<S>],
 ) -> Result<(), Refusal> {
     if let Err(why) = store.value.publish(rt) {
         // If it can't be dropped, the next publication shows it.
         let _ = store.value.drop_pending();
         return Err(why);
     }
-    for queue in queues {
-        *queue.lock(rt) = Some(Of::new(store.value.receipt()));
+    for latest in receipts {
+        *latest.lock(rt) = Some(Of::new(store.value.receipt()));
     }
     Ok(())
 }
