@@ -182,6 +182,6 @@ edits:
 	@scripts/need programs && scripts/edits $${CRATE:+"$$CRATE"}
 
 # It builds what it measures, and says which tools it lacks. SIZES=1000,100000 and TURNS=1 narrow a run.
-## Measures WHAT, which is program, peers, loop, map, table or counts: half a minute to a quarter of an hour
+## Measures WHAT, which is program, peers, loop, map or counts: half a minute to a quarter of an hour
 bench:
 	@bench/run $(WHAT)

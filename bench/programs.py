@@ -7,12 +7,33 @@ import sys
 import tempfile
 import time
 from pathlib import Path
+from typing import NamedTuple
+
+import workload
 
 TOP = Path(__file__).resolve().parent.parent
 PEERS = TOP / "bench/peers"
 PEER = PEERS / "build/release/peers"
 OUT = TOP / "out/bench"
-CALLS = {"least": 1 << 14, "most": 1 << 20}
+SIZES = "1000,100000,1000000"
+
+
+class Program(NamedTuple):
+    name: str
+    seen: str  # Is a publication seen in one step, or its updates one by one?
+    command: tuple
+    is_peer: bool = True
+
+
+ALL = [
+    Program("lock-tree", "one step", (PEER, "lock-tree")),
+    Program("dashmap", "one by one", (PEER, "dashmap")),
+    Program("leftright-hash", "one step", (PEER, "leftright-hash")),
+    Program("leftright-flat72", "one step", (PEER, "leftright-flat72")),
+    Program("urcu-qsbr", "one by one", (PEER, "urcu-qsbr")),
+    Program("camel_vlr", "one step", (TOP / "crates/camel_bench/out/camel_bench",), False),
+    Program("libwenqolo", "one step", (PEER, "libwenqolo"), False),
+]
 
 
 def need(*tools, packages=()):
@@ -45,40 +66,35 @@ def compiled(name, *words):
     return OUT / name
 
 
-def build_peers(with_library=False):
+def stores():
+    """The programs that STORES names, or all: built."""
+    only = os.environ.get("STORES", "")
+    chosen = [program for program in ALL if not only or program.name in only.split(",")]
+    names = {program.name for program in chosen}
     need("cargo", packages=["librust-dashmap-dev", "liburcu-dev"])
+    if "camel_vlr" in names:
+        build("camel_bench")
     features = []
-    if with_library:
-        folder = library()
-        flags = ["-std=gnu11", "-O3", "-Wall", "-Wextra", f"-I{folder}", "-c", "c/library.c"]
-        (PEERS / "build").mkdir(exist_ok=True)
-        subprocess.run(["cc", *flags, "-o", "build/library.o"], cwd=PEERS, check=True)
-        subprocess.run(["ar", "rcs", "build/liblibrary.a", "build/library.o"], cwd=PEERS, check=True)
+    if "libwenqolo" in names:
+        library()
         features = ["--features", "library"]
     subprocess.run(["cargo", "build", "--release", "--quiet", *features], cwd=PEERS, check=True)
+    return chosen
 
 
-def script(*words):
-    """The script that the peers' program writes for these words. It is kept until the measurement ends."""
+def script(kind, *numbers):
+    """The script of the workload for these numbers. It is kept until the measurement ends."""
     OUT.mkdir(parents=True, exist_ok=True)
-    path = OUT / ("-".join(map(str, words)) + ".csv")
+    path = OUT / ("-".join(map(str, (kind, *numbers))) + ".csv")
     if not path.exists():
-        with path.open("wb") as file:
-            subprocess.run([PEER, "script", *map(str, words)], stdout=file, check=True)
+        with path.open("w") as file:
+            file.writelines(getattr(workload, kind)(*numbers))
     return path
 
 
 def drop_scripts():
     for path in OUT.glob("*.csv"):
         path.unlink()
-
-
-def call_count(known):
-    """How many calls a script of so many subscribers has."""
-    count = CALLS["least"]
-    while count < min(known, CALLS["most"]):
-        count *= 2
-    return count
 
 
 def answer(command, path):
@@ -107,13 +123,21 @@ def octets_held(command, path):
         return int(pages) * os.sysconf("SC_PAGE_SIZE")
 
 
+def least_of(commands, turns, measure):
+    """The least that is measured of each command, by turns, so that what else the machine does concerns all alike."""
+    least = {}
+    for _ in range(turns):
+        for name, command in commands.items():
+            figure = measure(command)
+            least[name] = min(figure, least.get(name, figure))
+    return least
+
+
 def numbers_from(name, fallback):
     """The numbers of a variable of the environment, which commas separate."""
     return [int(word) for word in os.environ.get(name, fallback).split(",")]
 
 
 def rounded(figure):
-    """A figure with three digits, or a dash if there is none."""
-    if figure is None:
-        return "–"
+    """A figure with three digits."""
     return f"{figure:.0f}" if figure >= 100 else f"{figure:.1f}" if figure >= 10 else f"{figure:.2f}"

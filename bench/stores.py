@@ -7,33 +7,15 @@ turns. All sums are compared with those of the first program.
 import os
 import statistics
 import sys
-from typing import NamedTuple
 
-from programs import (
-    PEER, TOP, answer, build, build_peers, call_count, drop_scripts, numbers_from, octets_held, rounded, script
-)
+from programs import SIZES, answer, drop_scripts, numbers_from, octets_held, rounded, script, stores
+from workload import call_count
 
 LOOKS = 1 << 21
 PUBLICATIONS = {1: 20000, 10: 5000, 1000: 100}
 REGISTERS = 1_000_000
-
-
-class Program(NamedTuple):
-    name: str
-    seen: str  # Is a publication seen in one step, or its updates one by one?
-    command: list
-    is_peer: bool = True
-
-
-ALL = [
-    Program("lock-tree", "one step", [PEER, "lock-tree"]),
-    Program("dashmap", "one by one", [PEER, "dashmap"]),
-    Program("leftright-hash", "one step", [PEER, "leftright-hash"]),
-    Program("leftright-flat80", "one step", [PEER, "leftright-flat80"]),
-    Program("urcu-qsbr", "one by one", [PEER, "urcu-qsbr"]),
-    Program("camel_vlr", "one step", [TOP / "crates/camel_bench/out/camel_bench"], False),
-    Program("libwenqolo", "one step", [PEER, "libwenqolo"], False),
-]
+HEAD = ("Subscribers", "Program", "A publication is seen", "ns a look", "4 readers to 1", "µs a publication of 1",
+        "of 10", "of 1000", "octets a subscriber")
 
 
 class Sums:
@@ -46,28 +28,6 @@ class Sums:
     def compare(self, program, request, sums):
         if sums != self.first.setdefault(request, sums):
             self.faults.append(f"{program.name}: other sums for {' '.join(map(str, request))}")
-
-
-class Figures:
-    """The least figures of each program."""
-
-    def __init__(self):
-        self.least = {}
-
-    def note(self, program, what, figure):
-        known = self.least.get((program.name, what))
-        self.least[program.name, what] = figure if known is None else min(known, figure)
-
-    def of(self, program, what):
-        return self.least.get((program.name, what))
-
-    def beside(self, program, what, programs):
-        """A figure, and how many times the least of the peers it is."""
-        figure = self.of(program, what)
-        peers = [self.of(peer, what) for peer in programs if peer.is_peer]
-        if figure is None or not peers or not min(peers):
-            return rounded(figure)
-        return f"{rounded(figure)} ({figure / min(peers):.2f})"
 
 
 def run(program, sums, words, readers, rounds):
@@ -86,25 +46,36 @@ def check(program, sums):
     run(program, sums, (1000, 10, 2000), 2, 20)
 
 
-def turn(program, known, figures, sums):
+def figures_of(program, known, sums):
+    """What one turn measures."""
     calls = call_count(known)
     rounds = max(1, LOOKS // calls)
     (one,), _ = run(program, sums, (known, 0, 0), 1, rounds)
     four, _ = run(program, sums, (known, 0, 0), 4, rounds)
-    figures.note(program, "look", one / (rounds * calls))
-    figures.note(program, "look of four", 1 / sum(rounds * calls / nanoseconds for nanoseconds in four))
+    figures = {"look": one / (rounds * calls)}
+    figures["look of four"] = 1 / sum(rounds * calls / nanoseconds for nanoseconds in four)
     for batch, publications in PUBLICATIONS.items():
         _, nanoseconds = run(program, sums, (known, batch, publications), 0, 0)
-        figures.note(program, batch, nanoseconds / publications / 1000)
+        figures[batch] = nanoseconds / publications / 1000
     empty, full = (octets_held([*program.command, "run", 0, 0], script("data", count)) for count in (1, known))
-    figures.note(program, "octets", (full - empty) / known)
+    figures["octets"] = (full - empty) / known
+    return figures
 
 
-def row(program, known, figures, programs):
-    look, of_four = figures.of(program, "look"), figures.of(program, "look of four")
-    cells = [figures.beside(program, "look", programs), rounded(look / of_four)]
-    cells += [figures.beside(program, what, programs) for what in (*PUBLICATIONS, "octets")]
-    return f"| {known} | {program.name} | {program.seen} | {' | '.join(cells)} |"
+def row(program, known, least):
+    """The figures of a program, with how many times the least of the peers each is."""
+    own = least[program]
+
+    def beside(what):
+        peers = [figures[what] for peer, figures in least.items() if peer.is_peer]
+        return f"{rounded(own[what])} ({own[what] / min(peers):.2f})" if peers else rounded(own[what])
+
+    cells = [known, program.name, program.seen, beside("look"), rounded(own["look"] / own["look of four"])]
+    return [*cells, *map(beside, (*PUBLICATIONS, "octets"))]
+
+
+def print_row(cells):
+    print(f"| {' | '.join(map(str, cells))} |", flush=True)
 
 
 def registers(program):
@@ -119,25 +90,21 @@ def registers(program):
 
 
 def measure():
-    only = os.environ.get("STORES", "")
-    programs = [program for program in ALL if not only or program.name in only.split(",")]
-    wanted = {program.name for program in programs}
-    if "camel_vlr" in wanted:
-        build("camel_bench")
-    build_peers(with_library="libwenqolo" in wanted)
-    turns, sums = numbers_from("TURNS", "5")[0], Sums()
+    programs, turns, sums = stores(), numbers_from("TURNS", "5")[0], Sums()
     for program in programs:
         check(program, sums)
-    print("| Subscribers | Program | A publication is seen | ns a look | 4 readers to 1 | µs a publication of 1 | of 10"
-          " | of 1000 | octets a subscriber |\n|---|---|---|---|---|---|---|---|---|")
-    for known in numbers_from("SIZES", "1000,100000,1000000"):
-        figures = Figures()
+    print_row(HEAD)
+    print_row(["---"] * len(HEAD))
+    for known in numbers_from("SIZES", SIZES):
+        least = {}
         for number in range(turns):
             print(f"{known} subscribers, turn {number + 1} of {turns}", file=sys.stderr)
             for program in programs:
-                turn(program, known, figures, sums)
+                figures = figures_of(program, known, sums)
+                before = least.get(program, figures)
+                least[program] = {what: min(figure, before[what]) for what, figure in figures.items()}
         for program in programs:
-            print(row(program, known, figures, programs), flush=True)
+            print_row(row(program, known, least))
         drop_scripts()
     for program in programs:
         if program.name == "camel_vlr" and not os.environ.get("SIZES"):

@@ -1,11 +1,6 @@
 //! What a script gives to a store, and what the store returns.
-use std::fmt;
-
 /// An IMSI as `camel.h` has it: the count of its digits in the highest octet, and their value below.
 pub type Imsi = u64;
-
-/// The octet of an international number in the numbering plan E.164.
-pub const INTERNATIONAL: u8 = 0x91;
 
 /// The nibble behind the last digit of an address with an odd count of digits.
 pub const FILLER: u8 = 15;
@@ -17,7 +12,6 @@ pub const COLLECTED_INFO: u8 = 2;
 
 /// An ISDN-AddressString: an octet with the nature of address (bits 765) and the numbering plan, and digits as TBCD.
 #[derive(Clone, Copy, Debug, Default, PartialEq, Eq)]
-#[repr(C)]
 pub struct Address {
     /// Zeros from the length on.
     pub octets: [u8; 9],
@@ -25,23 +19,6 @@ pub struct Address {
 }
 
 impl Address {
-    /// None if they are more than nine.
-    pub fn of(octets: &[u8]) -> Option<Address> {
-        let mut address = Address {
-            length: octets.len() as u8,
-            ..Address::default()
-        };
-        address
-            .octets
-            .get_mut(..octets.len())?
-            .copy_from_slice(octets);
-        Some(address)
-    }
-
-    pub fn bytes(&self) -> &[u8] {
-        &self.octets[..usize::from(self.length)]
-    }
-
     pub fn nature(&self) -> u8 {
         self.octets[0] >> 4 & 7
     }
@@ -66,16 +43,8 @@ impl Address {
     }
 }
 
-impl fmt::Display for Address {
-    fn fmt(&self, formatter: &mut fmt::Formatter<'_>) -> fmt::Result {
-        let mut octets = self.bytes().iter();
-        octets.try_for_each(|octet| write!(formatter, "{octet:02x}"))
-    }
-}
-
 /// A row of a CSI.
 #[derive(Clone, Copy, Debug, Default, PartialEq, Eq)]
-#[repr(C)]
 pub struct Row {
     pub key: u32,
     pub dp: u8,
@@ -100,7 +69,7 @@ pub enum Update {
 
 /// A call at DP 2. An event lies in one cache line.
 #[derive(Clone, Copy, Debug)]
-#[repr(C, align(32))]
+#[repr(align(32))]
 pub struct Event {
     pub imsi: Imsi,
     pub destination: Address,

@@ -1,10 +1,7 @@
 //! Answers the words of the protocol with one of the stores.
-use crate::data::{STABLE, Update};
-use crate::fast_hash::FastState;
+use crate::data::{Event, STABLE, Update, said, weighed};
 use crate::script::Script;
-use crate::stores::{Reader, Store, Writer};
-use std::collections::HashMap;
-use std::hint::black_box;
+use crate::stores::{Prepared, Reader, Store, Writer};
 use std::io::{self, BufRead, Write};
 use std::sync::Barrier;
 use std::thread;
@@ -14,8 +11,21 @@ fn nanoseconds_since(begin: Instant) -> u64 {
     begin.elapsed().as_nanos() as u64
 }
 
-fn form<W: Writer>(updates: Vec<Update>) -> Vec<W::Update> {
-    updates.into_iter().filter_map(W::prepared).collect()
+fn prepared<W: Writer>(updates: Vec<Update>) -> Vec<W::Update> {
+    updates.into_iter().filter_map(Prepared::of).collect()
+}
+
+fn prepared_calls<R: Reader>(events: Vec<Event>) -> Vec<R::Call> {
+    events.into_iter().map(R::Call::from).collect()
+}
+
+/// The sum of what the decisions of calls say, with these bits of the service key. It is a function of its own, so that
+/// the loop has all registers.
+#[inline(never)]
+fn sum_of<R: Reader>(reader: &mut R, calls: &[R::Call], key_bits: u32) -> u64 {
+    (0..).zip(calls).fold(0, |sum: u64, (place, call)| {
+        sum.wrapping_add(weighed(said(&reader.decide(call), key_bits), place))
+    })
 }
 
 /// Prints the nanoseconds of each publication of the script, and the sum of the calls behind it.
@@ -23,17 +33,15 @@ pub fn publish_each<S: Store>(script: &mut Script<impl BufRead>) -> io::Result<(
     let (mut writer, mut readers) = S::open(1);
     let mut lines = String::new();
     while let Some(updates) = script.batch()? {
-        let mut batch = form::<S::Writer>(updates);
+        let mut batch = prepared::<S::Writer>(updates);
         let begin = Instant::now();
         writer.publish(&mut batch);
         let nanoseconds = nanoseconds_since(begin);
-        let calls = S::Reader::prepared(script.calls()?);
+        let calls = prepared_calls::<S::Reader>(script.calls()?);
         readers[0].enter();
-        lines += &format!(
-            "{nanoseconds} {:016x}\n",
-            readers[0].sum_of(&calls, u32::MAX)
-        );
+        let sum = sum_of(&mut readers[0], &calls, u32::MAX);
         readers[0].leave();
+        lines += &format!("{nanoseconds} {sum:016x}\n");
     }
     write!(io::stdout(), "{lines}")
 }
@@ -43,7 +51,7 @@ fn publish_all<W: Writer>(writer: &mut W, script: &mut Script<impl BufRead>) -> 
     let mut nanoseconds = 0;
     while let Some(updates) = script.batch()? {
         let is_last = updates.is_empty();
-        let mut batch = form::<W>(updates);
+        let mut batch = prepared::<W>(updates);
         let begin = Instant::now();
         writer.publish(&mut batch);
         nanoseconds += nanoseconds_since(begin);
@@ -64,7 +72,7 @@ pub fn run<S: Store>(
     // One reader more looks at the data in the end.
     let (mut writer, mut sessions) = S::open(readers + 1);
     publish_all(&mut writer, script)?;
-    let calls = &S::Reader::prepared(script.calls()?);
+    let calls = &prepared_calls::<S::Reader>(script.calls()?);
     let start = &Barrier::new(readers + 1);
     let (last, sessions) = sessions.split_last_mut().expect("one reader more");
     let read = |session: &mut S::Reader| {
@@ -72,7 +80,7 @@ pub fn run<S: Store>(
         start.wait();
         let begin = Instant::now();
         let sum = (0..rounds).fold(0_u64, |sum, _| {
-            sum.wrapping_add(session.sum_of(calls, STABLE))
+            sum.wrapping_add(sum_of(session, calls, STABLE))
         });
         let nanoseconds = nanoseconds_since(begin);
         session.leave();
@@ -95,35 +103,9 @@ pub fn run<S: Store>(
     for (nanoseconds, sum) in read {
         writeln!(output, "reader {nanoseconds} {sum:016x}")?;
     }
-    let probes = S::Reader::prepared(script.calls()?);
+    let probes = prepared_calls::<S::Reader>(script.calls()?);
     last.enter();
-    let data = last.sum_of(&probes, u32::MAX);
+    let data = sum_of(last, &probes, u32::MAX);
     last.leave();
     writeln!(output, "writer {} {data:016x}", publishing?)
-}
-
-/// Looks into a hash table whose values have 96 octets, as a subscriber's record, for all calls and so many times.
-pub fn table(script: &mut Script<impl BufRead>, rounds: u64) -> io::Result<()> {
-    let mut table: HashMap<u64, [u64; 12], FastState> = HashMap::default();
-    while let Some(updates) = script.batch()?.filter(|updates| !updates.is_empty()) {
-        for update in updates {
-            let (Update::Register(imsi) | Update::Insert(imsi, _) | Update::Cancel(imsi)) = update;
-            table.insert(imsi, [imsi; 12]);
-        }
-    }
-    let calls = script.calls()?;
-    let begin = Instant::now();
-    let mut sum = 0_u64;
-    for _ in 0..rounds {
-        for (place, call) in (0..).zip(&calls) {
-            let words = black_box(&table).get(&call.imsi).unwrap_or(&[0; 12]);
-            let three = words[0].wrapping_add(words[5]).wrapping_add(words[11]);
-            sum = sum.wrapping_add(crate::data::weighed(three, place));
-        }
-    }
-    writeln!(
-        io::stdout(),
-        "reader {} {sum:016x}",
-        nanoseconds_since(begin)
-    )
 }

@@ -2,7 +2,7 @@
 //!
 //! A reader makes its epoch odd, reads which copy is live, looks at it, and makes its epoch even. A publication waits
 //! until the readers have left the copy that was live before the last one, brings it up to date by the log, and makes
-//! it the live one. All `unsafe` of the peers is in this file.
+//! it the live one.
 use std::cell::UnsafeCell;
 use std::hint;
 use std::sync::Arc;
@@ -44,26 +44,21 @@ pub struct Writer<T, Operation> {
     log: Vec<Operation>,
 }
 
-/// A writer and readers of two equal copies.
-pub fn open<T, Operation>(
-    left: T,
-    right: T,
-    readers: usize,
-) -> (Writer<T, Operation>, Vec<Reader<T>>) {
+/// A writer and readers of two empty copies.
+pub fn open<T: Default, Operation>(readers: usize) -> (Writer<T, Operation>, Vec<Reader<T>>) {
     let copies = Arc::new(Copies {
         live: Apart(AtomicUsize::new(0)),
-        sides: [UnsafeCell::new(left), UnsafeCell::new(right)],
+        sides: Default::default(),
     });
-    let readers: Vec<_> = (0..readers)
-        .map(|_| Reader {
-            copies: copies.clone(),
-            epoch: Arc::new(Apart(AtomicU64::new(0))),
-        })
+    let epochs: Vec<Epoch> = (0..readers)
+        .map(|_| Arc::new(Apart(AtomicU64::new(0))))
         .collect();
-    let epochs = readers
-        .iter()
-        .map(|reader| (reader.epoch.clone(), 0))
-        .collect();
+    let reader = |epoch: &Epoch| Reader {
+        copies: copies.clone(),
+        epoch: epoch.clone(),
+    };
+    let readers = epochs.iter().map(reader).collect();
+    let epochs = epochs.into_iter().map(|epoch| (epoch, 0)).collect();
     (
         Writer {
             copies,
@@ -144,5 +139,46 @@ impl<T: Apply<Operation>, Operation> Writer<T, Operation> {
         for (epoch, seen) in &mut self.epochs {
             *seen = epoch.0.load(Ordering::SeqCst);
         }
+    }
+}
+
+#[cfg(test)]
+mod tests {
+    use super::*;
+
+    const PUBLICATIONS: u64 = 20_000;
+
+    /// Two counts that each batch leaves equal.
+    #[derive(Default)]
+    struct Counts([u64; 2]);
+
+    impl Apply<usize> for Counts {
+        fn apply(&mut self, place: &usize) {
+            self.0[*place] += 1;
+        }
+    }
+
+    fn look_until_all(mut reader: Reader<Counts>) {
+        let mut seen = 0;
+        while seen < PUBLICATIONS {
+            let [first, second] = reader.look(|counts| counts.0);
+            assert_eq!(first, second);
+            assert!(first >= seen);
+            seen = first;
+        }
+    }
+
+    /// Looks beside publications: each sees whole batches, and never fewer than the one before it.
+    #[test]
+    fn looks_see_whole_batches() {
+        let (mut writer, readers) = open::<Counts, usize>(2);
+        thread::scope(|scope| {
+            for reader in readers {
+                scope.spawn(|| look_until_all(reader));
+            }
+            for _ in 0..PUBLICATIONS {
+                writer.publish(&mut vec![0, 1]);
+            }
+        });
     }
 }

@@ -1,53 +1,47 @@
-//! Reads the scripts of `workload`: the words of docs/SCRIPT.md that it writes.
+//! Reads the scripts of `bench/workload.py`: the words of docs/SCRIPT.md that it writes.
 use crate::data::{Address, Event, Imsi, Record, Row, Update};
-use std::io::{self, BufRead, Error};
+use std::io::{self, BufRead, Error, Lines};
 
-pub struct Script<R> {
-    lines: R,
-    line: String,
-}
+pub struct Script<R>(Lines<R>);
 
-pub enum Read {
+enum Read {
     Update(Update),
     Publish,
     Call(Event),
-    End,
 }
 
 impl<R: BufRead> Script<R> {
-    pub fn new(lines: R) -> Script<R> {
-        Script {
-            lines,
-            line: String::new(),
-        }
+    pub fn new(input: R) -> Script<R> {
+        Script(input.lines())
     }
 
-    pub fn read(&mut self) -> io::Result<Read> {
-        self.line.clear();
-        if self.lines.read_line(&mut self.line)? == 0 {
-            return Ok(Read::End);
-        }
-        let line = self.line.trim_end();
-        read(line).ok_or_else(|| Error::other(format!("no record of a workload: {line}")))
+    /// None at the end.
+    fn read(&mut self) -> io::Result<Option<Read>> {
+        let Some(line) = self.0.next().transpose()? else {
+            return Ok(None);
+        };
+        let read =
+            read(&line).ok_or_else(|| Error::other(format!("no record of a workload: {line}")));
+        read.map(Some)
     }
 
     /// The updates up to the next publication. None if there is none.
     pub fn batch(&mut self) -> io::Result<Option<Vec<Update>>> {
         let mut batch = Vec::new();
-        loop {
-            match self.read()? {
+        while let Some(read) = self.read()? {
+            match read {
                 Read::Update(update) => batch.push(update),
                 Read::Publish => return Ok(Some(batch)),
-                Read::End => return Ok(None),
                 Read::Call(_) => return Err(Error::other("a call among updates")),
             }
         }
+        Ok(None)
     }
 
     /// The next calls, up to a publication or the end.
     pub fn calls(&mut self) -> io::Result<Vec<Event>> {
         let mut calls = Vec::new();
-        while let Read::Call(event) = self.read()? {
+        while let Some(Read::Call(event)) = self.read()? {
             calls.push(event);
         }
         Ok(calls)
@@ -115,5 +109,8 @@ fn address(digits: &str) -> Option<Address> {
     for (place, octet) in octets.get_mut(..length)?.iter_mut().enumerate() {
         *octet = u8::from_str_radix(digits.get(2 * place..2 * place + 2)?, 16).ok()?;
     }
-    Address::of(&octets[..length])
+    Some(Address {
+        octets,
+        length: length as u8,
+    })
 }

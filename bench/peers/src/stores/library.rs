@@ -1,115 +1,207 @@
-//! The store of the library, which `c/library.c` calls as a switch in C does: a call of it decides a whole list.
-use super::{Reader, Store, Writer};
-use crate::data::{Address, Event, Imsi, Record, Row, Update};
-use std::ffi::{c_uint, c_void};
-use std::ptr;
+//! The store of the library, by the calls that `camel.h` declares, as a switch in C makes them.
+use super::{Prepared, Reader, Store, Writer};
+use crate::data::{Address, COLLECTED_INFO, Event, Outcome, Reason, Record, Row, Update};
+use ffi::Handle;
+use std::{iter, thread};
+
+#[allow(dead_code)]
+#[path = "../../../../bindings/rust/src/ffi.rs"]
+mod ffi;
+
+#[link(name = "wenqolo", kind = "static")]
+unsafe extern "C" {}
+
+/// As `CAMEL_MAX_UPDATES`, `CAMEL_PROFILE_1` and `CAMEL_HELD`.
+const MAX_UPDATES: u64 = u64::MAX >> 1;
+const PROFILE_1: u8 = 1;
+const HELD: ffi::Status = 501;
+
+/// By the numbers that the library has for them, from 1 on.
+const REASONS: [Reason; ffi::REASONS - 1] = [
+    Reason::Unknown,
+    Reason::NoCsi,
+    Reason::NotArmed,
+    Reason::Emergency,
+    Reason::Criteria,
+];
 
 pub struct Library;
+pub struct Owner(ffi::Store);
 
-/// A `camel_event`.
-#[derive(Clone, Copy)]
-#[repr(C)]
-pub struct CamelEvent([u64; 5]);
-
-/// A `struct update`.
-#[repr(C)]
-pub struct CamelUpdate([u64; 31]);
-
-#[derive(Clone, Copy)]
-pub struct Handle(*mut c_void);
+/// A call may write the handle of its session. So each has cache lines of its own, which a processor takes in pairs.
+#[repr(align(128))]
+pub struct Session(ffi::Session);
 
 // SAFETY: a store and a session may be used by any thread, by one at a time.
-unsafe impl Send for Handle {}
+unsafe impl Send for Owner {}
+unsafe impl Send for Session {}
 
-unsafe extern "C" {
-    fn library_open(sessions: *mut *mut c_void, count: c_uint) -> *mut c_void;
-    fn library_session(sessions: *mut c_void, place: c_uint) -> *mut c_void;
-    fn library_event(event: *const Event, made: *mut CamelEvent);
-    fn library_sum_of(
-        session: *mut c_void,
-        events: *const CamelEvent,
-        count: usize,
-        key_bits: u32,
-    ) -> u64;
-    fn library_update(
-        made: *mut CamelUpdate,
-        kind: u8,
-        imsi: Imsi,
-        o: *const Row,
-        o_count: usize,
-        vt: *const Row,
-        vt_count: usize,
-        numbers: *const Address,
-        number_count: usize,
-    );
-    fn library_publish(store: *mut c_void, updates: *const CamelUpdate, count: usize);
+/// An update with its rows and its entry of criteria as `camel.h` has them.
+pub struct Change {
+    kind: u8,
+    imsi: ffi::Imsi,
+    o: Rows,
+    vt: Rows,
+    criteria: Option<ffi::Criteria>,
+}
+
+/// At most two rows, of which so many are there.
+type Rows = ([ffi::Row; 2], usize);
+
+fn expect_ok(status: ffi::Status) {
+    assert_eq!(status, ffi::OK, "libwenqolo returns this status");
 }
 
 impl Store for Library {
-    type Reader = Handle;
-    type Writer = Handle;
+    type Reader = Session;
+    type Writer = Owner;
 
-    fn open(readers: usize) -> (Handle, Vec<Handle>) {
-        let mut sessions = ptr::null_mut();
-        // SAFETY: the call writes the pointer, and each place is below the count.
-        unsafe {
-            let store = library_open(&mut sessions, readers as c_uint);
-            let places = 0..readers as c_uint;
-            let each = places.map(|place| Handle(library_session(sessions, place)));
-            (Handle(store), each.collect())
+    fn open(readers: usize) -> (Owner, Vec<Session>) {
+        let mut store = ffi::Store::EMPTY;
+        let empty = iter::repeat_with(|| ffi::Session::EMPTY);
+        let mut sessions: Vec<_> = empty.take(readers).collect();
+        let (version, opened) = (ffi::ABI_VERSION, sessions.as_mut_ptr());
+        let (limit, profile, seed) = (MAX_UPDATES, PROFILE_1, 0);
+        // SAFETY: all handles are empty, and there are so many sessions.
+        expect_ok(unsafe {
+            ffi::camel_open_version(version, &mut store, opened, readers, limit, profile, seed)
+        });
+        (Owner(store), sessions.into_iter().map(Session).collect())
+    }
+}
+
+impl From<Event> for ffi::Event {
+    fn from(event: Event) -> ffi::Event {
+        let mut octets = [0; 20];
+        octets[..9].copy_from_slice(&event.destination.octets);
+        ffi::Event {
+            imsi: ffi::Imsi { number: event.imsi },
+            destination: ffi::Address {
+                length: event.destination.length,
+                octets,
+            },
+            basic: ffi::BasicService {
+                is_bearer: event.is_bearer,
+                code: event.basic,
+            },
+            dp: COLLECTED_INFO,
+            is_forwarded: false,
+            cause: 0,
         }
     }
 }
 
-impl Reader for Handle {
-    type Calls = Vec<CamelEvent>;
+impl Reader for Session {
+    type Call = ffi::Event;
 
-    fn prepared(events: Vec<Event>) -> Vec<CamelEvent> {
-        let mut made = vec![CamelEvent([0; 5]); events.len()];
-        for (event, made) in events.iter().zip(&mut made) {
-            // SAFETY: the call reads the one, and writes the other.
-            unsafe { library_event(event, made) };
+    #[inline]
+    fn decide(&mut self, call: &ffi::Event) -> Outcome {
+        let mut answer = ffi::Answer::NONE;
+        // SAFETY: the session is used by this thread only.
+        expect_ok(unsafe { ffi::camel_decide(&mut self.0, call, &mut answer) });
+        if !answer.is_trigger {
+            return Err(REASONS[usize::from(answer.reason) - 1]);
         }
-        made
-    }
-
-    fn sum_of(&mut self, calls: &Vec<CamelEvent>, key_bits: u32) -> u64 {
-        // SAFETY: the session is used by this thread only, and the list has so many events.
-        unsafe { library_sum_of(self.0, calls.as_ptr(), calls.len(), key_bits) }
-    }
-}
-
-impl Writer for Handle {
-    type Update = CamelUpdate;
-
-    fn prepared(update: Update) -> Option<CamelUpdate> {
-        let (kind, imsi, record) = match update {
-            Update::Register(imsi) => (1, imsi, Record::default()),
-            Update::Insert(imsi, record) => (2, imsi, record),
-            Update::Cancel(imsi) => (4, imsi, Record::default()),
+        let scf = Address {
+            octets: answer.scf.octets,
+            length: answer.scf.length,
         };
-        let (o, vt, numbers) = (&record.o, &record.vt, &record.numbers);
-        let mut made = CamelUpdate([0; 31]);
-        // SAFETY: the call reads so many rows, at most two, and numbers, and writes the update.
-        unsafe {
-            library_update(
-                &mut made,
-                kind,
-                imsi,
-                o.as_ptr(),
-                o.len(),
-                vt.as_ptr(),
-                vt.len(),
-                numbers.as_ptr(),
-                numbers.len(),
-            );
-        }
-        Some(made)
+        Ok(Row {
+            key: answer.key,
+            dp: answer.dp,
+            is_release: answer.is_release,
+            scf,
+        })
     }
+}
 
-    fn publish(&mut self, batch: &mut Vec<CamelUpdate>) {
-        // SAFETY: one thread has the store, and the list has so many updates.
-        unsafe { library_publish(self.0, batch.as_ptr(), batch.len()) };
+fn isdn_of(address: &Address) -> ffi::IsdnAddress {
+    ffi::IsdnAddress {
+        length: address.length,
+        octets: address.octets,
+    }
+}
+
+fn rows_of(rows: &[Row]) -> Rows {
+    let mut made = [ffi::Row::NONE; 2];
+    for (made, row) in made.iter_mut().zip(rows) {
+        let (scf, handling) = (isdn_of(&row.scf), u32::from(row.is_release));
+        *made = ffi::Row {
+            dp: row.dp,
+            key: row.key,
+            scf,
+            handling,
+        };
+    }
+    (made, rows.len())
+}
+
+fn criteria_of(numbers: &[Address]) -> Option<ffi::Criteria> {
+    let mut criteria = ffi::Criteria {
+        dp: COLLECTED_INFO,
+        has_number: true,
+        ..ffi::Criteria::NONE
+    };
+    criteria.number.is_enabling = true;
+    criteria.number.number_count = numbers.len() as u8;
+    for (made, number) in criteria.number.numbers.iter_mut().zip(numbers) {
+        *made = isdn_of(number);
+    }
+    (!numbers.is_empty()).then_some(criteria)
+}
+
+impl Prepared for Change {
+    fn of(update: Update) -> Option<Change> {
+        let (kind, imsi, record) = match update {
+            Update::Register(imsi) => (ffi::UPDATE_REGISTER, imsi, Record::default()),
+            Update::Insert(imsi, record) => (ffi::UPDATE_INSERT, imsi, record),
+            Update::Cancel(imsi) => (ffi::UPDATE_CANCEL, imsi, Record::default()),
+        };
+        Some(Change {
+            kind,
+            imsi: ffi::Imsi { number: imsi },
+            o: rows_of(&record.o),
+            vt: rows_of(&record.vt),
+            criteria: criteria_of(&record.numbers),
+        })
+    }
+}
+
+fn lists_of((rows, row_count): &Rows, criteria: &[ffi::Criteria]) -> ffi::CsiLists {
+    ffi::CsiLists {
+        rows: rows.as_ptr(),
+        row_count: *row_count,
+        criteria: criteria.as_ptr(),
+        criteria_count: criteria.len(),
+        has_rows: *row_count > 0,
+        has_criteria: !criteria.is_empty(),
+    }
+}
+
+impl Writer for Owner {
+    type Update = Change;
+
+    /// A look that a decision is made by holds a publication up until it is left.
+    fn publish(&mut self, batch: &mut Vec<Change>) {
+        for change in batch.iter() {
+            let (kind, imsi) = (change.kind, &change.imsi);
+            let lists = ffi::Lists {
+                o: lists_of(&change.o, change.criteria.as_slice()),
+                vt: lists_of(&change.vt, &[]),
+            };
+            let (store, what) = (&mut self.0, &ffi::Withdrawal::NONE);
+            // SAFETY: one thread has the store, and each list has as many items as it says.
+            expect_ok(unsafe { ffi::camel_submit_change_nonnull(store, kind, imsi, what, &lists) });
+        }
         batch.clear();
+        let mut none = ffi::Session::EMPTY;
+        // SAFETY: one thread has the store, and no session is told.
+        let mut publish = || unsafe { ffi::camel_publish_to_nonnull(&mut self.0, &mut none, 0) };
+        let mut status = publish();
+        while status == HELD {
+            thread::yield_now();
+            status = publish();
+        }
+        expect_ok(status);
     }
 }

@@ -1,8 +1,8 @@
 //! A hash table of userspace RCU, in its qsbr flavour: readers take no lock and write nothing shared.
-use super::{Change, Decide, Store, Writer};
+use super::{Change, Prepared, Reader, Store, Writer};
+use crate::block::{Block, decide};
 use crate::data::{Event, Imsi, Outcome, Update};
 use crate::fast_hash::FastState;
-use crate::flat::decide;
 use std::alloc::{Layout, alloc, dealloc, handle_alloc_error};
 use std::ffi::{c_int, c_ulong, c_void};
 use std::hash::BuildHasher;
@@ -127,10 +127,7 @@ unsafe impl Send for UrcuWriter {}
 pub struct Urcu;
 
 /// A subscriber that is not in the table, or the IMSI of one to be removed.
-pub enum Prepared {
-    Put(Imsi, *mut Subscriber),
-    Remove(Imsi),
-}
+type Made = Change<*mut Subscriber>;
 
 fn layout_of(length: usize) -> Layout {
     let size = size_of::<Subscriber>() + length;
@@ -197,7 +194,9 @@ impl Store for Urcu {
     }
 }
 
-impl Decide for Session {
+impl Reader for Session {
+    type Call = Event;
+
     fn enter(&mut self) {
         go_online();
     }
@@ -220,24 +219,26 @@ impl Decide for Session {
     }
 }
 
-impl Writer for UrcuWriter {
-    type Update = Prepared;
-
-    fn prepared(update: Update) -> Option<Prepared> {
-        Some(match Change::of(update)? {
-            Change::Put(imsi, block) => Prepared::Put(imsi, subscriber_of(imsi, &block)),
-            Change::Remove(imsi) => Prepared::Remove(imsi),
+impl Prepared for Made {
+    fn of(update: Update) -> Option<Made> {
+        Some(match Change::<Block>::of(update)? {
+            Change::Put(imsi, block) => Change::Put(imsi, subscriber_of(imsi, block.octets())),
+            Change::Remove(imsi) => Change::Remove(imsi),
         })
     }
+}
 
-    fn publish(&mut self, batch: &mut Vec<Prepared>) {
+impl Writer for UrcuWriter {
+    type Update = Made;
+
+    fn publish(&mut self, batch: &mut Vec<Made>) {
         let table = self.table.0;
         go_online();
         // SAFETY: the thread is online, and each subscriber is put once.
         unsafe {
             for prepared in batch.drain(..) {
                 let out: *mut Node = match prepared {
-                    Prepared::Put(imsi, made) => {
+                    Change::Put(imsi, made) => {
                         let hash = FastState::default().hash_one(imsi);
                         cds_lfht_add_replace(
                             table,
@@ -247,7 +248,7 @@ impl Writer for UrcuWriter {
                             made.cast(),
                         )
                     }
-                    Prepared::Remove(imsi) => {
+                    Change::Remove(imsi) => {
                         let node: *mut Node = self.table.find(imsi).cast();
                         let is_out = !node.is_null() && cds_lfht_del(table, node) == 0;
                         if is_out { node } else { ptr::null_mut() }

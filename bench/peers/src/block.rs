@@ -3,6 +3,7 @@
 //! A block has the count of the rows of the O-CSI, or `ABSENT`, whether it has an entry at DP 2, its rows, the entry,
 //! and then the rows of the VT-CSI. So all that a call at DP 2 asks for lies at the beginning of the block.
 use crate::data::{Address, COLLECTED_INFO, EMERGENCY_CALLS, Event, Outcome, Reason, Record, Row};
+use crate::stores::Kept;
 
 const ABSENT: u8 = 0xFF;
 
@@ -16,25 +17,53 @@ type FlatNumber = [u8; 10];
 /// The service key, the detection point, the default call handling, and the gsmSCF address with its length.
 type FlatRow = [u8; 16];
 
-pub fn block_of(record: &Record) -> Box<[u8]> {
-    let rows = if record.o.is_empty() {
-        ABSENT
-    } else {
-        record.o.len() as u8
-    };
-    let has_entry = rows != ABSENT && !record.numbers.is_empty();
-    let mut block = vec![rows, u8::from(has_entry)];
-    block.extend(record.o.iter().flat_map(flat_row));
-    if has_entry {
-        let mut head = EntryHead::default();
-        head[0] = record.numbers.len() as u8;
-        block.extend(head);
-        block.extend(record.numbers.iter().flat_map(flat_number));
+pub struct Block(Box<[u8]>);
+
+impl From<Record> for Block {
+    fn from(record: Record) -> Block {
+        let rows = if record.o.is_empty() {
+            ABSENT
+        } else {
+            record.o.len() as u8
+        };
+        let has_entry = rows != ABSENT && !record.numbers.is_empty();
+        let mut block = vec![rows, u8::from(has_entry)];
+        block.extend(record.o.iter().flat_map(flat_row));
+        if has_entry {
+            let mut head = EntryHead::default();
+            head[0] = record.numbers.len() as u8;
+            block.extend(head);
+            block.extend(record.numbers.iter().flat_map(flat_number));
+        }
+        block.push(record.vt.len() as u8);
+        block.extend(record.vt.iter().flat_map(flat_row));
+        // The block gets memory of its own size.
+        Block(block.as_slice().into())
     }
-    block.push(record.vt.len() as u8);
-    block.extend(record.vt.iter().flat_map(flat_row));
-    // The block gets memory of its own size.
-    block.as_slice().into()
+}
+
+impl Clone for Block {
+    fn clone(&self) -> Block {
+        Block(self.0.clone())
+    }
+
+    /// A block of the same size is written over the old one, so that it stays where it is.
+    fn clone_from(&mut self, other: &Block) {
+        self.0.clone_from(&other.0);
+    }
+}
+
+impl Kept for Block {
+    #[inline]
+    fn decide(found: Option<&Block>, event: &Event) -> Outcome {
+        decide(found.map(Block::octets), event)
+    }
+}
+
+impl Block {
+    pub fn octets(&self) -> &[u8] {
+        &self.0
+    }
 }
 
 fn flat_row(row: &Row) -> FlatRow {
@@ -65,7 +94,7 @@ fn row_of(flat: &FlatRow) -> Row {
     }
 }
 
-/// The decision for a call at DP 2 over the block of its IMSI.
+/// The decision for a call at DP 2 over the octets of the block of its IMSI.
 #[inline]
 pub fn decide(block: Option<&[u8]>, event: &Event) -> Outcome {
     let block = block.ok_or(Reason::Unknown)?;
