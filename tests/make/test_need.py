@@ -41,10 +41,14 @@ def test_missing_tools_are_named_before_anything_begins(yard, target):
     assert all(" is missing: " in line or line.startswith(("test: nothing was begun", "make: ")) for line in lines)
 
 
-# Python is asked whether it is older.
+# Python is asked by a line in Python.
+PYTHON = 'case $1 in -c) exec {} -c "import sys; sys.version_info = (3, {}, 0); exec(sys.argv[1])" "$2" ;; esac'
+
+
 @pytest.mark.parametrize("tool, older, newer", [
-    ("cargo", "echo cargo 1.84.9", "echo cargo 1.99.0"), ("python3", "false", ""),
-])
+    ("cargo", "echo cargo 1.84.9", "echo cargo 1.99.0"),
+    ("python3", *(PYTHON.format(sys.executable, number) for number in (9, 10))),
+], ids=["cargo", "python3"])
 def test_older_tool_is_none(gate, yard, tool, older, newer):
     yard.put(tool, older)
     assert gate("scripts/need", "test").stderr.startswith(f"{tool} is missing: ")
